@@ -1,0 +1,9 @@
+pub mod Converted
+pub mod Depths
+pub mod Inserted
+pub mod OneLine
+pub mod Pushed
+pub mod ReadBack
+pub mod Readings
+pub mod Sames
+pub mod Utf8

@@ -1,0 +1,10 @@
+pub mod Json
+pub mod Code
+pub mod Terms
+pub mod Seen
+pub mod Falls
+pub mod Reading
+pub mod Text
+pub mod Find
+pub mod Place
+pub mod Tokens

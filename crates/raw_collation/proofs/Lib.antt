@@ -1,0 +1,6 @@
+pub mod Spelled
+pub mod Totals
+pub mod Equals
+pub mod Steps
+pub mod Sorted
+pub mod SortedRows

@@ -1,0 +1,3 @@
+pub mod Collation
+pub mod Sorting
+pub mod Laws

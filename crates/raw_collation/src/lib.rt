@@ -1,0 +1,13 @@
+//! The raw order of terms, as of CouchDB's views with `"collation": "raw"`, and of the rows of a view.
+#![tactic(auto)]
+
+mod compare;
+mod laws;
+mod sort;
+
+pub use compare::{raw_cmp, row_cmp};
+pub use laws::{rows_are_ordered, rows_sort_in_one_way, terms_are_ordered};
+pub use sort::sort_rows;
+
+#[cfg(test)]
+mod tests;

@@ -1,0 +1,9 @@
+pub mod AcceptedWrites
+pub mod EmptyLines
+pub mod KeptDocuments
+pub mod LineLimit
+pub mod OtherForms
+pub mod Pieces
+pub mod PlainParts
+pub mod Puts
+pub mod Views

@@ -1,0 +1,54 @@
+-- Lines at the limit of their length.
+use Rattle.std.specs.Prelude.{◌≡◌, ◌<◌, ◌≤◌, ◌+◌, ℕ, List, [], ◌∷◌, true, false, nat_lt, length, take, Ok, Err, Result, Option, Some, None, ok_or}
+use Rattle.std.proofs.Common.{refl, sym, ap, ◌∙◌, subst, arith, add-one, length-take, inl, inr}
+use Rattle.std.proofs.lemmas.Bool.{lt-ltb, le-ltb}
+use Rattle.json_terms.specs.Reading.{reading}
+use Rattle.view_engine.specs.World.{World}
+use Rattle.view_engine.specs.declared.request.Request.{Request}
+use Rattle.view_engine.specs.declared.refusal.Refusal.{Refusal}
+use Rattle.view_engine.specs.declared.refusal.Refusal.TheVariants.{LineTooLong, UnknownRequest}
+use Rattle.view_engine.specs.Refusals.{line_limit, request_of, request_in, unread}
+use Rattle.view_engine.specs.Requests.{form_of}
+use Rattle.json_terms.specs.Json.{Json}
+use Rattle.json_terms.specs.declared.fault.TermFault.{TermFault}
+use Rattle.view_engine.specs.Steps.{DoesRequest, Answers}
+
+pub line_limit-is : line_limit ≡ 2097152
+unfolding line_limit
+line_limit-is = refl
+
+pub request_of-long : (line : List ℕ) → line_limit < length line → request_of line ≡ Err LineTooLong
+unfolding request_of
+request_of-long line long = let test : nat_lt line_limit (length line) ≡ true = lt-ltb line_limit (length line) long in rw test refl
+
+pub request_of-short : (line : List ℕ) → length line ≤ line_limit → request_of line ≡ request_in (reading line)
+unfolding request_of
+request_of-short line short = let test : nat_lt line_limit (length line) ≡ false = le-ltb line_limit (length line) short in rw test refl
+
+pub request_of-form : (line : List ℕ) (term : Json) (request : Request) → length line ≤ 2097152 → reading line ≡ Ok term → form_of term ≡ Some request
+    → request_of line ≡ Ok request
+request_of-form line term request short reads form =
+    request_of-short line (rw line_limit-is short) ∙ ap request_in reads ∙ ap (λ (o : Option Request). ok_or o UnknownRequest) form
+
+pub request_of-no_form : (line : List ℕ) (term : Json) → length line ≤ 2097152 → reading line ≡ Ok term → form_of term ≡ None
+    → request_of line ≡ Err UnknownRequest
+request_of-no_form line term short reads form =
+    request_of-short line (rw line_limit-is short) ∙ ap request_in reads ∙ ap (λ (o : Option Request). ok_or o UnknownRequest) form
+
+pub request_of-unread : (line : List ℕ) (fault : TermFault) → length line ≤ 2097152 → reading line ≡ Err fault → request_of line ≡ Err (unread fault)
+request_of-unread line fault short reads = request_of-short line (rw line_limit-is short) ∙ ap request_in reads
+
+-- a line that is too long is answered as its first bytes are
+pub Answers-cut : (world : World) (line text : List ℕ) (new : World) → line_limit < length line
+    → Answers world (record { line = take (line_limit + 1) line; text = text }) new → Answers world (record { line = line; text = text }) new
+Answers-cut world [] text new long answers = absurd (omega arith)
+Answers-cut world (byte ∷ bytes) text new long answers =
+    let front : take (line_limit + 1) (byte ∷ bytes) ≡ byte ∷ take line_limit bytes = rw add-one refl in
+    let cut : Answers world (record { line = byte ∷ take line_limit bytes; text = text }) new =
+    subst (λ (l : List ℕ). Answers world (record { line = l; text = text }) new) front answers in
+    let same : request_of (byte ∷ take line_limit bytes) ≡ request_of (byte ∷ bytes) =
+    request_of-long (byte ∷ take line_limit bytes) (omega (arith, length-take line_limit bytes)) ∙ sym (request_of-long (byte ∷ bytes) long) in
+    elim cut [
+      | inl done ↦ inl (done.0, subst (λ (r : Result Request Refusal). DoesRequest world r done.0 new) same done.1, done.2)
+      | inr gave_up ↦ inr (λ none. absurd (let e : byte ∷ bytes ≡ [] = none in cc), gave_up.1, gave_up.2)
+    ]

@@ -1,0 +1,8 @@
+-- Pieces that are appended one after another.
+use Rattle.std.specs.Prelude.{◌≡◌, ◌++◌, ℕ, List}
+use Rattle.std.proofs.Common.{ap, ◌∙◌, append_assoc}
+
+pub appended5 : (o a b c d e : List ℕ) {n m p q r : List ℕ} → n ≡ o ++ a → m ≡ n ++ b → p ≡ m ++ c → q ≡ p ++ d → r ≡ q ++ e
+    → r ≡ o ++ (a ++ b ++ c ++ d ++ e)
+appended5 o a b c d e first second third fourth fifth =
+    fifth ∙ ap (λ x. x ++ e) (fourth ∙ ap (λ x. x ++ d) (third ∙ ap (λ x. x ++ c) (second ∙ ap (λ x. x ++ b) first))) ∙ simp append_assoc

@@ -1,0 +1,15 @@
+pub mod World
+pub mod Kinds
+pub mod Revision
+pub mod PlainDocument
+pub mod Rows
+pub mod Answer
+pub mod Requests
+pub mod Refusals
+pub mod Put
+pub mod View
+pub mod Steps
+pub mod Outcome
+pub mod Documents
+pub mod Engine
+pub mod Accepted

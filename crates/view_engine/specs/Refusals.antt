@@ -1,0 +1,66 @@
+-- Refusals: their texts, and which of several comes.
+use Rattle.std.specs.Prelude.{ℕ, List, [], ◌∷◌, ◌++◌, Bool, nat_lt, length, codes, Option, Some, None, Result, Ok, Err, ok_or, if◌then◌else◌}
+use Rattle.json_terms.specs.Json.{Json}
+use Rattle.json_terms.specs.Reading.{reading}
+use Rattle.json_terms.specs.declared.fault.TermFault.{TermFault}
+use Rattle.json_terms.specs.declared.fault.TermFault.TheVariants as fault
+use Rattle.view_engine.specs.declared.request.Request.{Request}
+use Rattle.view_engine.specs.declared.refusal.Refusal.{Refusal}
+use Rattle.view_engine.specs.declared.refusal.Refusal.TheVariants.{LineTooLong, NotJson, NotWhole, TooDeep, UnknownRequest, NotBuiltYet, Missing, Deleted, MissingNamedView, Conflict, NoMemory}
+use Rattle.view_engine.specs.Requests.{form_of}
+
+-- the longest request line, in bytes
+unfoldable pub line_limit : ℕ
+line_limit = 2097152
+
+abbrev pub error_name : Refusal → List ℕ
+error_name LineTooLong = codes "line_too_long"
+error_name NotJson = codes "bad_request"
+error_name NotWhole = codes "bad_request"
+error_name TooDeep = codes "bad_request"
+error_name UnknownRequest = codes "bad_request"
+error_name NotBuiltYet = codes "bad_request"
+error_name Missing = codes "not_found"
+error_name Deleted = codes "not_found"
+error_name MissingNamedView = codes "not_found"
+error_name Conflict = codes "conflict"
+error_name NoMemory = codes "no_memory"
+
+abbrev pub error_reason : Refusal → List ℕ
+error_reason LineTooLong = codes "line passes 2097152 bytes"
+error_reason NotJson = codes "line is not JSON"
+error_reason NotWhole = codes "number is not whole"
+error_reason TooDeep = codes "line is too deep"
+error_reason UnknownRequest = codes "unknown request"
+error_reason NotBuiltYet = codes "not built yet"
+error_reason Missing = codes "missing"
+error_reason Deleted = codes "deleted"
+error_reason MissingNamedView = codes "missing_named_view"
+error_reason Conflict = codes "Document update conflict."
+error_reason NoMemory = codes "out of memory"
+
+abbrev pub refusal_text : Refusal → List ℕ
+refusal_text refusal = codes "{\"error\":\"" ++ error_name refusal ++ codes "\",\"reason\":\"" ++ error_reason refusal ++ codes "\"}"
+
+-- the first refusal that stands
+abbrev pub first_of : List (Option Refusal) → Option Refusal
+first_of [] = None
+first_of (None ∷ others) = first_of others
+first_of (Some refusal ∷ others) = Some refusal
+
+abbrev pub refused_unless : Refusal → Bool → Option Refusal
+refused_unless refusal holds = if holds then None else Some refusal
+
+abbrev pub unread : TermFault → Refusal
+unread fault.NotJson = NotJson
+unread fault.NotWhole = NotWhole
+unread fault.TooDeep = TooDeep
+unread fault.NoMemory = NoMemory
+
+abbrev pub request_in : Result Json TermFault → Result Request Refusal
+request_in (Ok term) = ok_or (form_of term) UnknownRequest
+request_in (Err why) = Err (unread why)
+
+-- the request that the line is, or the first of these refusals: too long, no term, no form
+unfoldable pub request_of : List ℕ → Result Request Refusal
+request_of line = if nat_lt line_limit (length line) then Err LineTooLong else request_in (reading line)

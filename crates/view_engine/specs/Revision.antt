@@ -1,0 +1,15 @@
+-- Revisions, and the document that is stored for a put.
+use Rattle.std.specs.Prelude.{ℕ, List, ◌++◌, codes, decimal}
+use Rattle.std.specs.Int.{w128, to_be_bytes}
+use Rattle.hex.specs.Hex.{encode_lower}
+use Rattle.json_terms.specs.Json.{Json, object, string}
+use Rattle.json_terms.specs.Find.{with_member}
+
+-- the generation in decimal, a dash, and the update sequence in 32 hexadecimal digits
+unfoldable pub revision : ℕ → ℕ → List ℕ
+revision generation sequence = decimal generation ++ codes "-" ++ encode_lower (to_be_bytes w128 sequence)
+
+-- the document that is stored under this revision
+abbrev pub stored_document : Json → List ℕ → Json
+stored_document (object members) rev = object (with_member (codes "_rev") (string rev) members)
+stored_document other rev = other

@@ -1,0 +1,21 @@
+//! The view engine: one request line, done or refused.
+#![tactic(auto)]
+
+mod answer;
+mod engine;
+mod fault_line;
+mod forms;
+mod line;
+mod outcome;
+mod plain;
+mod refusal;
+mod request;
+mod revision;
+#[cfg(test)]
+mod tests;
+
+pub use engine::{Engine, StepFault};
+pub use fault_line::no_memory_line;
+pub use line::{LINE_LIMIT, read_request};
+pub use refusal::Refusal;
+pub use request::{Request, ViewName};

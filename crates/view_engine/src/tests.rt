@@ -1,0 +1,365 @@
+use super::*;
+use std::alloc::Global;
+use std::process::Abort;
+use std::test::Fail;
+
+const PEOPLE: &str =
+    "{\"put\":{\"_id\":\"_design/people\",\"language\":\"field\",\"views\":{\"by_name\":{\"map\":\"name\"}}}}";
+
+/// The reply lines to some request lines.
+fn replies(alloc: Global, lines: &[&str]) -> Result<Vec<u8>, Fail> {
+    let mut engine = match Engine::open(alloc) {
+        Ok(engine) => engine,
+        Err(_) => return Err(Fail::from("no memory")),
+    };
+    let mut out = Vec::new(alloc);
+    for line in lines {
+        if engine.step(alloc, line.as_bytes(), &mut out).is_err() {
+            out.extend_from_slice(no_memory_line())?;
+        }
+    }
+    Ok(out)
+}
+
+fn assert_replies(rt: &impl Abort, alloc: Global, lines: &[&str], want: &str) -> Result<(), Fail> {
+    let got = replies(alloc, lines)?;
+    assert_eq!(rt; got.as_slice(), want.as_bytes());
+    Ok(())
+}
+
+#[test]
+fn three_documents_give_three_rows(rt: HostRuntime) -> Result<(), Fail> {
+    assert_replies(
+        &rt,
+        rt.alloc(),
+        &[
+            PEOPLE,
+            "{\"put\":{\"_id\":\"b\",\"name\":\"Ida\"}}",
+            "",
+            "{\"put\":{\"_id\":\"a\",\"name\":\"Ole\"}}",
+            " {\"put\" : {\"name\":\"Ida\",\"age\":41,\"_id\":\"c\"}} ",
+            "{\"view\":[\"people\",\"by_name\"]}",
+        ],
+        "{\"ok\":true,\"id\":\"_design/people\",\"rev\":\"1-00000000000000000000000000000001\"}\n\
+{\"ok\":true,\"id\":\"b\",\"rev\":\"1-00000000000000000000000000000002\"}\n\
+{\"ok\":true,\"id\":\"a\",\"rev\":\"1-00000000000000000000000000000003\"}\n\
+{\"ok\":true,\"id\":\"c\",\"rev\":\"1-00000000000000000000000000000004\"}\n\
+{\"total_rows\":3,\"offset\":0,\"rows\":[{\"id\":\"b\",\"key\":\"Ida\",\"value\":null},{\"id\":\"c\",\"key\":\"Ida\",\"value\":null},{\"id\":\"a\",\"key\":\"Ole\",\"value\":null}]}\n",
+    )
+}
+
+#[test]
+fn rows_are_in_raw_order(rt: HostRuntime) -> Result<(), Fail> {
+    assert_replies(
+        &rt,
+        rt.alloc(),
+        &[
+            "{\"put\":{\"_id\":\"_design/s\",\"language\":\"field\",\"views\":{\"by_k\":{\"map\":\"k\"},\"by_rev\":{\"map\":\"_rev\"}}}}",
+            "{\"view\":[\"s\",\"by_k\"]}",
+            "{\"put\":{\"_id\":\"d01\",\"k\":\"a\"}}",
+            "{\"put\":{\"_id\":\"d02\",\"k\":\"\"}}",
+            "{\"put\":{\"_id\":\"d03\",\"k\":[1,0]}}",
+            "{\"put\":{\"_id\":\"d04\",\"k\":[1]}}",
+            "{\"put\":{\"_id\":\"d05\",\"k\":[]}}",
+            "{\"put\":{\"_id\":\"d06\",\"k\":{\"a\":1}}}",
+            "{\"put\":{\"_id\":\"d07\",\"k\":{}}}",
+            "{\"put\":{\"_id\":\"d08\",\"k\":true}}",
+            "{\"put\":{\"_id\":\"d09\",\"k\":null}}",
+            "{\"put\":{\"_id\":\"d10\",\"k\":false}}",
+            "{\"put\":{\"_id\":\"d11\",\"k\":1}}",
+            "{\"put\":{\"_id\":\"e\",\"K\":1}}",
+            "{\"view\":[\"s\",\"by_k\"]}",
+        ],
+        "{\"ok\":true,\"id\":\"_design/s\",\"rev\":\"1-00000000000000000000000000000001\"}\n\
+{\"total_rows\":0,\"offset\":0,\"rows\":[]}\n\
+{\"ok\":true,\"id\":\"d01\",\"rev\":\"1-00000000000000000000000000000002\"}\n\
+{\"ok\":true,\"id\":\"d02\",\"rev\":\"1-00000000000000000000000000000003\"}\n\
+{\"ok\":true,\"id\":\"d03\",\"rev\":\"1-00000000000000000000000000000004\"}\n\
+{\"ok\":true,\"id\":\"d04\",\"rev\":\"1-00000000000000000000000000000005\"}\n\
+{\"ok\":true,\"id\":\"d05\",\"rev\":\"1-00000000000000000000000000000006\"}\n\
+{\"ok\":true,\"id\":\"d06\",\"rev\":\"1-00000000000000000000000000000007\"}\n\
+{\"ok\":true,\"id\":\"d07\",\"rev\":\"1-00000000000000000000000000000008\"}\n\
+{\"ok\":true,\"id\":\"d08\",\"rev\":\"1-00000000000000000000000000000009\"}\n\
+{\"ok\":true,\"id\":\"d09\",\"rev\":\"1-0000000000000000000000000000000a\"}\n\
+{\"ok\":true,\"id\":\"d10\",\"rev\":\"1-0000000000000000000000000000000b\"}\n\
+{\"ok\":true,\"id\":\"d11\",\"rev\":\"1-0000000000000000000000000000000c\"}\n\
+{\"ok\":true,\"id\":\"e\",\"rev\":\"1-0000000000000000000000000000000d\"}\n\
+{\"total_rows\":11,\"offset\":0,\"rows\":[{\"id\":\"d11\",\"key\":1,\"value\":null},{\"id\":\"d10\",\"key\":false,\"value\":null},{\"id\":\"d09\",\"key\":null,\"value\":null},{\"id\":\"d08\",\"key\":true,\"value\":null},{\"id\":\"d07\",\"key\":{},\"value\":null},{\"id\":\"d06\",\"key\":{\"a\":1},\"value\":null},{\"id\":\"d05\",\"key\":[],\"value\":null},{\"id\":\"d04\",\"key\":[1],\"value\":null},{\"id\":\"d03\",\"key\":[1,0],\"value\":null},{\"id\":\"d02\",\"key\":\"\",\"value\":null},{\"id\":\"d01\",\"key\":\"a\",\"value\":null}]}\n",
+    )
+}
+
+/// Each line alone, with its refusal's name and reason.
+#[test]
+fn lines_are_refused(rt: HostRuntime) -> Result<(), Fail> {
+    for (line, name, reason) in [
+        ("{\"info\":true", "bad_request", "line is not JSON"),
+        ("\"\u{0}\"", "bad_request", "line is not JSON"),
+        (
+            "{\"put\":{\"_id\":\"a\",\"n\":1.5}",
+            "bad_request",
+            "line is not JSON",
+        ),
+        (
+            "{\"put\":{\"_id\":\"a\",\"n\":1.5}}",
+            "bad_request",
+            "number is not whole",
+        ),
+        (
+            "{\"put\":{\"_id\":\"a\",\"n\":1e2}}",
+            "bad_request",
+            "number is not whole",
+        ),
+        (
+            "{\"put\":{\"_id\":\"a\",\"n\":-0}}",
+            "bad_request",
+            "number is not whole",
+        ),
+        (
+            "{\"put\":{\"_id\":\"a\",\"n\":9223372036854775808}}",
+            "bad_request",
+            "number is not whole",
+        ),
+        ("[]", "bad_request", "unknown request"),
+        ("{}", "bad_request", "unknown request"),
+        ("{\"info\":false}", "bad_request", "unknown request"),
+        ("{\"put\":[]}", "bad_request", "unknown request"),
+        (
+            "{\"put\":{},\"get\":\"a\"}",
+            "bad_request",
+            "unknown request",
+        ),
+        (
+            "{\"delete\":\"a\",\"rev\":1}",
+            "bad_request",
+            "unknown request",
+        ),
+        ("{\"view\":[\"a\"]}", "bad_request", "unknown request"),
+        (
+            "{\"view\":[\"a\",\"b\",\"c\"]}",
+            "bad_request",
+            "unknown request",
+        ),
+        ("{\"view\":[\"a\",1]}", "bad_request", "unknown request"),
+        (
+            "{\"query\":[],\"view\":[\"a\",\"b\"]}",
+            "bad_request",
+            "unknown request",
+        ),
+        (
+            "{\"cursor\":\"\",\"view\":[\"a\",\"b\"]}",
+            "bad_request",
+            "unknown request",
+        ),
+        (
+            "{\"cursor\":\"123456789012345678901234567890123\",\"view\":[\"a\",\"b\"]}",
+            "bad_request",
+            "unknown request",
+        ),
+        (
+            "{\"next\":\"c\",\"count\":0}",
+            "bad_request",
+            "unknown request",
+        ),
+        (
+            "{\"next\":\"c\",\"count\":1001}",
+            "bad_request",
+            "unknown request",
+        ),
+        (
+            "{\"next\":\"c\",\"count\":-1}",
+            "bad_request",
+            "unknown request",
+        ),
+        (
+            "{\"compact_step\":\"s\",\"rows\":10001}",
+            "bad_request",
+            "unknown request",
+        ),
+        ("{\"compact_docs\":1}", "bad_request", "unknown request"),
+        ("{\"all_docs\":true}", "bad_request", "unknown request"),
+        ("{\"bulk\":[{}]}", "bad_request", "unknown request"),
+        ("{\"delete\":\"a\"}", "bad_request", "not built yet"),
+        (
+            "{\"delete\":\"a\",\"rev\":\"x\"}",
+            "bad_request",
+            "not built yet",
+        ),
+        ("{\"get\":\"a\"}", "bad_request", "not built yet"),
+        (
+            "{\"view\":[\"a\",\"b\"],\"query\":{}}",
+            "bad_request",
+            "not built yet",
+        ),
+        (
+            "{\"cursor\":\"12345678901234567890123456789012\",\"view\":[\"a\",\"b\"]}",
+            "bad_request",
+            "not built yet",
+        ),
+        (
+            "{\"cursor\":\"c\",\"view\":[\"a\",\"b\"],\"query\":{}}",
+            "bad_request",
+            "not built yet",
+        ),
+        (
+            "{\"next\":\"c\",\"count\":1000}",
+            "bad_request",
+            "not built yet",
+        ),
+        ("{\"close\":\"c\"}", "bad_request", "not built yet"),
+        ("{\"compact\":\"s\"}", "bad_request", "not built yet"),
+        (
+            "{\"compact_step\":\"s\",\"rows\":10000}",
+            "bad_request",
+            "not built yet",
+        ),
+        ("{\"compact_docs\":true}", "bad_request", "not built yet"),
+        ("{\"cleanup\":true}", "bad_request", "not built yet"),
+        ("{\"info\":true}", "bad_request", "not built yet"),
+        (
+            "{\"all_docs\":{\"reduce\":false}}",
+            "bad_request",
+            "not built yet",
+        ),
+        ("{\"put\":{}}", "bad_request", "not built yet"),
+        ("{\"put\":{\"_id\":1}}", "bad_request", "not built yet"),
+        ("{\"put\":{\"_id\":\"\"}}", "bad_request", "not built yet"),
+        ("{\"put\":{\"_id\":\"_x\"}}", "bad_request", "not built yet"),
+        (
+            "{\"put\":{\"_id\":\"_design/\"}}",
+            "bad_request",
+            "not built yet",
+        ),
+        (
+            "{\"put\":{\"_id\":\"a\",\"_rev\":\"1-0\"}}",
+            "bad_request",
+            "not built yet",
+        ),
+        (
+            "{\"put\":{\"_id\":\"a\",\"_\":1}}",
+            "bad_request",
+            "not built yet",
+        ),
+        (
+            "{\"put\":{\"_id\":\"_design/d\",\"views\":{}}}",
+            "bad_request",
+            "not built yet",
+        ),
+        (
+            "{\"put\":{\"_id\":\"_design/d\",\"language\":\"field\"}}",
+            "bad_request",
+            "not built yet",
+        ),
+        (
+            "{\"put\":{\"_id\":\"_design/d\",\"language\":\"pick\",\"views\":{}}}",
+            "bad_request",
+            "not built yet",
+        ),
+        (
+            "{\"put\":{\"_id\":\"_design/d\",\"language\":\"field\",\"options\":{},\"views\":{}}}",
+            "bad_request",
+            "not built yet",
+        ),
+        (
+            "{\"put\":{\"_id\":\"_design/d\",\"language\":\"field\",\"views\":{\"lib\":{\"map\":\"n\"}}}}",
+            "bad_request",
+            "not built yet",
+        ),
+        (
+            "{\"put\":{\"_id\":\"_design/d\",\"language\":\"field\",\"views\":{\"v\":{\"map\":\"\"}}}}",
+            "bad_request",
+            "not built yet",
+        ),
+        (
+            "{\"put\":{\"_id\":\"_design/d\",\"language\":\"field\",\"views\":{\"v\":{\"map\":\"n\",\"reduce\":\"_sum\"}}}}",
+            "bad_request",
+            "not built yet",
+        ),
+        (
+            "{\"view\":[\"people\",\"by_name\"]}",
+            "not_found",
+            "missing",
+        ),
+    ] {
+        let want = format!(in rt.alloc(); "{{\"error\":\"{name}\",\"reason\":\"{reason}\"}}\n")?;
+        assert_replies(&rt, rt.alloc(), &[line], want.as_str())?;
+    }
+    Ok(())
+}
+
+#[test]
+fn a_known_id_is_in_conflict(rt: HostRuntime) -> Result<(), Fail> {
+    assert_replies(
+        &rt,
+        rt.alloc(),
+        &[
+            "{\"put\":{\"_id\":\"\u{e9}\\\"\"}}",
+            "{\"put\":{\"_id\":\"\u{e9}\\\"\",\"n\":1}}",
+            PEOPLE,
+            PEOPLE,
+            "{\"view\":[\"people\",\"by_age\"]}",
+            "{\"view\":[\"people\",\"by_name\"]}",
+        ],
+        "{\"ok\":true,\"id\":\"\u{e9}\\\"\",\"rev\":\"1-00000000000000000000000000000001\"}\n\
+{\"error\":\"conflict\",\"reason\":\"Document update conflict.\"}\n\
+{\"ok\":true,\"id\":\"_design/people\",\"rev\":\"1-00000000000000000000000000000002\"}\n\
+{\"error\":\"conflict\",\"reason\":\"Document update conflict.\"}\n\
+{\"error\":\"not_found\",\"reason\":\"missing_named_view\"}\n\
+{\"total_rows\":0,\"offset\":0,\"rows\":[]}\n",
+    )
+}
+
+/// A put of a document whose text has so many bytes, or a line of so many.
+fn put_of(alloc: Global, size: usize) -> Result<String, Fail> {
+    let mut line = String::from_str(alloc, "{\"put\":{\"_id\":\"x\",\"t\":\"")?;
+    for _ in 0..size {
+        line.push_str("a")?;
+    }
+    line.push_str("\"}}")?;
+    Ok(line)
+}
+
+#[test]
+fn sizes_have_limits(rt: HostRuntime) -> Result<(), Fail> {
+    let accepted = "{\"ok\":true,\"id\":\"x\",\"rev\":\"1-00000000000000000000000000000001\"}\n";
+    let unbuilt = "{\"error\":\"bad_request\",\"reason\":\"not built yet\"}\n";
+    let too_long = "{\"error\":\"line_too_long\",\"reason\":\"line passes 2097152 bytes\"}\n";
+    let outside = "{\"put\":{\"_id\":\"x\",\"t\":\"\"}}".len();
+    for (size, want) in [
+        (524_270, accepted),
+        (524_271, unbuilt),
+        (2_097_152 - outside, unbuilt),
+        (2_097_153 - outside, too_long),
+    ] {
+        let line = put_of(rt.alloc(), size)?;
+        assert_replies(&rt, rt.alloc(), &[line.as_str()], want)?;
+    }
+    Ok(())
+}
+
+#[test]
+fn depths_have_limits(rt: HostRuntime) -> Result<(), Fail> {
+    let accepted = "{\"ok\":true,\"id\":\"x\",\"rev\":\"1-00000000000000000000000000000001\"}\n";
+    let unbuilt = "{\"error\":\"bad_request\",\"reason\":\"not built yet\"}\n";
+    let too_deep = "{\"error\":\"bad_request\",\"reason\":\"line is too deep\"}\n";
+    let not_json = "{\"error\":\"bad_request\",\"reason\":\"line is not JSON\"}\n";
+    for (depth, want) in [
+        (63, accepted),
+        (64, unbuilt),
+        (98, unbuilt),
+        (99, too_deep),
+        (125, too_deep),
+        (126, not_json),
+        (10_000, not_json),
+    ] {
+        let mut line = String::from_str(rt.alloc(), "{\"put\":{\"_id\":\"x\",\"t\":")?;
+        for _ in 0..depth {
+            line.push_str("[")?;
+        }
+        for _ in 0..depth {
+            line.push_str("]")?;
+        }
+        line.push_str("}}")?;
+        assert_replies(&rt, rt.alloc(), &[line.as_str()], want)?;
+    }
+    Ok(())
+}
