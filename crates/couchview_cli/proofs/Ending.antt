@@ -1,0 +1,162 @@
+-- The ends of a session, and what serving then did.
+use Rattle.std.specs.Prelude.{◌≡◌, ◌≢◌, ◌<◌, ◌≤◌, ◌⊎◌, ℕ, List, [], ◌++◌, Option, Some, None, length}
+use Rattle.std.proofs.Common.{refl, sym, ap, ◌∙◌, subst, arith, inl, inr, length-append, lit≤}
+use Rattle.std.proofs.KnownBytes.{Consumes-nil, Appends-nil, Appends-trans}
+use Rattle.std.specs.Io.KnownBytes.{Appends, Consumes}
+use Rattle.view_ports.specs.declared.run_end.RunEnd.{RunEnd}
+use Rattle.view_ports.specs.declared.run_end.RunEnd.TheVariants.{InputEnded, SinkFailed, SourceFailed, OutOfMemory, InputTooLong}
+use Rattle.view_ports.specs.Lines.{IsLine, ended}
+use Rattle.view_ports.specs.Exchanges.{Exchange, text_of}
+use Rattle.view_ports.specs.Runs.{HasRead, status_of, input_limit}
+use Rattle.view_ports.proofs.Exchanging.{IsPrefixOf-after, IsPrefixOf-text_of-push}
+use Rattle.view_ports.proofs.Reaching.{reached_start, reached_line, Run-ended, Run-ended_last, Run-source_failed, Run-too_long, Run-out_of_memory, Run-sink_failed, Run-sink_failed_last}
+use Rattle.view_engine.specs.declared.engine.Engine.{Engine}
+use Rattle.view_engine.specs.World.{empty_world}
+use Rattle.view_engine.specs.Steps.{Answers}
+use Rattle.view_engine.proofs.AcceptedWrites.{LeadsTo-accepted}
+use Rattle.couchview_cli.specs.declared.session.Session.{Session}
+use Rattle.couchview_cli.specs.declared.session.SessionError.{SessionError}
+use Rattle.couchview_cli.specs.declared.session.SessionError.TheVariants as error
+use Rattle.couchview_cli.specs.Session.{Progress, Answered, Stopped, Ended, end_of}
+use Rattle.couchview_cli.specs.Serving.{Outside, Serves, IsShort}
+
+pub Ended-same : (before now : Option (List ℕ)) (bytes bytes' : List ℕ) (end : RunEnd) → bytes ≡ bytes' → Ended before now bytes end → Ended before now bytes' end
+Ended-same before now bytes bytes' end same ended = subst (λ (bs : List ℕ). Ended before now bs end) same ended
+
+module _ {before now : Option (List ℕ)} {bytes : List ℕ} {session : Session} (progress : Progress before now bytes session) where
+  -- the sink failed in the reply to a line that ended
+  pub Ended-line : (end more : List ℕ) → IsLine end → (now' : Option (List ℕ)) (engine : Engine)
+      → Answered (Stopped now now') progress.reached.after (progress.reached.rest ++ end) engine → Ended before now' (bytes ++ ended end ++ more) SinkFailed
+  Ended-line end more plain now' engine answered =
+      let exchange : Exchange = record { line = progress.reached.rest ++ end; text = answered.text } in
+      let part = answered.wrote.0 in record {
+        gained = text_of progress.reached.exchanges ++ part;
+        world = answered.after;
+        run =
+            Run-sink_failed (reached_line progress.reached end plain answered.text answered.after answered.answers) more (text_of progress.reached.exchanges ++ part)
+            (IsPrefixOf-text_of-push progress.reached.exchanges exchange part answered.wrote.1);
+        wrote = Appends-trans _ _ _ _ _ progress.wrote answered.wrote.2;
+      }
+
+  -- there was no memory to keep what comes next
+  pub Ended-out_of_memory : (more : List ℕ) → Ended before now (bytes ++ more) OutOfMemory
+  Ended-out_of_memory more = record {
+    gained = text_of progress.reached.exchanges;
+    world = progress.reached.after;
+    run = Run-out_of_memory progress.reached more;
+    wrote = progress.wrote;
+  }
+
+  pub Ended-source_failed : Ended before now bytes SourceFailed
+  Ended-source_failed = record {
+    gained = text_of progress.reached.exchanges;
+    world = progress.reached.after;
+    run = Run-source_failed progress.reached;
+    wrote = progress.wrote;
+  }
+
+  pub Ended-too_long : Ended before now bytes InputTooLong
+  Ended-too_long = record {
+    gained = text_of progress.reached.exchanges;
+    world = progress.reached.after;
+    run = Run-too_long progress.reached;
+    wrote = progress.wrote;
+  }
+
+  -- the input ended behind a newline, or was empty
+  pub Ended-input : progress.reached.rest ≡ [] → Ended before now bytes InputEnded
+  Ended-input none = record {
+    gained = text_of progress.reached.exchanges;
+    world = progress.reached.after;
+    run = Run-ended progress.reached none;
+    wrote = progress.wrote;
+  }
+
+  -- the input ended in a line without a newline, which was answered
+  pub Ended-last : progress.reached.rest ≢ [] → (now' : Option (List ℕ)) (engine : Engine) → Answered (Appends now now') progress.reached.after progress.reached.rest engine
+      → Ended before now' bytes InputEnded
+  Ended-last some now' engine answered = record {
+    gained = text_of progress.reached.exchanges ++ answered.text;
+    world = answered.after;
+    run = Run-ended_last progress.reached some answered.text answered.after answered.answers;
+    wrote = Appends-trans _ _ _ _ _ progress.wrote answered.wrote;
+  }
+
+  -- the sink failed in the reply to that line
+  pub Ended-last_failed : progress.reached.rest ≢ [] → (now' : Option (List ℕ)) (engine : Engine) → Answered (Stopped now now') progress.reached.after progress.reached.rest engine
+      → Ended before now' bytes SinkFailed
+  Ended-last_failed some now' engine answered =
+      let gained = text_of progress.reached.exchanges ++ answered.wrote.0 in record {
+        gained = gained;
+        world = answered.after;
+        run =
+            Run-sink_failed_last progress.reached some answered.text answered.after answered.answers gained
+            (IsPrefixOf-after (text_of progress.reached.exchanges) answered.wrote.0 answered.text answered.wrote.1);
+        wrote = Appends-trans _ _ _ _ _ progress.wrote answered.wrote.2;
+      }
+
+pub Serves-ended : (before after : Outside) (bytes : List ℕ) (end : RunEnd) → Consumes before.left after.left bytes → HasRead end (length bytes)
+    → Ended before.held after.held bytes end → Serves before after (status_of end)
+Serves-ended before after bytes end reads counts ended = record {
+  bytes = bytes;
+  gained = ended.gained;
+  end = end;
+  world = ended.world;
+  ends = refl;
+  reads = reads;
+  counts = counts;
+  writes = ended.wrote;
+  runs = ended.run;
+  keeps = LeadsTo-accepted empty_world ended.run.exchanges ended.world ended.run.leads;
+}
+
+-- a session that can't go on may have read any number of bytes
+pub HasRead-stopped : (stop : SessionError) (count : ℕ) → count ≤ input_limit → HasRead (end_of stop) count
+HasRead-stopped error.SinkFailed count within = within
+HasRead-stopped error.OutOfMemory count within = within
+
+-- nothing was read or written, since there was no memory to begin
+pub Serves-unopened : (outside : Outside) → Serves outside outside (status_of OutOfMemory)
+Serves-unopened outside =
+    Serves-ended outside outside [] OutOfMemory (Consumes-nil outside.left) (lit≤ tt)
+    (record {
+      gained = [];
+      world = empty_world;
+      run = Run-out_of_memory (reached_start Answers empty_world) [];
+      wrote = Appends-nil outside.held;
+    })
+
+-- what is consumed is no longer than what was left
+consumed_short : (before after : Option (List ℕ)) (bytes : List ℕ) → Consumes before after bytes → IsShort before → length bytes < input_limit
+consumed_short None after bytes reads short = absurd short
+consumed_short (Some left) None bytes reads short = absurd reads
+consumed_short (Some left) (Some rest) bytes reads short = omega (arith, ap length reads, length-append bytes rest, short)
+
+-- what each failure's status says of the end
+is_sink_failed : (end : RunEnd) → status_of end ≡ 4 → end ≡ SinkFailed
+is_sink_failed InputEnded is = absurd (omega arith)
+is_sink_failed SinkFailed is = refl
+is_sink_failed SourceFailed is = absurd (omega arith)
+is_sink_failed OutOfMemory is = absurd (omega arith)
+is_sink_failed InputTooLong is = absurd (omega arith)
+
+is_source_failed : (end : RunEnd) → status_of end ≡ 5 → end ≡ SourceFailed
+is_source_failed InputEnded is = absurd (omega arith)
+is_source_failed SinkFailed is = absurd (omega arith)
+is_source_failed SourceFailed is = refl
+is_source_failed OutOfMemory is = absurd (omega arith)
+is_source_failed InputTooLong is = absurd (omega arith)
+
+complete : (end : RunEnd) (status count : ℕ) → status ≡ status_of end → HasRead end count → count < input_limit → (status ≡ 4 → ⊥) → (status ≡ 5 → ⊥) → (status ≡ 0) ⊎ (status ≡ 6)
+complete InputEnded status count is counts short sink source = inl is
+complete SinkFailed status count is counts short sink source = absurd (sink is)
+complete SourceFailed status count is counts short sink source = absurd (source is)
+complete OutOfMemory status count is counts short sink source = inr is
+complete InputTooLong status count is counts short sink source = absurd (omega arith)
+
+-- input that is short enough is read to its end, unless a port fails or memory runs out
+pub Serves-complete : (before after : Outside) (end : RunEnd) (status : ℕ) → status ≡ status_of end → Serves before after (status_of end) → IsShort before.left
+    → (end ≡ SinkFailed → ⊥) → (end ≡ SourceFailed → ⊥) → (status ≡ 0) ⊎ (status ≡ 6)
+Serves-complete before after end status is serves short sink source =
+    complete serves.end status (length serves.bytes) (is ∙ serves.ends) serves.counts (consumed_short before.left after.left serves.bytes serves.reads short)
+    (λ four. sink (is_sink_failed end (sym is ∙ four))) (λ five. source (is_source_failed end (sym is ∙ five)))

@@ -1,0 +1,96 @@
+-- What is kept of a line.
+use Rattle.std.specs.Prelude.{◌≡◌, ◌≢◌, ◌<◌, ◌≤◌, ◌+◌, ◌-◌, ◌⊎◌, ℕ, min, zero, suc, List, [], ◌∷◌, ◌++◌, length, take}
+use Rattle.std.proofs.Common.{refl, sym, ap, ◌∙◌, subst, arith, add-one, inl, inr}
+use Rattle.std.proofs.lemmas.Bool.{cases_lt}
+use Rattle.std.proofs.lemmas.List.{take_all}
+use Rattle.view_engine.specs.declared.engine.Engine.{Engine}
+use Rattle.view_engine.specs.World.{World}
+use Rattle.view_engine.specs.declared.refusal.Refusal.TheVariants.{NoMemory}
+use Rattle.view_engine.specs.Refusals.{line_limit, refusal_text}
+use Rattle.view_engine.specs.Engine.{IsWorldOf}
+use Rattle.view_ports.specs.Lines.{ended}
+use Rattle.view_engine.specs.Steps.{Answers}
+use Rattle.view_engine.proofs.LineLimit.{Answers-cut, line_limit-is}
+use Rattle.couchview_cli.specs.Session.{kept, Answered}
+
+take-front : (n : ℕ) (xs ys : List ℕ) → take n (take n xs ++ ys) ≡ take n (xs ++ ys)
+take-front zero xs ys = refl
+take-front (suc n) [] ys = refl
+take-front (suc n) (x ∷ xs) ys = ap (λ l. x ∷ l) (take-front n xs ys)
+
+-- of what comes next, as much is kept as if the whole line had been
+pub kept-more : (rest more : List ℕ) → kept (kept rest ++ more) ≡ kept (rest ++ more)
+kept-more rest more = take-front (line_limit + 1) rest more
+
+pub kept-nil : kept [] ≡ []
+kept-nil = rw add-one refl
+
+take-fit : (n : ℕ) (xs ys : List ℕ) → length xs ≤ n → take n (xs ++ ys) ≡ xs ++ take (n - length xs) ys
+take-fit n [] ys fits = let same : n ≡ n - 0 = omega arith in ap (λ (m : ℕ). take m ys) same
+take-fit zero (x ∷ xs) ys fits = absurd (omega arith)
+take-fit (suc n) (x ∷ xs) ys fits =
+    let same : n - length xs ≡ suc n - suc (length xs) = omega arith in
+    ap (λ (l : List ℕ). x ∷ l) (take-fit n xs ys (omega arith) ∙ ap (λ (m : ℕ). xs ++ take m ys) same)
+
+take-most : (count room : ℕ) (xs : List ℕ) → count ≡ min (length xs) room → take count xs ≡ take room xs
+take-most count room xs is =
+    elim (cases_lt room (length xs)) [
+      | inl more ↦ let same : count ≡ room = omega arith in ap (λ (m : ℕ). take m xs) same
+      | inr all ↦ take_all count xs (omega arith) ∙ sym (take_all room xs all)
+    ]
+
+-- what is kept of a line is filled up with as much as there is room for
+pub kept-filled : (line more : List ℕ) (count : ℕ) → length line ≤ 2097153 → count ≡ min (length more) (2097153 - length line) → line ++ take count more ≡ kept (line ++ more)
+kept-filled line more count within is =
+    let limit : line_limit + 1 ≡ 2097153 = ap (λ (n : ℕ). n + 1) line_limit-is in
+    let room : 2097153 - length line ≡ line_limit + 1 - length line = omega (arith, limit) in
+    ap (λ (l : List ℕ). line ++ l) (take-most count (2097153 - length line) more is ∙ ap (λ (m : ℕ). take m more) room) ∙
+    sym (take-fit (line_limit + 1) line more (omega (arith, limit)))
+
+-- something is kept of any line that isn't empty
+pub kept-none : (rest : List ℕ) → kept rest ≡ [] → rest ≡ []
+kept-none [] none = refl
+kept-none (byte ∷ bytes) none = let some : byte ∷ take line_limit bytes ≡ [] = rw add-one at none in absurd (cc)
+
+long_or_whole : (limit : ℕ) (line : List ℕ) → (limit < length line) ⊎ (take (limit + 1) line ≡ line)
+long_or_whole limit line =
+    elim (cases_lt limit (length line)) [
+      | inl long ↦ inl long
+      | inr short ↦ inr (take_all (limit + 1) line (omega arith))
+    ]
+
+-- a line is answered as what is kept of it
+pub Answers-kept : (world : World) (line text : List ℕ) (new : World) → Answers world (record { line = kept line; text = text }) new → Answers world (record { line = line; text = text }) new
+Answers-kept world line text new answers =
+    elim (long_or_whole line_limit line) [
+      | inl long ↦ Answers-cut world line text new long answers
+      | inr whole ↦ subst (λ (l : List ℕ). Answers world (record { line = l; text = text }) new) whole answers
+    ]
+
+pub Answered-same : (Wrote : List ℕ → Type 0) (world : World) (line line' : List ℕ) (engine : Engine) → line ≡ line' → Answered Wrote world line engine → Answered Wrote world line' engine
+Answered-same Wrote world line line' engine same answered =
+    subst (λ (l : List ℕ). Answered Wrote world l engine) same answered
+
+pub Answered-kept : (Wrote : List ℕ → Type 0) (world : World) (line : List ℕ) (engine : Engine) → Answered Wrote world (kept line) engine → Answered Wrote world line engine
+Answered-kept Wrote world line engine answered = record {
+  text = answered.text;
+  after = answered.after;
+  answers = Answers-kept world line answered.text answered.after answered.answers;
+  stands = answered.stands;
+  wrote = answered.wrote;
+}
+
+-- where memory ran out the answer is a constant, and nothing has changed
+pub Answered-no_memory : (Wrote : List ℕ → Type 0) (world : World) (line : List ℕ) (engine : Engine) → line ≢ [] → IsWorldOf engine world → Wrote (ended (refusal_text NoMemory))
+    → Answered Wrote world line engine
+Answered-no_memory Wrote world line engine some stands wrote = record {
+  text = ended (refusal_text NoMemory);
+  after = world;
+  answers = inr (some, refl, refl);
+  stands = stands;
+  wrote = wrote;
+}
+
+-- something stands before the end of a line of which something is kept
+pub kept-some : (rest line : List ℕ) → line ≡ kept rest → length line ≢ 0 → rest ≢ []
+kept-some rest line is some none = some (ap length (is ∙ ap kept none ∙ kept-nil))

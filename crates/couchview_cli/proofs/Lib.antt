@@ -1,0 +1,5 @@
+pub mod Results
+pub mod Finding
+pub mod Keeping
+pub mod Progressing
+pub mod Ending

@@ -1,0 +1,24 @@
+use Rattle.std.proofs.Common.{◌≢◌, length, sym, ◌∙◌, arith}
+use Rattle.std.proofs.lemmas.Bool.{eqb-false}
+use Rattle.couchview_cli.proofs.Results.{OnOk-map, OnErr-map}
+use Rattle.couchview_cli.proofs.Keeping.{kept-some, Answered-kept, Answered-same}
+use Rattle.couchview_cli.proofs.Ending.{Ended-last, Ended-last_failed}
+use Rattle.couchview_cli.proofs.session.Session.finish.Goals as goal
+
+pub returns-clause-ok : goal.returns-clause-ok
+returns-clause-ok g c =
+    let line = c.args.self.now.line in
+    let some : length line.items ≢ 0 = λ none. eqb-false _ _ (sym c.if-is_empty.ensures) (omega arith) in
+    OnOk-map c.answer.result _ _
+    (λ answered held bytes progress. Ended-last progress (kept-some progress.reached.rest line.items progress.pending some) _ _
+    (Answered-kept _ _ _ _ (Answered-same _ _ _ _ _ (c.deref.ensures.value ∙ progress.pending) (answered progress.reached.after progress.stands))))
+    c.answer.ensures.ok
+
+pub returns-clause-err : goal.returns-clause-err
+returns-clause-err g c =
+    let line = c.args.self.now.line in
+    let some : length line.items ≢ 0 = λ none. eqb-false _ _ (sym c.if-is_empty.ensures) (omega arith) in
+    OnErr-map c.answer.result _ _
+    (λ answered held bytes progress. Ended-last_failed progress (kept-some progress.reached.rest line.items progress.pending some) _ _
+    (Answered-kept _ _ _ _ (Answered-same _ _ _ _ _ (c.deref.ensures.value ∙ progress.pending) (answered progress.reached.after progress.stands))))
+    c.answer.ensures.err

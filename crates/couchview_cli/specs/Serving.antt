@@ -1,0 +1,32 @@
+-- What serving does, in terms of what the ports tell.
+use Rattle.std.specs.Prelude.{◌≡◌, ◌<◌, ℕ, List, Option, Some, None, length}
+use Rattle.std.specs.Io.KnownBytes.{Consumes, Appends}
+use Rattle.view_ports.specs.declared.run_end.RunEnd.{RunEnd}
+use Rattle.view_ports.specs.Runs.{Run, HasRead, status_of, input_limit}
+use Rattle.view_engine.specs.World.{World, empty_world}
+use Rattle.view_engine.specs.Steps.{Answers}
+use Rattle.view_engine.specs.Accepted.{accepted}
+
+-- what the ports tell at one moment: the bytes that the source has left, and those that the sink holds
+pub record Outside : Type 0 where
+  pub left : Option (List ℕ)
+  pub held : Option (List ℕ)
+
+-- a run of the engine from the empty world, over the bytes that the source lost and the text that the sink gained,
+-- with the status of its end. The world after it has exactly the writes that were answered `ok`.
+pub record Serves (before after : Outside) (status : ℕ) : Type 0 where
+  pub bytes : List ℕ
+  pub gained : List ℕ
+  pub end : RunEnd
+  pub world : World
+  pub ends : status ≡ status_of end
+  pub reads : Consumes before.left after.left bytes
+  pub counts : HasRead end (length bytes)
+  pub writes : Appends before.held after.held gained
+  pub runs : Run Answers empty_world bytes gained end world
+  pub keeps : world ≡ accepted empty_world runs.exchanges
+
+-- the source tells its bytes, and they are fewer than a run reads at most
+abbrev pub IsShort : Option (List ℕ) → Type 0
+IsShort None = ⊥
+IsShort (Some bytes) = length bytes < input_limit

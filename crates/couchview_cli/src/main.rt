@@ -1,0 +1,37 @@
+//! couchview: CouchDB views over documents that request lines write.
+#![tactic(auto)]
+
+mod command;
+mod serve;
+mod session;
+mod streams;
+#[cfg(test)]
+mod tests;
+
+pub use command::couchview;
+use std::alloc::AllocError;
+use std::env;
+use std::io::ErrorKind;
+use std::process::ExitCode;
+use streams::{StdSink, StdSource};
+use view_ports::RunEnd;
+
+/// The words after the program's name. None are given where one of them isn't UTF-8, since then
+/// they are no command.
+fn words(rt: HostRuntime) -> Result<Vec<String>, AllocError> {
+    match env::args(&rt) {
+        Ok(all) => all.skip(1).collect(rt.alloc()),
+        Err(error) if error.kind() == ErrorKind::OutOfMemory => Err(AllocError),
+        Err(_) => Ok(Vec::new(rt.alloc())),
+    }
+}
+
+fn main(rt: HostRuntime) -> ExitCode {
+    let mut source = StdSource::new(rt.stdin());
+    let mut sink = StdSink::new(rt.stdout());
+    let status = match words(rt) {
+        Ok(words) => couchview(rt.alloc(), &words, &mut source, &mut sink),
+        Err(AllocError) => RunEnd::OutOfMemory.status(),
+    };
+    ExitCode::from(status)
+}

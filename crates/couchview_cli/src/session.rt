@@ -1,0 +1,164 @@
+//! Request lines cut from the input, answered one after another.
+ghost use Rattle.std.specs.Prelude.{◌≡◌, ◌≢◌, ◌≤◌, ◌++◌, ◌∷◌, ℕ, List, [], Option, Ok, Err, IfOk, IfErr, OnOk, OnErr, take, vec_len};
+ghost use Rattle.std.specs.Io.KnownBytes.{Appends};
+ghost use Rattle.view_ports.specs.Faults.{Rose, HasCause};
+ghost use Rattle.view_ports.specs.Lines.{IsLine, ended};
+ghost use Rattle.view_engine.specs.World.{World, empty_world};
+ghost use Rattle.view_engine.specs.Engine.{IsWorldOf};
+ghost use Rattle.couchview_cli.specs.declared.session.TheConstants.{LINE_KEPT};
+
+use memchr::memchr;
+use std::alloc::Global;
+use view_engine::{Engine, StepFault, no_memory_line};
+use view_ports::{PortFault, RunEnd, Sink, write_all};
+
+/// How many bytes of a line are kept: one more than the longest request line has, which is enough to
+/// refuse a longer one.
+const LINE_KEPT: usize = 2_097_153;
+
+/// Why a session can't go on.
+#[derive(Clone, Copy, Debug, PartialEq, Eq)]
+pub enum SessionError {
+    /// The sink failed.
+    SinkFailed,
+    /// There was no memory to keep a line in.
+    OutOfMemory,
+}
+
+impl SessionError {
+    ghost use Rattle.couchview_cli.specs.Session.{end_of};
+
+    /// The end of the run.
+    pub fn end(self) -> RunEnd
+        ensures { result ≡ end_of self }
+    {
+        match self {
+            SessionError::SinkFailed => RunEnd::SinkFailed,
+            SessionError::OutOfMemory => RunEnd::OutOfMemory,
+        }
+    }
+}
+
+/// The engine, and the reply to one line.
+#[derive(Drop)]
+struct Responder {
+    alloc: Global,
+    engine: Engine,
+    reply: Vec<u8>,
+}
+
+impl Responder {
+    ghost use Rattle.couchview_cli.specs.Session.{Answered, Stopped};
+
+    /// Answers a line. Where the engine has no memory for it, the answer is a constant.
+    fn answer<K: Sink>(&mut self, line: &[u8], sink: &mut K) -> Result<(), PortFault>
+        ensures ok { OnOk result ((world : World) → IsWorldOf self.old.engine world → Answered (Appends (K.held sink.old) (K.held sink.new)) world line.now self.new.engine) }
+        ensures err { OnErr result ((world : World) → IsWorldOf self.old.engine world → Answered (Stopped (K.held sink.old) (K.held sink.new)) world line.now self.new.engine) }
+        ensures cause { HasCause (K.faults sink.old) (K.faults sink.new) result }
+    {
+        self.reply.clear();
+        match self.engine.step(self.alloc, line, &mut self.reply) {
+            Ok(()) => write_all(sink, &self.reply),
+            Err(StepFault::NoMemory) => write_all(sink, no_memory_line()),
+        }
+    }
+}
+
+/// A run of request lines: what answers them, and the line that no newline has ended yet, of which
+/// at most `LINE_KEPT` bytes are kept.
+#[derive(Drop)]
+pub struct Session {
+    responder: Responder,
+    line: Vec<u8>,
+    ghost line_is_kept: { vec_len line ≤ LINE_KEPT },
+}
+
+impl Session {
+    ghost use Rattle.couchview_cli.specs.Session.{Progress, Ended, end_of, kept};
+    ghost use Rattle.couchview_cli.specs.declared.session.SessionError.TheVariants as error;
+    ghost use Rattle.view_ports.specs.declared.run_end.RunEnd.TheVariants as run_end;
+
+    /// A session that has read nothing.
+    pub fn open(alloc: Global) -> Result<Session, StepFault>
+        ensures { IfOk result (λ session. (held : Option (List ℕ)) → Progress held held [] session) }
+    {
+        Ok(Session {
+            responder: Responder {
+                alloc,
+                engine: Engine::open(alloc)?,
+                reply: Vec::new(alloc),
+            },
+            line: Vec::new(alloc),
+        })
+    }
+
+    /// Goes on with these bytes: answers each line that ends in them, and keeps what stands behind.
+    pub fn feed<K: Sink>(&mut self, piece: &[u8], sink: &mut K) -> Result<(), SessionError>
+        ensures ok { OnOk result ((held : Option (List ℕ)) (bytes : List ℕ) → Progress held (K.held sink.old) bytes self.old → Progress held (K.held sink.new) (bytes ++ piece.now) self.new) }
+        ensures err { IfErr result (λ e. (held : Option (List ℕ)) (bytes : List ℕ) → Progress held (K.held sink.old) bytes self.old → Ended held (K.held sink.new) (bytes ++ piece.now) (end_of e)) }
+        ensures count { K.faults sink.old ≤ K.faults sink.new }
+        ensures cause { IfErr result (λ e. e ≡ error.SinkFailed → Rose (K.faults sink.old) (K.faults sink.new)) }
+    {
+        let mut rest = piece;
+        while let Some(length) = memchr(b'\n', rest) {
+            match self.end_line(&rest[..length], sink) {
+                Ok(()) => {}
+                Err(error) => return Err(error),
+            }
+            rest = &rest[length + 1..];
+        }
+        self.keep(rest)
+    }
+
+    /// Answers the line that ends with these bytes. A line that wholly stands in them is not copied.
+    fn end_line<K: Sink>(&mut self, end: &[u8], sink: &mut K) -> Result<(), SessionError>
+        requires { IsLine end.now }
+        ensures ok { OnOk result ((held : Option (List ℕ)) (bytes : List ℕ) → Progress held (K.held sink.old) bytes self.old → Progress held (K.held sink.new) (bytes ++ ended end.now) self.new) }
+        ensures err { IfErr result (λ e. (held : Option (List ℕ)) (bytes more : List ℕ) → Progress held (K.held sink.old) bytes self.old → Ended held (K.held sink.new) (bytes ++ ended end.now ++ more) (end_of e)) }
+        ensures count { K.faults sink.old ≤ K.faults sink.new }
+        ensures cause { IfErr result (λ e. e ≡ error.SinkFailed → Rose (K.faults sink.old) (K.faults sink.new)) }
+    {
+        if self.line.is_empty() {
+            return match self.responder.answer(end, sink) {
+                Ok(()) => Ok(()),
+                Err(PortFault) => Err(SessionError::SinkFailed),
+            };
+        }
+        match self.keep(end) {
+            Ok(()) => {}
+            Err(error) => return Err(error),
+        }
+        match self.responder.answer(&self.line, sink) {
+            Ok(()) => {}
+            Err(PortFault) => return Err(SessionError::SinkFailed),
+        }
+        self.line.clear();
+        Ok(())
+    }
+
+    /// Keeps more bytes of the line that no newline has ended yet.
+    fn keep(&mut self, more: &[u8]) -> Result<(), SessionError>
+        ensures ok { OnOk result (self.new.line.items ≡ kept (self.old.line.items ++ more.now)) }
+        ensures same { OnOk result (self.new.responder ≡ self.old.responder) }
+        ensures err { IfErr result (λ e. e ≡ error.OutOfMemory) }
+    {
+        let room = LINE_KEPT - self.line.len();
+        let front = &more[..more.len().min(room)];
+        match self.line.extend_from_slice(front) {
+            Ok(()) => Ok(()),
+            Err(_) => Err(SessionError::OutOfMemory),
+        }
+    }
+
+    /// Answers the last line, where the input ended without a newline.
+    pub fn finish<K: Sink>(&mut self, sink: &mut K) -> Result<(), PortFault>
+        ensures ok { OnOk result ((held : Option (List ℕ)) (bytes : List ℕ) → Progress held (K.held sink.old) bytes self.old → Ended held (K.held sink.new) bytes run_end.InputEnded) }
+        ensures err { OnErr result ((held : Option (List ℕ)) (bytes : List ℕ) → Progress held (K.held sink.old) bytes self.old → Ended held (K.held sink.new) bytes run_end.SinkFailed) }
+        ensures cause { HasCause (K.faults sink.old) (K.faults sink.new) result }
+    {
+        if self.line.is_empty() {
+            return Ok(());
+        }
+        self.responder.answer(&self.line, sink)
+    }
+}
