@@ -11,6 +11,9 @@ use std::alloc::Global;
 /// The greatest length of a document's text, in bytes.
 const SIZE_LIMIT: usize = 524_288;
 
+/// Room for the text of most documents, in bytes.
+const USUAL_SIZE: usize = 512;
+
 /// The greatest depth of a document.
 const DEPTH_LIMIT: u32 = 64;
 
@@ -181,7 +184,7 @@ fn is_shallow(document: &Term) -> bool
 fn is_small(alloc: Global, document: &Term) -> Result<bool, NoMemory>
     ensures { IfOk result (λ small. small ≡ spec.is_small (json document.now)) }
 {
-    let mut text = Vec::new(alloc);
+    let mut text = Vec::with_capacity(alloc, USUAL_SIZE)?;
     write_term(alloc, document, &mut text)?;
     Ok(text.len() <= SIZE_LIMIT)
 }

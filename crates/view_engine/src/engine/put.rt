@@ -18,6 +18,9 @@ use crate::revision::revision_text;
 use json_terms::{Chars, Members, NoMemory, Term};
 use std::alloc::Global;
 
+/// Room for the reply to most puts, in bytes.
+const USUAL_REPLY: usize = 128;
+
 impl Engine {
     ghost use Rattle.view_engine.specs.Engine.{IsWorldOf};
 
@@ -58,7 +61,7 @@ impl Engine {
         ensures refused { IfErr result (λ refusal. refusal ≡ Refusal.NoMemory) }
     {
         let rev = revision_text(alloc, 1, update_seq)?;
-        let mut reply = Vec::new(alloc);
+        let mut reply = Vec::with_capacity(alloc, USUAL_REPLY)?;
         write_accepted(alloc, id.as_str(), rev.as_str(), &mut reply)?;
         reply.push(b'\n')?;
         let document = stored_document(alloc, document, rev)?;
