@@ -11,6 +11,6 @@ returns c =
     let digits : string_bytes c.in_ok-digits.digits ≡ encode_lower (to_be_bytes w128 c.args.sequence) =
     c.in_ok-digits.ensures ∙ ap encode_lower (c.to_be_bytes.ensures ∙ ap (to_be_bytes w128) c.from.ensures) in
     let generation : string_bytes c.push_str.new.self ≡ decimal c.args.generation =
-        c.in_ok-push_str.ensures.bytes ∙ ap (λ x. x ++ c.format.result.now) c.in_ok-text.ensures.bytes ∙ c.format.ensures.text in
+    c.in_ok-push_str.ensures.bytes ∙ ap (λ x. x ++ c.format.result.now) c.in_ok-text.ensures.bytes ∙ c.format.ensures.text in
     let dashed : string_bytes c.push_str-2.new.self ≡ decimal c.args.generation ++ codes "-" = c.in_ok-push_str-2.ensures.bytes ∙ ap (λ x. x ++ codes "-") generation in
     c.in_ok-push_str-3.ensures.bytes ∙ ap (λ x. x ++ c.as_str.result.now) dashed ∙ ap (λ x. decimal c.args.generation ++ codes "-" ++ x) (c.as_str.ensures.value ∙ digits)
