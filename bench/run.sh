@@ -39,7 +39,7 @@ serve=$here/../crates/couchview_cli/out/couchview_cli
 # 50 lines of 2,000,000 bytes that are refused at their first byte.
 awk 'BEGIN { s = "x"; while (length(s) < 2000000) s = s s; s = substr(s, 1, 1999999); for (i = 0; i < 50; i++) print s }' > "$data/refused"
 # Puts of documents of 100 bytes.
-awk -v n="$documents" 'BEGIN { for (i = 1; i <= n; i++) printf "{\"put\":{\"_id\":\"d%07d\",\"age\":%d,\"name\":\"Ida Berg\",\"tags\":[\"a\",\"b\",\"c\"],\"town\":\"Trondheim\",\"year\":20%02d,\"z\":\"pad\"}}\n", i, 10 + i % 90, i % 100 }' > "$data/puts"
+awk -v n="$documents" 'BEGIN { for (i = 1; i <= n; i++) printf "{\"put\":{\"_id\":\"d%07d\",\"age\":%d,\"name\":\"Ida Dal\",\"tags\":[\"a\",\"b\",\"c\"],\"town\":\"Oslo\",\"year\":20%02d,\"z\":\"pa\"}}\n", i, 10 + i % 90, i % 100 }' > "$data/puts"
 echo "document: $(head -n 1 "$data/puts" | awk '{ print length($0) - 8 }') bytes"
 
 piped_wc() { cat "$data/refused" | wc -l > /dev/null; }

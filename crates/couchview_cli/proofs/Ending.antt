@@ -18,7 +18,7 @@ use Rattle.couchview_cli.specs.declared.session.Session.{Session}
 use Rattle.couchview_cli.specs.declared.session.SessionError.{SessionError}
 use Rattle.couchview_cli.specs.declared.session.SessionError.TheVariants as error
 use Rattle.couchview_cli.specs.Session.{Progress, Answered, Stopped, Ended, end_of}
-use Rattle.couchview_cli.specs.Serving.{Outside, Serves, IsShort}
+use Rattle.couchview_cli.specs.Serving.{Outside, Serves, StopsAtLimit, IsShort}
 
 pub Ended-same : (before now : Option (List ℕ)) (bytes bytes' : List ℕ) (end : RunEnd) → bytes ≡ bytes' → Ended before now bytes end → Ended before now bytes' end
 Ended-same before now bytes bytes' end same ended = subst (λ (bs : List ℕ). Ended before now bs end) same ended
@@ -160,3 +160,26 @@ pub Serves-complete : (before after : Outside) (end : RunEnd) (status : ℕ) →
 Serves-complete before after end status is serves short sink source =
     complete serves.end status (length serves.bytes) (is ∙ serves.ends) serves.counts (consumed_short before.left after.left serves.bytes serves.reads short)
     (λ four. sink (is_sink_failed end (sym is ∙ four))) (λ five. source (is_source_failed end (sym is ∙ five)))
+
+at_limit : (end : RunEnd) (count : ℕ) → HasRead end count → status_of end ≡ 8 → count ≡ input_limit
+at_limit InputEnded count counts is = absurd (omega arith)
+at_limit SinkFailed count counts is = absurd (omega arith)
+at_limit SourceFailed count counts is = absurd (omega arith)
+at_limit OutOfMemory count counts is = absurd (omega arith)
+at_limit InputTooLong count counts is = counts
+
+stops : (end : RunEnd) (count : ℕ) → HasRead end count → count ≡ input_limit → (status_of end ≡ 8) ⊎ ((status_of end ≡ 4) ⊎ (status_of end ≡ 6))
+stops InputEnded count counts is = absurd (omega arith)
+stops SinkFailed count counts is = inr (inl refl)
+stops SourceFailed count counts is = absurd (omega arith)
+stops OutOfMemory count counts is = inr (inr refl)
+stops InputTooLong count counts is = inl refl
+
+-- a run that read as many bytes as a run reads at most ends there
+pub Serves-limit : (before after : Outside) (status status' : ℕ) → status ≡ status' → Serves before after status' → StopsAtLimit before.left after.left status
+Serves-limit before after status status' is serves = record {
+  bytes = serves.bytes;
+  reads = serves.reads;
+  limited = λ eight. at_limit serves.end (length serves.bytes) serves.counts (sym serves.ends ∙ sym is ∙ eight);
+  stopped = λ full. subst (λ (s : ℕ). (s ≡ 8) ⊎ ((s ≡ 4) ⊎ (s ≡ 6))) (sym (is ∙ serves.ends)) (stops serves.end (length serves.bytes) serves.counts full);
+}

@@ -1,5 +1,5 @@
 -- What serving does, in terms of what the ports tell.
-use Rattle.std.specs.Prelude.{◌≡◌, ◌<◌, ℕ, List, Option, Some, None, length}
+use Rattle.std.specs.Prelude.{◌≡◌, ◌<◌, ◌⊎◌, ℕ, List, Option, Some, None, length}
 use Rattle.std.specs.Io.KnownBytes.{Consumes, Appends}
 use Rattle.view_ports.specs.declared.run_end.RunEnd.{RunEnd}
 use Rattle.view_ports.specs.Runs.{Run, HasRead, status_of, input_limit}
@@ -12,8 +12,8 @@ pub record Outside : Type 0 where
   pub left : Option (List ℕ)
   pub held : Option (List ℕ)
 
--- a run of the engine from the empty world, over the bytes that the source lost and the text that the sink gained,
--- with the status of its end. The world after it has exactly the writes that were answered `ok`.
+-- a run from the empty world that reads the bytes that the source lost, that writes what the sink gained, and that ends
+-- with this status. The world after it has exactly the writes that were answered `ok`.
 pub record Serves (before after : Outside) (status : ℕ) : Type 0 where
   pub bytes : List ℕ
   pub gained : List ℕ
@@ -25,6 +25,14 @@ pub record Serves (before after : Outside) (status : ℕ) : Type 0 where
   pub writes : Appends before.held after.held gained
   pub runs : Run Answers empty_world bytes gained end world
   pub keeps : world ≡ accepted empty_world runs.exchanges
+
+-- the status is 8 exactly where as many bytes were read as a run reads at most, unless the sink failed or memory ran out
+-- in a line of them
+pub record StopsAtLimit (before after : Option (List ℕ)) (status : ℕ) : Type 0 where
+  pub bytes : List ℕ
+  pub reads : Consumes before after bytes
+  pub limited : status ≡ 8 → length bytes ≡ input_limit
+  pub stopped : length bytes ≡ input_limit → (status ≡ 8) ⊎ ((status ≡ 4) ⊎ (status ≡ 6))
 
 -- the source tells its bytes, and they are fewer than a run reads at most
 abbrev pub IsShort : Option (List ℕ) → Type 0

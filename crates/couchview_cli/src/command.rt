@@ -3,7 +3,7 @@ ghost use Rattle.std.specs.Prelude.{◌≡◌, ◌≤◌, ◌⊎◌, ◌↔◌, 
 ghost use Rattle.std.specs.Io.KnownBytes.{IsAtEnd};
 ghost use Rattle.view_ports.specs.Faults.{Rose};
 ghost use Rattle.couchview_cli.specs.Command.{IsServe, ShowsUsage, usage_line};
-ghost use Rattle.couchview_cli.specs.Serving.{Serves, IsShort};
+ghost use Rattle.couchview_cli.specs.Serving.{Serves, StopsAtLimit, IsShort};
 
 use crate::serve::serve;
 use std::alloc::Global;
@@ -46,6 +46,7 @@ pub fn couchview<S: Source, K: Sink>(
     ensures told { ¬ IsServe words.now → ¬ Rose (K.faults sink.old) (K.faults sink.new) → result ≡ 2 }
     ensures sink_failed { result ≡ 4 → Rose (K.faults sink.old) (K.faults sink.new) }
     ensures source_failed { result ≡ 5 → IsServe words.now × Rose (S.faults source.old) (S.faults source.new) }
+    ensures limit { IsServe words.now → StopsAtLimit (S.left source.old) (S.left source.new) result }
     ensures source_count { S.faults source.old ≤ S.faults source.new }
     ensures sink_count { K.faults sink.old ≤ K.faults sink.new }
 

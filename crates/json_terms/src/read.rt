@@ -82,7 +82,7 @@ fn convert_members(alloc: Global, map: Map<String, Value>) -> Result<Members, Te
     ensures ok { IfOk result (λ ms. members_value_of (members_view map.entries) ≡ Some (members_of ms)) }
     ensures err { IfErr result (λ e. ((e ≡ TermFault.NotWhole) × (members_value_of (members_view map.entries) ≡ None)) ⊎ (e ≡ TermFault.NoMemory)) }
 {
-    let mut members = Members::with_capacity(alloc, map.len())?;
+    let mut members = Members::with_capacity(alloc, map.len().saturating_add(1))?;
     for (name, value) in map {
         let term = convert(alloc, value)?;
         members.push(Chars::new(name), term)?;

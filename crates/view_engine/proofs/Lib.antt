@@ -2,6 +2,7 @@ pub mod AcceptedWrites
 pub mod EmptyLines
 pub mod KeptDocuments
 pub mod LineLimit
+pub mod LiveDocuments
 pub mod OtherForms
 pub mod Pieces
 pub mod PlainParts

@@ -13,3 +13,4 @@ pub mod Outcome
 pub mod Documents
 pub mod Engine
 pub mod Accepted
+pub mod Laws

@@ -5,6 +5,7 @@ mod answer;
 mod engine;
 mod fault_line;
 mod forms;
+mod laws;
 mod line;
 mod outcome;
 mod plain;
@@ -16,6 +17,7 @@ mod tests;
 
 pub use engine::{Engine, StepFault};
 pub use fault_line::no_memory_line;
+pub use laws::live_documents_have_their_last_write;
 pub use line::{LINE_LIMIT, read_request};
 pub use refusal::Refusal;
 pub use request::{Request, ViewName};
