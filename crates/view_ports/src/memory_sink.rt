@@ -7,7 +7,8 @@ ghost use Rattle.view_ports.specs.Faults.{HasCause, next_count};
 ghost use Rattle.view_ports.specs.Memory.{SinkState, is_listed};
 
 use crate::ports::{PortFault, Sink};
-use std::alloc::{AllocError, Global};
+use json_terms::NoMemory;
+use std::alloc::Global;
 use std::marker::Model;
 
 /// A sink that keeps what it is given in memory, takes it in small pieces, and fails at chosen calls.
@@ -31,7 +32,7 @@ impl Model for MemorySink {
 impl MemorySink {
     /// An empty sink, of which a write takes at most `piece` bytes. The calls of `write` whose numbers
     /// are in `fail`, counted from 0, fail and write nothing.
-    pub fn new(alloc: Global, piece: usize, fail: Vec<u64>) -> Result<MemorySink, AllocError>
+    pub fn new(alloc: Global, piece: usize, fail: Vec<u64>) -> Result<MemorySink, NoMemory>
         requires { piece ≢ 0 }
         ensures { IfOk result (λ sink. sink ≡ record { held = []; piece = piece; fail = fail.items; calls = 0; faults = 0 }) }
     {

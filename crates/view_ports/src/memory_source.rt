@@ -7,7 +7,8 @@ ghost use Rattle.view_ports.specs.Faults.{HasCause, next_count};
 ghost use Rattle.view_ports.specs.Memory.{SourceState, is_listed};
 
 use crate::ports::{PortFault, Source};
-use std::alloc::{AllocError, Global};
+use json_terms::NoMemory;
+use std::alloc::Global;
 use std::marker::Model;
 
 /// A source that gives bytes from memory, in small pieces, and fails at chosen calls.
@@ -38,7 +39,7 @@ impl MemorySource {
         bytes: &[u8],
         piece: usize,
         fail: Vec<u64>,
-    ) -> Result<MemorySource, AllocError>
+    ) -> Result<MemorySource, NoMemory>
         requires { piece ≢ 0 }
         ensures { IfOk result (λ source. source ≡ record { left = bytes.now; piece = piece; fail = fail.items; calls = 0; faults = 0 }) }
     {
