@@ -3,3 +3,14 @@ pub mod Lines
 pub mod Exchanges
 pub mod Runs
 pub mod Memory
+pub mod ReduceRow
+pub mod Commands
+pub mod Functions
+pub mod Calls
+pub mod Honest
+pub mod Servers
+pub mod InProcess
+pub mod FieldRows
+pub mod FieldBounds
+pub mod Field
+pub mod Script
