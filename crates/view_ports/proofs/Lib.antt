@@ -6,3 +6,7 @@ pub mod Fields
 pub mod Reaching
 pub mod Scripts
 pub mod Slots
+pub mod Told
+pub mod Images
+pub mod Moments
+pub mod DiskRuns

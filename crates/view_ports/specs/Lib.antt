@@ -14,3 +14,7 @@ pub mod FieldRows
 pub mod FieldBounds
 pub mod Field
 pub mod Script
+pub mod File
+pub mod Disk
+pub mod Causes
+pub mod FolderCalls

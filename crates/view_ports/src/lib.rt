@@ -5,6 +5,8 @@
 mod answer_text;
 mod command;
 mod field_session;
+mod file_name;
+mod folder;
 mod in_process;
 mod lines;
 mod memory_sink;
@@ -22,6 +24,8 @@ mod write_text;
 
 pub use command::{Command, read_command};
 pub use field_session::{FieldServers, FieldSession};
+pub use file_name::{FileName, Stem};
+pub use folder::{Folder, FolderFault};
 pub use in_process::InProcess;
 pub use lines::cut_in_one_way;
 pub use memory_sink::MemorySink;
