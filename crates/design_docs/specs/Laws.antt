@@ -1,0 +1,37 @@
+-- What the definitions of designs say together.
+use Rattle.std.specs.Prelude.{◌≡◌, ◌≤◌, ℕ, List, map, length, codes, IsTrue}
+use Rattle.std.specs.Ordering.{nat_cmp}
+use Rattle.std.specs.Cmp.Lexicographic.{slice_cmp}
+use Rattle.std.specs.List.Sorted.{IsStrictlySortedBy}
+use Rattle.json_terms.specs.Json.{Json, object, Members}
+use Rattle.json_terms.specs.Terms.{IsTerm}
+use Rattle.json_terms.specs.Find.{with_member}
+use Rattle.design_docs.specs.declared.design.View.{View}
+use Rattle.design_docs.specs.Documents.{id_of, is_design_id}
+use Rattle.design_docs.specs.PlainDesign.{is_plain_design, view_limit}
+use Rattle.design_docs.specs.PlainDocument.{is_plain}
+use Rattle.design_docs.specs.Design.{language_of, views_of, views_object}
+
+abbrev pub names_of : List View → List (List ℕ)
+names_of = map (λ view. view.name)
+
+-- the views of a term are in strictly rising byte order of name
+abbrev pub AreInOrderOfName : Json → Type 0
+AreInOrderOfName document = IsTerm document → IsStrictlySortedBy (slice_cmp nat_cmp) (names_of (views_of document))
+
+-- a plain design has not too many views
+abbrev pub AreFew : Json → Type 0
+AreFew document = IsTrue (is_plain_design document) → length (views_of document) ≤ view_limit
+
+-- a plain document with the id of a design document has a plain design
+abbrev pub HasPlainDesign : Json → Type 0
+HasPlainDesign document = IsTrue (is_plain document) → IsTrue (is_design_id (id_of document)) → IsTrue (is_plain_design document)
+
+-- two documents with the same design
+abbrev pub HaveSameDesign : Json → Json → Type 0
+HaveSameDesign one other =
+    (is_plain_design one ≡ is_plain_design other) × (language_of one ≡ language_of other) × (views_of one ≡ views_of other) × (views_object one ≡ views_object other)
+
+-- a revision that is set leaves the design as it was
+abbrev pub RevisionLeavesDesign : Members → Json → Type 0
+RevisionLeavesDesign members revision = HaveSameDesign (object (with_member (codes "_rev") revision members)) (object members)
