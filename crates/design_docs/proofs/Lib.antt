@@ -1,0 +1,4 @@
+pub mod OneMap
+pub mod PlainDesigns
+pub mod Revised
+pub mod ViewOrder
