@@ -32,8 +32,9 @@ pub revision_leaves_design : (members : Members) (revision : Json) → RevisionL
 revision_leaves_design members revision =
     let language = find-with_member (codes "language") (codes "_rev") revision members refl in
     let options = find-with_member (codes "options") (codes "_rev") revision members refl in
-    let views = find-with_member (codes "views") (codes "_rev") revision members refl in
-    ( λ i. is_plain_language (language i) && is_none (options i) && are_plain_views (views i)
-    , ap (λ o. unwrap_or (option_and_then text_in o) (codes "javascript")) language
-    , ap (λ o. views_in (unwrap_or (option_and_then members_in o) no_members)) views
-    , ap (λ o. unwrap_or o (object no_members)) views)
+    let views = find-with_member (codes "views") (codes "_rev") revision members refl in (
+      λ i. is_plain_language (language i) && is_none (options i) && are_plain_views (views i),
+      ap (λ o. unwrap_or (option_and_then text_in o) (codes "javascript")) language,
+      ap (λ o. views_in (unwrap_or (option_and_then members_in o) no_members)) views,
+      ap (λ o. unwrap_or o (object no_members)) views,
+    )

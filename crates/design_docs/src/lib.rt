@@ -15,6 +15,9 @@ mod tests;
 
 pub use design::{Design, View, Views};
 pub use document::{DESIGN_PREFIX, id_of, is_design_id};
-pub use laws::{plain_design_documents_have_plain_designs, revisions_leave_designs, views_are_few_and_in_order};
+pub use laws::{
+    plain_design_documents_have_plain_designs, revisions_leave_designs, views_are_few_and_in_order,
+};
 pub use plain::is_plain;
+pub use plain_design::is_plain_design;
 pub use read::read_design;

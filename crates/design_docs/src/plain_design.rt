@@ -9,7 +9,7 @@ use json_terms::{Member, Members, Term, member};
 /// The most views of a design document.
 const VIEW_LIMIT: usize = 32;
 
-/// Whether the language, the options and the views of a document are those of a plain design.
+/// Whether the language, the options and the views of a document are those of a plain design. Its other members don't count.
 pub fn is_plain_design(document: &Term) -> bool
     ensures { result ≡ spec.is_plain_design (json document.now) }
 {

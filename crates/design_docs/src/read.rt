@@ -9,8 +9,8 @@ use crate::design::{Design, View, Views};
 use json_terms::{Chars, Member, Members, NoMemory, Term, Terms, copy_term, member};
 use std::alloc::Global;
 
-/// The design of a document. An absent language counts as `javascript`, and absent views as none. The one error is want of
-/// memory.
+/// The design of a document that `is_plain_design` tells to have one. An absent language counts as `javascript`, and absent
+/// views as none. The one error is want of memory.
 pub fn read_design(alloc: Global, document: &Term) -> Result<Design, NoMemory>
     requires { IsTrue (is_plain_design (json document.now)) }
     ensures { IfOk result (λ design. spec.IsDesignOf (json document.now) design) }
