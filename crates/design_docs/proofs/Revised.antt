@@ -1,5 +1,5 @@
 -- A member that is set leaves the others.
-use Rattle.std.specs.Prelude.{◌≡◌, ◌&&◌, ℕ, List, false, codes, bytes_eq, Option, Some, None, option_and_then, unwrap_or, is_none, if◌then◌else◌}
+use Rattle.std.specs.Prelude.{◌≡◌, ◌&&◌, ℕ, List, false, codes, bytes_eq, Some, None, option_and_then, unwrap_or, is_none, if◌then◌else◌}
 use Rattle.std.proofs.Common.{refl, sym, ap, ◌∙◌}
 use Rattle.std.specs.declared.cmp.Ordering.TheVariants.{Less, Equal, Greater}
 use Rattle.std.specs.Ordering.{is_eq, nat_cmp, match_ordering}

@@ -14,7 +14,7 @@ use Rattle.json_terms.specs.Find.{find, member_of}
 use Rattle.json_terms.specs.Terms.{IsTerm, AreMembers, ComesBefore}
 use Rattle.design_docs.specs.declared.design.View.{View}
 use Rattle.design_docs.specs.Kinds.{members_in}
-use Rattle.design_docs.specs.PlainDesign.{is_plain_language, are_few, are_each_plain, are_plain_views, is_plain_design, view_limit}
+use Rattle.design_docs.specs.PlainDesign.{are_few, are_each_plain, are_plain_views, view_limit}
 use Rattle.design_docs.specs.Design.{views_in}
 use Rattle.design_docs.specs.Laws.{names_of, AreInOrderOfName, AreFew}
 

@@ -1,5 +1,5 @@
 -- The design of a document: the language of its sources, and its views.
-use Rattle.std.specs.Prelude.{◌≡◌, ℕ, List, [], ◌∷◌, map, codes, option_and_then, unwrap_or}
+use Rattle.std.specs.Prelude.{◌≡◌, ℕ, List, [], ◌∷◌, map, codes, Option, option_and_then, unwrap_or}
 use Rattle.json_terms.specs.Json.{Json, object, array, string, no_items, item, Members, no_members, member}
 use Rattle.json_terms.specs.Find.{member_of}
 use Rattle.json_terms.specs.Seen.{json}
@@ -34,6 +34,10 @@ views_of document = views_in (unwrap_or (option_and_then members_in (member_of (
 -- the sources of the views' map functions, view by view
 abbrev pub map_sources : List View → List (List ℕ)
 map_sources = map (λ view. view.map)
+
+-- the source of the map function of the view with this name, looked up in the document
+abbrev pub source_of : List ℕ → Json → Option (List ℕ)
+source_of name document = option_and_then text_in (option_and_then (member_of (codes "map")) (option_and_then (member_of name) (member_of (codes "views") document)))
 
 -- `[language, views]`
 abbrev pub language_and_views : List ℕ → Json → Json

@@ -17,6 +17,7 @@ pub use design::{Design, View, Views};
 pub use document::{DESIGN_PREFIX, id_of, is_design_id};
 pub use laws::{
     plain_design_documents_have_plain_designs, revisions_leave_designs, views_are_few_and_in_order,
+    views_are_found_by_name,
 };
 pub use plain::is_plain;
 pub use plain_design::is_plain_design;

@@ -197,6 +197,7 @@ fn lists_of_views_are_kept(rt: HostRuntime) -> Result<(), Fail> {
     assert_eq!(rt; views.len(), 0);
     assert!(rt; views.into_vec().is_empty());
     views_are_few_and_in_order();
+    views_are_found_by_name();
     plain_design_documents_have_plain_designs();
     revisions_leave_designs();
     Ok(())
