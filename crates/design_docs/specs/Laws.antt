@@ -9,7 +9,7 @@ use Rattle.json_terms.specs.Terms.{IsTerm}
 use Rattle.json_terms.specs.Find.{with_member}
 use Rattle.design_docs.specs.declared.design.View.{View}
 use Rattle.design_docs.specs.Documents.{id_of, is_design_id}
-use Rattle.design_docs.specs.PlainDesign.{is_plain_design, view_limit}
+use Rattle.design_docs.specs.PlainDesign.{is_plain_design, IsPlainDesign, view_limit}
 use Rattle.design_docs.specs.PlainDocument.{is_plain}
 use Rattle.design_docs.specs.Design.{language_of, views_of, views_object, source_of}
 
@@ -22,7 +22,7 @@ AreInOrderOfName document = IsTerm document → IsStrictlySortedBy (slice_cmp na
 
 -- a plain design has not too many views
 abbrev pub AreFew : Json → Type 0
-AreFew document = IsTrue (is_plain_design document) → length (views_of document) ≤ view_limit
+AreFew document = IsPlainDesign document → length (views_of document) ≤ view_limit
 
 -- a view's name, beside the source of its map function
 abbrev pub entry_of : View → List ℕ × List ℕ
@@ -31,11 +31,11 @@ entry_of view = (view.name, view.map)
 -- among the views of a plain design each name has the source that stands in the document, and no other name has one
 abbrev pub HasViewsOfNames : Json → Type 0
 HasViewsOfNames document =
-    IsTrue (is_plain_design document) → (name : List ℕ) → lookup (λ key. bytes_eq key name) (map entry_of (views_of document)) ≡ source_of name document
+    IsPlainDesign document → (name : List ℕ) → lookup (λ key. bytes_eq key name) (map entry_of (views_of document)) ≡ source_of name document
 
 -- a plain document with the id of a design document has a plain design
 abbrev pub HasPlainDesign : Json → Type 0
-HasPlainDesign document = IsTrue (is_plain document) → IsTrue (is_design_id (id_of document)) → IsTrue (is_plain_design document)
+HasPlainDesign document = IsTrue (is_plain document) → IsTrue (is_design_id (id_of document)) → IsPlainDesign document
 
 -- two documents with the same design
 abbrev pub HaveSameDesign : Json → Json → Type 0

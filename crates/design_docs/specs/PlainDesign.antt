@@ -1,5 +1,5 @@
 -- The designs that are taken so far: a language, and views that have a map function alone.
-use Rattle.std.specs.Prelude.{ℕ, List, Bool, true, false, not, ◌&&◌, nat_le, nat_lt, length, codes, bytes_eq, Option, Some, None, is_none}
+use Rattle.std.specs.Prelude.{ℕ, List, Bool, true, false, not, ◌&&◌, nat_le, nat_lt, length, codes, bytes_eq, Option, Some, None, is_none, IsTrue}
 use Rattle.json_terms.specs.Json.{Json, object, string, Members, no_members, member, list_of_members}
 use Rattle.json_terms.specs.Find.{member_of}
 
@@ -47,3 +47,6 @@ are_plain_views (Some other) = false
 abbrev pub is_plain_design : Json → Bool
 is_plain_design document =
     is_plain_language (member_of (codes "language") document) && is_none (member_of (codes "options") document) && are_plain_views (member_of (codes "views") document)
+
+abbrev pub IsPlainDesign : Json → Type 0
+IsPlainDesign document = IsTrue (is_plain_design document)

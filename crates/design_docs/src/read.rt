@@ -1,8 +1,8 @@
 // Reading the design of a document.
-ghost use Rattle.std.specs.Prelude.{◌≡◌, IfOk, IsTrue, map};
+ghost use Rattle.std.specs.Prelude.{◌≡◌, IfOk, map};
 ghost use Rattle.json_terms.specs.Json.{members_of};
 ghost use Rattle.json_terms.specs.Seen.{json, pair_of};
-ghost use Rattle.design_docs.specs.PlainDesign.{is_plain_design};
+ghost use Rattle.design_docs.specs.PlainDesign.{IsPlainDesign};
 ghost use Rattle.design_docs.specs.Design as spec;
 
 use crate::design::{Design, View, Views};
@@ -12,7 +12,7 @@ use std::alloc::Global;
 /// The design of a document that `is_plain_design` tells to have one. An absent language counts as `javascript`, and absent
 /// views as none. The one error is want of memory.
 pub fn read_design(alloc: Global, document: &Term) -> Result<Design, NoMemory>
-    requires { IsTrue (is_plain_design (json document.now)) }
+    requires { IsPlainDesign (json document.now) }
     ensures { IfOk result (λ design. spec.IsDesignOf (json document.now) design) }
 {
     let language = Chars::from_text(alloc, language_of(document))?;
