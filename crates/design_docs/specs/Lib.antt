@@ -1,0 +1,6 @@
+pub mod Kinds
+pub mod Documents
+pub mod PlainDesign
+pub mod PlainDocument
+pub mod Design
+pub mod Laws
