@@ -8,7 +8,7 @@ use Rattle.std.proofs.lemmas.Map.Text.{is_eq-slice_cmp}
 use Rattle.std.proofs.lemmas.Slice.Eq.{bytes_eq-Decides}
 use Rattle.json_terms.specs.Json.{Json, object, Members, no_members, member}
 use Rattle.json_terms.specs.Find.{find, with_member}
-use Rattle.design_docs.specs.Kinds.{text_in, members_in}
+use Rattle.json_terms.specs.Kinds.{text_in, members_in}
 use Rattle.design_docs.specs.PlainDesign.{is_plain_language, are_plain_views}
 use Rattle.design_docs.specs.Design.{views_in}
 use Rattle.design_docs.specs.Laws.{RevisionLeavesDesign}

@@ -5,7 +5,7 @@ use Rattle.std.specs.Map.{lookup}
 use Rattle.std.proofs.lemmas.Bool.{and_parts}
 use Rattle.json_terms.specs.Json.{Json, number, is_false, is_null, is_true, object, array, string, Members, no_members, member}
 use Rattle.json_terms.specs.Find.{find, member_of}
-use Rattle.design_docs.specs.Kinds.{text_in, members_in}
+use Rattle.json_terms.specs.Kinds.{text_in, members_in}
 use Rattle.design_docs.specs.PlainDesign.{is_text, has_one_map, is_plain_view, are_few, are_each_plain, are_plain_views}
 use Rattle.design_docs.specs.Design.{map_of, views_in}
 use Rattle.design_docs.specs.Laws.{entry_of, HasViewsOfNames}

@@ -13,7 +13,7 @@ use Rattle.json_terms.specs.Json.{Json, number, is_false, is_null, is_true, obje
 use Rattle.json_terms.specs.Find.{find, member_of}
 use Rattle.json_terms.specs.Terms.{IsTerm, AreMembers, ComesBefore}
 use Rattle.design_docs.specs.declared.design.View.{View}
-use Rattle.design_docs.specs.Kinds.{members_in}
+use Rattle.json_terms.specs.Kinds.{members_in}
 use Rattle.design_docs.specs.PlainDesign.{are_few, are_each_plain, are_plain_views, view_limit}
 use Rattle.design_docs.specs.Design.{views_in}
 use Rattle.design_docs.specs.Laws.{names_of, AreInOrderOfName, AreFew}

@@ -5,7 +5,7 @@ use Rattle.json_terms.specs.Find.{member_of}
 use Rattle.json_terms.specs.Seen.{json}
 use Rattle.design_docs.specs.declared.design.Design.{Design}
 use Rattle.design_docs.specs.declared.design.View.{View}
-use Rattle.design_docs.specs.Kinds.{text_in, members_in}
+use Rattle.json_terms.specs.Kinds.{text_in, members_in}
 
 -- the language, which is `javascript` where none is given
 abbrev pub language_of : Json → List ℕ

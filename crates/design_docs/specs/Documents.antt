@@ -3,7 +3,7 @@ use Rattle.std.specs.Prelude.{ℕ, List, [], Bool, nat_eq, codes, option_and_the
 use Rattle.std.specs.List.{starts_with}
 use Rattle.json_terms.specs.Json.{Json}
 use Rattle.json_terms.specs.Find.{member_of}
-use Rattle.design_docs.specs.Kinds.{text_in}
+use Rattle.json_terms.specs.Kinds.{text_in}
 
 -- the text of the `_id`, or the empty text where it is none
 abbrev pub id_of : Json → List ℕ

@@ -1,4 +1,3 @@
-pub mod Kinds
 pub mod Documents
 pub mod PlainDesign
 pub mod PlainDocument
