@@ -2,9 +2,9 @@
 //! sent, byte for byte, and what its replies mean.
 #![tactic(auto)]
 
+mod document_line;
 mod fault;
 mod lines;
-mod map_line;
 mod parts;
 mod reduce_lines;
 mod reply;
@@ -12,8 +12,8 @@ mod results;
 mod rows;
 mod sent;
 
+pub use document_line::map_line;
 pub use fault::ReplyFault;
 pub use lines::{add_fun_line, reset_line};
-pub use map_line::map_line;
 pub use reduce_lines::{reduce_line, rereduce_line};
 pub use reply::{Kind, Reply, read_reply};

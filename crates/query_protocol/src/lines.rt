@@ -37,9 +37,15 @@ pub fn add_fun_line(alloc: Global, source: &str, out: &mut Vec<u8>) -> Result<()
     ensures whole { OnOk result (IsWhole (command_line (Command.AddFun source.now))) }
     ensures reads { OnOk result (ReadsBack (Command.AddFun source.now)) }
 {
-    let source = Chars::from_text(alloc, source)?;
-    let term = pair(alloc, "add_fun", Term::Text(source))?;
+    let term = add_fun_term(alloc, source)?;
     append(alloc, &term, out)
+}
+
+fn add_fun_term(alloc: Global, source: &str) -> Result<Term, NoMemory>
+    ensures { IfOk result (λ t. json t ≡ command_term (Command.AddFun source.now)) }
+{
+    let source = Chars::from_text(alloc, source)?;
+    pair(alloc, "add_fun", Term::Text(source))
 }
 
 /// An array of a name and one more term.

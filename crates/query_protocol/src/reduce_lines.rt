@@ -1,6 +1,6 @@
 //! The lines that ask for reductions.
 
-ghost use Rattle.std.specs.Prelude.{◌≡◌, ◌≢◌, ◌≤◌, ◌++◌, [], List, IfOk, OnOk, OnErr, map};
+ghost use Rattle.std.specs.Prelude.{◌≡◌, ◌≤◌, ◌++◌, IfOk, OnOk, OnErr, map};
 ghost use Rattle.json_terms.specs.Json.{array, depth, string, items_of};
 ghost use Rattle.json_terms.specs.Reading.{depth_limit};
 ghost use Rattle.json_terms.specs.Seen.{json};
@@ -13,34 +13,54 @@ use json_terms::{Chars, NoMemory, Row, Term, Terms, copy_term};
 use std::alloc::Global;
 use view_ports::Command;
 
-/// Appends `["reduce",[SOURCE],[[[KEY,ID],VALUE],...]]`. The rows aren't empty, and the line nests 100 deep at most. The
-/// one error is want of memory, and `out` is then as it was.
-pub fn reduce_line(alloc: Global, source: &str, rows: &[Row], out: &mut Vec<u8>) -> Result<(), NoMemory>
-    requires some { rows.now ≢ [] }
-    requires shallow { depth (command_term (Command.Reduce source.now (map reduce_row rows.now))) ≤ depth_limit }
+/// Appends `["reduce",[SOURCE],[[[KEY,ID],VALUE],...]]`. The line nests 100 deep at most; a server takes
+/// it where there is a row. The one error is want of memory, and `out` is then as it was.
+pub fn reduce_line(
+    alloc: Global,
+    source: &str,
+    rows: &[Row],
+    out: &mut Vec<u8>,
+) -> Result<(), NoMemory>
+    requires { depth (command_term (Command.Reduce source.now (map reduce_row rows.now))) ≤ depth_limit }
     ensures ok { OnOk result (out.new.items ≡ out.old.items ++ command_line (Command.Reduce source.now (map reduce_row rows.now))) }
     ensures err { OnErr result (out.new.items ≡ out.old.items) }
     ensures whole { OnOk result (IsWhole (command_line (Command.Reduce source.now (map reduce_row rows.now)))) }
     ensures reads { OnOk result (ReadsBack (Command.Reduce source.now (map reduce_row rows.now))) }
 {
-    let rows = rows_term(alloc, rows)?;
-    let term = with_source(alloc, "reduce", source, rows)?;
+    let term = reduce_term(alloc, source, rows)?;
     append(alloc, &term, out)
 }
 
-/// Appends `["rereduce",[SOURCE],[VALUE,...]]`. The values aren't empty, and the line nests 100 deep at most. The one error
-/// is want of memory, and `out` is then as it was.
-pub fn rereduce_line(alloc: Global, source: &str, values: &[Term], out: &mut Vec<u8>) -> Result<(), NoMemory>
-    requires some { values.now ≢ [] }
-    requires shallow { depth (command_term (Command.Rereduce source.now (map json values.now))) ≤ depth_limit }
+fn reduce_term(alloc: Global, source: &str, rows: &[Row]) -> Result<Term, NoMemory>
+    ensures { IfOk result (λ t. json t ≡ command_term (Command.Reduce source.now (map reduce_row rows.now))) }
+{
+    let rows = rows_term(alloc, rows)?;
+    with_source(alloc, "reduce", source, rows)
+}
+
+/// Appends `["rereduce",[SOURCE],[VALUE,...]]`. The line nests 100 deep at most; a server takes it where there is a
+/// value. The one error is want of memory, and `out` is then as it was.
+pub fn rereduce_line(
+    alloc: Global,
+    source: &str,
+    values: &[Term],
+    out: &mut Vec<u8>,
+) -> Result<(), NoMemory>
+    requires { depth (command_term (Command.Rereduce source.now (map json values.now))) ≤ depth_limit }
     ensures ok { OnOk result (out.new.items ≡ out.old.items ++ command_line (Command.Rereduce source.now (map json values.now))) }
     ensures err { OnErr result (out.new.items ≡ out.old.items) }
     ensures whole { OnOk result (IsWhole (command_line (Command.Rereduce source.now (map json values.now)))) }
     ensures reads { OnOk result (ReadsBack (Command.Rereduce source.now (map json values.now))) }
 {
-    let values = values_term(alloc, values)?;
-    let term = with_source(alloc, "rereduce", source, values)?;
+    let term = rereduce_term(alloc, source, values)?;
     append(alloc, &term, out)
+}
+
+fn rereduce_term(alloc: Global, source: &str, values: &[Term]) -> Result<Term, NoMemory>
+    ensures { IfOk result (λ t. json t ≡ command_term (Command.Rereduce source.now (map json values.now))) }
+{
+    let values = values_term(alloc, values)?;
+    with_source(alloc, "rereduce", source, values)
 }
 
 /// An array of a name, a source in an array, and one more term.

@@ -1,9 +1,9 @@
 //! What a query server's line means.
 
-ghost use Rattle.std.specs.Prelude.{◌≡◌, ◌≢◌, IfOk, IfErr, None, Ok, Some};
+ghost use Rattle.std.specs.Prelude.{◌≡◌, ◌≢◌, IfOk, IfErr, None, Ok, Some, option_map};
 ghost use Rattle.json_terms.specs.Seen.{json};
 ghost use Rattle.view_ports.specs.Calls.{is_log_term, is_yes_term};
-ghost use Rattle.view_ports.specs.Honest.{is_complaint_term};
+ghost use Rattle.view_ports.specs.Honest.{is_complaint as complains, is_complaint_term};
 ghost use Rattle.query_protocol.specs.Replies as spec;
 
 use crate::fault::ReplyFault;
@@ -160,8 +160,15 @@ fn is_complaint(term: &Term) -> bool
     if terms.len() != 3 {
         return false;
     }
-    let (Some(how), Some(name), Some(_)) = (terms[0].as_text(), terms[1].as_text(), terms[2].as_text()) else {
-        return false;
-    };
-    (how == "error" || how == "fatal") && name == "compilation_error"
+    is_compilation_error(terms[0].as_text(), terms[1].as_text(), terms[2].as_text())
+}
+
+fn is_compilation_error(how: Option<&str>, name: Option<&str>, reason: Option<&str>) -> bool
+    ensures { result ≡ complains (option_map (λ t. t.now) how.entry) (option_map (λ t. t.now) name.entry) (option_map (λ t. t.now) reason.entry) }
+{
+    match (how, name, reason) {
+        (Some(how), Some(name), Some(_)) => (how == "error" || how == "fatal")
+            && name == "compilation_error",
+        _ => false,
+    }
 }

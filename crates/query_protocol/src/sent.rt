@@ -4,17 +4,19 @@ ghost use Rattle.std.specs.Prelude.{◌≡◌, ◌≤◌, ◌++◌, OnOk, OnErr}
 ghost use Rattle.json_terms.specs.Json.{depth};
 ghost use Rattle.json_terms.specs.Reading.{depth_limit};
 ghost use Rattle.json_terms.specs.Seen.{json};
-ghost use Rattle.json_terms.specs.Terms.{IsTerm};
-ghost use Rattle.json_terms.specs.Text.{text_of};
+ghost use Rattle.view_ports.specs.Commands.{command_term};
+ghost use Rattle.query_protocol.specs.CommandLines.{command_line, IsWhole, ReadsBack};
 
 use json_terms::{NoMemory, Term, write_term};
 use std::alloc::Global;
+use view_ports::Command;
 
-/// Appends the text of a term, which is a term.
+/// Appends the line of the command that a term is.
 pub fn append(alloc: Global, term: &Term, out: &mut Vec<u8>) -> Result<(), NoMemory>
-    ensures ok { OnOk result (out.new.items ≡ out.old.items ++ text_of (json term.now)) }
+    ensures ok { (c : Command) → json term.now ≡ command_term c → OnOk result (out.new.items ≡ out.old.items ++ command_line c) }
     ensures err { OnErr result (out.new.items ≡ out.old.items) }
-    ensures valid { IsTerm (json term.now) }
+    ensures whole { (c : Command) → json term.now ≡ command_term c → IsWhole (command_line c) }
+    ensures reads { (c : Command) → json term.now ≡ command_term c → depth (command_term c) ≤ depth_limit → ReadsBack c }
 {
     term.validity();
     write_term(alloc, term, out)
