@@ -1,2 +1,4 @@
 pub mod Stepped
 pub mod Cuts
+pub mod Windows
+pub mod SlotFacts
