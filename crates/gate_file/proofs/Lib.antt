@@ -2,3 +2,5 @@ pub mod Stepped
 pub mod Cuts
 pub mod Windows
 pub mod SlotFacts
+pub mod FileFacts
+pub mod Commits
