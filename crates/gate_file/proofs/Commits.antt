@@ -9,9 +9,10 @@ use Rattle.gate_file.specs.declared.gate.GateFile.{GateFile}
 use Rattle.gate_file.specs.Header.{place_of, slot_at, root_in, IsOpen, open_root, IsSound, IsFit, newest}
 use Rattle.gate_file.specs.Shown.{Shows, KeepsDurable}
 use Rattle.gate_file.specs.GateFile.{IsOlder, Keeps, next_root, committed, IsCommitted}
+use Rattle.gate_file.specs.Commit.{header, HasHeader, Holds, Continues}
 use Rattle.gate_file.proofs.Windows.{window-same, get_or-window, length-window}
-use Rattle.gate_file.proofs.SlotFacts.{places, place_twice, place_below, open_root-closed, open_root-open, open_iff, IsSound-longer, IsFit-same, IsFit-closed, fit_at, shows_at, header, IsSmall, HasHeader, header_root, header_sound}
-use Rattle.gate_file.proofs.FileFacts.{Torn, torn_write, torn_nothing, torn_splice, slot_kept, rest_kept, settled_keeps, Continues, continues_same, continues_put}
+use Rattle.gate_file.proofs.SlotFacts.{places, place_twice, place_below, open_root-closed, open_root-open, open_iff, IsSound-longer, IsFit-same, IsFit-closed, fit_at, shows_at, IsSmall, header_root, header_sound}
+use Rattle.gate_file.proofs.FileFacts.{Torn, torn_write, torn_nothing, torn_splice, slot_kept, rest_kept, settled_keeps, continues_same, continues_put}
 
 -- the two slots don't overlap
 apart : (k at count : ℕ) → place_of (k + 1) ≤ at → at + count ≤ place_of (k + 1) + 65 → (place_of k + 65 ≤ at) ⊎ (at + count ≤ place_of k)
@@ -19,14 +20,6 @@ apart k at count low high = elim (places k) [
   | inl even ↦ inl (omega (arith, even.0, even.1))
   | inr odd ↦ inr (omega (arith, odd.0, odd.1))
 ]
-
--- A list that holds the root of commit `k` in its slot, and something older in the other: what the steps of a commit keep.
-pub record Holds (k : ℕ) (root : Option Root) (bytes : List ℕ) : Type 0 where
-  pub made : 8192 ≤ length bytes
-  pub last : open_root (slot_at bytes (place_of k)) ≡ root
-  pub next : IsOlder (open_root (slot_at bytes (place_of (k + 1)))) root
-  pub fit : IsFit (place_of k) bytes
-  pub fit_next : IsFit (place_of (k + 1)) bytes
 
 abbrev pub next_place : ℕ → ℕ
 next_place k = place_of (k + 1)

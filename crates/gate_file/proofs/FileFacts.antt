@@ -6,6 +6,7 @@ use Rattle.view_ports.proofs.Images.{length-splice, splice_before, splice_inside
 use Rattle.gate_file.specs.declared.root.Root.{Root}
 use Rattle.gate_file.specs.Header.{slot_at}
 use Rattle.gate_file.specs.Shown.{IsBehind, KeepsDurable, Shows}
+use Rattle.gate_file.specs.Commit.{Continues}
 use Rattle.gate_file.proofs.Windows.{window-same}
 
 -- an image is the bytes, and perhaps more behind them, with anything in a range of places
@@ -93,13 +94,6 @@ settled_keeps bytes = record {
   long = omega arith;
   same = λ place within. refl;
 }
-
--- one file's bytes behind the slots go on as another's: all durable ones, and all that are seen
-pub record Continues (old new : File) : Type 0 where
-  pub size : length new.seen ≡ length old.seen
-  pub seen : (place : ℕ) → 8192 ≤ place → place < length old.seen → get_or new.seen place 0 ≡ get_or old.seen place 0
-  pub long : length old.durable ≤ length new.durable
-  pub durable : (place : ℕ) → 8192 ≤ place → place < length old.durable → get_or new.durable place 0 ≡ get_or old.durable place 0
 
 pub continues_same : (file : File) → Continues file file
 continues_same file = record { size = refl; seen = λ place behind within. refl; long = omega arith; durable = λ place behind within. refl }

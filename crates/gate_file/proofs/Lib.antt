@@ -4,3 +4,4 @@ pub mod Windows
 pub mod SlotFacts
 pub mod FileFacts
 pub mod Commits
+pub mod CommitSteps

@@ -9,6 +9,7 @@ use Rattle.gate_file.specs.declared.root.Root.{Root}
 use Rattle.gate_file.specs.Header.{window, place_of, slot_at, root_in, IsOpen, open_root, IsSound, IsFit, newer, newest}
 use Rattle.gate_file.specs.Shown.{Shows}
 use Rattle.gate_file.specs.GateFile.{IsOlder}
+use Rattle.gate_file.specs.Commit.{header, HasHeader}
 use Rattle.gate_file.proofs.Windows.{length-window, get_or-window, part_same}
 
 -- the slots of two commits in a row are the two slots
@@ -110,19 +111,11 @@ shows_at k root bytes image last next fit fit' long rest = elim (places k) [
   }
 ]
 
--- the bytes of a slot before its gate
-abbrev pub header : Root → List ℕ
-header root = codes "CVIEW001" ++ to_le_bytes w64 root.number ++ to_le_bytes w64 root.offset ++ to_le_bytes w64 root.length
-
 -- the numbers of a root fit 8 bytes
 pub record IsSmall (root : Root) : Type 0 where
   pub number : root.number < 2 ^ 64
   pub offset : root.offset < 2 ^ 64
   pub length : root.length < 2 ^ 64
-
-pub record HasHeader (root : Root) (slot : List ℕ) : Type 0 where
-  pub long : length slot ≡ 65
-  pub each : (i : ℕ) → i < 32 → get_or slot i 0 ≡ get_or (header root) i 0
 
 module _ (root : Root) (slot : List ℕ) (has : HasHeader root slot) where
   part : (at : ℕ) → at + 8 ≤ 32 → take 8 (drop at slot) ≡ take 8 (drop at (header root))

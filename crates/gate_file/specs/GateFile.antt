@@ -63,12 +63,8 @@ abbrev pub next_root : GateFile → ℕ → ℕ → Root
 next_root gate offset size = record { number = gate.commits + 1; offset = offset; length = size }
 
 -- the object after a commit of this root
-abbrev pub committed : GateFile → ℕ → ℕ → GateFile
-committed gate offset size = record gate {
-  commits = gate.commits + 1;
-  root = Some (next_root gate offset size);
-  next_is_open = is_some gate.root;
-}
+abbrev pub committed : GateFile → Root → GateFile
+committed gate root = record gate { commits = root.number; root = Some root; next_is_open = is_some gate.root }
 
 -- the file after a commit: nothing is pending, and it names the new root and has all of its bytes
 pub record IsCommitted (gate : GateFile) (old new : File) : Type 0 where

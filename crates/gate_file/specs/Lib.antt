@@ -1,3 +1,4 @@
 pub mod Header
 pub mod Shown
 pub mod GateFile
+pub mod Commit

@@ -9,6 +9,9 @@ use crate::root::{DATA, MAX_COMMITS, Root, place_of};
 /// How many bytes of a slot are used, its gate being the last.
 pub(crate) const SLOT: usize = 65;
 
+/// The place of the gate in a slot.
+pub(crate) const GATE: u64 = 64;
+
 const MAGIC: [u8; 8] = *b"CVIEW001";
 
 /// What is found in a slot.
