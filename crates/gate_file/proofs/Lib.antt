@@ -5,3 +5,4 @@ pub mod SlotFacts
 pub mod FileFacts
 pub mod Commits
 pub mod CommitSteps
+pub mod Appends

@@ -2,3 +2,4 @@ pub mod Header
 pub mod Shown
 pub mod GateFile
 pub mod Commit
+pub mod Append

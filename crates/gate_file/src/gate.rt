@@ -1,9 +1,9 @@
 //! A file whose commits are all or nothing.
 
 use crate::fault::GateFault;
-use crate::root::{MAX_COMMITS, Root, place_of};
+use crate::root::{DATA, MAX_COMMITS, MAX_LENGTH, Root, place_of};
 use crate::slot::{GATE, header_of};
-use crate::steps::put_synced;
+use crate::steps::{add, grow_new, put_synced};
 use view_ports::{FileName, Folder, PortFault};
 
 /// One side of a pair of files, with the root of its last commit.
@@ -27,6 +27,7 @@ impl GateFile {
     ghost use Rattle.gate_file.specs.Header.{place_of};
     ghost use Rattle.gate_file.specs.Shown.{Shows};
     ghost use Rattle.gate_file.specs.GateFile.{name_of, length_of, commits_of, root_of, start_of, appended, next_root, committed, Keeps, IsAppended, IsCommitted};
+    ghost use Rattle.gate_file.specs.Append.{IsMade};
     ghost use Rattle.gate_file.specs.Commit.{Continues, IsNext, IsReady, IsStaged};
 
     /// The place and the length of the root record of the last commit, where there is one.
@@ -55,6 +56,63 @@ impl GateFile {
         ensures { result ≡ length_of self.now }
     {
         self.length
+    }
+
+    /// The place of the next bytes that are appended.
+    fn start(&self) -> u64
+        ensures { result ≡ start_of self.now }
+    {
+        if self.length == 0 { DATA } else { self.length }
+    }
+
+    /// Makes room for the slots, where the file is new.
+    fn make<F: Folder>(&self, folder: &mut F) -> Result<(), PortFault>
+        requires { IfTold (F.disk folder.old) (λ d. Keeps self.now (d.now self.now.name)) }
+        ensures disk { Tells (F.disk folder.old) (F.disk folder.new)
+            (MovesFile self.now.name (λ file image. Shows self.now.root file.durable image) (λ file now. OnOk result (IsMade self.now file now))) }
+        ensures cause { HasCause (F.faults folder.old) (F.faults folder.new) result }
+        ensures reads { F.reads folder.new ≡ F.reads folder.old }
+    {
+        if self.length > 0 {
+            return Ok(());
+        }
+        grow_new(folder, self.name, DATA)?;
+        Ok(())
+    }
+
+    /// Adds bytes at the end of the file, and answers where they stand. A new file is made first, with
+    /// 8,192 bytes that come on top. At each moment a crash leaves the root and what was durable. After
+    /// a fault the object is not to be used again.
+    pub fn append<F: Folder>(&mut self, folder: &mut F, bytes: &[u8]) -> Result<u64, GateFault>
+        requires { IfTold (F.disk folder.old) (λ d. Keeps self.old (d.now (name_of self.old))) }
+        ensures place { IfOk result (λ at. at ≡ start_of self.old) }
+        ensures done { OnOk result (self.new ≡ appended self.old (length bytes.now)) }
+        ensures disk { Tells (F.disk folder.old) (F.disk folder.new)
+            (MovesFile (name_of self.old)
+                (λ file image. Shows (root_of self.old) file.durable image)
+                (λ file now. OnOk result (IsAppended (appended self.old (length bytes.now)) bytes.now file now))) }
+
+        // It fails exactly where the file would be too long, and where the disk fails.
+        ensures full { (2 ^ 40 < start_of self.old + length bytes.now) ↔ (result ≡ Err (GateFault.Full (name_of self.old) (Some (length_of self.old)))) }
+        ensures faults { IfErr result (λ e. (e ≡ GateFault.DiskFault) ⊎ (e ≡ GateFault.Full (name_of self.old) (Some (length_of self.old)))) }
+        ensures cause { HasCauseIf (λ e. e ≡ GateFault.DiskFault) (F.faults folder.old) (F.faults folder.new) result }
+
+        ensures err { OnErr result (self.new ≡ self.old) }
+        ensures untouched { 2 ^ 40 < start_of self.old + length bytes.now → folder.new ≡ folder.old }
+        ensures reads { F.reads folder.new ≡ F.reads folder.old }
+    {
+        let start = self.start();
+        let count = bytes.len() as u64;
+        if start > MAX_LENGTH || count > MAX_LENGTH - start {
+            return Err(GateFault::Full {
+                name: self.name,
+                length: Some(self.length),
+            });
+        }
+        self.make(folder)?;
+        add(folder, self.name, start, bytes)?;
+        self.length = start + count;
+        Ok(start)
     }
 
     /// The place of the slot of the next commit.

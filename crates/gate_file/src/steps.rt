@@ -5,6 +5,7 @@ ghost use Rattle.std.specs.Prelude.{◌≡◌, ◌⊎◌, ◌+◌, ◌≤◌, �
 ghost use Rattle.view_ports.specs.Disk.{IfTold, Tells, MovesFile};
 ghost use Rattle.view_ports.specs.Faults.{HasCause};
 ghost use Rattle.view_ports.specs.File.{IsImage, grew, settled, synced, wrote};
+ghost use Rattle.gate_file.specs.Append.{IsZeros, IsGrown};
 
 use view_ports::{FileName, Folder, PortFault};
 
@@ -40,6 +41,23 @@ pub(crate) fn grow_synced<F: Folder>(
 {
     folder.grow(name, by)?;
     folder.sync(name)?;
+    Ok(())
+}
+
+/// Makes a file of so many zero bytes, and syncs it.
+pub(crate) fn grow_new<F: Folder>(
+    folder: &mut F,
+    name: FileName,
+    size: u64,
+) -> Result<(), PortFault>
+    requires few { size ≤ 2 ^ 40 }
+    requires new { IfTold (F.disk folder.old) (λ d. d.now name ≡ settled []) }
+    ensures disk { Tells (F.disk folder.old) (F.disk folder.new)
+        (MovesFile name (λ file image. IsZeros image) (λ file now. OnOk result (IsGrown size now))) }
+    ensures cause { HasCause (F.faults folder.old) (F.faults folder.new) result }
+    ensures reads { F.reads folder.new ≡ F.reads folder.old }
+{
+    grow_synced(folder, name, size)?;
     Ok(())
 }
 
