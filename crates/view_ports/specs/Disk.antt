@@ -61,6 +61,10 @@ pub record Moves {Name : Type 0} (mine : Name → Type 0) (leaves : (Name → Li
 abbrev pub MovesFile : {Name : Type 0} → Name → (File → List ℕ → Type 0) → (File → File → Type 0) → Disk Name → Disk Name → Type 0
 MovesFile name leaves ends old new = Moves (λ n. n ≡ name) (λ image. leaves (old.now name) (image name)) (λ files. ends (old.now name) (files name)) old new
 
+-- no file changed
+abbrev pub MovesNone : {Name : Type 0} → Disk Name → Disk Name → Type 0
+MovesNone = Moves (λ n. ⊥) (λ image. Unit {0}) (λ files. Unit {0})
+
 -- what is said of a disk where the folder tells it
 abbrev pub IfTold : {D : Type 0} → Option D → (D → Type 0) → Type 0
 IfTold None P = Unit {0}
