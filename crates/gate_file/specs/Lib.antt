@@ -3,3 +3,4 @@ pub mod Shown
 pub mod GateFile
 pub mod Commit
 pub mod Append
+pub mod Open

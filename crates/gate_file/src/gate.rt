@@ -1,5 +1,7 @@
 //! A file whose commits are all or nothing.
 
+mod open;
+
 use crate::fault::GateFault;
 use crate::root::{DATA, MAX_COMMITS, MAX_LENGTH, Root, place_of};
 use crate::slot::{GATE, header_of};

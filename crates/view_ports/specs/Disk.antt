@@ -70,9 +70,10 @@ abbrev pub IfTold : {D : Type 0} → Option D → (D → Type 0) → Type 0
 IfTold None P = Unit {0}
 IfTold (Some disk) P = P disk
 
--- what is said of a disk before and after, where the folder tells it; a folder that doesn't tell never begins to
+-- what is said of a disk before and after, where the folder tells it; a folder that tells goes on telling, and one
+-- that doesn't never begins to
 abbrev pub Tells : {D : Type 0} → Option D → Option D → (D → D → Type 0) → Type 0
 Tells None None R = Unit {0}
 Tells None (Some new) R = ⊥
-Tells (Some old) None R = Unit {0}
+Tells (Some old) None R = ⊥
 Tells (Some old) (Some new) R = R old new
