@@ -76,3 +76,7 @@ pub record IsFirstDamage (stem : Stem) (files : FileName → File) (name : FileN
 pub record IsPart (bytes : List ℕ) (offset count : ℕ) (part : List ℕ) : Type 0 where
   pub long : length part ≡ count
   pub same : part ≡ take count (drop offset bytes)
+
+-- the first slot of a file that is damaged
+abbrev pub IsFirstIn : List ℕ → ℕ → Type 0
+IsFirstIn bytes at = ((at ≡ 0) × IsDamaged 0 bytes) ⊎ ((at ≡ 4096) × IsFit 0 bytes × IsDamaged 4096 bytes)

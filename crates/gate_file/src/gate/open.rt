@@ -5,15 +5,17 @@ use crate::fault::GateFault;
 use crate::root::{Root, newer, place_of};
 use crate::slot::{SLOT, Slot, found_in};
 use crate::steps::cut_synced;
+use std::alloc::Global;
 use view_ports::{FileName, Folder, Stem};
 
-ghost use Rattle.std.specs.Prelude.{◌≡◌, ◌⊎◌, ℕ, ◌<◌, ◌-◌, length, Option, IfOk, IfErr, OnOk};
+ghost use Rattle.std.specs.Prelude.{◌≡◌, ◌⊎◌, ℕ, ◌<◌, ◌-◌, [], length, All, IfOk, IfErr, OnOk};
 ghost use Rattle.view_ports.specs.Causes.{HasCauseIf, RisesBy, one_more};
 ghost use Rattle.view_ports.specs.Disk.{IfTold, Tells, Moves, MovesFile, MovesNone};
 ghost use Rattle.view_ports.specs.File.{IsImage, settled};
 ghost use Rattle.view_ports.specs.FolderCalls.{Passes};
 ghost use Rattle.gate_file.specs.Header.{slot_at, open_root, IsFit, IsDamaged};
-ghost use Rattle.gate_file.specs.Open.{found, found_from, opened, slots_of, IsFirstDamage, IsFitSlot, IsOpened, IsPart, WhileOpening};
+ghost use Rattle.view_ports.specs.declared.file_name.FileName.{FileName};
+ghost use Rattle.gate_file.specs.Open.{found, found_from, opened, slots_of, IsFirstDamage, IsFirstIn, IsFitSlot, IsOpened, IsPart, WhileOpening};
 
 /// Reads the slot at a place of a file with this length, and answers its root where it is open.
 fn read_slot<F: Folder>(
@@ -65,5 +67,95 @@ fn found_with(name: FileName, size: u64, low: Option<Root>, high: Option<Root>) 
                 low.is_some()
             },
         },
+    }
+}
+
+/// Syncs a file of a pair, and answers what it is by its slots.
+fn look<F: Folder>(folder: &mut F, name: FileName) -> Result<GateFile, GateFault>
+    ensures found { IfTold (F.disk folder.old) (λ d. IfOk result (λ gate. (gate ≡ found name (d.now name).seen) × IsFit 0 (d.now name).seen × IsFit 4096 (d.now name).seen)) }
+    ensures damaged { IfTold (F.disk folder.old) (λ d. (at : ℕ) → result ≡ Err (GateFault.Damaged name at) → IsFirstIn (d.now name).seen at) }
+    ensures faults { IfErr result (λ e. (e ≡ GateFault.DiskFault) ⊎ ((at : ℕ) × (e ≡ GateFault.Damaged name at))) }
+    ensures disk { Tells (F.disk folder.old) (F.disk folder.new)
+        (MovesFile name (λ file image. IsImage file image) (λ file now. OnOk result (now ≡ settled file.seen))) }
+    ensures cause { HasCauseIf (λ e. e ≡ GateFault.DiskFault) (F.faults folder.old) (F.faults folder.new) result }
+    ensures reads { RisesBy 2 (F.reads folder.old) (F.reads folder.new) }
+{
+    folder.sync(name)?;
+    let size = folder.len(name)?;
+    let low = read_slot(folder, name, 0, size)?;
+    let high = read_slot(folder, name, 4096, size)?;
+    Ok(found_with(name, size, low, high))
+}
+
+impl GateFile {
+    /// Opens a pair of files: syncs both, takes the one whose open gate has the greater commit number,
+    /// and empties the other. Where neither has an open gate, both are emptied, and the file is new.
+    /// At each moment a crash leaves what it might have left before, or, once both are synced, the file
+    /// that is taken as it is.
+    pub fn open<F: Folder>(folder: &mut F, stem: Stem) -> Result<GateFile, GateFault>
+        ensures opened { IfTold (F.disk folder.old) (λ d. IfOk result (λ gate. gate ≡ opened stem d.now)) }
+        ensures disk { Tells (F.disk folder.old) (F.disk folder.new)
+            (λ old new. Moves (λ name. name.stem ≡ stem) (WhileOpening stem old.now) (λ files. IfOk result (λ gate. IsOpened gate old.now files)) old new) }
+
+        // It fails exactly where a slot is damaged, and where the disk fails.
+        ensures sound { IfTold (F.disk folder.old) (λ d. OnOk result (All (IsFitSlot d.now) (slots_of stem))) }
+        ensures damaged { IfTold (F.disk folder.old) (λ d. (name : FileName) (at : ℕ) → result ≡ Err (GateFault.Damaged name at) → IsFirstDamage stem d.now name at) }
+        ensures faults { IfErr result (λ e. (e ≡ GateFault.DiskFault) ⊎ ((name : FileName) × (at : ℕ) × (e ≡ GateFault.Damaged name at))) }
+        ensures cause { HasCauseIf (λ e. e ≡ GateFault.DiskFault) (F.faults folder.old) (F.faults folder.new) result }
+
+        ensures reads { RisesBy 4 (F.reads folder.old) (F.reads folder.new) }
+    {
+        let first = look(folder, FileName { stem, side: false })?;
+        let second = look(folder, FileName { stem, side: true })?;
+        if first.commits < second.commits {
+            GateFile::clear(folder, first.name)?;
+            return Ok(second);
+        }
+        GateFile::clear(folder, second.name)?;
+        if first.root.is_some() {
+            return Ok(first);
+        }
+        GateFile::clear(folder, first.name)?;
+        Ok(GateFile { length: 0, ..first })
+    }
+
+    /// Takes all bytes of a file away, and syncs it.
+    pub fn clear<F: Folder>(folder: &mut F, name: FileName) -> Result<(), GateFault>
+        ensures disk { Tells (F.disk folder.old) (F.disk folder.new)
+            (MovesFile name (λ file image. IsImage file image ⊎ (image ≡ [])) (λ file now. OnOk result (now ≡ settled []))) }
+        ensures faults { IfErr result (λ e. e ≡ GateFault.DiskFault) }
+        ensures cause { HasCauseIf (λ e. e ≡ GateFault.DiskFault) (F.faults folder.old) (F.faults folder.new) result }
+        ensures reads { F.reads folder.new ≡ F.reads folder.old }
+    {
+        cut_synced(folder, name)?;
+        Ok(())
+    }
+
+    /// Reads so many bytes of a file from a place on. The file is `Damaged` at that place exactly
+    /// where it has fewer.
+    pub fn read<F: Folder>(
+        alloc: Global,
+        folder: &mut F,
+        name: FileName,
+        offset: u64,
+        len: u64,
+    ) -> Result<Vec<u8>, GateFault>
+        ensures bytes { IfTold (F.disk folder.old) (λ d. IfOk result (λ bytes. IsPart (d.now name).seen offset len bytes.items)) }
+        ensures damaged { IfTold (F.disk folder.old) (λ d. result ≡ Err (GateFault.Damaged name offset) → length (d.now name).seen - offset < len) }
+        ensures faults { IfErr result (λ e. (e ≡ GateFault.DiskFault) ⊎ (e ≡ GateFault.NoMemory) ⊎ (e ≡ GateFault.Damaged name offset)) }
+        ensures disk { Tells (F.disk folder.old) (F.disk folder.new) MovesNone }
+        ensures cause { HasCauseIf (λ e. e ≡ GateFault.DiskFault) (F.faults folder.old) (F.faults folder.new) result }
+        ensures reads { RisesBy 1 (F.reads folder.old) (F.reads folder.new) }
+    {
+        let size = folder.len(name)?;
+        if size.saturating_sub(offset) < len {
+            return Err(GateFault::Damaged { name, offset });
+        }
+        let mut bytes = vec![in alloc; 0; len as usize]?;
+        let count = folder.read_at(name, offset, &mut bytes)?;
+        if (count as u64) < len {
+            return Err(GateFault::Damaged { name, offset });
+        }
+        Ok(bytes)
     }
 }
