@@ -6,3 +6,4 @@ pub mod FileFacts
 pub mod Commits
 pub mod CommitSteps
 pub mod Appends
+pub mod Looks

@@ -80,7 +80,7 @@ module _ {Name : Type 0} where
       a b c (λ image left. images1 (image name) left) (λ ended image left. images2 ended (image name) left) endings first second
 
   -- one call that takes a step on a file: a crash leaves what it might have left before or after
-  either_images : {T E : Type 0} (name : Name) (step : File → File) (result : Result T E) (old new : Disk Name) → Changes name step result old new
+  pub either_images : {T E : Type 0} (name : Name) (step : File → File) (result : Result T E) (old new : Disk Name) → Changes name step result old new
       → (image : List ℕ) → IsImage (new.now name) image → IsImage (old.now name) image ⊎ IsImage (step (old.now name)) image
   either_images name step (Ok value) old new changes image is = inr (subst (λ file. IsImage file image) changes.ok is)
   either_images name step (Err error) old new changes image is = changes.err image is
@@ -119,6 +119,9 @@ module _ {Name : Type 0} where
 module _ {Name : Type 0} where
   pub none_same : (old new : Disk Name) → MovesNone old new → (name : Name) → new.now name ≡ old.now name
   none_same old new moves name = moves.others name (λ never. never)
+
+  pub none_refl : (disk : Disk Name) → MovesNone disk disk
+  none_refl disk = moves_none (λ n. ⊥) (λ image. Unit {0}) (λ files. Unit {0}) disk (λ image is. tt) tt
 
   pub none_passes : (old new : Disk Name) → Passes old new → MovesNone old new
   none_passes old new passes = moves_passes (λ n. ⊥) (λ image. Unit {0}) (λ files. Unit {0}) old new (λ image is. tt) (λ same. tt) passes

@@ -63,3 +63,7 @@ module _ {D : Type 0} where
   pub told_all : (now : Option D) (P : D → Type 0) → ((a : D) → P a) → IfTold now P
   told_all None P always = tt
   told_all (Some a) P always = always a
+
+  pub told_refl : (now : Option D) (R : D → D → Type 0) → ((a : D) → R a a) → Tells now now R
+  told_refl None R same = tt
+  told_refl (Some a) R same = same a
