@@ -7,3 +7,4 @@ pub mod Commits
 pub mod CommitSteps
 pub mod Appends
 pub mod Looks
+pub mod Pairs

@@ -45,10 +45,14 @@ IsDropped gate name = name ≡ gate.name → gate.root ≡ None
 abbrev pub IsWholeOrEmpty : GateFile → FileName → List ℕ → List ℕ → Type 0
 IsWholeOrEmpty gate name seen image = (image ≡ seen) ⊎ ((image ≡ []) × IsDropped gate name)
 
+-- what a crash might have left of the pair before
+abbrev pub BeforeOpening : Stem → (FileName → File) → (FileName → List ℕ) → Type 0
+BeforeOpening stem files image = (name : FileName) → name.stem ≡ stem → IsImage (files name) (image name)
+
 -- what a crash leaves of the pair while it is opened: what it might have left before, or each side as above
 abbrev pub WhileOpening : Stem → (FileName → File) → (FileName → List ℕ) → Type 0
 WhileOpening stem files image =
-    ((name : FileName) → name.stem ≡ stem → IsImage (files name) (image name))
+    BeforeOpening stem files image
     ⊎ ((name : FileName) → name.stem ≡ stem → IsWholeOrEmpty (opened stem files) name (files name).seen (image name))
 
 -- the pair once it is opened: nothing is pending, the object keeps what its file holds, and the other side has no bytes
@@ -80,3 +84,16 @@ pub record IsPart (bytes : List ℕ) (offset count : ℕ) (part : List ℕ) : Ty
 -- the first slot of a file that is damaged
 abbrev pub IsFirstIn : List ℕ → ℕ → Type 0
 IsFirstIn bytes at = ((at ≡ 0) × IsDamaged 0 bytes) ⊎ ((at ≡ 4096) × IsFit 0 bytes × IsDamaged 4096 bytes)
+
+-- what both files of a pair are by themselves
+pub record IsPair (stem : Stem) (files : FileName → File) (first second : GateFile) : Type 0 where
+  pub first_is : first ≡ found (side_of stem false) (files (side_of stem false)).seen
+  pub second_is : second ≡ found (side_of stem true) (files (side_of stem true)).seen
+  pub first_low : IsFit 0 (files (side_of stem false)).seen
+  pub first_high : IsFit 4096 (files (side_of stem false)).seen
+  pub second_low : IsFit 0 (files (side_of stem true)).seen
+  pub second_high : IsFit 4096 (files (side_of stem true)).seen
+
+-- nothing of the pair is pending
+abbrev pub IsSettledPair : Stem → (FileName → File) → (FileName → File) → Type 0
+IsSettledPair stem old new = (name : FileName) → name.stem ≡ stem → new name ≡ settled (old name).seen

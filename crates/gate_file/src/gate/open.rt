@@ -15,7 +15,7 @@ ghost use Rattle.view_ports.specs.File.{IsImage, settled};
 ghost use Rattle.view_ports.specs.FolderCalls.{Passes};
 ghost use Rattle.gate_file.specs.Header.{slot_at, open_root, IsFit, IsDamaged};
 ghost use Rattle.view_ports.specs.declared.file_name.FileName.{FileName};
-ghost use Rattle.gate_file.specs.Open.{found, found_from, opened, slots_of, IsFirstDamage, IsFirstIn, IsFitSlot, IsOpened, IsPart, WhileOpening};
+ghost use Rattle.gate_file.specs.Open.{found, found_from, opened, slots_of, IsFirstDamage, IsFirstIn, IsFitSlot, BeforeOpening, IsOpened, IsPair, IsPart, IsSettledPair, WhileOpening};
 
 /// Reads the slot at a place of a file with this length, and answers its root where it is open.
 fn read_slot<F: Folder>(
@@ -73,7 +73,7 @@ fn found_with(name: FileName, size: u64, low: Option<Root>, high: Option<Root>) 
 /// Syncs a file of a pair, and answers what it is by its slots.
 fn look<F: Folder>(folder: &mut F, name: FileName) -> Result<GateFile, GateFault>
     ensures found { IfTold (F.disk folder.old) (λ d. IfOk result (λ gate. (gate ≡ found name (d.now name).seen) × IsFit 0 (d.now name).seen × IsFit 4096 (d.now name).seen)) }
-    ensures damaged { IfTold (F.disk folder.old) (λ d. (at : ℕ) → result ≡ Err (GateFault.Damaged name at) → IsFirstIn (d.now name).seen at) }
+    ensures damaged { IfTold (F.disk folder.old) (λ d. (n : FileName) (at : ℕ) → result ≡ Err (GateFault.Damaged n at) → (n ≡ name) × IsFirstIn (d.now name).seen at) }
     ensures faults { IfErr result (λ e. (e ≡ GateFault.DiskFault) ⊎ ((at : ℕ) × (e ≡ GateFault.Damaged name at))) }
     ensures disk { Tells (F.disk folder.old) (F.disk folder.new)
         (MovesFile name (λ file image. IsImage file image) (λ file now. OnOk result (now ≡ settled file.seen))) }
@@ -85,6 +85,28 @@ fn look<F: Folder>(folder: &mut F, name: FileName) -> Result<GateFile, GateFault
     let low = read_slot(folder, name, 0, size)?;
     let high = read_slot(folder, name, 4096, size)?;
     Ok(found_with(name, size, low, high))
+}
+
+/// Both files of a pair.
+struct Pair {
+    first: GateFile,
+    second: GateFile,
+}
+
+/// Syncs both files of a pair, and answers what they are by their slots.
+fn look_at_both<F: Folder>(folder: &mut F, stem: Stem) -> Result<Pair, GateFault>
+    ensures found { IfTold (F.disk folder.old) (λ d. IfOk result (λ pair. IsPair stem d.now pair.first pair.second)) }
+    ensures sound { IfTold (F.disk folder.old) (λ d. OnOk result (All (IsFitSlot d.now) (slots_of stem))) }
+    ensures damaged { IfTold (F.disk folder.old) (λ d. (n : FileName) (at : ℕ) → result ≡ Err (GateFault.Damaged n at) → IsFirstDamage stem d.now n at) }
+    ensures faults { IfErr result (λ e. (e ≡ GateFault.DiskFault) ⊎ ((n : FileName) × (at : ℕ) × (e ≡ GateFault.Damaged n at))) }
+    ensures disk { Tells (F.disk folder.old) (F.disk folder.new)
+        (λ old new. Moves (λ name. name.stem ≡ stem) (BeforeOpening stem old.now) (λ files. OnOk result (IsSettledPair stem old.now files)) old new) }
+    ensures cause { HasCauseIf (λ e. e ≡ GateFault.DiskFault) (F.faults folder.old) (F.faults folder.new) result }
+    ensures reads { RisesBy 4 (F.reads folder.old) (F.reads folder.new) }
+{
+    let first = look(folder, FileName { stem, side: false })?;
+    let second = look(folder, FileName { stem, side: true })?;
+    Ok(Pair { first, second })
 }
 
 impl GateFile {
@@ -105,8 +127,7 @@ impl GateFile {
 
         ensures reads { RisesBy 4 (F.reads folder.old) (F.reads folder.new) }
     {
-        let first = look(folder, FileName { stem, side: false })?;
-        let second = look(folder, FileName { stem, side: true })?;
+        let Pair { first, second } = look_at_both(folder, stem)?;
         if first.commits < second.commits {
             GateFile::clear(folder, first.name)?;
             return Ok(second);
