@@ -8,3 +8,4 @@ pub mod CommitSteps
 pub mod Appends
 pub mod Looks
 pub mod Pairs
+pub mod Openings
