@@ -1,15 +1,13 @@
 -- One file while bytes are appended.
-use Rattle.std.proofs.Common.{◌≡◌, ◌≢◌, ◌⊎◌, inl, inr, ⊎_elim, ℕ, ◌+◌, ◌<◌, ◌≤◌, List, [], ◌∷◌, ◌++◌, length, get_or, take, drop, replicate, Option, Some, None, refl, sym, ap, ◌∙◌, subst, arith, length-append, append-nil}
-use Rattle.std.specs.Prelude.{Bool, true, false, IsTrue, ◌↔◌, IfSome}
+use Rattle.std.proofs.Common.{◌≡◌, ◌⊎◌, inl, inr, ℕ, ◌+◌, ◌<◌, ◌≤◌, List, [], ◌∷◌, ◌++◌, length, get_or, drop, replicate, Option, None, refl, sym, ap, ◌∙◌, subst, arith, length-append, append-nil}
 use Rattle.std.proofs.lemmas.Bool.{cases_lt, cases_eq}
 use Rattle.std.proofs.lemmas.Bool.Decides.{nat_tests}
-use Rattle.std.proofs.lemmas.List.{length-replicate, get_or-replicate, get_or_past, get_or_append_left, take_at, drop_all, nil_from_length}
-use Rattle.view_ports.specs.File.{File, IsIn, IsOneOf, IsImage, settled, splice, wrote, grew, synced}
-use Rattle.view_ports.proofs.Images.{length-splice, splice_before}
+use Rattle.std.proofs.lemmas.List.{length-replicate, get_or-replicate, get_or_past, get_or_append_left, take_at, drop_all}
+use Rattle.view_ports.specs.File.{File, IsIn, IsOneOf, IsImage, settled, grew, synced}
 use Rattle.gate_file.specs.declared.root.Root.{Root}
 use Rattle.gate_file.specs.declared.gate.GateFile.{GateFile}
-use Rattle.gate_file.specs.Header.{place_of, slot_at, IsOpen, open_root, IsFit}
-use Rattle.gate_file.specs.Shown.{Shows, IsBehind, KeepsDurable, IsBlank, IsFront}
+use Rattle.gate_file.specs.Header.{place_of, slot_at, IsOpen, open_root}
+use Rattle.gate_file.specs.Shown.{Shows, KeepsDurable, IsFront}
 use Rattle.gate_file.specs.GateFile.{IsOlder, Keeps, start_of, appended, IsAppended}
 use Rattle.gate_file.specs.Append.{IsZeros, IsGrown, IsMade}
 use Rattle.gate_file.specs.Commit.{Holds}
@@ -17,7 +15,7 @@ use Rattle.gate_file.proofs.Stepped.{ungrown}
 use Rattle.gate_file.proofs.Cuts.{adding}
 use Rattle.gate_file.proofs.Windows.{get_or-window}
 use Rattle.gate_file.proofs.SlotFacts.{open_root-closed, IsFit-closed, shows_at}
-use Rattle.gate_file.proofs.FileFacts.{torn_nothing, settled_keeps}
+use Rattle.gate_file.proofs.FileFacts.{settled_keeps}
 use Rattle.gate_file.proofs.CommitSteps.{keeps_holds, durable_shows}
 
 -- A file that is made.

@@ -1,19 +1,19 @@
 -- What each step of a commit leaves of the file, from what the object keeps.
-use Rattle.std.proofs.Common.{◌≡◌, ◌≢◌, ◌⊎◌, inl, inr, ⊎_elim, ℕ, ◌+◌, ◌*◌, ◌%◌, ◌^◌, ◌<◌, ◌≤◌, List, [], ◌∷◌, length, get_or, Option, Some, None, refl, sym, ap, ◌∙◌, subst, arith}
-use Rattle.std.specs.Prelude.{Bool, true, false, IsTrue, is_some, ◌↔◌, IfSome}
+use Rattle.std.proofs.Common.{◌≡◌, ◌⊎◌, inl, inr, ℕ, ◌+◌, ◌^◌, ◌<◌, ◌≤◌, List, [], ◌∷◌, length, get_or, Option, Some, refl, sym, ap, ◌∙◌, subst, arith}
+use Rattle.std.specs.Prelude.{true, false, IsTrue, is_some, ◌↔◌, IfSome}
 use Rattle.std.proofs.lemmas.Bool.{cases_eq}
 use Rattle.view_ports.specs.File.{File, IsImage, settled, splice, wrote, synced}
 use Rattle.view_ports.proofs.Images.{length-splice, splice_inside}
 use Rattle.gate_file.specs.declared.root.Root.{Root}
 use Rattle.gate_file.specs.declared.gate.GateFile.{GateFile}
-use Rattle.gate_file.specs.Header.{place_of, slot_at, IsOpen, IsFit}
+use Rattle.gate_file.specs.Header.{place_of, slot_at, IsOpen}
 use Rattle.gate_file.specs.Shown.{Shows, KeepsDurable}
 use Rattle.gate_file.specs.GateFile.{Keeps, committed, IsCommitted}
 use Rattle.gate_file.specs.Commit.{header, HasHeader, Holds, Continues, IsReady, IsStaged, IsNext}
 use Rattle.gate_file.proofs.Windows.{get_or-window, length-window}
-use Rattle.gate_file.proofs.SlotFacts.{places, place_below, fit_at, IsSmall}
+use Rattle.gate_file.proofs.SlotFacts.{place_below, fit_at, IsSmall}
 use Rattle.gate_file.proofs.FileFacts.{Torn, torn_write, torn_nothing, torn_splice, seen_splice, slot_kept, rest_kept, settled_keeps, continues_same, continues_put, shows_before, shows_seen}
-use Rattle.gate_file.proofs.Commits.{next_place, holds_torn, holds_same, holds_shut, holds_staged, staged_closed, shut_closed, holds_shows, holds_opened, before_opened, holds_closed}
+use Rattle.gate_file.proofs.Commits.{next_place, holds_torn, holds_same, holds_shut, holds_staged, shut_closed, holds_shows, holds_opened, before_opened, holds_closed}
 
 pub keeps_holds : (gate : GateFile) (file : File) → 0 < gate.length → Keeps gate file → Holds gate.commits gate.root file.durable
 keeps_holds gate file made keeps = record {
@@ -44,12 +44,15 @@ module _ (gate : GateFile) (made : 0 < gate.length) where
   shut_before file image keeps is = durable_shows gate.commits gate.root file image keeps.durable (keeps_holds gate file made keeps) is
 
   pub shut_already : gate.next_is_open ≡ false → (file : File) → Keeps gate file → IsReady gate file × Continues file file
-  shut_already closed file keeps = (record {
-    size = keeps.size;
-    holds = keeps_holds gate file made keeps;
-    closed = λ is. (let opened : gate.next_is_open ≡ true = keeps.next_open.1 is in let clash : ⊥ = cc in clash);
-    durable = keeps.durable;
-  }, continues_same file)
+  shut_already closed file keeps = (
+    record {
+      size = keeps.size;
+      holds = keeps_holds gate file made keeps;
+      closed = λ is. (let opened : gate.next_is_open ≡ true = keeps.next_open.1 is in let clash : ⊥ = cc in clash);
+      durable = keeps.durable;
+    },
+    continues_same file,
+  )
 
   pub shut_images : gate.next_is_open ≡ true → (at : ℕ) → at ≡ place_of (gate.commits + 1) + 64 → (file : File) (image : List ℕ) → Keeps gate file → IsImage (wrote at (0 ∷ []) file) image → Shows gate.root file.durable image
   shut_images opened at is file image keeps left =
@@ -120,9 +123,9 @@ module _ (gate : GateFile) (root : Root) (at : ℕ) (is : at ≡ place_of (gate.
       has = record {
         long = length-window (splice file.seen at piece) (next_place gate.commits) 65;
         each = λ i below.
-          get_or-window (splice file.seen at piece) (next_place gate.commits) 65 i (omega arith)
-          ∙ splice_inside file.seen at piece fits (next_place gate.commits + i) i (omega (arith, is)) (omega (arith, piece_long))
-          ∙ ap (λ l. get_or l i 0) piece_is;
+            get_or-window (splice file.seen at piece) (next_place gate.commits) 65 i (omega arith)
+            ∙ splice_inside file.seen at piece fits (next_place gate.commits + i) i (omega (arith, is)) (omega (arith, piece_long))
+            ∙ ap (λ l. get_or l i 0) piece_is;
       }
 
       staged : IsStaged gate root (settled (splice file.seen at piece))

@@ -1,18 +1,15 @@
 -- One file over the steps of a commit: the gate of the next slot is shut, its header is written, and it is opened.
-use Rattle.std.proofs.Common.{◌≡◌, ◌≢◌, ◌⊎◌, inl, inr, ⊎_elim, ℕ, ◌+◌, ◌*◌, ◌%◌, ◌^◌, ◌<◌, ◌≤◌, List, [], ◌∷◌, length, get_or, Option, Some, None, refl, sym, ap, ◌∙◌, subst, arith}
-use Rattle.std.specs.Prelude.{Bool, true, false, IsTrue, is_some, ◌↔◌, IfSome}
-use Rattle.std.proofs.lemmas.Bool.{cases_lt, cases_eq}
-use Rattle.view_ports.specs.File.{File, IsImage, settled, splice, wrote, synced}
-use Rattle.view_ports.proofs.Images.{length-splice, splice_before, splice_inside, splice_behind}
+use Rattle.std.proofs.Common.{◌≡◌, ◌⊎◌, inl, inr, ℕ, ◌+◌, ◌^◌, ◌<◌, ◌≤◌, List, length, get_or, Option, Some, None, sym, ap, ◌∙◌, subst, arith}
+use Rattle.std.specs.Prelude.{IsTrue, is_some, ◌↔◌, IfSome}
+use Rattle.std.proofs.lemmas.Bool.{cases_eq}
 use Rattle.gate_file.specs.declared.root.Root.{Root}
-use Rattle.gate_file.specs.declared.gate.GateFile.{GateFile}
-use Rattle.gate_file.specs.Header.{place_of, slot_at, root_in, IsOpen, open_root, IsSound, IsFit, newest}
-use Rattle.gate_file.specs.Shown.{Shows, KeepsDurable}
-use Rattle.gate_file.specs.GateFile.{IsOlder, Keeps, next_root, committed, IsCommitted}
-use Rattle.gate_file.specs.Commit.{header, HasHeader, Holds, Continues}
+use Rattle.gate_file.specs.Header.{place_of, slot_at, IsOpen, open_root, IsSound, IsFit}
+use Rattle.gate_file.specs.Shown.{Shows}
+use Rattle.gate_file.specs.GateFile.{IsOlder}
+use Rattle.gate_file.specs.Commit.{HasHeader, Holds}
 use Rattle.gate_file.proofs.Windows.{window-same, get_or-window, length-window}
-use Rattle.gate_file.proofs.SlotFacts.{places, place_twice, place_below, open_root-closed, open_root-open, open_iff, IsSound-longer, IsFit-same, IsFit-closed, fit_at, shows_at, IsSmall, header_root, header_sound}
-use Rattle.gate_file.proofs.FileFacts.{Torn, torn_write, torn_nothing, torn_splice, slot_kept, rest_kept, settled_keeps, continues_same, continues_put}
+use Rattle.gate_file.proofs.SlotFacts.{places, place_twice, place_below, open_root-closed, open_root-open, open_iff, IsFit-same, IsFit-closed, shows_at, IsSmall, header_root, header_sound}
+use Rattle.gate_file.proofs.FileFacts.{Torn, slot_kept}
 
 -- the two slots don't overlap
 apart : (k at count : ℕ) → place_of (k + 1) ≤ at → at + count ≤ place_of (k + 1) + 65 → (place_of k + 65 ≤ at) ⊎ (at + count ≤ place_of k)
@@ -56,10 +53,10 @@ module _ (k : ℕ) (root : Option Root) (bytes image : List ℕ) (holds : Holds 
   -- only its gate may be another
   gate_same : Torn (next_place k + 64) 1 bytes image → get_or image (next_place k + 64) 0 ≡ get_or bytes (next_place k + 64) 0 → slot_at image (next_place k) ≡ slot_at bytes (next_place k)
   gate_same torn same = window-same image bytes (next_place k) 65 (λ i within.
-    elim (cases_eq i 64) [
-      | inl gate ↦ ap (λ j. get_or image (next_place k + j) 0) gate ∙ same ∙ ap (λ j. get_or bytes (next_place k + j) 0) (sym gate)
-      | inr before ↦ torn.same (next_place k + i) (omega (arith, holds.made, place_below (k + 1))) (λ inside. before (omega arith))
-    ])
+      elim (cases_eq i 64) [
+        | inl gate ↦ ap (λ j. get_or image (next_place k + j) 0) gate ∙ same ∙ ap (λ j. get_or bytes (next_place k + j) 0) (sym gate)
+        | inr before ↦ torn.same (next_place k + i) (omega (arith, holds.made, place_below (k + 1))) (λ inside. before (omega arith))
+      ])
 
   gate_read : (b : List ℕ) → get_or (slot_at b (next_place k)) 64 0 ≡ get_or b (next_place k + 64) 0
   gate_read b = get_or-window b (next_place k) 65 64 (omega arith)
@@ -99,9 +96,9 @@ module _ (k : ℕ) (root : Option Root) (new : Root) (bytes image : List ℕ) (h
   header_kept = record {
     long = length-window image (next_place k) 65;
     each = λ i below.
-      get_or-window image (next_place k) 65 i (omega arith)
-      ∙ torn.same (next_place k + i) (omega (arith, holds.made, place_below (k + 1))) (λ inside. omega arith)
-      ∙ sym (get_or-window bytes (next_place k) 65 i (omega arith)) ∙ has.each i below;
+        get_or-window image (next_place k) 65 i (omega arith)
+        ∙ torn.same (next_place k + i) (omega (arith, holds.made, place_below (k + 1))) (λ inside. omega arith)
+        ∙ sym (get_or-window bytes (next_place k) 65 i (omega arith)) ∙ has.each i below;
   }
 
   is_older : (old : Option Root) → IfSome old (λ r. r.number ≡ k) → IsOlder old (Some new)

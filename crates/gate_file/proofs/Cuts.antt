@@ -1,13 +1,13 @@
 -- What a crash leaves while a file is cut and synced, and while bytes are added.
-use Rattle.std.proofs.Common.{◌≡◌, ◌⊎◌, inl, inr, ⊎_elim, ℕ, List, [], ◌∷◌, length, Option, Result, Ok, Err, OnOk, IsErr, sym, subst}
+use Rattle.std.proofs.Common.{◌≡◌, ◌⊎◌, inl, inr, ⊎_elim, ℕ, List, [], length, Option, Result, Ok, OnOk, subst}
 use Rattle.std.proofs.lemmas.List.{nil_from_length}
-use Rattle.view_ports.specs.File.{File, IsIn, IsImage, settled, wrote, grew, emptied, synced}
-use Rattle.view_ports.specs.Disk.{Disk, MovesFile, IfTold, Tells}
+use Rattle.view_ports.specs.File.{File, IsImage, settled, wrote, grew, emptied, synced}
+use Rattle.view_ports.specs.Disk.{Disk, MovesFile, Tells}
 use Rattle.view_ports.specs.FolderCalls.{Changes}
 use Rattle.view_ports.proofs.Images.{IsImage-settled, IsImage-emptied}
 use Rattle.view_ports.proofs.Told.{told_map, told_then}
 use Rattle.view_ports.proofs.DiskRuns.{file_then, file_changes, on_ok}
-use Rattle.gate_file.proofs.Stepped.{unwritten, ungrown, ended_err}
+use Rattle.gate_file.proofs.Stepped.{unwritten, ungrown}
 
 -- what a crash leaves of a file while it is cut
 abbrev pub Cut : File → List ℕ → Type 0

@@ -1,11 +1,11 @@
 -- What a crash leaves of a file of which nothing durable may be lost, and its states between the steps of a commit.
-use Rattle.std.proofs.Common.{◌≡◌, ◌≢◌, ◌⊎◌, inl, inr, ⊎_elim, ℕ, ◌+◌, ◌*◌, ◌<◌, ◌≤◌, List, [], ◌∷◌, length, get_or, Option, refl, sym, ap, ◌∙◌, subst, arith}
+use Rattle.std.proofs.Common.{◌≡◌, ◌⊎◌, inl, inr, ℕ, ◌+◌, ◌<◌, ◌≤◌, List, [], ◌∷◌, length, get_or, Option, refl, ◌∙◌, arith}
 use Rattle.std.proofs.lemmas.Bool.{cases_lt}
 use Rattle.view_ports.specs.File.{File, IsIn, IsOneOf, IsImage, settled, splice, wrote}
-use Rattle.view_ports.proofs.Images.{length-splice, splice_before, splice_inside, splice_behind, IsImage-settled}
+use Rattle.view_ports.proofs.Images.{length-splice, splice_before, splice_behind}
 use Rattle.gate_file.specs.declared.root.Root.{Root}
 use Rattle.gate_file.specs.Header.{slot_at}
-use Rattle.gate_file.specs.Shown.{IsBehind, KeepsDurable, Shows}
+use Rattle.gate_file.specs.Shown.{KeepsDurable, Shows}
 use Rattle.gate_file.specs.Commit.{Continues}
 use Rattle.gate_file.proofs.Windows.{window-same}
 

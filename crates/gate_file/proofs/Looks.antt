@@ -1,6 +1,6 @@
 -- What a file of a pair is found to be.
-use Rattle.std.proofs.Common.{◌≡◌, ◌≢◌, ◌⊎◌, inl, inr, ⊎_elim, ℕ, ◌+◌, ◌-◌, ◌*◌, ◌%◌, ◌<◌, ◌≤◌, List, [], length, get_or, min, take, drop, Option, Some, None, Result, Ok, OnOk, refl, sym, ap, ◌∙◌, subst, arith, length-take, length-drop}
-use Rattle.std.specs.Prelude.{Bool, true, false, IsTrue, is_some, ◌↔◌, IfSome}
+use Rattle.std.proofs.Common.{◌≡◌, ◌≢◌, ◌⊎◌, inl, inr, ⊎_elim, ℕ, ◌+◌, ◌-◌, ◌<◌, ◌≤◌, List, length, get_or, min, take, drop, Option, Some, None, Result, OnOk, refl, sym, ap, ◌∙◌, subst, arith}
+use Rattle.std.specs.Prelude.{IsTrue, is_some, ◌↔◌}
 use Rattle.std.proofs.lemmas.Bool.{cases_lt, cases_eq}
 use Rattle.std.proofs.lemmas.Bool.Decides.{nat_tests}
 use Rattle.std.proofs.lemmas.List.{take_all, get_or_past}
@@ -9,14 +9,13 @@ use Rattle.view_ports.specs.Disk.{Disk, MovesFile, MovesNone, SeenStays, IfTold,
 use Rattle.view_ports.specs.FolderCalls.{Changes, Passes, IsReadAt}
 use Rattle.view_ports.specs.declared.file_name.FileName.{FileName}
 use Rattle.view_ports.proofs.Told.{told_map, told_then, told_given}
-use Rattle.view_ports.proofs.DiskRuns.{either_images, file_then, file_changes, none_wider, none_same, none_passes, none_then}
+use Rattle.view_ports.proofs.DiskRuns.{either_images, file_then, file_changes, none_wider, none_passes, none_then}
 use Rattle.gate_file.specs.declared.root.Root.{Root}
-use Rattle.gate_file.specs.declared.gate.GateFile.{GateFile}
-use Rattle.gate_file.specs.Header.{window, place_of, slot_at, root_in, IsOpen, open_root, IsSound, IsFit, newer}
+use Rattle.gate_file.specs.Header.{place_of, slot_at, root_in, IsOpen, open_root, IsSound, IsFit, newer}
 use Rattle.gate_file.specs.GateFile.{IsOlder, Keeps}
 use Rattle.gate_file.specs.Open.{found, found_from, found_newest}
 use Rattle.gate_file.proofs.Windows.{get_or-window, window-part}
-use Rattle.gate_file.proofs.SlotFacts.{open_root-closed, open_root-open, open_iff, IsFit-closed, places}
+use Rattle.gate_file.proofs.SlotFacts.{open_root-closed, open_root-open, open_iff, IsFit-closed}
 use Rattle.gate_file.proofs.FileFacts.{settled_keeps}
 use Rattle.gate_file.proofs.Stepped.{unsynced}
 

@@ -1,7 +1,7 @@
 -- One side of a pair is taken, and the others are emptied.
-use Rattle.std.proofs.Common.{◌≡◌, ◌≢◌, ◌⊎◌, inl, inr, ⊎_elim, ℕ, ◌<◌, ◌≤◌, List, [], length, Option, Some, None, Result, Ok, Err, IsErr, refl, sym, ap, ◌∙◌, subst, arith}
-use Rattle.std.specs.Prelude.{Bool, true, false, is_some, IfOk}
-use Rattle.view_ports.specs.File.{File, IsImage, settled}
+use Rattle.std.proofs.Common.{◌≡◌, ◌≢◌, ◌⊎◌, inl, inr, ⊎_elim, ◌<◌, ◌≤◌, [], Option, Some, None, Result, Ok, Err, IsErr, refl, sym, ◌∙◌, subst, arith}
+use Rattle.std.specs.Prelude.{true, false, is_some, IfOk}
+use Rattle.view_ports.specs.File.{File, settled}
 use Rattle.view_ports.specs.Disk.{Disk, Moves, MovesFile}
 use Rattle.view_ports.specs.declared.file_name.Stem.{Stem}
 use Rattle.view_ports.specs.declared.file_name.FileName.{FileName}

@@ -1,19 +1,18 @@
 -- Both files of a pair while it is opened.
-use Rattle.std.proofs.Common.{◌≡◌, ◌≢◌, ◌⊎◌, inl, inr, ⊎_elim, ℕ, ◌<◌, ◌≤◌, List, [], ◌∷◌, ◌++◌, length, take, Option, Some, None, All, refl, sym, ap, ◌∙◌, subst, arith}
-use Rattle.std.specs.Prelude.{Bool, true, false, nat_lt, is_none}
-use Rattle.std.proofs.lemmas.Bool.{cases_lt, cases_eq}
+use Rattle.std.proofs.Common.{◌≡◌, ◌≢◌, ◌⊎◌, inl, inr, ⊎_elim, ℕ, ◌<◌, ◌≤◌, List, [], ◌∷◌, length, take, Option, Some, None, All, refl, sym, ap, ◌∙◌, subst, arith}
+use Rattle.std.specs.Prelude.{Bool, true, false, is_none}
 use Rattle.std.proofs.lemmas.Bool.Decides.{nat_tests}
 use Rattle.std.proofs.lemmas.List.{take_all}
 use Rattle.std.proofs.lemmas.List.Elements.{All-nil, All-cons}
 use Rattle.view_ports.specs.File.{File, IsImage, settled}
-use Rattle.view_ports.specs.Disk.{Disk, IsImageOf, Framed, Moves, MovesFile, SeenStays}
+use Rattle.view_ports.specs.Disk.{Disk, Moves, MovesFile, SeenStays}
 use Rattle.view_ports.specs.declared.file_name.Stem.{Stem}
 use Rattle.view_ports.specs.declared.file_name.FileName.{FileName}
 use Rattle.view_ports.proofs.Images.{IsImage-settled}
 use Rattle.view_ports.proofs.DiskRuns.{moves_wider, moves_then}
 use Rattle.gate_file.specs.declared.root.Root.{Root}
 use Rattle.gate_file.specs.declared.gate.GateFile.{GateFile}
-use Rattle.gate_file.specs.Header.{slot_at, place_of, open_root, IsOpen, IsFit, IsDamaged, newer}
+use Rattle.gate_file.specs.Header.{slot_at, open_root, IsOpen, IsFit, newer}
 use Rattle.gate_file.specs.GateFile.{Keeps, IsOlder}
 use Rattle.gate_file.specs.Open.{found, found_newest, side_of, opened, opened_of, IsDropped, IsWholeOrEmpty, BeforeOpening, WhileOpening, IsOpened, slots_of, IsFitSlot, IsFirstDamage, IsFirstIn, IsPair, IsSettledPair}
 use Rattle.gate_file.proofs.Windows.{get_or-window}
@@ -72,8 +71,8 @@ module _ (stem : Stem) where
       moves_wider (λ n. n ≡ side_of stem true) (λ name. name.stem ≡ stem) (λ image. IsImage (b.now (side_of stem true)) (image (side_of stem true))) (BeforeOpening stem a.now)
       (λ files. E (b.now (side_of stem true)) (files (side_of stem true))) X b c (within true)
       (λ image framed. both_images a.now image
-        (kept (image (side_of stem false)) (framed.outside (side_of stem false) (λ same. apart stem (sym same))))
-        (subst (λ file. IsImage file (image (side_of stem true))) ended.1 framed.inside))
+      (kept (image (side_of stem false)) (framed.outside (side_of stem false) (λ same. apart stem (sym same))))
+      (subst (λ file. IsImage file (image (side_of stem true))) ended.1 framed.inside))
       (λ others e. endings (subst (λ file. E file (c.now (side_of stem true))) ended.1 e) (others (side_of stem false) (λ same. apart stem (sym same)) ∙ ended.0))
       second in
       moves_then (λ name. name.stem ≡ stem) (BeforeOpening stem a.now) (BeforeOpening stem a.now) (BeforeOpening stem a.now)
@@ -113,8 +112,8 @@ module _ (stem : Stem) where
         moves_wider (λ k. k ≡ n) (λ name. name.stem ≡ stem) (λ image. Cut (b.now n) (image n)) (WhileOpening stem a.now) (λ files. E (b.now n) (files n)) X b c
         (λ name is. ap (λ (k : FileName). k.stem) is ∙ n_in)
         (λ image framed. inr (each_side gate (λ k. (a.now k).seen) image
-          (cut_side gate n (b.now n) (a.now n).seen (image n) dropped (settled_pair n n_in) framed.inside)
-          (inl (IsImage-settled (a.now m).seen (image m) (subst (λ f. IsImage f (image m)) (settled_pair m m_in) (framed.outside m differ))))))
+        (cut_side gate n (b.now n) (a.now n).seen (image n) dropped (settled_pair n n_in) framed.inside)
+        (inl (IsImage-settled (a.now m).seen (image m) (subst (λ f. IsImage f (image m)) (settled_pair m m_in) (framed.outside m differ))))))
         (λ others e. endings e (others m differ ∙ settled_pair m m_in))
         second in
         moves_then (λ name. name.stem ≡ stem) (BeforeOpening stem a.now) (WhileOpening stem a.now) (WhileOpening stem a.now) (IsSettledPair stem a.now) X X a b c
@@ -132,8 +131,8 @@ module _ (stem : Stem) where
         moves_wider (λ k. k ≡ m) (λ name. name.stem ≡ stem) (λ image. Cut (b.now m) (image m)) (WhileOpening stem a.now) (λ files. E (b.now m) (files m)) X b c
         (λ name is. ap (λ (k : FileName). k.stem) is ∙ m_in)
         (λ image framed. inr (each_side gate (λ k. (a.now k).seen) image
-          (inr (IsImage-settled [] (image n) (subst (λ f. IsImage f (image n)) ended.0 (framed.outside n other)), dropped))
-          (cut_side gate m (b.now m) (a.now m).seen (image m) dropped_m ended.1 framed.inside)))
+        (inr (IsImage-settled [] (image n) (subst (λ f. IsImage f (image n)) ended.0 (framed.outside n other)), dropped))
+        (cut_side gate m (b.now m) (a.now m).seen (image m) dropped_m ended.1 framed.inside)))
         (λ others e. endings e (others n other ∙ ended.0))
         second in
         moves_then (λ name. name.stem ≡ stem) (WhileOpening stem a.now) (WhileOpening stem a.now) (WhileOpening stem a.now) (λ files. (files n ≡ settled []) × (files m ≡ settled (a.now m).seen)) X X a b c
@@ -238,44 +237,44 @@ module _ (stem : Stem) (files : FileName → File) (first second : GateFile) (pa
 module _ (stem : Stem) (files : FileName → File) where
   pub damage_first : (n : FileName) (at : ℕ) → n ≡ side_of stem false → IsFirstIn (files (side_of stem false)).seen at → IsFirstDamage stem files n at
   damage_first n at name_same damage = subst (λ k. IsFirstDamage stem files k at) (sym name_same) (⊎_elim
-    (λ low. subst (IsFirstDamage stem files (side_of stem false)) (sym low.0) (record {
-      damaged = low.1;
-      before = [];
-      after = (side_of stem false, 4096) ∷ (side_of stem true, 0) ∷ (side_of stem true, 4096) ∷ [];
-      split = refl;
-      fit = All-nil (IsFitSlot files);
-    }))
-    (λ high. subst (IsFirstDamage stem files (side_of stem false)) (sym high.0) (record {
-      damaged = high.2;
-      before = (side_of stem false, 0) ∷ [];
-      after = (side_of stem true, 0) ∷ (side_of stem true, 4096) ∷ [];
-      split = refl;
-      fit = All-cons (IsFitSlot files) (side_of stem false, 0) [] high.1 (All-nil (IsFitSlot files));
-    }))
-    damage)
+      (λ low. subst (IsFirstDamage stem files (side_of stem false)) (sym low.0) (record {
+        damaged = low.1;
+        before = [];
+        after = (side_of stem false, 4096) ∷ (side_of stem true, 0) ∷ (side_of stem true, 4096) ∷ [];
+        split = refl;
+        fit = All-nil (IsFitSlot files);
+      }))
+      (λ high. subst (IsFirstDamage stem files (side_of stem false)) (sym high.0) (record {
+        damaged = high.2;
+        before = (side_of stem false, 0) ∷ [];
+        after = (side_of stem true, 0) ∷ (side_of stem true, 4096) ∷ [];
+        split = refl;
+        fit = All-cons (IsFitSlot files) (side_of stem false, 0) [] high.1 (All-nil (IsFitSlot files));
+      }))
+      damage)
 
   pub damage_second : (n : FileName) (at : ℕ) → n ≡ side_of stem true → IsFit 0 (files (side_of stem false)).seen → IsFit 4096 (files (side_of stem false)).seen → IsFirstIn (files (side_of stem true)).seen at → IsFirstDamage stem files n at
   damage_second n at name_same fit_low fit_high damage = subst (λ k. IsFirstDamage stem files k at) (sym name_same) (⊎_elim
-    (λ low. subst (IsFirstDamage stem files (side_of stem true)) (sym low.0) (record {
-      damaged = low.1;
-      before = (side_of stem false, 0) ∷ (side_of stem false, 4096) ∷ [];
-      after = (side_of stem true, 4096) ∷ [];
-      split = refl;
-      fit = All-cons (IsFitSlot files) (side_of stem false, 0) ((side_of stem false, 4096) ∷ []) fit_low (All-cons (IsFitSlot files) (side_of stem false, 4096) [] fit_high (All-nil (IsFitSlot files)));
-    }))
-    (λ high. subst (IsFirstDamage stem files (side_of stem true)) (sym high.0) (record {
-      damaged = high.2;
-      before = (side_of stem false, 0) ∷ (side_of stem false, 4096) ∷ (side_of stem true, 0) ∷ [];
-      after = [];
-      split = refl;
-      fit = All-cons (IsFitSlot files) (side_of stem false, 0) ((side_of stem false, 4096) ∷ (side_of stem true, 0) ∷ []) fit_low
-          (All-cons (IsFitSlot files) (side_of stem false, 4096) ((side_of stem true, 0) ∷ []) fit_high (All-cons (IsFitSlot files) (side_of stem true, 0) [] high.1 (All-nil (IsFitSlot files))));
-    }))
-    damage)
+      (λ low. subst (IsFirstDamage stem files (side_of stem true)) (sym low.0) (record {
+        damaged = low.1;
+        before = (side_of stem false, 0) ∷ (side_of stem false, 4096) ∷ [];
+        after = (side_of stem true, 4096) ∷ [];
+        split = refl;
+        fit = All-cons (IsFitSlot files) (side_of stem false, 0) ((side_of stem false, 4096) ∷ []) fit_low (All-cons (IsFitSlot files) (side_of stem false, 4096) [] fit_high (All-nil (IsFitSlot files)));
+      }))
+      (λ high. subst (IsFirstDamage stem files (side_of stem true)) (sym high.0) (record {
+        damaged = high.2;
+        before = (side_of stem false, 0) ∷ (side_of stem false, 4096) ∷ (side_of stem true, 0) ∷ [];
+        after = [];
+        split = refl;
+        fit = All-cons (IsFitSlot files) (side_of stem false, 0) ((side_of stem false, 4096) ∷ (side_of stem true, 0) ∷ []) fit_low
+            (All-cons (IsFitSlot files) (side_of stem false, 4096) ((side_of stem true, 0) ∷ []) fit_high (All-cons (IsFitSlot files) (side_of stem true, 0) [] high.1 (All-nil (IsFitSlot files))));
+      }))
+      damage)
 
   pub all_sound : (first second : GateFile) → IsPair stem files first second → All (IsFitSlot files) (slots_of stem)
   all_sound first second pair =
       All-cons (IsFitSlot files) (side_of stem false, 0) ((side_of stem false, 4096) ∷ (side_of stem true, 0) ∷ (side_of stem true, 4096) ∷ []) pair.first_low
       (All-cons (IsFitSlot files) (side_of stem false, 4096) ((side_of stem true, 0) ∷ (side_of stem true, 4096) ∷ []) pair.first_high
-        (All-cons (IsFitSlot files) (side_of stem true, 0) ((side_of stem true, 4096) ∷ []) pair.second_low
-          (All-cons (IsFitSlot files) (side_of stem true, 4096) [] pair.second_high (All-nil (IsFitSlot files)))))
+      (All-cons (IsFitSlot files) (side_of stem true, 0) ((side_of stem true, 4096) ∷ []) pair.second_low
+      (All-cons (IsFitSlot files) (side_of stem true, 4096) [] pair.second_high (All-nil (IsFitSlot files)))))

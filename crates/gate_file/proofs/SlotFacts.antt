@@ -1,16 +1,16 @@
 -- Slots, and the root that the two of them name.
-use Rattle.std.proofs.Common.{◌≡◌, ◌≢◌, ◌⊎◌, inl, inr, ⊎_elim, ℕ, ◌+◌, ◌*◌, ◌%◌, ◌^◌, ◌<◌, ◌≤◌, List, ◌++◌, length, get_or, take, drop, Option, Some, None, refl, sym, ap, ◌∙◌, subst, arith}
-use Rattle.std.specs.Prelude.{codes, slice_range, is_some, IsTrue, ◌↔◌, Bool, true, false}
-use Rattle.std.specs.Int.{from_le_bytes, to_le_bytes, w64}
+use Rattle.std.proofs.Common.{◌≡◌, ◌≢◌, ◌⊎◌, inl, inr, ℕ, ◌+◌, ◌%◌, ◌^◌, ◌<◌, ◌≤◌, List, length, get_or, take, drop, Option, Some, None, refl, sym, ap, ◌∙◌, subst, arith}
+use Rattle.std.specs.Prelude.{codes, slice_range, is_some, IsTrue, ◌↔◌}
+use Rattle.std.specs.Int.{from_le_bytes, w64}
 use Rattle.std.proofs.lemmas.Nat.{from_le_bytes-to_le_bytes_8}
 use Rattle.std.proofs.lemmas.Bool.{cases_lt, cases_eq}
 use Rattle.std.proofs.lemmas.Bool.Decides.{nat_tests}
 use Rattle.gate_file.specs.declared.root.Root.{Root}
-use Rattle.gate_file.specs.Header.{window, place_of, slot_at, root_in, IsOpen, open_root, IsSound, IsFit, newer, newest}
+use Rattle.gate_file.specs.Header.{place_of, slot_at, root_in, IsOpen, open_root, IsSound, IsFit, newer, newest}
 use Rattle.gate_file.specs.Shown.{Shows}
 use Rattle.gate_file.specs.GateFile.{IsOlder}
 use Rattle.gate_file.specs.Commit.{header, HasHeader}
-use Rattle.gate_file.proofs.Windows.{length-window, get_or-window, part_same}
+use Rattle.gate_file.proofs.Windows.{part_same}
 
 -- the slots of two commits in a row are the two slots
 pub places : (k : ℕ) → ((place_of k ≡ 0) × (place_of (k + 1) ≡ 4096)) ⊎ ((place_of k ≡ 4096) × (place_of (k + 1) ≡ 0))

@@ -1,12 +1,11 @@
 -- What a crash leaves over the calls of one step on a file.
-use Rattle.std.proofs.Common.{◌≡◌, ◌⊎◌, inl, inr, ⊎_elim, ℕ, ◌+◌, ◌≤◌, List, [], ◌∷◌, length, replicate, Option, Result, Ok, Err, OnOk, IsErr, refl, sym, ap, ◌∙◌, subst, arith}
-use Rattle.std.proofs.lemmas.List.{nil_from_length}
-use Rattle.view_ports.specs.File.{File, IsIn, IsOneOf, IsImage, settled, wrote, grew, emptied, synced}
+use Rattle.std.proofs.Common.{◌≡◌, inl, inr, ⊎_elim, ℕ, List, Option, Result, Ok, Err, OnOk, IsErr, sym, subst}
+use Rattle.view_ports.specs.File.{File, IsImage, wrote, grew, synced}
 use Rattle.view_ports.specs.Disk.{Disk, MovesFile, SeenStays, IfTold, Tells}
 use Rattle.view_ports.specs.FolderCalls.{Changes}
-use Rattle.view_ports.proofs.Images.{IsImage-settled, IsImage-emptied}
+use Rattle.view_ports.proofs.Images.{IsImage-settled}
 use Rattle.view_ports.proofs.Told.{told_map, told_then, told_given}
-use Rattle.view_ports.proofs.DiskRuns.{file_weaker, file_then, file_changes, on_ok}
+use Rattle.view_ports.proofs.DiskRuns.{file_then, file_changes, on_ok}
 
 -- before a write a crash may leave what it may leave after it
 pub unwritten : (at : ℕ) (bytes : List ℕ) (file : File) (image : List ℕ) → IsImage file image → IsImage (wrote at bytes file) image

@@ -1,5 +1,5 @@
 -- The bytes from a place on.
-use Rattle.std.proofs.Common.{◌≡◌, ℕ, ◌+◌, ◌-◌, ◌<◌, ◌≤◌, List, length, get_or, take, drop, map, refl, sym, ap, ◌∙◌, arith, length-take, length-drop}
+use Rattle.std.proofs.Common.{◌≡◌, ℕ, ◌+◌, ◌<◌, ◌≤◌, List, length, get_or, take, drop, sym, ap, ◌∙◌, arith, length-take, length-drop}
 use Rattle.std.specs.List.{range_with_len}
 use Rattle.std.proofs.lemmas.List.{ext_get_or, get_or-take, get_or-drop, get_or-map}
 use Rattle.std.proofs.lemmas.List.FromFn.{length-range_with_len, length-map-range_with_len, get_or-range_with_len}
@@ -20,8 +20,8 @@ pub window-same : (a b : List ℕ) (at count : ℕ) → ((i : ℕ) → i < count
 window-same a b at count each = ext_get_or 0 (window a at count) (window b at count)
     (length-window a at count ∙ sym (length-window b at count))
     (λ i within.
-      let below : i < count = omega (arith, length-window a at count) in
-      get_or-window a at count i below ∙ each i below ∙ sym (get_or-window b at count i below))
+    let below : i < count = omega (arith, length-window a at count) in
+    get_or-window a at count i below ∙ each i below ∙ sym (get_or-window b at count i below))
 
 -- a window that the bytes fill is a part of them
 pub window-part : (bytes : List ℕ) (at count : ℕ) → at + count ≤ length bytes → window bytes at count ≡ take count (drop at bytes)
@@ -30,8 +30,8 @@ window-part bytes at count fits =
     ext_get_or 0 (window bytes at count) (take count (drop at bytes))
     (length-window bytes at count ∙ sym long)
     (λ i within.
-      let below : i < count = omega (arith, length-window bytes at count) in
-      get_or-window bytes at count i below ∙ sym (get_or-take count (drop at bytes) i 0 below ∙ get_or-drop at bytes i 0))
+    let below : i < count = omega (arith, length-window bytes at count) in
+    get_or-window bytes at count i below ∙ sym (get_or-take count (drop at bytes) i 0 below ∙ get_or-drop at bytes i 0))
 
 -- two parts of lists that are the same place by place
 pub part_same : (a b : List ℕ) (at count : ℕ) → at + count ≤ length a → at + count ≤ length b → ((i : ℕ) → i < count → get_or a (at + i) 0 ≡ get_or b (at + i) 0) → take count (drop at a) ≡ take count (drop at b)

@@ -1,5 +1,5 @@
 -- What a gate file keeps, and what its calls do.
-use Rattle.std.specs.Prelude.{◌≡◌, ℕ, ◌+◌, ◌<◌, ◌≤◌, List, [], ◌++◌, length, Option, Some, None, Bool, IfSome, IsTrue, ◌↔◌, if◌then◌else◌, ◌==◌, is_some, option_map}
+use Rattle.std.specs.Prelude.{◌≡◌, ℕ, ◌+◌, ◌<◌, ◌≤◌, List, [], ◌++◌, length, Option, Some, None, IfSome, IsTrue, ◌↔◌, if◌then◌else◌, ◌==◌, is_some}
 use Rattle.view_ports.specs.File.{File, settled}
 use Rattle.view_ports.specs.declared.file_name.FileName.{FileName}
 use Rattle.gate_file.specs.declared.root.Root.{Root}

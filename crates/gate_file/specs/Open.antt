@@ -1,12 +1,12 @@
 -- What a file of a pair is by its slots, and which of the two is opened.
-use Rattle.std.specs.Prelude.{◌≡◌, ◌≢◌, ◌⊎◌, ℕ, ◌-◌, ◌<◌, List, [], ◌∷◌, ◌++◌, length, take, drop, Bool, true, false, Option, Some, None, is_some, is_none, if◌then◌else◌, ◌==◌, nat_lt, All}
+use Rattle.std.specs.Prelude.{◌≡◌, ◌≢◌, ◌⊎◌, ℕ, List, [], ◌∷◌, ◌++◌, length, take, drop, Bool, true, false, Option, Some, None, is_some, is_none, if◌then◌else◌, ◌==◌, nat_lt, All}
 use Rattle.view_ports.specs.File.{File, IsImage, settled}
 use Rattle.view_ports.specs.declared.file_name.Stem.{Stem}
 use Rattle.view_ports.specs.declared.file_name.FileName.{FileName}
 use Rattle.gate_file.specs.declared.root.Root.{Root}
 use Rattle.gate_file.specs.declared.gate.GateFile.{GateFile}
 use Rattle.gate_file.specs.Header.{slot_at, place_of, open_root, IsFit, IsDamaged, newer}
-use Rattle.gate_file.specs.GateFile.{Keeps, name_of, length_of, root_of}
+use Rattle.gate_file.specs.GateFile.{Keeps}
 
 -- what a file is with these roots in its open slots
 abbrev pub found_newest : FileName → ℕ → Option Root → Option Root → Option Root → GateFile

@@ -16,10 +16,7 @@ pub enum GateFault {
     DiskFault,
     /// A limit of the file: of its length, which is named then, or of the number of its commits.
     #[error("the file is full")]
-    Full {
-        name: FileName,
-        length: Option<u64>,
-    },
+    Full { name: FileName, length: Option<u64> },
     /// What stands at this place of the file is not what was written there.
     #[error("the file is damaged")]
     Damaged { name: FileName, offset: u64 },

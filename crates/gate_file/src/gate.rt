@@ -91,8 +91,8 @@ impl GateFile {
         ensures done { OnOk result (self.new ≡ appended self.old (length bytes.now)) }
         ensures disk { Tells (F.disk folder.old) (F.disk folder.new)
             (MovesFile (name_of self.old)
-                (λ file image. Shows (root_of self.old) file.durable image)
-                (λ file now. OnOk result (IsAppended (appended self.old (length bytes.now)) bytes.now file now))) }
+            (λ file image. Shows (root_of self.old) file.durable image)
+            (λ file now. OnOk result (IsAppended (appended self.old (length bytes.now)) bytes.now file now))) }
 
         // It fails exactly where the file would be too long, and where the disk fails.
         ensures full { (2 ^ 40 < start_of self.old + length bytes.now) ↔ (result ≡ Err (GateFault.Full (name_of self.old) (Some (length_of self.old)))) }
@@ -166,7 +166,7 @@ impl GateFile {
         ensures err { OnErr result (self.new ≡ self.old) }
         ensures disk { Tells (F.disk folder.old) (F.disk folder.new)
             (MovesFile self.old.name (λ file image. Shows self.old.root file.durable image ⊎ Shows (Some root) file.seen image)
-                (λ file now. OnOk result (IsCommitted (committed self.old root) file now))) }
+            (λ file now. OnOk result (IsCommitted (committed self.old root) file now))) }
         ensures cause { HasCause (F.faults folder.old) (F.faults folder.new) result }
         ensures reads { F.reads folder.new ≡ F.reads folder.old }
     {
@@ -180,14 +180,19 @@ impl GateFile {
     /// Makes a record of the file the root, by one commit: at each moment a crash leaves the old root
     /// with all that was durable before, or the new root with all that was appended. Nothing is
     /// pending after it. After a fault the object is not to be used again.
-    pub fn commit<F: Folder>(&mut self, folder: &mut F, root: u64, len: u64) -> Result<(), GateFault>
+    pub fn commit<F: Folder>(
+        &mut self,
+        folder: &mut F,
+        root: u64,
+        len: u64,
+    ) -> Result<(), GateFault>
         requires keeps { IfTold (F.disk folder.old) (λ d. Keeps self.old (d.now (name_of self.old))) }
         requires inside { (8192 ≤ root) × (root + len ≤ length_of self.old) }
         ensures done { OnOk result (self.new ≡ committed self.old (next_root self.old root len)) }
         ensures disk { Tells (F.disk folder.old) (F.disk folder.new)
             (MovesFile (name_of self.old)
-                (λ file image. Shows (root_of self.old) file.durable image ⊎ Shows (Some (next_root self.old root len)) file.seen image)
-                (λ file now. OnOk result (IsCommitted (committed self.old (next_root self.old root len)) file now))) }
+            (λ file image. Shows (root_of self.old) file.durable image ⊎ Shows (Some (next_root self.old root len)) file.seen image)
+            (λ file now. OnOk result (IsCommitted (committed self.old (next_root self.old root len)) file now))) }
 
         // It fails exactly where the file has all of its commits, and where the disk fails.
         ensures full { (2 ^ 50 ≤ commits_of self.old) ↔ (result ≡ Err (GateFault.Full (name_of self.old) None)) }

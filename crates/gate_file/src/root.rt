@@ -37,12 +37,6 @@ pub(crate) fn newer(first: Option<Root>, second: Option<Root>) -> Option<Root>
     match (first, second) {
         (None, _) => second,
         (Some(_), None) => first,
-        (Some(a), Some(b)) => {
-            if a.number < b.number {
-                second
-            } else {
-                first
-            }
-        }
+        (Some(a), Some(b)) => { if a.number < b.number { second } else { first } }
     }
 }

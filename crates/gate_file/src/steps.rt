@@ -71,7 +71,7 @@ pub(crate) fn add<F: Folder>(
     requires { IfTold (F.disk folder.old) (λ d. (length (d.now name).seen ≡ at) × (at + length bytes.now ≤ 2 ^ 40)) }
     ensures disk { Tells (F.disk folder.old) (F.disk folder.new)
         (MovesFile name (λ file image. IsImage (wrote at bytes.now (grew (length bytes.now) file)) image)
-            (λ file now. OnOk result (now ≡ wrote at bytes.now (grew (length bytes.now) file)))) }
+        (λ file now. OnOk result (now ≡ wrote at bytes.now (grew (length bytes.now) file)))) }
     ensures cause { HasCause (F.faults folder.old) (F.faults folder.new) result }
     ensures reads { F.reads folder.new ≡ F.reads folder.old }
 {

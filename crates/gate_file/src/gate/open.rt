@@ -1,13 +1,5 @@
 //! Opening a pair of files, by what its slots say.
 
-use super::GateFile;
-use crate::fault::GateFault;
-use crate::root::{Root, newer, place_of};
-use crate::slot::{SLOT, Slot, found_in};
-use crate::steps::cut_synced;
-use std::alloc::Global;
-use view_ports::{FileName, Folder, Stem};
-
 ghost use Rattle.std.specs.Prelude.{◌≡◌, ◌⊎◌, ℕ, ◌<◌, ◌-◌, [], length, All, IfOk, IfErr, OnOk};
 ghost use Rattle.view_ports.specs.Causes.{HasCauseIf, RisesBy, one_more};
 ghost use Rattle.view_ports.specs.Disk.{IfTold, Tells, Moves, MovesFile, MovesNone};
@@ -16,6 +8,14 @@ ghost use Rattle.view_ports.specs.FolderCalls.{Passes};
 ghost use Rattle.gate_file.specs.Header.{slot_at, open_root, IsFit, IsDamaged};
 ghost use Rattle.view_ports.specs.declared.file_name.FileName.{FileName};
 ghost use Rattle.gate_file.specs.Open.{found, found_from, opened, slots_of, IsFirstDamage, IsFirstIn, IsFitSlot, BeforeOpening, IsOpened, IsPair, IsPart, IsSettledPair, WhileOpening};
+
+use super::GateFile;
+use crate::fault::GateFault;
+use crate::root::{Root, newer, place_of};
+use crate::slot::{SLOT, Slot, found_in};
+use crate::steps::cut_synced;
+use std::alloc::Global;
+use view_ports::{FileName, Folder, Stem};
 
 /// Reads the slot at a place of a file with this length, and answers its root where it is open.
 fn read_slot<F: Folder>(

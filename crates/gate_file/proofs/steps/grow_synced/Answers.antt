@@ -1,7 +1,7 @@
-use Rattle.std.proofs.Common.{◌≡◌, ◌⊎◌, inl, inr, ⊎_elim, ℕ, List, [], length, OnOk, refl}
-use Rattle.view_ports.specs.File.{File, IsImage, wrote, grew, emptied, settled, synced}
+use Rattle.std.proofs.Common.{◌≡◌, OnOk}
+use Rattle.view_ports.specs.File.{grew, synced}
 use Rattle.view_ports.proofs.DiskRuns.{on_ok}
-use Rattle.gate_file.proofs.Stepped.{unwritten, ungrown, ended_err, told_failed, told_synced}
+use Rattle.gate_file.proofs.Stepped.{ungrown, ended_err, told_failed, told_synced}
 use Rattle.gate_file.proofs.steps.grow_synced.Goals as goal
 
 pub returns-in_err-grow-clause-disk : goal.returns-in_err-grow-clause-disk

@@ -1,6 +1,5 @@
-use Rattle.std.proofs.Common.{◌≡◌, ◌<◌, ◌≤◌, ◌⊎◌, inl, inr, length, OnOk, arith}
-use Rattle.std.proofs.lemmas.Bool.{cases_lt}
-use Rattle.view_ports.specs.File.{File, IsImage}
+use Rattle.std.proofs.Common.{◌≡◌, length, OnOk}
+use Rattle.view_ports.specs.File.{IsImage}
 use Rattle.view_ports.proofs.DiskRuns.{on_ok}
 use Rattle.view_ports.proofs.ToldFiles.{told_file_none, told_file_then}
 use Rattle.gate_file.specs.Shown.{Shows}

@@ -1,10 +1,6 @@
-use Rattle.std.proofs.Common.{◌≡◌, ◌⊎◌, inl, inr, ◌+◌, Some, Option, OnOk, arith}
-use Rattle.std.specs.Prelude.{IfSome}
-use Rattle.view_ports.specs.Disk.{Disk, MovesFile, Tells, IfTold}
-use Rattle.view_ports.specs.File.{File, IsImage}
+use Rattle.std.proofs.Common.{◌⊎◌, inl, Some, OnOk, arith}
 use Rattle.view_ports.proofs.DiskRuns.{on_ok}
 use Rattle.view_ports.proofs.ToldFiles.{told_file_none, told_file_weaker, told_file_then}
-use Rattle.view_ports.specs.declared.file_name.FileName.{FileName}
 use Rattle.gate_file.specs.Shown.{Shows}
 use Rattle.gate_file.specs.GateFile.{Keeps, IsCommitted, committed, next_root}
 use Rattle.gate_file.specs.Commit.{IsReady, IsStaged, Continues}
@@ -52,9 +48,9 @@ returns-in_err-publish-clause-disk g c =
     (λ file image keeps left. left)
     (λ file mid image keeps ended left. shows_before file mid image (on_ok c.shut.result c.in_ok-shut.field-0 (IsReady gate mid × Continues file mid) shut_was ended).1 left)
     (λ file mid now keeps ended later.
-      let early = on_ok c.shut.result c.in_ok-shut.field-0 (IsReady gate mid × Continues file mid) shut_was ended in
-      let late = on_ok c.stage.result c.in_ok-stage.field-0 (IsStaged gate next now × Continues mid now) stage_was later in
-      (late.0, continues_then file mid now early.1 late.1))
+    let early = on_ok c.shut.result c.in_ok-shut.field-0 (IsReady gate mid × Continues file mid) shut_was ended in
+    let late = on_ok c.stage.result c.in_ok-stage.field-0 (IsStaged gate next now × Continues mid now) stage_was later in
+    (late.0, continues_then file mid now early.1 late.1))
     c.requires.keeps c.shut.ensures.disk c.stage.ensures.disk in
     told_file_then gate.name (Keeps gate) (g.F.Folder.disk c.args.folder.now) (g.F.Folder.disk c.stage.new.folder) (g.F.Folder.disk c.publish.new.folder) (λ file image. Shows gate.root file.durable image) (λ file image. Shows gate.root file.durable image ⊎ Shows (Some next) file.seen image) (λ file image. Shows gate.root file.durable image ⊎ Shows (Some next) file.seen image)
     (λ file now. IsStaged gate next now × Continues file now) (λ file now. OnOk c.publish.result (IsCommitted (committed gate next) file now)) (λ file now. OnOk c.from_residual-in_err-publish.result (IsCommitted (committed gate next) file now))
@@ -74,9 +70,9 @@ returns-clause-disk g c =
     (λ file image keeps left. left)
     (λ file mid image keeps ended left. shows_before file mid image (on_ok c.shut.result c.in_ok-shut.field-0 (IsReady gate mid × Continues file mid) shut_was ended).1 left)
     (λ file mid now keeps ended later.
-      let early = on_ok c.shut.result c.in_ok-shut.field-0 (IsReady gate mid × Continues file mid) shut_was ended in
-      let late = on_ok c.stage.result c.in_ok-stage.field-0 (IsStaged gate next now × Continues mid now) stage_was later in
-      (late.0, continues_then file mid now early.1 late.1))
+    let early = on_ok c.shut.result c.in_ok-shut.field-0 (IsReady gate mid × Continues file mid) shut_was ended in
+    let late = on_ok c.stage.result c.in_ok-stage.field-0 (IsStaged gate next now × Continues mid now) stage_was later in
+    (late.0, continues_then file mid now early.1 late.1))
     c.requires.keeps c.shut.ensures.disk c.stage.ensures.disk in
     told_file_then gate.name (Keeps gate) (g.F.Folder.disk c.args.folder.now) (g.F.Folder.disk c.stage.new.folder) (g.F.Folder.disk c.publish.new.folder) (λ file image. Shows gate.root file.durable image) (λ file image. Shows gate.root file.durable image ⊎ Shows (Some next) file.seen image) (λ file image. Shows gate.root file.durable image ⊎ Shows (Some next) file.seen image)
     (λ file now. IsStaged gate next now × Continues file now) (λ file now. OnOk c.publish.result (IsCommitted (committed gate next) file now)) (λ file now. IsCommitted (committed gate next) file now)

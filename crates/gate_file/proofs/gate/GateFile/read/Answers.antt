@@ -15,4 +15,3 @@ returns-in_err-count-clause-disk g c = told_none_then (g.F.Folder.disk c.args.fo
 
 pub returns-clause-disk : goal.returns-clause-disk
 returns-clause-disk g c = told_none_then (g.F.Folder.disk c.args.folder.now) (g.F.Folder.disk c.len.new.self) (g.F.Folder.disk c.read_at.new.self) (told_none (g.F.Folder.disk c.args.folder.now) (g.F.Folder.disk c.len.new.self) (g.F.Folder.disk c.len.new.self) c.len.ensures.disk) (told_none (g.F.Folder.disk c.len.new.self) (g.F.Folder.disk c.read_at.new.self) (g.F.Folder.disk c.read_at.new.self) c.read_at.ensures.disk)
-

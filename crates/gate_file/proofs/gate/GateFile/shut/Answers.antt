@@ -1,4 +1,4 @@
-use Rattle.std.proofs.Common.{◌≡◌, ◌+◌, ◌∷◌, [], OnOk, ap, ◌∙◌, rules}
+use Rattle.std.proofs.Common.{◌≡◌, ◌+◌, ◌∷◌, [], OnOk, ap, rules}
 use Rattle.view_ports.specs.File.{IsImage, wrote, synced}
 use Rattle.view_ports.proofs.DiskRuns.{on_ok}
 use Rattle.view_ports.proofs.ToldFiles.{told_file_none, told_file_weaker}

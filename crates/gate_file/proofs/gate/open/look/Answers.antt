@@ -1,11 +1,11 @@
-use Rattle.std.proofs.Common.{◌≡◌, ◌∙◌, ap, sym, subst, length, OnOk}
+use Rattle.std.proofs.Common.{◌≡◌, ◌∙◌, ap, subst, length, OnOk}
 use Rattle.view_ports.specs.File.{settled, synced}
 use Rattle.view_ports.specs.Disk.{MovesNone}
 use Rattle.view_ports.specs.FolderCalls.{Changes, Passes}
 use Rattle.view_ports.proofs.Told.{told_refl, told_map, told_then, told_back, told_pair}
-use Rattle.view_ports.proofs.DiskRuns.{none_passes, none_same, on_ok, none_refl}
+use Rattle.view_ports.proofs.DiskRuns.{on_ok, none_refl}
 use Rattle.gate_file.specs.Header.{slot_at, open_root, IsFit}
-use Rattle.gate_file.specs.Open.{found, found_from}
+use Rattle.gate_file.specs.Open.{found}
 use Rattle.gate_file.proofs.Stepped.{ended_err}
 use Rattle.gate_file.proofs.Looks.{told_looked, told_none, told_none_then, SeenSame, found-same}
 use Rattle.gate_file.proofs.gate.open.look.Goals as goal

@@ -20,9 +20,9 @@ returns-in_err-first-clause-damaged g c =
     told_now (g.F.Folder.disk c.args.folder.now) (λ d. (n : FileName) (at : ℕ) → c.look.result ≡ Err (Damaged n at) → (n ≡ low) × IsFirstIn (d.now low).seen at)
     (λ d. (n : FileName) (at : ℕ) → c.from_residual.result ≡ Err (Damaged n at) → IsFirstDamage stem d.now n at)
     (λ d known n at same.
-      let was : c.look.result ≡ Err (Damaged n at) = search rules in
-      let is = known n at was in
-      damage_first stem d.now n at is.0 is.1)
+    let was : c.look.result ≡ Err (Damaged n at) = search rules in
+    let is = known n at was in
+    damage_first stem d.now n at is.0 is.1)
     c.look.ensures.damaged
 
 pub returns-in_err-first-clause-disk : goal.returns-in_err-first-clause-disk
@@ -45,9 +45,9 @@ returns-in_err-second-clause-damaged g c =
     told_pair (g.F.Folder.disk c.args.folder.now) (λ d. (c.in_ok-first.first ≡ found low (d.now low).seen) × IsFit 0 (d.now low).seen × IsFit 4096 (d.now low).seen) (λ d. (n : FileName) (at : ℕ) → c.look-2.result ≡ Err (Damaged n at) → (n ≡ high) × IsFirstIn (d.now high).seen at)
     (λ d. (n : FileName) (at : ℕ) → c.from_residual-in_err-second.result ≡ Err (Damaged n at) → IsFirstDamage stem d.now n at)
     (λ d first known n at same.
-      let was : c.look-2.result ≡ Err (Damaged n at) = search rules in
-      let is = known n at was in
-      damage_second stem d.now n at is.0 first.1 first.2 is.1)
+    let was : c.look-2.result ≡ Err (Damaged n at) = search rules in
+    let is = known n at was in
+    damage_second stem d.now n at is.0 first.1 first.2 is.1)
     c.in_ok-first.ensures.found later
 
 pub returns-in_err-second-clause-disk : goal.returns-in_err-second-clause-disk
@@ -58,8 +58,8 @@ returns-in_err-second-clause-disk g c =
     told_then (g.F.Folder.disk c.args.folder.now) (g.F.Folder.disk c.look.new.folder) (g.F.Folder.disk c.look-2.new.folder) (λ a b. SeenStays a × MovesFile low (λ file image. IsImage file image) (λ file now. OnOk c.look.result (now ≡ settled file.seen)) a b) (MovesFile high (λ file image. IsImage file image) (λ file now. OnOk c.look-2.result (now ≡ settled file.seen)))
     (λ old new. Moves (λ name. name.stem ≡ stem) (BeforeOpening stem old.now) (λ files. OnOk c.from_residual-in_err-second.result (IsSettledPair stem old.now files)) old new)
     (λ a b d first second. looked_second stem (λ file now. OnOk c.look-2.result (now ≡ settled file.seen)) (λ files. OnOk c.from_residual-in_err-second.result (IsSettledPair stem a.now files)) a b d first.0 (λ ended first_is. ended_err c.from_residual-in_err-second.result (IsSettledPair stem a.now d.now) c.from_residual-in_err-second.ensures.0)
-      (file_weaker low (λ file image. IsImage file image) (λ file image. IsImage file image) (λ file now. OnOk c.look.result (now ≡ settled file.seen)) (λ file now. now ≡ settled file.seen) a b (λ image is. is)
-        (λ ended. on_ok c.look.result c.in_ok-first.first (b.now low ≡ settled (a.now low).seen) c.in_ok-first.was ended) first.1) second)
+    (file_weaker low (λ file image. IsImage file image) (λ file image. IsImage file image) (λ file now. OnOk c.look.result (now ≡ settled file.seen)) (λ file now. now ≡ settled file.seen) a b (λ image is. is)
+    (λ ended. on_ok c.look.result c.in_ok-first.first (b.now low ≡ settled (a.now low).seen) c.in_ok-first.was ended) first.1) second)
     (told_given (g.F.Folder.disk c.args.folder.now) (g.F.Folder.disk c.look.new.folder) SeenStays (MovesFile low (λ file image. IsImage file image) (λ file now. OnOk c.look.result (now ≡ settled file.seen))) (λ a b. SeenStays a × MovesFile low (λ file image. IsImage file image) (λ file now. OnOk c.look.result (now ≡ settled file.seen)) a b) (λ a b is moves. (is, moves)) (g.met.F.Folder.seen_may_stay c.args.folder.now) c.look.ensures.disk)
     c.look-2.ensures.disk
 
@@ -95,7 +95,7 @@ returns-clause-disk g c =
     told_then (g.F.Folder.disk c.args.folder.now) (g.F.Folder.disk c.look.new.folder) (g.F.Folder.disk c.look-2.new.folder) (λ a b. SeenStays a × MovesFile low (λ file image. IsImage file image) (λ file now. OnOk c.look.result (now ≡ settled file.seen)) a b) (MovesFile high (λ file image. IsImage file image) (λ file now. OnOk c.look-2.result (now ≡ settled file.seen)))
     (λ old new. Moves (λ name. name.stem ≡ stem) (BeforeOpening stem old.now) (λ files. IsSettledPair stem old.now files) old new)
     (λ a b d first second. looked_second stem (λ file now. OnOk c.look-2.result (now ≡ settled file.seen)) (λ files. IsSettledPair stem a.now files) a b d first.0 (λ ended first_is. settled_both stem a.now d.now first_is (on_ok c.look-2.result c.in_ok-second.second (d.now high ≡ settled (a.now high).seen) c.in_ok-second.was ended))
-      (file_weaker low (λ file image. IsImage file image) (λ file image. IsImage file image) (λ file now. OnOk c.look.result (now ≡ settled file.seen)) (λ file now. now ≡ settled file.seen) a b (λ image is. is)
-        (λ ended. on_ok c.look.result c.in_ok-first.first (b.now low ≡ settled (a.now low).seen) c.in_ok-first.was ended) first.1) second)
+    (file_weaker low (λ file image. IsImage file image) (λ file image. IsImage file image) (λ file now. OnOk c.look.result (now ≡ settled file.seen)) (λ file now. now ≡ settled file.seen) a b (λ image is. is)
+    (λ ended. on_ok c.look.result c.in_ok-first.first (b.now low ≡ settled (a.now low).seen) c.in_ok-first.was ended) first.1) second)
     (told_given (g.F.Folder.disk c.args.folder.now) (g.F.Folder.disk c.look.new.folder) SeenStays (MovesFile low (λ file image. IsImage file image) (λ file now. OnOk c.look.result (now ≡ settled file.seen))) (λ a b. SeenStays a × MovesFile low (λ file image. IsImage file image) (λ file now. OnOk c.look.result (now ≡ settled file.seen)) a b) (λ a b is moves. (is, moves)) (g.met.F.Folder.seen_may_stay c.args.folder.now) c.look.ensures.disk)
     c.look-2.ensures.disk

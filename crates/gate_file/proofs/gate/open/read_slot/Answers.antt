@@ -1,7 +1,7 @@
-use Rattle.std.proofs.Common.{◌≡◌, ◌<◌, ◌≤◌, ℕ, length, Some, None}
+use Rattle.std.proofs.Common.{◌≡◌, length, Some, None}
 use Rattle.view_ports.specs.FolderCalls.{IsReadAt}
 use Rattle.view_ports.proofs.Told.{told_now, told_pair}
-use Rattle.gate_file.specs.Header.{slot_at, open_root, IsFit, IsDamaged}
+use Rattle.gate_file.specs.Header.{slot_at, open_root, IsFit}
 use Rattle.gate_file.proofs.Looks.{slot_short, slot_closed, slot_open, slot_damaged}
 use Rattle.gate_file.proofs.gate.open.read_slot.Goals as goal
 
