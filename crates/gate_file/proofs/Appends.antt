@@ -1,7 +1,6 @@
 -- One file while bytes are appended.
 use Rattle.std.proofs.Common.{◌≡◌, ◌⊎◌, inl, inr, ℕ, ◌+◌, ◌<◌, ◌≤◌, List, [], ◌∷◌, ◌++◌, length, get_or, drop, replicate, Option, None, refl, sym, ap, ◌∙◌, subst, arith, length-append, append-nil}
 use Rattle.std.proofs.lemmas.Bool.{cases_lt, cases_eq}
-use Rattle.std.proofs.lemmas.Bool.Decides.{nat_tests}
 use Rattle.std.proofs.lemmas.List.{length-replicate, get_or-replicate, get_or_past, get_or_append_left, take_at, drop_all}
 use Rattle.view_ports.specs.File.{File, IsIn, IsOneOf, IsImage, settled, grew, synced}
 use Rattle.gate_file.specs.declared.root.Root.{Root}
@@ -81,7 +80,7 @@ module _ (gate : GateFile) (file : File) (keeps : Keeps gate file) where
         (λ place behind within. absurd (omega arith)))
 
     start : start_of gate ≡ 8192
-    start = grind (arith, nat_tests)
+    start = omega arith
 
     pub made_new : (now : File) → IsGrown 8192 now → IsMade gate file now
     made_new now grown =
@@ -112,7 +111,7 @@ module _ (gate : GateFile) (file : File) (keeps : Keeps gate file) where
 
   module _ (some : 0 < gate.length) where
     start_there : start_of gate ≡ gate.length
-    start_there = grind (arith, nat_tests)
+    start_there = omega (arith, keeps.made some, keeps.durable.long, keeps.size)
 
     front_same : (bytes : List ℕ) → 0 < length bytes → IsFront bytes bytes
     front_same [] more = absurd (omega arith)
@@ -155,10 +154,7 @@ shows_then root a b c first second = record {
 -- Bytes are added to a file that is made.
 module _ (gate : GateFile) (at : ℕ) (at_is : at ≡ start_of gate) (bytes : List ℕ) where
   start_some : 0 < start_of gate
-  start_some = elim (cases_eq gate.length 0) [
-    | inl none ↦ grind (arith, nat_tests)
-    | inr some ↦ grind (arith, nat_tests)
-  ]
+  start_some = omega arith
 
   module _ (file mid : File) (made : IsMade gate file mid) where
     end_is : at ≡ length mid.seen

@@ -1,5 +1,5 @@
 -- What a gate file keeps, and what its calls do.
-use Rattle.std.specs.Prelude.{◌≡◌, ℕ, ◌+◌, ◌<◌, ◌≤◌, List, [], ◌++◌, length, Option, Some, None, IfSome, IsTrue, ◌↔◌, if◌then◌else◌, ◌==◌, is_some}
+use Rattle.std.specs.Prelude.{◌≡◌, ℕ, ◌+◌, ◌<◌, ◌≤◌, List, [], ◌++◌, length, Option, Some, None, IfSome, IsTrue, ◌↔◌, max, is_some}
 use Rattle.view_ports.specs.File.{File, settled}
 use Rattle.view_ports.specs.declared.file_name.FileName.{FileName}
 use Rattle.gate_file.specs.declared.root.Root.{Root}
@@ -42,9 +42,9 @@ pub record Keeps (gate : GateFile) (file : File) : Type 0 where
   pub low : IsFit 0 file.durable
   pub high : IsFit 4096 file.durable
 
--- the place of the next bytes that are appended
+-- the place of the next bytes that are appended: the end of the file, or behind the slots of a new one
 abbrev pub start_of : GateFile → ℕ
-start_of gate = if gate.length == 0 then 8192 else gate.length
+start_of gate = max 8192 gate.length
 
 -- the object after so many bytes were appended
 abbrev pub appended : GateFile → ℕ → GateFile

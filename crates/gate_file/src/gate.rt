@@ -64,7 +64,7 @@ impl GateFile {
     fn start(&self) -> u64
         ensures { result ≡ start_of self.now }
     {
-        if self.length == 0 { DATA } else { self.length }
+        self.length.max(DATA)
     }
 
     /// Makes room for the slots, where the file is new.

@@ -7,6 +7,8 @@ mod gate;
 mod root;
 mod slot;
 mod steps;
+#[cfg(test)]
+mod tests;
 
 pub use fault::GateFault;
 pub use gate::GateFile;
