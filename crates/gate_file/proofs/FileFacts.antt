@@ -1,5 +1,5 @@
 -- What a crash leaves of a file of which nothing durable may be lost, and its states between the steps of a commit.
-use Rattle.std.proofs.Common.{◌≡◌, ◌⊎◌, inl, inr, ℕ, ◌+◌, ◌<◌, ◌≤◌, List, [], ◌∷◌, length, get_or, Option, refl, ◌∙◌, arith}
+use Rattle.std.proofs.Common.{◌≡◌, ◌⊎◌, inl, inr, ℕ, ◌+◌, ◌<◌, ◌≤◌, List, [], ◌∷◌, length, get_or, take, drop, Option, refl, ◌∙◌, arith}
 use Rattle.std.proofs.lemmas.Bool.{cases_lt}
 use Rattle.view_ports.specs.File.{File, IsIn, IsOneOf, IsImage, settled, splice, wrote}
 use Rattle.view_ports.proofs.Images.{length-splice, splice_before, splice_behind}
@@ -7,7 +7,7 @@ use Rattle.gate_file.specs.declared.root.Root.{Root}
 use Rattle.gate_file.specs.Header.{slot_at}
 use Rattle.gate_file.specs.Shown.{KeepsDurable, Shows}
 use Rattle.gate_file.specs.Commit.{Continues}
-use Rattle.gate_file.proofs.Windows.{window-same}
+use Rattle.gate_file.proofs.Windows.{window-same, part_same}
 
 -- an image is the bytes, and perhaps more behind them, with anything in a range of places
 pub record Torn (at count : ℕ) (bytes image : List ℕ) : Type 0 where
@@ -137,3 +137,8 @@ module _ {root : Option Root} where
     long = omega (arith, shows.long, continues.size);
     rest = λ place behind within. shows.rest place behind (omega (arith, continues.size)) ∙ continues.seen place behind within;
   }
+
+-- a part behind the slots stands in what shows the bytes as it stands in the bytes
+pub shows_part : (root : Option Root) (bytes image : List ℕ) (offset count : ℕ) → Shows root bytes image → 8192 ≤ offset → offset + count ≤ length bytes → take count (drop offset image) ≡ take count (drop offset bytes)
+shows_part root bytes image offset count shows behind fits =
+    part_same image bytes offset count (omega (arith, shows.long)) fits (λ i within. shows.rest (offset + i) (omega arith) (omega arith))

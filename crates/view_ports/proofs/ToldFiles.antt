@@ -34,11 +34,11 @@ module _ {Name : Type 0} (name : Name) (P : File → Type 0) where
   told_file_then old mid new leaves1 leaves2 leaves ends1 ends2 ends images1 images2 endings known first second =
       told_then old mid new (λ a b. Known a × MovesFile name leaves1 ends1 a b) (MovesFile name leaves2 ends2) (MovesFile name leaves ends)
       (λ a b c early late.
-        file_then name leaves1 leaves2 leaves ends1 ends2 ends a b c
-        (λ image left. images1 (a.now name) image early.0 left)
-        (λ ended image left. images2 (a.now name) (b.now name) image early.0 ended left)
-        (λ ended1 ended2. endings (a.now name) (b.now name) (c.now name) early.0 ended1 ended2)
-        early.1 late)
+      file_then name leaves1 leaves2 leaves ends1 ends2 ends a b c
+      (λ image left. images1 (a.now name) image early.0 left)
+      (λ ended image left. images2 (a.now name) (b.now name) image early.0 ended left)
+      (λ ended1 ended2. endings (a.now name) (b.now name) (c.now name) early.0 ended1 ended2)
+      early.1 late)
       (told_given old mid Known (MovesFile name leaves1 ends1) (λ a b. Known a × MovesFile name leaves1 ends1 a b) (λ a b is moves. (is, moves)) known first)
       second
 

@@ -9,6 +9,7 @@ mod memory_sink;
 mod memory_source;
 mod ports;
 mod run_end;
+mod stretch;
 #[cfg(test)]
 mod tests;
 mod write_text;
@@ -20,4 +21,5 @@ pub use memory_sink::MemorySink;
 pub use memory_source::MemorySource;
 pub use ports::{PortFault, Sink, Source};
 pub use run_end::{INPUT_LIMIT, RunEnd};
+pub use stretch::stretch_is_since_its_start;
 pub use write_text::write_all;
