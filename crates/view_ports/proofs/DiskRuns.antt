@@ -1,7 +1,7 @@
 -- Stretches of calls on the files of a folder.
 use Rattle.std.proofs.Common.{◌≡◌, ◌⊎◌, inr, ⊎_elim, ℕ, List, Result, Ok, Err, OnOk, refl, ◌∙◌, subst}
 use Rattle.view_ports.specs.File.{File, IsImage}
-use Rattle.view_ports.specs.Disk.{Disk, IsImageOf, OthersStay, Framed, Moves, MovesFile}
+use Rattle.view_ports.specs.Disk.{Disk, IsImageOf, OthersStay, Framed, Moves, MovesFile, MovesNone}
 use Rattle.view_ports.specs.FolderCalls.{Changes, Passes}
 use Rattle.view_ports.proofs.Moments.{Image, Files, started, ticked, joined, weaker}
 
@@ -80,7 +80,7 @@ module _ {Name : Type 0} where
       a b c (λ image left. images1 (image name) left) (λ ended image left. images2 ended (image name) left) endings first second
 
   -- one call that takes a step on a file: a crash leaves what it might have left before or after
-  either_images : {T E : Type 0} (name : Name) (step : File → File) (result : Result T E) (old new : Disk Name) → Changes name step result old new
+  pub either_images : {T E : Type 0} (name : Name) (step : File → File) (result : Result T E) (old new : Disk Name) → Changes name step result old new
       → (image : List ℕ) → IsImage (new.now name) image → IsImage (old.now name) image ⊎ IsImage (step (old.now name)) image
   either_images name step (Ok value) old new changes image is = inr (subst (λ file. IsImage file image) changes.ok is)
   either_images name step (Err error) old new changes image is = changes.err image is
@@ -114,6 +114,29 @@ module _ {Name : Type 0} where
         others = λ name other. passes.same name;
         ended = endings passes.same;
       }
+
+-- No file changed.
+module _ {Name : Type 0} where
+  pub none_same : (old new : Disk Name) → MovesNone old new → (name : Name) → new.now name ≡ old.now name
+  none_same old new moves name = moves.others name (λ never. never)
+
+  pub none_refl : (disk : Disk Name) → MovesNone disk disk
+  none_refl disk = moves_none (λ n. ⊥) (λ image. Unit {0}) (λ files. Unit {0}) disk (λ image is. tt) tt
+
+  pub none_passes : (old new : Disk Name) → Passes old new → MovesNone old new
+  none_passes old new passes = moves_passes (λ n. ⊥) (λ image. Unit {0}) (λ files. Unit {0}) old new (λ image is. tt) (λ same. tt) passes
+
+  pub none_then : (a b c : Disk Name) → MovesNone a b → MovesNone b c → MovesNone a c
+  none_then a b c first second = moves_then (λ n. ⊥) (λ image. Unit {0}) (λ image. Unit {0}) (λ image. Unit {0}) (λ files. Unit {0}) (λ files. Unit {0}) (λ files. Unit {0}) a b c
+      (λ image is. tt) (λ ended image is. tt) (λ first_ended second_ended. tt) first second
+
+  -- as part of a stretch over some files
+  pub none_wider : (mine : Name → Type 0) (leaves : Image Name → Type 0) (ends : Files Name → Type 0) (old new : Disk Name)
+      → ((image : Image Name) → IsImageOf old.now image → leaves image) → (((name : Name) → new.now name ≡ old.now name) → ends new.now)
+      → MovesNone old new → Moves mine leaves ends old new
+  none_wider mine leaves ends old new here endings moves =
+      moves_wider (λ n. ⊥) mine (λ image. Unit {0}) leaves (λ files. Unit {0}) ends old new
+      (λ n never. absurd never) (λ image framed. here image (λ name. framed.outside name (λ never. never))) (λ others ended. endings (none_same old new moves)) moves
 
 -- a fact for a result that is known
 pub on_ok : {T E : Type 0} (result : Result T E) (value : T) (P : Type 0) → result ≡ Ok value → OnOk result P → P

@@ -10,3 +10,4 @@ pub mod Told
 pub mod Images
 pub mod Moments
 pub mod DiskRuns
+pub mod ToldFiles

@@ -6,7 +6,7 @@ module _ {D : Type 0} where
   pub told_map : (old new : Option D) (R S : D → D → Type 0) → ((a b : D) → R a b → S a b) → Tells old new R → Tells old new S
   told_map None None R S then told = tt
   told_map None (Some b) R S then told = absurd told
-  told_map (Some a) None R S then told = tt
+  told_map (Some a) None R S then told = absurd told
   told_map (Some a) (Some b) R S then told = then a b told
 
   -- two stretches, one after the other
@@ -14,24 +14,31 @@ module _ {D : Type 0} where
   told_then None None None R S T then first second = tt
   told_then None None (Some c) R S T then first second = absurd second
   told_then None (Some b) new R S T then first second = absurd first
-  told_then (Some a) None None R S T then first second = tt
-  told_then (Some a) None (Some c) R S T then first second = absurd second
-  told_then (Some a) (Some b) None R S T then first second = tt
+  told_then (Some a) None None R S T then first second = absurd first
+  told_then (Some a) None (Some c) R S T then first second = absurd first
+  told_then (Some a) (Some b) None R S T then first second = absurd second
   told_then (Some a) (Some b) (Some c) R S T then first second = then a b c first second
 
   -- with what is known of the disk before
   pub told_given : (old new : Option D) (P : D → Type 0) (R S : D → D → Type 0) → ((a b : D) → P a → R a b → S a b) → IfTold old P → Tells old new R → Tells old new S
   told_given None None P R S then known told = tt
   told_given None (Some b) P R S then known told = absurd told
-  told_given (Some a) None P R S then known told = tt
+  told_given (Some a) None P R S then known told = absurd told
   told_given (Some a) (Some b) P R S then known told = then a b known told
 
   -- what is known of the disk after
   pub told_after : (old new : Option D) (P Q : D → Type 0) (R : D → D → Type 0) → ((a b : D) → P a → R a b → Q b) → IfTold old P → Tells old new R → IfTold new Q
   told_after None None P Q R then known told = tt
   told_after None (Some b) P Q R then known told = absurd told
-  told_after (Some a) None P Q R then known told = tt
+  told_after (Some a) None P Q R then known told = absurd told
   told_after (Some a) (Some b) P Q R then known told = then a b known told
+
+  -- what is known of the disk before, by what is known after
+  pub told_back : (old new : Option D) (P Q : D → Type 0) (R : D → D → Type 0) → ((a b : D) → R a b → Q b → P a) → Tells old new R → IfTold new Q → IfTold old P
+  told_back None None P Q R then told known = tt
+  told_back None (Some b) P Q R then told known = absurd told
+  told_back (Some a) None P Q R then told known = absurd told
+  told_back (Some a) (Some b) P Q R then told known = then a b told known
 
   pub told_now : (now : Option D) (P Q : D → Type 0) → ((a : D) → P a → Q a) → IfTold now P → IfTold now Q
   told_now None P Q then known = tt
@@ -46,7 +53,7 @@ module _ {D : Type 0} where
   pub told_both : (old new : Option D) (R S T : D → D → Type 0) → ((a b : D) → R a b → S a b → T a b) → Tells old new R → Tells old new S → Tells old new T
   told_both None None R S T then first second = tt
   told_both None (Some b) R S T then first second = absurd first
-  told_both (Some a) None R S T then first second = tt
+  told_both (Some a) None R S T then first second = absurd first
   told_both (Some a) (Some b) R S T then first second = then a b first second
 
   pub told_pair : (now : Option D) (P Q S : D → Type 0) → ((a : D) → P a → Q a → S a) → IfTold now P → IfTold now Q → IfTold now S
@@ -56,3 +63,7 @@ module _ {D : Type 0} where
   pub told_all : (now : Option D) (P : D → Type 0) → ((a : D) → P a) → IfTold now P
   told_all None P always = tt
   told_all (Some a) P always = always a
+
+  pub told_refl : (now : Option D) (R : D → D → Type 0) → ((a : D) → R a a) → Tells now now R
+  told_refl None R same = tt
+  told_refl (Some a) R same = same a

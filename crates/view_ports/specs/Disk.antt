@@ -61,14 +61,19 @@ pub record Moves {Name : Type 0} (mine : Name → Type 0) (leaves : (Name → Li
 abbrev pub MovesFile : {Name : Type 0} → Name → (File → List ℕ → Type 0) → (File → File → Type 0) → Disk Name → Disk Name → Type 0
 MovesFile name leaves ends old new = Moves (λ n. n ≡ name) (λ image. leaves (old.now name) (image name)) (λ files. ends (old.now name) (files name)) old new
 
+-- no file changed
+abbrev pub MovesNone : {Name : Type 0} → Disk Name → Disk Name → Type 0
+MovesNone = Moves (λ n. ⊥) (λ image. Unit {0}) (λ files. Unit {0})
+
 -- what is said of a disk where the folder tells it
 abbrev pub IfTold : {D : Type 0} → Option D → (D → Type 0) → Type 0
 IfTold None P = Unit {0}
 IfTold (Some disk) P = P disk
 
--- what is said of a disk before and after, where the folder tells it; a folder that doesn't tell never begins to
+-- what is said of a disk before and after, where the folder tells it; a folder that tells goes on telling, and one
+-- that doesn't never begins to
 abbrev pub Tells : {D : Type 0} → Option D → Option D → (D → D → Type 0) → Type 0
 Tells None None R = Unit {0}
 Tells None (Some new) R = ⊥
-Tells (Some old) None R = Unit {0}
+Tells (Some old) None R = ⊥
 Tells (Some old) (Some new) R = R old new

@@ -4,9 +4,9 @@ ghost use Rattle.std.specs.Prelude.{◌≡◌, ℕ, ◌+◌, ◌≤◌, ◌^◌,
 ghost use Rattle.std.specs.Io.{ReadsAtMost};
 ghost use Rattle.view_ports.specs.declared.file_name.FileName.{FileName};
 ghost use Rattle.view_ports.specs.declared.folder.FolderFault.TheVariants.{Failed};
-ghost use Rattle.view_ports.specs.Causes.{HasCauseIf};
+ghost use Rattle.view_ports.specs.Causes.{HasCauseIf, one_more};
 ghost use Rattle.view_ports.specs.Disk.{Disk, IfTold, Tells, SeenStays};
-ghost use Rattle.view_ports.specs.Faults.{HasCause, next_count};
+ghost use Rattle.view_ports.specs.Faults.{HasCause};
 ghost use Rattle.view_ports.specs.File.{emptied, grew, synced, wrote};
 ghost use Rattle.view_ports.specs.FolderCalls.{Changes, IsListing, IsReadAt, Passes};
 
@@ -32,7 +32,7 @@ pub trait Folder {
     /// How many faults the device had.
     ghost faults: { Self → ℕ };
 
-    /// How many times `read_at` was called. It stands still at `u64::MAX`.
+    /// How many times `read_at` was called. It never falls, and stands still at `u64::MAX`.
     ghost reads: { Self → ℕ };
 
     /// The length of the file in bytes. A file that isn't there has length 0.
@@ -49,7 +49,7 @@ pub trait Folder {
         ensures bytes { IfTold (disk self.old) (λ d. IfOk result (λ count. IsReadAt (d.now name).seen at count into.new)) }
         ensures disk { Tells (disk self.old) (disk self.new) Passes }
         ensures cause { HasCause (faults self.old) (faults self.new) result }
-        ensures reads { reads self.new ≡ next_count (reads self.old) };
+        ensures reads { reads self.new ≡ one_more (reads self.old) };
 
     /// Writes the bytes of `from` over those from the place `at` on.
     fn write_at(&mut self, name: FileName, at: u64, from: &[u8]) -> Result<(), PortFault>

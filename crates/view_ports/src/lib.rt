@@ -18,6 +18,7 @@ mod script_servers;
 mod server_session;
 mod servers;
 mod servers_fault;
+mod stretch;
 #[cfg(test)]
 mod tests;
 mod write_text;
@@ -37,4 +38,5 @@ pub use script_servers::{Answer, ScriptServers};
 pub use server_session::ServerSession;
 pub use servers::{SLOT_COUNT, Servers};
 pub use servers_fault::ServersFault;
+pub use stretch::stretch_is_since_its_start;
 pub use write_text::write_all;
