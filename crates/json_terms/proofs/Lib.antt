@@ -2,6 +2,7 @@ pub mod Converted
 pub mod Depths
 pub mod Inserted
 pub mod OneLine
+pub mod Parts
 pub mod Pushed
 pub mod ReadBack
 pub mod Readings

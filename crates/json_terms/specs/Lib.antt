@@ -3,6 +3,7 @@ pub mod Code
 pub mod Terms
 pub mod Seen
 pub mod Falls
+pub mod Emitted
 pub mod Reading
 pub mod Text
 pub mod Find

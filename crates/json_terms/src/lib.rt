@@ -9,6 +9,7 @@ mod copy;
 mod fault;
 mod look;
 mod read;
+mod rows;
 mod term;
 #[cfg(test)]
 mod tests;
@@ -18,5 +19,6 @@ pub use copy::copy_term;
 pub use fault::{NoMemory, TermFault};
 pub use look::{depth_within, member};
 pub use read::read_term;
+pub use rows::{Emission, Emissions, RowLists};
 pub use term::{Chars, Member, Members, Row, Term, Terms};
 pub use write::{text_is_line, write_term, write_text};
