@@ -1,2 +1,11 @@
 pub mod Reduce
 pub mod Laws
+pub mod Syntax
+pub mod Code
+pub mod SeenExpressions
+pub mod FallsExpressions
+pub mod SeenStatements
+pub mod FallsStatements
+pub mod Tokens
+pub mod Grammar
+pub mod Readings

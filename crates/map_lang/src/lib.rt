@@ -3,6 +3,9 @@
 
 mod laws;
 mod reduce;
+mod syntax;
+mod token;
 
 pub use laws::reduce_in_parts;
 pub use reduce::{PickReduce, parse_reduce, run_reduce, run_rereduce};
+pub use syntax::Program;
