@@ -9,3 +9,4 @@ pub mod FallsStatements
 pub mod Tokens
 pub mod Grammar
 pub mod Readings
+pub mod Lexing

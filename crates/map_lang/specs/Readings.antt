@@ -1,11 +1,15 @@
 -- What is read from the front of a list of tokens. For private clauses.
-use Rattle.std.specs.Prelude.{◌≡◌, ℕ, ◌≤◌, List, [], ◌∷◌, Bool, true, false}
+use Rattle.std.specs.Prelude.{◌≡◌, ℕ, ◌≤◌, List, [], ◌∷◌, Bool, true, false, Option, Some, None}
+use Rattle.json_terms.specs.declared.term.Chars.{Chars}
+use Rattle.map_lang.specs.declared.token.Mark as marks
+use Rattle.map_lang.specs.declared.token.Keyword.{Keyword}
+use Rattle.map_lang.specs.Tokens.{keyword_of}
 use Rattle.map_lang.specs.declared.token.Token.{Token}
 use Rattle.map_lang.specs.declared.token.Token.TheVariants.{Word, Integer, Text, Mark}
 use Rattle.map_lang.specs.declared.token.Mark.TheVariants.{Comma, Equals, Dot, OpenBrace, CloseBrace, OpenBracket, CloseBracket}
 use Rattle.map_lang.specs.declared.syntax.Step.{Step}
 use Rattle.map_lang.specs.Syntax.{Expr, path, literal, array, Exprs, Stmt, emit, when, each, Stmts, nesting, exprs_nesting, stmt_nesting, stmts_nesting}
-use Rattle.map_lang.specs.Grammar.{step_before, steps_before, expr_before, exprs_before, stmt_before, stmts_before, IsScoped, AreScoped, IsScopedStmt, AreScopedStmts}
+use Rattle.map_lang.specs.Grammar.{word, step_before, steps_before, expr_before, exprs_before, stmt_before, stmts_before, IsScoped, AreScoped, IsScopedStmt, AreScopedStmts}
 
 -- a step begins here
 abbrev pub begins_step : List Token → Bool
@@ -79,3 +83,24 @@ pub record ReadsBlock (bound : List (List ℕ)) (room : ℕ) (tokens : List Toke
   pub spelled : tokens ≡ Mark OpenBrace ∷ stmts_before ss (Mark CloseBrace ∷ rest)
   pub scoped : AreScopedStmts bound ss
   pub nests : stmts_nesting ss ≤ room
+
+-- the mark that stands first
+abbrev pub first_mark : List Token → Option marks.Mark
+first_mark [] = None
+first_mark (Word w ∷ ts) = None
+first_mark (Integer n ∷ ts) = None
+first_mark (Text t ∷ ts) = None
+first_mark (Mark m ∷ ts) = Some m
+
+-- the mark is taken from the front, or it doesn't stand there and nothing is
+abbrev pub TakesIf : marks.Mark → Bool → List Token → List Token → Type 0
+TakesIf mark true old new = old ≡ Mark mark ∷ new
+TakesIf mark false old new = (new ≡ old) × ((rest : List Token) → old ≡ Mark mark ∷ rest → ⊥)
+
+abbrev pub TakesKeyword : Option Keyword → List Token → List Token → Type 0
+TakesKeyword None old new = (k : Keyword) (rest : List Token) → old ≡ word k ∷ rest → ⊥
+TakesKeyword (Some k) old new = old ≡ word k ∷ new
+
+abbrev pub TakesName : Option Chars → List Token → List Token → Type 0
+TakesName None old new = (name : List ℕ) (rest : List Token) → keyword_of name ≡ None → old ≡ Word name ∷ rest → ⊥
+TakesName (Some name) old new = (keyword_of name ≡ None) × (old ≡ Word name ∷ new)

@@ -1,8 +1,13 @@
 //! The map-reduce language `pick`: programs that give rows of a document, and the five reduces.
 #![tactic(auto)]
 
+mod cursor;
+mod expressions;
+mod fault;
 mod laws;
+mod lex;
 mod reduce;
+mod statements;
 mod syntax;
 mod token;
 
