@@ -1,5 +1,5 @@
 -- How readings of parts make up the reading of a whole.
-use Rattle.std.specs.Prelude.{◌≡◌, ℕ, ◌≤◌, ◌<◌, suc, List, [], ◌∷◌, ◌++◌, length, Bool, true, false, Option, Some, None, refl}
+use Rattle.std.specs.Prelude.{◌≡◌, ℕ, ◌≤◌, ◌<◌, suc, List, [], ◌∷◌, ◌++◌, length, Bool, true, false, Option, Some, None, refl, ◌-◌, Result, Ok, Err, IfErr}
 use Rattle.std.proofs.Common.{◌∙◌, sym, ap, subst, arith, append_assoc}
 use Rattle.std.proofs.lemmas.Bool.{false≢true}
 use Rattle.map_lang.specs.declared.token.Token.{Token}
@@ -9,9 +9,12 @@ use Rattle.map_lang.specs.declared.syntax.Step.{Step}
 use Rattle.map_lang.specs.declared.syntax.Step.TheVariants.{Member, Element, Key}
 use Rattle.map_lang.specs.declared.syntax.Literal.{Literal}
 use Rattle.map_lang.specs.Syntax.{Expr, path, literal, array, Exprs, no_exprs, expr, exprs_of, exprs_nesting, Stmt, emit, when, each, Stmts, no_stmts, stmt, stmts_of}
-use Rattle.map_lang.specs.Grammar.{step_before, steps_before, expr_before, exprs_before, more_before, stmt_before, stmts_before, AreScoped}
+use Rattle.map_lang.specs.declared.token.Keyword.{Keyword}
+use Rattle.map_lang.specs.declared.token.Keyword.TheVariants as keyword
+use Rattle.map_lang.specs.Tokens.{keyword_of}
+use Rattle.map_lang.specs.Grammar.{word, is_among, AreScopedStmts, step_before, steps_before, expr_before, exprs_before, more_before, stmt_before, stmts_before, AreScoped}
 use Rattle.map_lang.specs.Readings.{begins_step, ends_block, EndsStmt, ReadsSteps, ReadsExpr, ReadsExprs, ReadsStmt, ReadsStmts, ReadsBlock}
-use Rattle.map_lang.proofs.Unique.{behind, step_begins, step_unique, steps_unique, expr_unique, exprs_unique, more_unique, stmt_unique, stmts_unique, ends_more, ends_stmts, expr_not_close, stmt_no_end}
+use Rattle.map_lang.proofs.Unique.{keyword_at, first, behind, ends_at, step_begins, step_unique, steps_unique, expr_unique, exprs_unique, more_unique, stmt_unique, stmts_unique, ends_more, ends_stmts, expr_not_close, stmt_no_end}
 
 pub steps_once : (ts r q : List Token) (ss us : List Step) → ReadsSteps ts ss r → ReadsSteps ts us q → (ss ≡ us) × (r ≡ q)
 steps_once ts r q ss us x y = steps_unique ss us r q (sym x.spelled ∙ y.spelled) x.ends y.ends
@@ -237,3 +240,128 @@ stmts_refused b m whole now read h open_ none all r a = let p = h.only all r a i
 pub stmts_end : (b : List (List ℕ)) (m : ℕ) (whole now : List Token) (read : List Stmt) → StmtsSoFar b m whole read now → ends_block now ≡ true → ReadsStmts b m whole (stmts_of read) now
 stmts_end b m whole now read h e =
     subst (λ ss. ReadsStmts b m whole ss now) (stmts_onto-none read) (h.grows no_stmts now (record { spelled = refl; ends = e; scoped = tt; nests = omega arith }))
+
+-- What a statement that begins with this keyword is made of.
+
+abbrev front : List Token → Option Keyword
+front ts = keyword_at (first ts)
+
+pub emit_form : (b : List (List ℕ)) (m : ℕ) (whole r : List Token) (s : Stmt) → ReadsStmt b m (word keyword.Emit ∷ whole) s r → (k : Expr) × (v : Expr) × (s ≡ emit k v) × ReadsExpr b m whole k (Mark Comma ∷ expr_before v r) × ReadsExpr b m (expr_before v r) v r
+emit_form b m whole r (emit k v) h =
+    (k, v, refl, record { spelled = ap behind h.spelled; ends = ends_at k (Mark Comma ∷ expr_before v r) refl; scoped = h.scoped.0; nests = omega (arith, h.nests) }, record { spelled = refl; ends = h.ends; scoped = h.scoped.1; nests = omega (arith, h.nests) })
+emit_form b m whole r (when a c ss) h = let f : Some keyword.Emit ≡ Some keyword.If = ap front h.spelled in absurd cc
+emit_form b m whole r (each n e ss) h = let f : Some keyword.Emit ≡ Some keyword.For = ap front h.spelled in absurd cc
+
+pub emit_no_comma : (b : List (List ℕ)) (m : ℕ) (whole new : List Token) (key : Expr) → ReadsExpr b m whole key new → ((rest : List Token) → new ≡ Mark Comma ∷ rest → ⊥) → (s : Stmt) (r : List Token) → ReadsStmt b m (word keyword.Emit ∷ whole) s r → ⊥
+emit_no_comma b m whole new key one none s r h =
+    let f = emit_form b m whole r s h in
+    none (expr_before f.1 r) (expr_once b m m whole new (Mark Comma ∷ expr_before f.1 r) key f.0 one f.3).1
+
+pub emit_no_value : (b : List (List ℕ)) (m : ℕ) (whole new left : List Token) (key : Expr) → ReadsExpr b m whole key new → new ≡ Mark Comma ∷ left → ((v : Expr) (rest : List Token) → ReadsExpr b m left v rest → ⊥) → (s : Stmt) (r : List Token) → ReadsStmt b m (word keyword.Emit ∷ whole) s r → ⊥
+emit_no_value b m whole new left key one e none s r h =
+    let f = emit_form b m whole r s h in
+    let same : left ≡ expr_before f.1 r = ap behind (sym e ∙ (expr_once b m m whole new (Mark Comma ∷ expr_before f.1 r) key f.0 one f.3).1) in
+    none f.1 r (subst (λ ts. ReadsExpr b m ts f.1 r) (sym same) f.4)
+
+-- the tokens of a block in braces, and then the rest
+abbrev pub block_before : Stmts → List Token → List Token
+block_before ss r = Mark OpenBrace ∷ stmts_before ss (Mark CloseBrace ∷ r)
+
+pub record WhenForm (b : List (List ℕ)) (m : ℕ) (whole r : List Token) (s : Stmt) : Type 0 where
+  pub left : Expr
+  pub right : Expr
+  pub block : Stmts
+  pub is : s ≡ when left right block
+  pub reads_left : ReadsExpr b m whole left (Mark Equals ∷ expr_before right (block_before block r))
+  pub reads_right : ReadsExpr b m (expr_before right (block_before block r)) right (block_before block r)
+  pub room : 0 < m
+  pub reads_block : ReadsBlock b (m - 1) (block_before block r) block r
+
+pub when_form : (b : List (List ℕ)) (m : ℕ) (whole r : List Token) (s : Stmt) → ReadsStmt b m (word keyword.If ∷ whole) s r → WhenForm b m whole r s
+when_form b m whole r (when a c ss) h = record {
+    left = a; right = c; block = ss; is = refl;
+    reads_left = record { spelled = ap behind h.spelled; ends = ends_at a (Mark Equals ∷ expr_before c (block_before ss r)) refl; scoped = h.scoped.0; nests = omega (arith, h.nests) };
+    reads_right = record { spelled = refl; ends = ends_at c (block_before ss r) refl; scoped = h.scoped.1; nests = omega (arith, h.nests) };
+    room = omega (arith, h.nests);
+    reads_block = record { spelled = refl; scoped = h.scoped.2; nests = omega (arith, h.nests) };
+  }
+when_form b m whole r (emit k v) h = let f : Some keyword.If ≡ Some keyword.Emit = ap front h.spelled in absurd cc
+when_form b m whole r (each n e ss) h = let f : Some keyword.If ≡ Some keyword.For = ap front h.spelled in absurd cc
+
+pub when_no_equals : (b : List (List ℕ)) (m : ℕ) (whole new : List Token) (left : Expr) → ReadsExpr b m whole left new → ((rest : List Token) → new ≡ Mark Equals ∷ rest → ⊥) → (s : Stmt) (r : List Token) → ReadsStmt b m (word keyword.If ∷ whole) s r → ⊥
+when_no_equals b m whole new left one none s r h =
+    let f = when_form b m whole r s h in
+    none (expr_before f.right (block_before f.block r)) (expr_once b m m whole new _ left f.left one f.reads_left).1
+
+-- what stands behind the equals sign
+when_right : (b : List (List ℕ)) (m : ℕ) (whole new more r : List Token) (left : Expr) (s : Stmt) (f : WhenForm b m whole r s) → ReadsExpr b m whole left new → new ≡ Mark Equals ∷ more → more ≡ expr_before f.right (block_before f.block r)
+when_right b m whole new more r left s f one e = ap behind (sym e ∙ (expr_once b m m whole new _ left f.left one f.reads_left).1)
+
+pub when_no_right : (b : List (List ℕ)) (m : ℕ) (whole new more : List Token) (left : Expr) → ReadsExpr b m whole left new → new ≡ Mark Equals ∷ more → ((e : Expr) (rest : List Token) → ReadsExpr b m more e rest → ⊥) → (s : Stmt) (r : List Token) → ReadsStmt b m (word keyword.If ∷ whole) s r → ⊥
+when_no_right b m whole new more left one e none s r h =
+    let f = when_form b m whole r s h in
+    none f.right (block_before f.block r) (subst (λ ts. ReadsExpr b m ts f.right (block_before f.block r)) (sym (when_right b m whole new more r left s f one e)) f.reads_right)
+
+pub when_no_block : (b : List (List ℕ)) (m : ℕ) (whole new more last : List Token) (left right : Expr) → ReadsExpr b m whole left new → new ≡ Mark Equals ∷ more → ReadsExpr b m more right last → ((ss : Stmts) (rest : List Token) → ReadsBlock b (m - 1) last ss rest → ⊥) → (s : Stmt) (r : List Token) → ReadsStmt b m (word keyword.If ∷ whole) s r → ⊥
+when_no_block b m whole new more last left right one e two none s r h =
+    let f = when_form b m whole r s h in
+    let right_too = subst (λ ts. ReadsExpr b m ts f.right (block_before f.block r)) (sym (when_right b m whole new more r left s f one e)) f.reads_right in
+    let same = (expr_once b m m more last (block_before f.block r) right f.right two right_too).1 in
+    none f.block r (subst (λ ts. ReadsBlock b (m - 1) ts f.block r) (sym same) f.reads_block)
+
+pub record EachForm (b : List (List ℕ)) (m : ℕ) (whole r : List Token) (s : Stmt) : Type 0 where
+  pub name : List ℕ
+  pub source : Expr
+  pub block : Stmts
+  pub is : s ≡ each name source block
+  pub spelled : whole ≡ Word name ∷ word keyword.In ∷ expr_before source (block_before block r)
+  pub plain : keyword_of name ≡ None
+  pub unbound : is_among name b ≡ false
+  pub reads_source : ReadsExpr b m (expr_before source (block_before block r)) source (block_before block r)
+  pub room : 0 < m
+  pub reads_block : ReadsBlock (b ++ name ∷ []) (m - 1) (block_before block r) block r
+
+pub each_form : (b : List (List ℕ)) (m : ℕ) (whole r : List Token) (s : Stmt) → ReadsStmt b m (word keyword.For ∷ whole) s r → EachForm b m whole r s
+each_form b m whole r (each n e ss) h = record {
+    name = n; source = e; block = ss; is = refl;
+    spelled = ap behind h.spelled;
+    plain = h.scoped.0;
+    unbound = h.scoped.1;
+    reads_source = record { spelled = refl; ends = ends_at e (block_before ss r) refl; scoped = h.scoped.2; nests = omega (arith, h.nests) };
+    room = omega (arith, h.nests);
+    reads_block = record { spelled = refl; scoped = h.scoped.3; nests = omega (arith, h.nests) };
+  }
+each_form b m whole r (emit k v) h = let f : Some keyword.For ≡ Some keyword.Emit = ap front h.spelled in absurd cc
+each_form b m whole r (when a c ss) h = let f : Some keyword.For ≡ Some keyword.If = ap front h.spelled in absurd cc
+
+pub each_no_in : (b : List (List ℕ)) (m : ℕ) (whole left : List Token) (name : List ℕ) → whole ≡ Word name ∷ left → ((rest : List Token) → left ≡ word keyword.In ∷ rest → ⊥) → (s : Stmt) (r : List Token) → ReadsStmt b m (word keyword.For ∷ whole) s r → ⊥
+each_no_in b m whole left name e none s r h =
+    let f = each_form b m whole r s h in
+    none (expr_before f.source (block_before f.block r)) (ap behind (sym e ∙ f.spelled))
+
+pub each_no_block : (b : List (List ℕ)) (m : ℕ) (whole left more last : List Token) (name : List ℕ) (source : Expr) → whole ≡ Word name ∷ left → left ≡ word keyword.In ∷ more → ReadsExpr b m more source last → ((ss : Stmts) (rest : List Token) → ReadsBlock (b ++ name ∷ []) (m - 1) last ss rest → ⊥) → (s : Stmt) (r : List Token) → ReadsStmt b m (word keyword.For ∷ whole) s r → ⊥
+each_no_block b m whole left more last name source e k one none s r h =
+    let f = each_form b m whole r s h in
+    let all : Word name ∷ word keyword.In ∷ more ≡ Word f.name ∷ word keyword.In ∷ expr_before f.source (block_before f.block r) = ap (λ ts. Word name ∷ ts) (sym k) ∙ sym e ∙ f.spelled in
+    let named : f.name ≡ name = cc in
+    let source_here : more ≡ expr_before f.source (block_before f.block r) = ap (λ ts. behind (behind ts)) all in
+    let source_too = subst (λ ts. ReadsExpr b m ts f.source (block_before f.block r)) (sym source_here) f.reads_source in
+    let same = (expr_once b m m more last (block_before f.block r) source f.source one source_too).1 in
+    let here = subst (λ ts. ReadsBlock (b ++ f.name ∷ []) (m - 1) ts f.block r) (sym same) f.reads_block in
+    none f.block r (subst (λ n. ReadsBlock (b ++ n ∷ []) (m - 1) last f.block r) named here)
+
+-- the statements were read, and no brace closes the block
+pub block_no_close : (b : List (List ℕ)) (m : ℕ) (whole left last : List Token) (read : Stmts) → whole ≡ Mark OpenBrace ∷ left → ReadsStmts b m left read last → ((rest : List Token) → last ≡ Mark CloseBrace ∷ rest → ⊥) → (ss : Stmts) (r : List Token) → ReadsBlock b m whole ss r → ⊥
+block_no_close b m whole left last read e one none ss r h =
+    let inside : ReadsStmts b m left ss (Mark CloseBrace ∷ r) = record { spelled = ap behind (sym e ∙ h.spelled); ends = refl; scoped = h.scoped; nests = h.nests } in
+    none r (stmts_once b m m left last (Mark CloseBrace ∷ r) read ss one inside).1
+
+-- a statement begins with one of three keywords
+pub no_statement : (b : List (List ℕ)) (m : ℕ) (whole : List Token) → ((rest : List Token) → whole ≡ word keyword.Emit ∷ rest → ⊥) → ((rest : List Token) → whole ≡ word keyword.If ∷ rest → ⊥) → ((rest : List Token) → whole ≡ word keyword.For ∷ rest → ⊥) → (s : Stmt) (r : List Token) → ReadsStmt b m whole s r → ⊥
+no_statement b m whole x y z (emit k v) r h = x _ h.spelled
+no_statement b m whole x y z (when a c ss) r h = y _ h.spelled
+no_statement b m whole x y z (each n e ss) r h = z _ h.spelled
+
+pub err_weaker : {X Y : Type 0} (r : Result X Y) (P Q : Y → Type 0) → ((y : Y) → P y → Q y) → IfErr r P → IfErr r Q
+err_weaker (Ok x) P Q f h = tt
+err_weaker (Err y) P Q f h = f y h

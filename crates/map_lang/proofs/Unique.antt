@@ -216,3 +216,12 @@ mutual
       let x = one.0 in
       let y = rest.0 in
       (cc, rest.1)
+
+pub keyword_spelled : (k : Keyword) → keyword_of (spelling k) ≡ Some k
+keyword_spelled keyword.Emit = refl
+keyword_spelled keyword.If = refl
+keyword_spelled keyword.For = refl
+keyword_spelled keyword.In = refl
+keyword_spelled keyword.True = refl
+keyword_spelled keyword.False = refl
+keyword_spelled keyword.Null = refl

@@ -97,9 +97,17 @@ abbrev pub TakesIf : marks.Mark → Bool → List Token → List Token → Type 
 TakesIf mark true old new = old ≡ Mark mark ∷ new
 TakesIf mark false old new = (new ≡ old) × ((rest : List Token) → old ≡ Mark mark ∷ rest → ⊥)
 
-abbrev pub TakesKeyword : Option Keyword → List Token → List Token → Type 0
-TakesKeyword None old new = (k : Keyword) (rest : List Token) → old ≡ word k ∷ rest → ⊥
-TakesKeyword (Some k) old new = old ≡ word k ∷ new
+-- the keyword that stands first
+abbrev pub first_keyword : List Token → Option Keyword
+first_keyword [] = None
+first_keyword (Word w ∷ ts) = keyword_of w
+first_keyword (Integer n ∷ ts) = None
+first_keyword (Text t ∷ ts) = None
+first_keyword (Mark m ∷ ts) = None
+
+abbrev pub TakesKeywordIf : Keyword → Bool → List Token → List Token → Type 0
+TakesKeywordIf k true old new = old ≡ word k ∷ new
+TakesKeywordIf k false old new = (new ≡ old) × ((rest : List Token) → old ≡ word k ∷ rest → ⊥)
 
 abbrev pub TakesName : Option Chars → List Token → List Token → Type 0
 TakesName None old new = (name : List ℕ) (rest : List Token) → keyword_of name ≡ None → old ≡ Word name ∷ rest → ⊥

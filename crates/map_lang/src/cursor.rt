@@ -1,7 +1,7 @@
 // Taking tokens from the front of those that are left.
 ghost use Rattle.std.specs.Prelude.{◌≡◌, ℕ, ◌∷◌, List, MatchOption, None};
 ghost use Rattle.map_lang.specs.Tokens.{keyword_of};
-ghost use Rattle.map_lang.specs.Readings.{begins_step, ends_block, first_mark, TakesIf, TakesKeyword, TakesName};
+ghost use Rattle.map_lang.specs.Readings.{begins_step, ends_block, first_mark, first_keyword, TakesIf, TakesKeywordIf, TakesName};
 
 use crate::token::{Keyword, Mark, Token, keyword_of};
 use json_terms::Chars;
@@ -46,14 +46,25 @@ pub fn ends_block(tokens: &VecDeque<Token>) -> bool
     }
 }
 
-/// Takes the first token, which is to be a keyword.
-pub fn take_keyword(tokens: &mut VecDeque<Token>) -> Option<Keyword>
-    ensures { TakesKeyword result tokens.old.items tokens.new.items }
+// The keyword that stands first.
+fn first_keyword(tokens: &VecDeque<Token>) -> Option<Keyword>
+    ensures { result ≡ first_keyword tokens.now.items }
 {
-    match tokens.pop_front() {
+    match tokens.front() {
         Some(Token::Word(word)) => keyword_of(word.as_str()),
         _ => None,
     }
+}
+
+/// Takes the keyword, if it stands first.
+pub fn take_keyword(tokens: &mut VecDeque<Token>, keyword: Keyword) -> bool
+    ensures { TakesKeywordIf keyword result tokens.old.items tokens.new.items }
+{
+    if first_keyword(tokens) != Some(keyword) {
+        return false;
+    }
+    let _ = tokens.pop_front();
+    true
 }
 
 /// Takes the first token, which is to be the name of a variable.

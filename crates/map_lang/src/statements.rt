@@ -48,12 +48,16 @@ fn statement(
     ensures refused { IfErr result (λ fault. fault ≡ ParseFault.Refused → (s : Stmt) (rest : List Token) → ReadsStmt bound.old.items room tokens.old.items s rest → ⊥) }
     ensures bound { OnOk result (bound.new.items ≡ bound.old.items) }
 {
-    match take_keyword(tokens) {
-        Some(Keyword::Emit) => emission(alloc, bound, tokens, room),
-        Some(Keyword::If) => condition(alloc, bound, tokens, room),
-        Some(Keyword::For) => repetition(alloc, bound, tokens, room),
-        _ => Err(ParseFault::Refused),
+    if take_keyword(tokens, Keyword::Emit) {
+        return emission(alloc, bound, tokens, room);
     }
+    if take_keyword(tokens, Keyword::If) {
+        return condition(alloc, bound, tokens, room);
+    }
+    if take_keyword(tokens, Keyword::For) {
+        return repetition(alloc, bound, tokens, room);
+    }
+    Err(ParseFault::Refused)
 }
 
 // Reads an `emit` behind its keyword.
@@ -116,7 +120,7 @@ fn repetition(
     if is_among(name.as_str(), bound) {
         return Err(ParseFault::Refused);
     }
-    if take_keyword(tokens) != Some(Keyword::In) {
+    if !take_keyword(tokens, Keyword::In) {
         return Err(ParseFault::Refused);
     }
     let source = expression(alloc, bound, tokens, room)?;
