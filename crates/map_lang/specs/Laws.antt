@@ -1,9 +1,11 @@
 -- The laws of the language.
-use Rattle.std.specs.Prelude.{◌≡◌, ◌≢◌, List, [], ◌∷◌, ◌++◌, map}
+use Rattle.std.specs.Prelude.{◌≡◌, ◌≢◌, ℕ, List, [], ◌∷◌, ◌++◌, map}
 use Rattle.std.specs.List.{AllByRecursion}
 use Rattle.json_terms.specs.Json.{Json}
 use Rattle.map_lang.specs.declared.reduce.PickReduce.{PickReduce}
 use Rattle.map_lang.specs.Reduce.{reduce_of, rereduce_of}
+use Rattle.map_lang.specs.Syntax.{Stmts}
+use Rattle.map_lang.specs.Grammar.{Compiles}
 
 -- the values of the parts, one part after another
 abbrev pub joined : List (List Json) → List Json
@@ -13,3 +15,7 @@ joined (part ∷ parts) = part ++ joined parts
 -- Rows may be cut into parts that are each reduced, as long as no part is empty: the results reduce to what all rows do.
 abbrev pub ReducesInParts : Type 0
 ReducesInParts = (how : PickReduce) (parts : List (List Json)) → parts ≢ [] → AllByRecursion (λ part. part ≢ []) parts → rereduce_of how (map (reduce_of how) parts) ≡ reduce_of how (joined parts)
+
+-- A source compiles as one program at most.
+abbrev pub CompilesOnce : Type 0
+CompilesOnce = (source : List ℕ) (p q : Stmts) → Compiles source p → Compiles source q → p ≡ q

@@ -10,3 +10,5 @@ pub mod Tokens
 pub mod Grammar
 pub mod Readings
 pub mod Lexing
+pub mod Meaning
+pub mod Bound

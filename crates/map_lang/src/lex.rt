@@ -150,7 +150,8 @@ fn integer_len(bytes: &[u8]) -> usize
 
 // The text between two `'` that stands first.
 fn text_at(alloc: Global, source: &str) -> Result<(Token, usize), ParseFault>
-    requires { first_passes is_in_text source.now ≡ false }
+    requires some { 0 < length source.now }
+    requires quoted { slice_index source.now 0 ≡ 39 }
     ensures found { IfOk result (λ found. IsTokenAt source.now found.0 found.1) }
     ensures refused { IfErr result (λ fault. fault ≡ ParseFault.Refused → (text rest : List ℕ) → source.now ≡ 39 ∷ text ++ 39 ∷ rest → all_pass is_in_text text ≡ true → ⊥) }
 {

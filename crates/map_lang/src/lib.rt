@@ -6,11 +6,15 @@ mod expressions;
 mod fault;
 mod laws;
 mod lex;
+mod parser;
 mod reduce;
 mod statements;
 mod syntax;
 mod token;
+mod value;
 
-pub use laws::reduce_in_parts;
+pub use fault::ParseFault;
+pub use laws::{compiles_once, reduce_in_parts};
+pub use parser::parse;
 pub use reduce::{PickReduce, parse_reduce, run_reduce, run_rereduce};
 pub use syntax::Program;
