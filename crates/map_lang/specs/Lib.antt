@@ -12,3 +12,4 @@ pub mod Readings
 pub mod Lexing
 pub mod Meaning
 pub mod Bound
+pub mod Running

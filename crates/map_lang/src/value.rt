@@ -127,5 +127,10 @@ fn element(term: &Term, place: i64) -> Option<&Term>
     if place < 0 {
         return None;
     }
-    terms.as_slice().get(place as usize)
+    let items = terms.as_slice();
+    let index = place as usize;
+    if index >= items.len() {
+        return None;
+    }
+    Some(&items[index])
 }
