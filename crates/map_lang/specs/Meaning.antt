@@ -1,7 +1,7 @@
 -- What a program gives of a document.
-use Rattle.std.specs.Prelude.{ℕ, zero, suc, ◌+◌, ◌≤◌, List, [], ◌∷◌, ◌++◌, length, Bool, true, false, ◌||◌, ℤ, pos, negsuc, nat_le, Option, Some, None, bytes_eq, option_and_then, option_map, if◌then◌else◌, fold, slice_get}
+use Rattle.std.specs.Prelude.{ℕ, zero, suc, ◌+◌, ◌≤◌, List, [], ◌∷◌, ◌++◌, length, Bool, true, false, ◌&&◌, ℤ, pos, negsuc, nat_le, Option, Some, None, bytes_eq, option_and_then, option_map, if◌then◌else◌, fold, slice_get}
 use Rattle.std.specs.Ordering.{is_eq}
-use Rattle.json_terms.specs.Json.{Json, number, is_false, is_null, is_true, object, array, string, Items, items_of, list_of_items}
+use Rattle.json_terms.specs.Json.{Json, number, is_false, is_null, is_true, object, array, string, Items, items_of, list_of_items, depth}
 use Rattle.json_terms.specs.Find.{member_of}
 use Rattle.json_terms.specs.Text as text
 use Rattle.raw_collation.specs.Collation.{json_cmp}
@@ -118,6 +118,10 @@ pub record Run : Type 0 where
 abbrev pub byte_limit : ℕ
 byte_limit = 1048576
 
+-- a key or a value that is emitted is so deep at most
+abbrev pub depth_limit : ℕ
+depth_limit = 96
+
 -- a run has so many turns at most
 abbrev pub turn_limit : ℕ
 turn_limit = 100000
@@ -129,7 +133,7 @@ text_length k v = length (text.text_of k) + length (text.text_of v)
 abbrev pub goes_on : Run → Event → Run
 goes_on run turn = if nat_le (run.turns + 1) turn_limit then record run { turns = run.turns + 1 } else record run { ended = true }
 goes_on run (emission k v) =
-    if nat_le (run.bytes + text_length k v) byte_limit then record run { rows = run.rows ++ (k, v) ∷ []; bytes = run.bytes + text_length k v } else record run { ended = true }
+    if nat_le (depth k) depth_limit && nat_le (depth v) depth_limit && nat_le (run.bytes + text_length k v) byte_limit then record run { rows = run.rows ++ (k, v) ∷ []; bytes = run.bytes + text_length k v } else record run { ended = true }
 
 -- nothing happens in a run that has ended
 abbrev pub step : Run → Event → Run

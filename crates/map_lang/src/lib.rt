@@ -15,7 +15,7 @@ mod token;
 mod value;
 
 pub use fault::ParseFault;
-pub use laws::{compiles_once, reduce_in_parts};
+pub use laws::{compiles_once, reduce_in_parts, runs_stay_within_bounds};
 pub use parser::parse;
 pub use reduce::{PickReduce, parse_reduce, run_reduce, run_rereduce};
 pub use run::run_map;

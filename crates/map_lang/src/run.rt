@@ -10,12 +10,15 @@ ghost use Rattle.map_lang.specs.Running.{run_of};
 
 use crate::syntax::{Block, Expression, Program, Statement};
 use crate::value::{Variable, evaluate};
-use json_terms::{Chars, Emissions, NoMemory, RowLists, Term, write_term};
+use json_terms::{Chars, Emissions, NoMemory, RowLists, Term, depth_within, write_term};
 use raw_collation::raw_cmp;
 use std::alloc::Global;
 
 // How many bytes the texts of all keys and values of a run may have together.
 const BYTES: usize = 1_048_576;
+
+// How deep an emitted key or value may be.
+const DEPTH: u32 = 96;
 
 // How many turns all loops of a run may take together.
 const TURNS: u32 = 100_000;
@@ -27,11 +30,14 @@ pub struct Progress {
     pub bytes: usize,
     pub turns: u32,
     pub ended: bool,
+    /// Where texts are written, to be counted.
+    pub text: Vec<u8>,
 }
 
 /// The rows that a program gives of a document, as the one list. A run ends before the emission with which the texts of
-/// its keys and values would have more than 1,048,576 bytes together, and before the 100,001st turn of a `for`, those
-/// of inner loops counted. The one error is want of memory.
+/// its keys and values would have more than 1,048,576 bytes together, before an emission of a key or a value that is
+/// deeper than 96, and before the 100,001st turn of a `for`, those of inner loops counted. The one error is want of
+/// memory.
 pub fn run_map(alloc: Global, program: &Program, document: &Term) -> Result<RowLists, NoMemory>
     ensures { IfOk result (λ lists. lists ≡ rows_of program.now (json document.now) ∷ []) }
 {
@@ -41,6 +47,7 @@ pub fn run_map(alloc: Global, program: &Program, document: &Term) -> Result<RowL
         bytes: 0,
         turns: 0,
         ended: false,
+        text: Vec::new(alloc),
     };
     run_block(alloc, document, program.block().as_slice(), &mut bound, &mut progress)?;
     let Progress {
@@ -48,6 +55,7 @@ pub fn run_map(alloc: Global, program: &Program, document: &Term) -> Result<RowL
         bytes: _,
         turns: _,
         ended: _,
+        text: _,
     } = progress;
     let mut lists = RowLists::new(alloc);
     lists.push(rows)?;
@@ -187,13 +195,18 @@ fn emit(
     progress.emit(alloc, key, value)
 }
 
-// How many bytes the texts of a key and a value have together, or no number where these are more than the limit.
-fn text_length(alloc: Global, key: &Term, value: &Term) -> Result<usize, NoMemory>
+// How many bytes the texts of a key and a value have together. They are written to `text`.
+fn text_length(
+    alloc: Global,
+    key: &Term,
+    value: &Term,
+    text: &mut Vec<u8>,
+) -> Result<usize, NoMemory>
     ensures { IfOk result (λ length. length ≡ text_length (json key.now) (json value.now)) }
 {
-    let mut text = Vec::new(alloc);
-    write_term(alloc, key, &mut text)?;
-    write_term(alloc, value, &mut text)?;
+    text.clear();
+    write_term(alloc, key, text)?;
+    write_term(alloc, value, text)?;
     Ok(text.len())
 }
 
@@ -219,7 +232,11 @@ impl Progress {
         if self.ended {
             return Ok(());
         }
-        let length = text_length(alloc, &key, &value)?;
+        if !depth_within(&key, DEPTH) || !depth_within(&value, DEPTH) {
+            self.ended = true;
+            return Ok(());
+        }
+        let length = text_length(alloc, &key, &value, &mut self.text)?;
         if length <= BYTES && self.bytes <= BYTES - length {
             self.bytes += length;
             self.rows.push(key, value)?;
