@@ -29,7 +29,7 @@ turn_bounded run true h = record { shallow = h.shallow; counted = h.counted; sma
 turn_bounded run false h = ended_bounded run h
 
 emission_bounded : (run : Run) (k v : Json) (b : Bool) → (leb (depth k) depth_limit && leb (depth v) depth_limit) && leb (run.bytes + text_length k v) byte_limit ≡ b → IsBounded run
-  → IsBounded (cond b (record run { rows = run.rows ++ (k, v) ∷ []; bytes = run.bytes + text_length k v }) (record run { ended = true }))
+    → IsBounded (cond b (record run { rows = run.rows ++ (k, v) ∷ []; bytes = run.bytes + text_length k v }) (record run { ended = true }))
 emission_bounded run k v true e h =
     let parts = and_parts (leb (depth k) depth_limit && leb (depth v) depth_limit) (leb (run.bytes + text_length k v) byte_limit) e in
     let deep = and_parts (leb (depth k) depth_limit) (leb (depth v) depth_limit) parts.0 in

@@ -279,12 +279,15 @@ pub record WhenForm (b : List (List ℕ)) (m : ℕ) (whole r : List Token) (s : 
 
 pub when_form : (b : List (List ℕ)) (m : ℕ) (whole r : List Token) (s : Stmt) → ReadsStmt b m (word keyword.If ∷ whole) s r → WhenForm b m whole r s
 when_form b m whole r (when a c ss) h = record {
-    left = a; right = c; block = ss; is = refl;
-    reads_left = record { spelled = ap behind h.spelled; ends = ends_at a (Mark Equals ∷ expr_before c (block_before ss r)) refl; scoped = h.scoped.0; nests = omega (arith, h.nests) };
-    reads_right = record { spelled = refl; ends = ends_at c (block_before ss r) refl; scoped = h.scoped.1; nests = omega (arith, h.nests) };
-    room = omega (arith, h.nests);
-    reads_block = record { spelled = refl; scoped = h.scoped.2; nests = omega (arith, h.nests) };
-  }
+  left = a;
+  right = c;
+  block = ss;
+  is = refl;
+  reads_left = record { spelled = ap behind h.spelled; ends = ends_at a (Mark Equals ∷ expr_before c (block_before ss r)) refl; scoped = h.scoped.0; nests = omega (arith, h.nests) };
+  reads_right = record { spelled = refl; ends = ends_at c (block_before ss r) refl; scoped = h.scoped.1; nests = omega (arith, h.nests) };
+  room = omega (arith, h.nests);
+  reads_block = record { spelled = refl; scoped = h.scoped.2; nests = omega (arith, h.nests) };
+}
 when_form b m whole r (emit k v) h = let f : Some keyword.If ≡ Some keyword.Emit = ap front h.spelled in absurd cc
 when_form b m whole r (each n e ss) h = let f : Some keyword.If ≡ Some keyword.For = ap front h.spelled in absurd cc
 
@@ -323,14 +326,17 @@ pub record EachForm (b : List (List ℕ)) (m : ℕ) (whole r : List Token) (s : 
 
 pub each_form : (b : List (List ℕ)) (m : ℕ) (whole r : List Token) (s : Stmt) → ReadsStmt b m (word keyword.For ∷ whole) s r → EachForm b m whole r s
 each_form b m whole r (each n e ss) h = record {
-    name = n; source = e; block = ss; is = refl;
-    spelled = ap behind h.spelled;
-    plain = h.scoped.0;
-    unbound = h.scoped.1;
-    reads_source = record { spelled = refl; ends = ends_at e (block_before ss r) refl; scoped = h.scoped.2; nests = omega (arith, h.nests) };
-    room = omega (arith, h.nests);
-    reads_block = record { spelled = refl; scoped = h.scoped.3; nests = omega (arith, h.nests) };
-  }
+  name = n;
+  source = e;
+  block = ss;
+  is = refl;
+  spelled = ap behind h.spelled;
+  plain = h.scoped.0;
+  unbound = h.scoped.1;
+  reads_source = record { spelled = refl; ends = ends_at e (block_before ss r) refl; scoped = h.scoped.2; nests = omega (arith, h.nests) };
+  room = omega (arith, h.nests);
+  reads_block = record { spelled = refl; scoped = h.scoped.3; nests = omega (arith, h.nests) };
+}
 each_form b m whole r (emit k v) h = let f : Some keyword.For ≡ Some keyword.Emit = ap front h.spelled in absurd cc
 each_form b m whole r (when a c ss) h = let f : Some keyword.For ≡ Some keyword.If = ap front h.spelled in absurd cc
 

@@ -52,7 +52,7 @@ is_sign c h = grind (arith, nat_tests)
 pub number_boundary : (bs : List ℕ) (n : ℕ) → IsUtf8 bs → n ≤ length bs → (get_or bs 0 0 ≡ 45 → IsSignedRun bs n) → ((get_or bs 0 0 ≡ 45 → ⊥) → IsDigitRun bs n) → IsCharBoundary bs n
 number_boundary bs n u within signed plain =
     elim (either (eqb (get_or bs 0 0) 45)) [
-        inl h ↦ let e = is_sign (get_or bs 0 0) h in boundary_after is_ascii ascii_below bs n u within (signed_ascii bs n e (signed e))
+      | inl h ↦ let e = is_sign (get_or bs 0 0) h in boundary_after is_ascii ascii_below bs n u within (signed_ascii bs n e (signed e))
       | inr h ↦ boundary_after is_digit digit_ascii bs n u within (plain (not_sign (get_or bs 0 0) h)).0
     ]
 
@@ -90,12 +90,12 @@ pub word_found : (bs : List ℕ) (n : ℕ) → IsUtf8 bs → n ≤ length bs →
 word_found [] n u within letter all ends = absurd (false≢true letter)
 word_found (b ∷ bs) zero u within letter all ends = absurd (false≢true (sym ends ∙ or_left (is_letter b) (is_digit b) letter))
 word_found (b ∷ bs) (suc n) u within letter all ends = record {
-    some = omega arith;
-    within = within;
-    whole = sym (take-append-drop (suc n) (b ∷ bs));
-    token_whole = (letter, all, ends);
-    boundary = boundary_after is_in_word word_ascii (b ∷ bs) (suc n) u within all;
-  }
+  some = omega arith;
+  within = within;
+  whole = sym (take-append-drop (suc n) (b ∷ bs));
+  token_whole = (letter, all, ends);
+  boundary = boundary_after is_in_word word_ascii (b ∷ bs) (suc n) u within all;
+}
 
 -- Texts in quotes.
 
@@ -132,9 +132,10 @@ text_found (b ∷ bs) n u quote within all ends =
 pub text_bounds : (bs : List ℕ) (n : ℕ) → IsUtf8 bs → get_or bs 0 0 ≡ 39 → n + 1 < length bs → first_passes is_in_text (drop n (drop 1 bs)) ≡ false → IsCharBoundary bs 1 × IsCharBoundary bs (n + 1)
 text_bounds [] n u quote within ends = absurd (omega arith)
 text_bounds (b ∷ bs) n u quote within ends =
-    let closing : get_or bs n 0 ≡ 39 = quote_at bs n (omega arith) ends in
-    (IsCharBoundary-after_ascii (b ∷ bs) 0 u (omega arith) (omega (arith, quote)),
-      rw add-one (IsCharBoundary-before_ascii (b ∷ bs) (suc n) (omega arith) (omega (arith, closing))))
+    let closing : get_or bs n 0 ≡ 39 = quote_at bs n (omega arith) ends in (
+      IsCharBoundary-after_ascii (b ∷ bs) 0 u (omega arith) (omega (arith, quote)),
+      rw add-one (IsCharBoundary-before_ascii (b ∷ bs) (suc n) (omega arith) (omega (arith, closing))),
+    )
 
 -- Marks.
 
@@ -180,7 +181,7 @@ lead_other c l s d q k some low e =
     let quoted = not_equal c 39 q in
     let reduced : lead c ≡ cond (is_blank c) 4 0 = rw (l, sign, d, quoted) refl in
     elim (either (is_blank c)) [
-        inl h ↦ let v : lead c ≡ 4 = blank_lead c h in omega arith
+      | inl h ↦ let v : lead c ≡ 4 = blank_lead c h in omega arith
       | inr h ↦ let v : lead c ≡ 0 = reduced ∙ ap (λ b. cond b 4 0) h in omega arith
     ]
 

@@ -248,13 +248,16 @@ tokens_once s (t ∷ ts) (u ∷ us) x y =
 
 pub unskip : (s rest : List ℕ) → IsBlankBefore s rest → (ts : List Token) → AreTokens rest ts → AreTokens s ts
 unskip s rest h [] x = ap (all_pass is_blank) h.2 ∙ all_pass-append is_blank h.0 rest h.1 x
-unskip s rest h (t ∷ ts) x =
-    (x.0, record {
-      blanks = h.0 ++ x.1.blanks;
-      are_blanks = all_pass-append is_blank h.0 x.1.blanks h.1 x.1.are_blanks;
-      whole = h.2 ∙ ap (λ bs. h.0 ++ bs) x.1.whole ∙ sym (append_assoc h.0 x.1.blanks (text_of t ++ x.0));
-      token_whole = x.1.token_whole;
-    }, x.2)
+unskip s rest h (t ∷ ts) x = (
+  x.0,
+  record {
+    blanks = h.0 ++ x.1.blanks;
+    are_blanks = all_pass-append is_blank h.0 x.1.blanks h.1 x.1.are_blanks;
+    whole = h.2 ∙ ap (λ bs. h.0 ++ bs) x.1.whole ∙ sym (append_assoc h.0 x.1.blanks (text_of t ++ x.0));
+    token_whole = x.1.token_whole;
+  },
+  x.2,
+)
 
 pub skip : (s rest : List ℕ) → IsBlankBefore s rest → (ts : List Token) → AreTokens s ts → AreTokens rest ts
 skip s rest h [] x = all_pass_behind is_blank h.0 rest (ap (all_pass is_blank) (sym h.2) ∙ x)

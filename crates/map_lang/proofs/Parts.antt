@@ -40,14 +40,14 @@ earlier-assoc R o a b c =
     let takes : (x y : Json) → is_gt (R x y) ≡ true → earlier R x y ≡ y = λ x y h. ap (λ v. cond v y x) h in
     let keeps : (x y : Json) → is_gt (R x y) ≡ false → earlier R x y ≡ x = λ x y h. ap (λ v. cond v y x) h in
     elim (either (is_gt (R a b))) [
-        inl p ↦ elim (either (is_gt (R b c))) [
-            inl q ↦ ap (λ v. earlier R v c) (takes a b p) ∙ takes b c q ∙ sym (ap (λ v. earlier R a v) (takes b c q) ∙ takes a c (gt_trans R o a b c p q))
-          | inr q ↦ ap (λ v. earlier R v c) (takes a b p) ∙ keeps b c q ∙ sym (ap (λ v. earlier R a v) (keeps b c q) ∙ takes a b p)
-        ]
+      | inl p ↦ elim (either (is_gt (R b c))) [
+        | inl q ↦ ap (λ v. earlier R v c) (takes a b p) ∙ takes b c q ∙ sym (ap (λ v. earlier R a v) (takes b c q) ∙ takes a c (gt_trans R o a b c p q))
+        | inr q ↦ ap (λ v. earlier R v c) (takes a b p) ∙ keeps b c q ∙ sym (ap (λ v. earlier R a v) (keeps b c q) ∙ takes a b p)
+      ]
       | inr p ↦ elim (either (is_gt (R b c))) [
-            inl q ↦ ap (λ v. earlier R v c) (keeps a b p) ∙ sym (ap (λ v. earlier R a v) (takes b c q))
-          | inr q ↦ ap (λ v. earlier R v c) (keeps a b p) ∙ keeps a c (upto o a b c p q) ∙ sym (ap (λ v. earlier R a v) (keeps b c q) ∙ keeps a b p)
-        ]
+        | inl q ↦ ap (λ v. earlier R v c) (keeps a b p) ∙ sym (ap (λ v. earlier R a v) (takes b c q))
+        | inr q ↦ ap (λ v. earlier R v c) (keeps a b p) ∙ keeps a c (upto o a b c p q) ∙ sym (ap (λ v. earlier R a v) (keeps b c q) ∙ keeps a b p)
+      ]
     ]
 
 fold-append : (f : Json → Json → Json) (a : Json) (xs ys : List Json) → fold f a (xs ++ ys) ≡ fold f (fold f a xs) ys
@@ -98,7 +98,7 @@ counts_in_parts : (parts : List (List Json)) → min (sum_by counted (map (λ pa
 counts_in_parts [] = refl
 counts_in_parts (part ∷ parts) =
     let whole : sum_by counted (map (λ p. count (length p)) (part ∷ parts)) ≡ min (length part) (2 ^ 63 - 1) + sum_by counted (map (λ p. count (length p)) parts) =
-        sum_by-cons counted (count (length part)) (map (λ p. count (length p)) parts) in
+    sum_by-cons counted (count (length part)) (map (λ p. count (length p)) parts) in
     omega (arith, whole, counts_in_parts parts, length-append part (joined parts))
 
 pub reduces_in_parts : ReducesInParts

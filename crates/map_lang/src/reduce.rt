@@ -57,11 +57,7 @@ pub fn run_reduce(alloc: Global, how: PickReduce, rows: &[Row]) -> Result<Term, 
 
 /// Reduces the results of parts, of which there is one at least, in the order of the parts. The one error is want of
 /// memory.
-pub fn run_rereduce(
-    alloc: Global,
-    how: PickReduce,
-    values: &[Term],
-) -> Result<Term, NoMemory>
+pub fn run_rereduce(alloc: Global, how: PickReduce, values: &[Term]) -> Result<Term, NoMemory>
     requires { values.now ≢ [] }
     ensures { IfOk result (λ term. json term ≡ rereduce_of how (map json values.now)) }
 {

@@ -49,7 +49,13 @@ pub fn run_map(alloc: Global, program: &Program, document: &Term) -> Result<RowL
         ended: false,
         text: Vec::new(alloc),
     };
-    run_block(alloc, document, program.block().as_slice(), &mut bound, &mut progress)?;
+    run_block(
+        alloc,
+        document,
+        program.block().as_slice(),
+        &mut bound,
+        &mut progress,
+    )?;
     let Progress {
         rows,
         bytes: _,
@@ -104,7 +110,15 @@ fn run_statement(
         }
         Statement::For(name, source, block) => {
             let values = elements_of(alloc, document, bound, source)?;
-            repeat(alloc, document, name, values, block.as_slice(), bound, progress)
+            repeat(
+                alloc,
+                document,
+                name,
+                values,
+                block.as_slice(),
+                bound,
+                progress,
+            )
         }
     }
 }

@@ -29,7 +29,10 @@ pub fn evaluate(
 {
     match expression {
         Expression::Path(name, steps) => {
-            match walk(find_variable(document, bound, name.as_str()), steps.as_slice()) {
+            match walk(
+                find_variable(document, bound, name.as_str()),
+                steps.as_slice(),
+            ) {
                 Some(term) => Ok(Some(copy_term(alloc, term)?)),
                 None => Ok(None),
             }

@@ -30,9 +30,9 @@ returns-in_default-clause-refused c =
     let signed = rw c.as_bytes.ensures.value at c.integer_len-len.ensures.signed in
     let plain = rw c.as_bytes.ensures.value at c.integer_len-len.ensures.digits in
     λ _ z rest e whole.
-      let printed = number_run c.args.source.now c.integer_len-len.result z rest e whole.0 whole.1 signed plain in
-      let text = text_is c.args.source.now c.integer_len-len.result c.range-text.result.now c.range-text.ensures.value in
-      c.in_default.not-Ok z (parse-signed_decimal w64 z c.range-text.result.now c.parse.result whole.0 (small z whole.0) (text ∙ printed) c.parse.ensures.value.0)
+    let printed = number_run c.args.source.now c.integer_len-len.result z rest e whole.0 whole.1 signed plain in
+    let text = text_is c.args.source.now c.integer_len-len.result c.range-text.result.now c.range-text.ensures.value in
+    c.in_default.not-Ok z (parse-signed_decimal w64 z c.range-text.result.now c.parse.result whole.0 (small z whole.0) (text ∙ printed) c.parse.ensures.value.0)
 
 pub returns-then-eq-clause-found : goal.returns-then-eq-clause-found
 returns-then-eq-clause-found c =
@@ -48,10 +48,10 @@ returns-else-eq-clause-refused c =
     let signed = rw c.as_bytes.ensures.value at c.integer_len-len.ensures.signed in
     let plain = rw c.as_bytes.ensures.value at c.integer_len-len.ensures.digits in
     λ _ z rest e whole.
-      let printed = number_run c.args.source.now c.integer_len-len.result z rest e whole.0 whole.1 signed plain in
-      let text = text_is c.args.source.now c.integer_len-len.result c.range-text.result.now c.range-text.ensures.value in
-      let read : c.parse.result ≡ Ok z = parse-signed_decimal w64 z c.range-text.result.now c.parse.result whole.0 (small z whole.0) (text ∙ printed) c.parse.ensures.value.0 in
-      let number : c.in-Ok.number ≡ z = cc in
-      let back : to_z w64 (of_z w64 c.in-Ok.number) ≡ z = ap (λ y. to_z w64 (of_z w64 y)) number ∙ to_z-of_z w64 z whole.0 in
-      let same : c.format.result.now ≡ c.range-text.result.now = c.format.ensures.text ∙ ap signed_decimal back ∙ sym printed ∙ sym text in
-      false≢true (c.if-eq.ensures ∙ (bytes_eq-Decides c.format.result.now c.range-text.result.now).1 same)
+    let printed = number_run c.args.source.now c.integer_len-len.result z rest e whole.0 whole.1 signed plain in
+    let text = text_is c.args.source.now c.integer_len-len.result c.range-text.result.now c.range-text.ensures.value in
+    let read : c.parse.result ≡ Ok z = parse-signed_decimal w64 z c.range-text.result.now c.parse.result whole.0 (small z whole.0) (text ∙ printed) c.parse.ensures.value.0 in
+    let number : c.in-Ok.number ≡ z = cc in
+    let back : to_z w64 (of_z w64 c.in-Ok.number) ≡ z = ap (λ y. to_z w64 (of_z w64 y)) number ∙ to_z-of_z w64 z whole.0 in
+    let same : c.format.result.now ≡ c.range-text.result.now = c.format.ensures.text ∙ ap signed_decimal back ∙ sym printed ∙ sym text in
+    false≢true (c.if-eq.ensures ∙ (bytes_eq-Decides c.format.result.now c.range-text.result.now).1 same)

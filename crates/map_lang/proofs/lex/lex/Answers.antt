@@ -25,9 +25,11 @@ returns-in_err-token-clause-refused c =
 
 pub tokens-preserved : goal.tokens-preserved
 tokens-preserved c =
-    let blanks = rw c.range_from.ensures.value at c.after_blanks-rest-in-tokens.ensures in
-    (rw c.in_ok-push_back.ensures.items (tokens_next c.args.source.now c.tokens.rest.now c.after_blanks-rest-in-tokens.result.now c.tokens.tokens.items c.in_ok-token.token c.in_ok-token.len c.tokens.invariant.0 c.in_ok-token.ensures.found blanks),
-      c.after_blanks-rest-in-tokens.ensures.3, c.after_blanks-rest-in-tokens.utf8)
+    let blanks = rw c.range_from.ensures.value at c.after_blanks-rest-in-tokens.ensures in (
+      rw c.in_ok-push_back.ensures.items (tokens_next c.args.source.now c.tokens.rest.now c.after_blanks-rest-in-tokens.result.now c.tokens.tokens.items c.in_ok-token.token c.in_ok-token.len c.tokens.invariant.0 c.in_ok-token.ensures.found blanks),
+      c.after_blanks-rest-in-tokens.ensures.3,
+      c.after_blanks-rest-in-tokens.utf8,
+    )
 
 pub returns-clause-found : goal.returns-clause-found
 returns-clause-found c = tokens_end c.args.source.now c.tokens.rest.now c.tokens.tokens.items c.tokens.invariant.0 (is_empty c.tokens.rest.now c.tokens-test.ensures)

@@ -20,11 +20,11 @@ loop-place-preserved g c =
     let within : i < length xs = omega arith in
     let earlier : before < length xs = omega arith in
     let tested = λ (holder : g.row.V.Denot).
-        let at_best : value c.index-holders-best.result ≡ value (get_or xs before holder) = ap value (c.index-holders-best.is ∙ get_or_default xs before _ holder earlier) in
-        let at_place : value c.index-holders-place.result ≡ value (get_or xs i holder) = ap value (c.index-holders-place.is ∙ get_or_default xs i _ holder within) in
-        let found : c.is_gt.result ≡ is_gt (json_cmp (value (get_or xs before holder)) (value (get_or xs i holder))) = cc in
-        found in
+    let at_best : value c.index-holders-best.result ≡ value (get_or xs before holder) = ap value (c.index-holders-best.is ∙ get_or_default xs before _ holder earlier) in
+    let at_place : value c.index-holders-place.result ≡ value (get_or xs i holder) = ap value (c.index-holders-place.is ∙ get_or_default xs i _ holder within) in
+    let found : c.is_gt.result ≡ is_gt (json_cmp (value (get_or xs before holder)) (value (get_or xs i holder))) = cc in
+    found in
     elim c.if-is_gt.branch [
-        then-is_gt w ↦ (omega arith, λ holder. rw w.best-is (least_takes value xs i holder _ low within (inv.1 holder) (sym (tested holder) ∙ w.if-is_gt.true)))
+      | then-is_gt w ↦ (omega arith, λ holder. rw w.best-is (least_takes value xs i holder _ low within (inv.1 holder) (sym (tested holder) ∙ w.if-is_gt.true)))
       | else-is_gt w ↦ (omega arith, λ holder. rw w.best-is (least_keeps value xs i holder _ low within (inv.1 holder) (sym (tested holder) ∙ w.if-is_gt.false)))
     ]

@@ -11,7 +11,7 @@ use Rattle.map_lang.proofs.run.+run.Goals as goal
 pub repeat-returns-then-progress-clause-run : goal.repeat-returns-then-progress-clause-run
 repeat-returns-then-progress-clause-run t c =
     turns_ended (λ v. all_events (stmts_of (map stmt_of c.args.block.now)) (scope_of c.args.document.now c.args.bound.now.items ++ (c.args.name.now, v) ∷ []))
-      (run_of c.values.progress) (run_of c.turn.new.self) _ c.values.values.items c.pop.new.self.items c.in-Some.value c.in-Some.ensures.items c.turn.ensures c.if-progress.true c.values.invariant.0
+    (run_of c.values.progress) (run_of c.turn.new.self) _ c.values.values.items c.pop.new.self.items c.in-Some.value c.in-Some.ensures.items c.turn.ensures c.if-progress.true c.values.invariant.0
 
 pub run_block-run_statement-requires : goal.run_block-run_statement-requires
 run_block-run_statement-requires t c =
