@@ -1,13 +1,13 @@
 -- Whatever happens, a run stays within its bounds.
-use Rattle.std.specs.Prelude.{◌≡◌, ℕ, ◌+◌, ◌≤◌, List, [], ◌∷◌, ◌++◌, length, Bool, true, false, cond, ◌&&◌, sum_by, refl, ◌⊎◌}
-use Rattle.std.proofs.Common.{◌∙◌, sym, ap, subst, inl, inr, arith, leb, lit≤}
+use Rattle.std.specs.Prelude.{◌≡◌, ◌+◌, ◌≤◌, List, [], ◌∷◌, ◌++◌, Bool, true, false, cond, ◌&&◌, sum_by, refl}
+use Rattle.std.proofs.Common.{◌∙◌, ap, arith, leb, lit≤}
 use Rattle.std.specs.List.{AllByRecursion}
 use Rattle.std.proofs.lemmas.Bool.{leb-true}
 use Rattle.std.proofs.lemmas.List.Sums.{sum_by_push}
 use Rattle.json_terms.specs.Json.{Json, depth}
 use Rattle.map_lang.specs.Meaning.{Event, turn, emission, Run, goes_on, step, after, start, all_events, document_scope, text_length, depth_limit, byte_limit, turn_limit}
 use Rattle.map_lang.specs.Laws.{row_bytes, StaysWithinBounds}
-use Rattle.map_lang.proofs.Lexed.{either, and_parts}
+use Rattle.map_lang.proofs.Lexed.{and_parts}
 
 abbrev IsShallow : Json × Json → Type 0
 IsShallow row = (depth row.0 ≤ depth_limit) × (depth row.1 ≤ depth_limit)

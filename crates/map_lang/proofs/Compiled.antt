@@ -1,6 +1,5 @@
 -- What a source compiles as.
-use Rattle.std.specs.Prelude.{◌≡◌, ℕ, List, [], ◌∷◌, refl}
-use Rattle.std.proofs.Common.{◌∙◌, sym, ap}
+use Rattle.std.specs.Prelude.{ℕ, List, [], ◌∷◌, refl}
 use Rattle.map_lang.specs.declared.token.Token.{Token}
 use Rattle.map_lang.specs.Syntax.{Stmts}
 use Rattle.map_lang.specs.Tokens.{AreTokens}

@@ -1,20 +1,19 @@
 -- How readings of parts make up the reading of a whole.
-use Rattle.std.specs.Prelude.{◌≡◌, ℕ, ◌≤◌, ◌<◌, suc, List, [], ◌∷◌, ◌++◌, length, Bool, true, false, Option, Some, None, refl, ◌-◌, Result, Ok, Err, IfErr}
+use Rattle.std.specs.Prelude.{◌≡◌, ℕ, ◌≤◌, ◌<◌, List, [], ◌∷◌, ◌++◌, length, true, false, Option, Some, None, refl, ◌-◌, Result, Ok, Err, IfErr}
 use Rattle.std.proofs.Common.{◌∙◌, sym, ap, subst, arith, append_assoc}
 use Rattle.std.proofs.lemmas.Bool.{false≢true}
 use Rattle.map_lang.specs.declared.token.Token.{Token}
-use Rattle.map_lang.specs.declared.token.Token.TheVariants.{Word, Integer, Text, Mark}
-use Rattle.map_lang.specs.declared.token.Mark.TheVariants.{Comma, Equals, Dot, OpenBrace, CloseBrace, OpenBracket, CloseBracket}
+use Rattle.map_lang.specs.declared.token.Token.TheVariants.{Word, Mark}
+use Rattle.map_lang.specs.declared.token.Mark.TheVariants.{Comma, Equals, OpenBrace, CloseBrace, CloseBracket}
 use Rattle.map_lang.specs.declared.syntax.Step.{Step}
 use Rattle.map_lang.specs.declared.syntax.Step.TheVariants.{Member, Element, Key}
-use Rattle.map_lang.specs.declared.syntax.Literal.{Literal}
 use Rattle.map_lang.specs.Syntax.{Expr, path, literal, array, Exprs, no_exprs, expr, exprs_of, exprs_nesting, Stmt, emit, when, each, Stmts, no_stmts, stmt, stmts_of}
 use Rattle.map_lang.specs.declared.token.Keyword.{Keyword}
 use Rattle.map_lang.specs.declared.token.Keyword.TheVariants as keyword
 use Rattle.map_lang.specs.Tokens.{keyword_of}
-use Rattle.map_lang.specs.Grammar.{word, is_among, AreScopedStmts, step_before, steps_before, expr_before, exprs_before, more_before, stmt_before, stmts_before, AreScoped}
+use Rattle.map_lang.specs.Grammar.{word, is_among, step_before, steps_before, expr_before, exprs_before, more_before, stmt_before, stmts_before, AreScoped}
 use Rattle.map_lang.specs.Readings.{begins_step, ends_block, EndsStmt, ReadsSteps, ReadsExpr, ReadsExprs, ReadsStmt, ReadsStmts, ReadsBlock}
-use Rattle.map_lang.proofs.Unique.{keyword_at, first, behind, ends_at, step_begins, step_unique, steps_unique, expr_unique, exprs_unique, more_unique, stmt_unique, stmts_unique, ends_more, ends_stmts, expr_not_close, stmt_no_end}
+use Rattle.map_lang.proofs.Unique.{keyword_at, first, behind, ends_at, step_begins, step_unique, steps_unique, expr_unique, stmt_unique, stmts_unique, ends_more, ends_stmts}
 
 pub steps_once : (ts r q : List Token) (ss us : List Step) → ReadsSteps ts ss r → ReadsSteps ts us q → (ss ≡ us) × (r ≡ q)
 steps_once ts r q ss us x y = steps_unique ss us r q (sym x.spelled ∙ y.spelled) x.ends y.ends

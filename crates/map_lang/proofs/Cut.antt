@@ -1,5 +1,5 @@
 -- The token that stands first, by its length.
-use Rattle.std.specs.Prelude.{◌≡◌, ℕ, zero, suc, ◌+◌, ◌-◌, ◌≤◌, ◌<◌, List, [], ◌∷◌, ◌++◌, length, take, drop, Bool, true, false, cond, ◌&&◌, ◌||◌, refl, ℤ, pos, negsuc, FitsSigned, IsUtf8}
+use Rattle.std.specs.Prelude.{◌≡◌, ℕ, zero, suc, ◌+◌, ◌-◌, ◌≤◌, ◌<◌, List, [], ◌∷◌, ◌++◌, length, take, drop, Bool, true, false, cond, refl, ℤ, FitsSigned, IsUtf8}
 use Rattle.std.proofs.Common.{◌∙◌, sym, ap, subst, inl, inr, arith, get_or, eqb, ltb, eq-eqb, add-one, length-append}
 use Rattle.std.proofs.lemmas.Bool.{false≢true}
 use Rattle.std.proofs.lemmas.Bool.Decides.{nat_tests}

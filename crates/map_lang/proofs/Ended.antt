@@ -1,5 +1,5 @@
 -- Nothing happens in a run that has ended.
-use Rattle.std.specs.Prelude.{◌≡◌, ℕ, zero, suc, ◌≤◌, ◌<◌, List, [], ◌∷◌, ◌++◌, length, map, Bool, true, cond, reverse, refl}
+use Rattle.std.specs.Prelude.{◌≡◌, ℕ, zero, suc, ◌≤◌, ◌<◌, List, [], ◌∷◌, ◌++◌, length, map, true, cond, reverse, refl}
 use Rattle.std.proofs.Common.{◌∙◌, sym, ap, arith, get_or}
 use Rattle.std.proofs.lemmas.List.{reverse-append}
 use Rattle.json_terms.specs.declared.term.Term.{Term}

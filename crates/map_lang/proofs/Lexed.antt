@@ -1,15 +1,15 @@
 -- Sources are cut into tokens in one way.
-use Rattle.std.specs.Prelude.{◌≡◌, ◌≢◌, ℕ, zero, suc, ◌+◌, ◌-◌, ◌≤◌, ◌<◌, ◌^◌, ◌%◌, List, [], ◌∷◌, ◌++◌, length, take, drop, Bool, true, false, cond, ◌&&◌, ◌||◌, nat_lt, refl, ℤ, pos, negsuc, FitsSigned, decimal, ◌⊎◌, IsUtf8}
-use Rattle.std.proofs.Common.{length-append, ◌∙◌, sym, ap, subst, inl, inr, arith, append_assoc, get_or, eqb, ltb, leb, eq-eqb, add-one, rules}
+use Rattle.std.specs.Prelude.{◌≡◌, ℕ, zero, suc, ◌+◌, ◌-◌, ◌≤◌, ◌<◌, ◌^◌, ◌%◌, List, [], ◌∷◌, ◌++◌, length, take, drop, Bool, true, false, cond, ◌&&◌, ◌||◌, refl, ℤ, pos, negsuc, FitsSigned, decimal, ◌⊎◌, IsUtf8}
+use Rattle.std.proofs.Common.{◌∙◌, sym, ap, subst, inl, inr, arith, append_assoc, get_or, eqb, add-one}
 use Rattle.std.proofs.lemmas.Bool.{false≢true}
 use Rattle.std.proofs.lemmas.Bool.Decides.{nat_tests}
 use Rattle.std.specs.Int.{w64}
 use Rattle.std.specs.Str.{IsCharBoundary}
 use Rattle.std.specs.Fmt.{signed_decimal}
-use Rattle.std.proofs.lemmas.Fmt.{decimal_by_steps, decimal_injective, signed_decimal_injective}
+use Rattle.std.proofs.lemmas.Fmt.{decimal_by_steps, decimal_injective}
 use Rattle.std.proofs.lemmas.Int.{ints}
 use Rattle.std.proofs.lemmas.List.{take-append-drop, append-nil}
-use Rattle.std.proofs.lemmas.Str.{IsCharBoundary-start, IsCharBoundary-after_ascii, IsCharBoundary-before_ascii}
+use Rattle.std.proofs.lemmas.Str.{IsCharBoundary-start, IsCharBoundary-after_ascii}
 use Rattle.map_lang.specs.declared.token.Token.{Token}
 use Rattle.map_lang.specs.declared.token.Token.TheVariants.{Word, Integer, Text, Mark}
 use Rattle.map_lang.specs.declared.token.Mark as marks

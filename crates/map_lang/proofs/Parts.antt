@@ -11,9 +11,8 @@ use Rattle.std.proofs.lemmas.Cmp.{upto, back_total}
 use Rattle.json_terms.specs.Json.{Json, number}
 use Rattle.raw_collation.specs.Collation.{json_cmp}
 use Rattle.raw_collation.proofs.Totals.{json_cmp_total}
-use Rattle.map_lang.specs.declared.reduce.PickReduce.{PickReduce}
 use Rattle.map_lang.specs.declared.reduce.PickReduce.TheVariants.{Rows, Min, Max, First, Last}
-use Rattle.map_lang.specs.Reduce.{count, counted, lesser, greater, least, greatest, first, last, reduce_of, rereduce_of}
+use Rattle.map_lang.specs.Reduce.{count, counted, lesser, greater, least, greatest, first, last}
 use Rattle.map_lang.specs.Laws.{joined, ReducesInParts}
 
 either : (b : Bool) → (b ≡ true) ⊎ (b ≡ false)

@@ -1,6 +1,6 @@
 -- Tokens are read in one way.
-use Rattle.std.specs.Prelude.{◌≡◌, ℕ, ◌≤◌, List, [], ◌∷◌, ◌++◌, Bool, true, false, Option, Some, None, refl}
-use Rattle.std.proofs.Common.{◌∙◌, sym, ap, subst, arith}
+use Rattle.std.specs.Prelude.{◌≡◌, ℕ, List, [], ◌∷◌, ◌++◌, true, false, Option, Some, None, refl}
+use Rattle.std.proofs.Common.{◌∙◌, sym, ap, subst}
 use Rattle.map_lang.specs.declared.token.Token.{Token}
 use Rattle.map_lang.specs.declared.token.Token.TheVariants.{Word, Integer, Text, Mark}
 use Rattle.map_lang.specs.declared.token.Mark.TheVariants.{Comma, Equals, Dot, OpenBrace, CloseBrace, OpenBracket, CloseBracket}
@@ -12,7 +12,7 @@ use Rattle.map_lang.specs.declared.syntax.Literal.{Literal}
 use Rattle.map_lang.specs.declared.syntax.Literal.TheVariants as value
 use Rattle.map_lang.specs.Syntax.{Expr, path, literal, array, Exprs, no_exprs, expr, Stmt, emit, when, each, Stmts, no_stmts, stmt}
 use Rattle.map_lang.specs.Tokens.{spelling, keyword_of}
-use Rattle.map_lang.specs.Grammar.{word, literal_token, step_before, steps_before, expr_before, exprs_before, more_before, stmt_before, stmts_before, IsScoped, AreScoped, IsScopedStmt, AreScopedStmts}
+use Rattle.map_lang.specs.Grammar.{literal_token, step_before, steps_before, expr_before, exprs_before, more_before, stmt_before, stmts_before, IsScoped, AreScoped, IsScopedStmt, AreScopedStmts}
 use Rattle.map_lang.specs.Readings.{begins_step, ends_block, EndsExpr, EndsStmt}
 
 -- the keyword that a token is

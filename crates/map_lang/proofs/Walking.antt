@@ -1,8 +1,8 @@
 -- Parts of expressions, and steps into values.
-use Rattle.std.specs.Prelude.{◌≡◌, ℕ, zero, suc, ◌≤◌, ◌<◌, List, [], ◌∷◌, length, map, drop, ℤ, pos, Option, Some, None, refl, slice_get}
+use Rattle.std.specs.Prelude.{◌≡◌, ℕ, zero, suc, ◌≤◌, ◌<◌, List, [], ◌∷◌, length, map, drop, ℤ, pos, Some, None, refl, slice_get}
 use Rattle.std.proofs.Common.{◌∙◌, sym, ap, arith, get_or}
 use Rattle.json_terms.specs.declared.term.Term.{Term}
-use Rattle.json_terms.specs.Json.{Json, Items, items_of, list_of_items}
+use Rattle.json_terms.specs.Json.{Json, items_of, list_of_items}
 use Rattle.json_terms.specs.Seen.{json}
 use Rattle.map_lang.specs.declared.syntax.Step.{Step}
 use Rattle.map_lang.specs.declared.syntax.Expression.{Expression}

@@ -1,5 +1,5 @@
 -- How the logic stores a program: as a tree of numbers that tells any two programs apart.
-use Rattle.std.specs.Prelude.{◌≡◌, ℕ, List, [], ◌∷◌}
+use Rattle.std.specs.Prelude.{◌≡◌, ℕ, List}
 use Rattle.std.proofs.Common.{ap, arith, refl}
 use Rattle.std.specs.Coded.{Coded, coded_list, coded_ℕ, coded_ℤ}
 use base.Stored.{Gv, gnil, gnum, gcons, num}

@@ -1,7 +1,7 @@
 -- What a program gives of a document.
-use Rattle.std.specs.Prelude.{ℕ, zero, suc, ◌+◌, ◌≤◌, List, [], ◌∷◌, ◌++◌, length, Bool, true, false, ◌&&◌, ℤ, pos, negsuc, nat_le, Option, Some, None, bytes_eq, option_and_then, option_map, if◌then◌else◌, fold, slice_get}
+use Rattle.std.specs.Prelude.{ℕ, ◌+◌, List, [], ◌∷◌, ◌++◌, length, Bool, true, false, ◌&&◌, ℤ, pos, negsuc, nat_le, Option, Some, None, bytes_eq, option_and_then, option_map, if◌then◌else◌, fold, slice_get}
 use Rattle.std.specs.Ordering.{is_eq}
-use Rattle.json_terms.specs.Json.{Json, number, is_false, is_null, is_true, object, array, string, Items, items_of, list_of_items, depth}
+use Rattle.json_terms.specs.Json.{Json, number, is_false, is_null, is_true, object, array, string, items_of, list_of_items, depth}
 use Rattle.json_terms.specs.Find.{member_of}
 use Rattle.json_terms.specs.Text as text
 use Rattle.raw_collation.specs.Collation.{json_cmp}

@@ -9,7 +9,7 @@ use Rattle.map_lang.specs.declared.token.Token.TheVariants.{Word, Integer, Text,
 use Rattle.map_lang.specs.declared.token.Mark.TheVariants.{Comma, Equals, Dot, OpenBrace, CloseBrace, OpenBracket, CloseBracket}
 use Rattle.map_lang.specs.declared.syntax.Step.{Step}
 use Rattle.map_lang.specs.Syntax.{Expr, path, literal, array, Exprs, Stmt, emit, when, each, Stmts, nesting, exprs_nesting, stmt_nesting, stmts_nesting}
-use Rattle.map_lang.specs.Grammar.{word, step_before, steps_before, expr_before, exprs_before, stmt_before, stmts_before, IsScoped, AreScoped, IsScopedStmt, AreScopedStmts}
+use Rattle.map_lang.specs.Grammar.{word, steps_before, expr_before, exprs_before, stmt_before, stmts_before, IsScoped, AreScoped, IsScopedStmt, AreScopedStmts}
 
 -- a step begins here
 abbrev pub begins_step : List Token → Bool

@@ -1,5 +1,5 @@
 -- The five reduces: of the values of rows, and of the results of parts.
-use Rattle.std.specs.Prelude.{ℕ, suc, ◌+◌, ◌-◌, ◌^◌, min, List, [], ◌∷◌, length, sum_by, fold, pos, negsuc, Option, Some, None, codes, bytes_eq, if◌then◌else◌}
+use Rattle.std.specs.Prelude.{ℕ, ◌-◌, ◌^◌, min, List, [], ◌∷◌, length, sum_by, fold, pos, Option, Some, None, codes, bytes_eq, if◌then◌else◌}
 use Rattle.std.specs.Ordering.{is_gt}
 use Rattle.json_terms.specs.Json.{Json, number, is_null}
 use Rattle.raw_collation.specs.Collation.{json_cmp}

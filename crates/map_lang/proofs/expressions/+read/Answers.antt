@@ -1,5 +1,5 @@
 -- What is read of a part and what is left make up the whole.
-use Rattle.std.proofs.Common.{◌≡◌, ◌∷◌, List, length, sym, ap, subst, ◌∙◌, arith}
+use Rattle.std.proofs.Common.{◌≡◌, ◌∷◌, length, sym, ap, subst, ◌∙◌, arith}
 use Rattle.std.proofs.lemmas.Result.{IfOk-weaker, err_from_is_err_and}
 use Rattle.map_lang.specs.declared.token.Token.{Token}
 use Rattle.map_lang.specs.declared.token.Token.TheVariants.{Word}

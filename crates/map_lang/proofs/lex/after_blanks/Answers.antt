@@ -1,6 +1,4 @@
 use Rattle.map_lang.specs.Tokens.{is_blank}
-use Rattle.std.proofs.Common.{◌≡◌, ◌≤◌, length, take, true}
-use Rattle.map_lang.specs.Tokens.{all_pass}
 use Rattle.map_lang.proofs.Lexed.{boundary_after, blank_ascii}
 use Rattle.map_lang.proofs.lex.after_blanks.Goals as goal
 

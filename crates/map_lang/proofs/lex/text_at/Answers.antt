@@ -1,8 +1,6 @@
 -- Between the quotes stands what holds no quote.
-use Rattle.std.proofs.Common.{◌≡◌, ◌+◌, ◌-◌, ◌<◌, ◌≤◌, List, ℕ, take, drop, length, suc, sym, ap, ◌∙◌, arith, length-drop}
+use Rattle.std.proofs.Common.{◌≡◌, ◌+◌, ◌-◌, ◌<◌, ◌≤◌, List, ℕ, take, drop, length, suc, ap, ◌∙◌, arith, length-drop}
 use Rattle.std.proofs.lemmas.List.{take_all}
-use Rattle.map_lang.specs.declared.token.Token.TheVariants.{Text}
-use Rattle.map_lang.specs.Tokens.{all_pass, first_passes, is_in_text}
 use Rattle.map_lang.proofs.Cut.{text_found, text_bounds}
 use Rattle.map_lang.proofs.lex.text_at.Goals as goal
 

@@ -1,4 +1,4 @@
-use Rattle.std.proofs.Common.{◌≡◌, sym, ap, ◌∙◌}
+use Rattle.std.proofs.Common.{sym}
 use Rattle.map_lang.proofs.Continued.{err_weaker}
 use Rattle.map_lang.proofs.Cut.{mark_found, only_mark, only_text}
 use Rattle.map_lang.proofs.lex.token_at.Goals as goal

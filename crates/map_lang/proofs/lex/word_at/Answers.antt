@@ -1,7 +1,5 @@
-use Rattle.std.proofs.Common.{◌≡◌, ◌-◌, arith, take, refl, sym, ap, ◌∙◌}
-use Rattle.map_lang.specs.declared.token.Token.TheVariants.{Word}
+use Rattle.std.proofs.Common.{◌≡◌, ◌-◌, arith, take, ap, ◌∙◌}
 use Rattle.map_lang.specs.Tokens.{is_in_word}
-use Rattle.map_lang.specs.Lexing.{IsTokenAt}
 use Rattle.map_lang.proofs.Lexed.{boundary_after, word_ascii}
 use Rattle.map_lang.proofs.Cut.{word_found}
 use Rattle.map_lang.proofs.lex.word_at.Goals as goal

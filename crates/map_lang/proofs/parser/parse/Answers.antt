@@ -1,8 +1,8 @@
 -- The program is read from the tokens of the source, to their end.
-use Rattle.std.proofs.Common.{◌≡◌, ◌==◌, List, ℕ, [], ◌∷◌, false, length, refl, sym, ap, subst, ◌∙◌, arith}
+use Rattle.std.proofs.Common.{◌≡◌, ◌==◌, ℕ, [], ◌∷◌, false, length, refl, sym, ap, subst, ◌∙◌, arith}
 use Rattle.std.proofs.lemmas.Result.{err_from_is_err_and}
 use Rattle.std.proofs.lemmas.Bool.Decides.{nat_tests}
-use Rattle.map_lang.specs.Syntax.{Stmts, stmts_of}
+use Rattle.map_lang.specs.Syntax.{stmts_of}
 use Rattle.map_lang.specs.Grammar.{document_name, nesting_limit}
 use Rattle.map_lang.specs.Readings.{ReadsStmts}
 use Rattle.map_lang.proofs.Continued.{stmts_once}

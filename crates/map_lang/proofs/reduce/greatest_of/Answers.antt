@@ -1,8 +1,6 @@
 -- The value at this place is compared with the best before it.
-use Rattle.std.proofs.Common.{◌≡◌, ◌<◌, Bool, length, get_or, arith, sym, ap, ◌∙◌}
+use Rattle.std.proofs.Common.{◌≡◌, ◌<◌, length, get_or, arith, sym, ap, ◌∙◌}
 use Rattle.std.specs.Ordering.{is_gt}
-use Rattle.json_terms.specs.Json.{Json}
-use Rattle.json_terms.specs.Seen.{json}
 use Rattle.raw_collation.specs.Collation.{json_cmp}
 use Rattle.std.proofs.lemmas.List.{get_or_default}
 use Rattle.map_lang.proofs.Parts.{greatest_takes, greatest_keeps}

@@ -1,6 +1,5 @@
 use Rattle.std.proofs.Common.{ap, ◌∙◌}
 use Rattle.std.proofs.lemmas.Result.{IfOk-weaker}
-use Rattle.json_terms.specs.declared.term.Row.{Row}
 use Rattle.json_terms.specs.Seen.{json}
 use Rattle.map_lang.proofs.Parts.{last_value, some_length}
 use Rattle.map_lang.proofs.reduce.run_rereduce.Goals as goal

@@ -1,5 +1,5 @@
 -- A statement is less deep than its block, and nothing happens in a run that has ended.
-use Rattle.std.proofs.Common.{◌<◌, ◌∷◌, [], ◌++◌, length, map, sym, arith}
+use Rattle.std.proofs.Common.{◌∷◌, [], ◌++◌, map, sym, arith}
 use Rattle.map_lang.specs.Syntax.{stmts_of}
 use Rattle.map_lang.specs.SeenStatements.{stmt_of}
 use Rattle.map_lang.specs.Meaning.{all_events, events_of}

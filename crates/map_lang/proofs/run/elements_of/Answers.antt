@@ -1,4 +1,4 @@
-use Rattle.std.proofs.Common.{◌≡◌, Some, map, option_map, sym, ap, ◌∙◌}
+use Rattle.std.proofs.Common.{Some, option_map, sym, ap, ◌∙◌}
 use Rattle.json_terms.specs.Seen.{json}
 use Rattle.map_lang.specs.Meaning.{turns_of}
 use Rattle.map_lang.proofs.Walking.{list_of_items-items_of}

@@ -1,12 +1,11 @@
 -- What is read of a part and what is left make up the whole.
-use Rattle.std.proofs.Common.{◌≡◌, ◌∷◌, [], ◌++◌, ◌-◌, refl, List, ℕ, length, false, sym, ap, subst, ◌∙◌, arith}
+use Rattle.std.proofs.Common.{◌≡◌, ◌∷◌, [], ◌++◌, ◌-◌, refl, false, sym, subst, ◌∙◌, arith}
 use Rattle.std.proofs.lemmas.Result.{err_from_is_err_and}
 use Rattle.map_lang.specs.Syntax.{stmts_of}
-use Rattle.map_lang.specs.Grammar.{word}
 use Rattle.map_lang.specs.Readings.{ReadsExpr, ReadsStmt, ReadsBlock, ends_block}
 use Rattle.map_lang.specs.SeenExpressions.{expr_of}
 use Rattle.map_lang.specs.SeenStatements.{stmt_of}
-use Rattle.map_lang.proofs.Continued.{stmts_refused, stmts_next, stmts_end, stmt_shortens, when_no_equals, when_no_right, when_no_block, each_no_in, each_no_block, block_no_close, no_statement}
+use Rattle.map_lang.proofs.Continued.{stmts_refused, stmts_next, stmts_end, stmt_shortens, when_no_equals, when_no_right, when_no_block, each_no_block, block_no_close}
 use Rattle.map_lang.proofs.statements.+nest.Goals as goal
 
 pub block-returns-in_err-next-clause-refused : goal.block-returns-in_err-next-clause-refused

@@ -1,4 +1,3 @@
-use Rattle.std.proofs.Common.{◌∙◌}
 use Rattle.std.proofs.lemmas.Result.{err_from_is_err_and}
 use Rattle.map_lang.specs.SeenExpressions.{expr_of}
 use Rattle.map_lang.proofs.Continued.{emit_no_comma, emit_no_value}

@@ -1,4 +1,4 @@
-use Rattle.std.proofs.Common.{◌<◌, length, arith}
+use Rattle.std.proofs.Common.{arith}
 use Rattle.map_lang.proofs.Walking.{nesting_at}
 use Rattle.map_lang.proofs.value.+evaluate.Goals as goal
 

@@ -1,6 +1,5 @@
 -- The values so far, and those of the parts that are left.
-use Rattle.std.proofs.Common.{◌≡◌, ◌+◌, ◌*◌, ◌++◌, List, map, drop, option_map}
-use Rattle.json_terms.specs.Json.{Json}
+use Rattle.std.proofs.Common.{◌≡◌, ◌+◌, ◌*◌, ◌++◌, map, drop, option_map}
 use Rattle.map_lang.specs.Syntax.{nesting, exprs_of, exprs_nesting}
 use Rattle.map_lang.specs.SeenExpressions.{expr_of}
 use Rattle.map_lang.specs.Meaning.{values_of}

@@ -1,5 +1,5 @@
 -- A place of 0 or more is the number of elements before it.
-use Rattle.std.proofs.Common.{◌≡◌, ℤ, pos, negsuc, false, FitsSigned, to_z, of_z, refl, sym, ap, ◌∙◌}
+use Rattle.std.proofs.Common.{◌≡◌, ℤ, pos, negsuc, false, FitsSigned, to_z, of_z, refl, sym, ◌∙◌}
 use Rattle.std.specs.Int.{w64}
 use lib.IntN.{nat_abs}
 use lib.Signed.{lt_z}

@@ -1,7 +1,6 @@
-use Rattle.std.proofs.Common.{◌≡◌, Some, None, option_map, sym, ap, ◌∙◌}
-use Rattle.json_terms.specs.Json.{Json}
+use Rattle.std.proofs.Common.{◌≡◌, None, sym, ◌∙◌}
 use Rattle.json_terms.specs.Seen.{json}
-use Rattle.map_lang.specs.Meaning.{walked, stepped}
+use Rattle.map_lang.specs.Meaning.{stepped}
 use Rattle.map_lang.proofs.Walking.{walked_none, walk_stops}
 use Rattle.map_lang.proofs.value.walk.Goals as goal
 
