@@ -7,5 +7,6 @@ pub mod Emitted
 pub mod Reading
 pub mod Text
 pub mod Find
+pub mod Kinds
 pub mod Place
 pub mod Tokens

@@ -23,6 +23,33 @@ pub fn member<'a>(term: &'a Term, name: &str) -> Option<&'a Term>
     None
 }
 
+impl Term {
+    ghost use Rattle.std.specs.Prelude.{◌≡◌, option_map, map};
+    ghost use Rattle.json_terms.specs.Json.{items_of};
+    ghost use Rattle.json_terms.specs.Kinds.{items_in, text_in};
+    ghost use Rattle.json_terms.specs.Seen.{json};
+
+    /// The text, where the term is one.
+    pub fn as_text(&self) -> Option<&str>
+        ensures { option_map (λ t. t.now) result ≡ text_in (json self.now) }
+    {
+        match self {
+            Term::Text(chars) => Some(chars.as_str()),
+            _ => None,
+        }
+    }
+
+    /// The elements, where the term is an array.
+    pub fn as_array(&self) -> Option<&[Term]>
+        ensures { option_map (λ ts. items_of (map json ts.now)) result ≡ items_in (json self.now) }
+    {
+        match self {
+            Term::Array(terms) => Some(terms.as_slice()),
+            _ => None,
+        }
+    }
+}
+
 /// Whether objects and arrays nest at most `limit` deep. It stops at the first that is deeper.
 #[cycle(depth)]
 pub fn depth_within(term: &Term, limit: u32) -> bool

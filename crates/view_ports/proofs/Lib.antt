@@ -1,4 +1,12 @@
+pub mod Counted
 pub mod Counting
 pub mod Cutting
 pub mod Exchanging
+pub mod Fields
 pub mod Reaching
+pub mod Scripts
+pub mod Slots
+pub mod Told
+pub mod Images
+pub mod Moments
+pub mod DiskRuns

@@ -1,5 +1,5 @@
 -- Counts of faults: the only cause for which a port may answer that it failed.
-use Rattle.std.specs.Prelude.{ℕ, ◌+◌, ◌-◌, ◌^◌, ◌≤◌, min, Result, OnErr}
+use Rattle.std.specs.Prelude.{◌≡◌, ℕ, ◌+◌, ◌-◌, ◌^◌, ◌≤◌, min, Result, Err, OnErr}
 
 -- a count after one more: it stands still at the largest `u64`
 abbrev pub next_count : ℕ → ℕ
@@ -13,3 +13,12 @@ Rose before now = next_count before ≤ now
 pub record HasCause {T E : Type 0} (before now : ℕ) (result : Result T E) : Type 0 where
   pub later : before ≤ now
   pub failed : OnErr result (Rose before now)
+
+-- the count rose by so many or more, or stands at the largest `u64`
+abbrev pub RoseBy : ℕ → ℕ → ℕ → Type 0
+RoseBy more before now = min (before + more) (2 ^ 64 - 1) ≤ now
+
+-- the same of one among several faults: only this one says that the count rose
+pub record HasCauseOf {T E : Type 0} (fault : E) (before now : ℕ) (result : Result T E) : Type 0 where
+  pub later : before ≤ now
+  pub failed : result ≡ Err fault → Rose before now

@@ -2,18 +2,39 @@
 //! over them is: which lines were read, what was written for each, and how the run ended.
 #![tactic(auto)]
 
+mod answer_text;
+mod command;
+mod field_session;
+mod file_name;
+mod folder;
+mod in_process;
 mod lines;
 mod memory_sink;
 mod memory_source;
 mod ports;
+mod reduce_rows;
 mod run_end;
+mod script_servers;
+mod server_session;
+mod servers;
+mod servers_fault;
 #[cfg(test)]
 mod tests;
 mod write_text;
 
+pub use command::{Command, read_command};
+pub use field_session::{FieldServers, FieldSession};
+pub use file_name::{FileName, Stem};
+pub use folder::{Folder, FolderFault};
+pub use in_process::InProcess;
 pub use lines::cut_in_one_way;
 pub use memory_sink::MemorySink;
 pub use memory_source::MemorySource;
 pub use ports::{PortFault, Sink, Source};
+pub use reduce_rows::ReduceRows;
 pub use run_end::{INPUT_LIMIT, RunEnd};
+pub use script_servers::{Answer, ScriptServers};
+pub use server_session::ServerSession;
+pub use servers::{SLOT_COUNT, Servers};
+pub use servers_fault::ServersFault;
 pub use write_text::write_all;

@@ -1,0 +1,5 @@
+pub mod OneMap
+pub mod PlainDesigns
+pub mod Revised
+pub mod ViewNames
+pub mod ViewOrder

@@ -1,0 +1,47 @@
+-- What the definitions of designs say together.
+use Rattle.std.specs.Prelude.{◌≡◌, ◌≤◌, ℕ, List, map, length, codes, bytes_eq, IsTrue}
+use Rattle.std.specs.Ordering.{nat_cmp}
+use Rattle.std.specs.Cmp.Lexicographic.{slice_cmp}
+use Rattle.std.specs.List.Sorted.{IsStrictlySortedBy}
+use Rattle.std.specs.Map.{lookup}
+use Rattle.json_terms.specs.Json.{Json, object, Members}
+use Rattle.json_terms.specs.Terms.{IsTerm}
+use Rattle.json_terms.specs.Find.{with_member}
+use Rattle.design_docs.specs.declared.design.View.{View}
+use Rattle.design_docs.specs.Documents.{id_of, is_design_id}
+use Rattle.design_docs.specs.PlainDesign.{is_plain_design, IsPlainDesign, view_limit}
+use Rattle.design_docs.specs.PlainDocument.{is_plain}
+use Rattle.design_docs.specs.Design.{language_of, views_of, views_object, source_of}
+
+abbrev pub names_of : List View → List (List ℕ)
+names_of = map (λ view. view.name)
+
+-- the views of a term are in strictly rising byte order of name
+abbrev pub AreInOrderOfName : Json → Type 0
+AreInOrderOfName document = IsTerm document → IsStrictlySortedBy (slice_cmp nat_cmp) (names_of (views_of document))
+
+-- a plain design has not too many views
+abbrev pub AreFew : Json → Type 0
+AreFew document = IsPlainDesign document → length (views_of document) ≤ view_limit
+
+-- a view's name, beside the source of its map function
+abbrev pub entry_of : View → List ℕ × List ℕ
+entry_of view = (view.name, view.map)
+
+-- among the views of a plain design each name has the source that stands in the document, and no other name has one
+abbrev pub HasViewsOfNames : Json → Type 0
+HasViewsOfNames document =
+    IsPlainDesign document → (name : List ℕ) → lookup (λ key. bytes_eq key name) (map entry_of (views_of document)) ≡ source_of name document
+
+-- a plain document with the id of a design document has a plain design
+abbrev pub HasPlainDesign : Json → Type 0
+HasPlainDesign document = IsTrue (is_plain document) → IsTrue (is_design_id (id_of document)) → IsPlainDesign document
+
+-- two documents with the same design
+abbrev pub HaveSameDesign : Json → Json → Type 0
+HaveSameDesign one other =
+    (is_plain_design one ≡ is_plain_design other) × (language_of one ≡ language_of other) × (views_of one ≡ views_of other) × (views_object one ≡ views_object other)
+
+-- a revision that is set leaves the design as it was
+abbrev pub RevisionLeavesDesign : Members → Json → Type 0
+RevisionLeavesDesign members revision = HaveSameDesign (object (with_member (codes "_rev") revision members)) (object members)

@@ -1,0 +1,5 @@
+pub mod Documents
+pub mod PlainDesign
+pub mod PlainDocument
+pub mod Design
+pub mod Laws

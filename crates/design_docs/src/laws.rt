@@ -1,0 +1,24 @@
+// The laws of the definitions. Each function states some, and does nothing.
+ghost use Rattle.json_terms.specs.Json.{Json, Members};
+ghost use Rattle.design_docs.specs.Laws.{AreInOrderOfName, AreFew, HasViewsOfNames, HasPlainDesign, RevisionLeavesDesign};
+
+/// The views of a plain design stand in strictly rising byte order of their names, and there are 32 at most.
+pub fn views_are_few_and_in_order()
+    ensures ordered { (document : Json) → AreInOrderOfName document }
+    ensures few { (document : Json) → AreFew document }
+{}
+
+/// Among the views of a plain design each name has the source that stands in the document under it, and no other name has one.
+pub fn views_are_found_by_name()
+    ensures { (document : Json) → HasViewsOfNames document }
+{}
+
+/// A plain document with the id of a design document has a plain design.
+pub fn plain_design_documents_have_plain_designs()
+    ensures { (document : Json) → HasPlainDesign document }
+{}
+
+/// A document's revision has no part in its design.
+pub fn revisions_leave_designs()
+    ensures { (members : Members) (revision : Json) → RevisionLeavesDesign members revision }
+{}

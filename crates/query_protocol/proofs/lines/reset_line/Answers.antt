@@ -1,0 +1,14 @@
+-- The line is the command's.
+use Rattle.std.proofs.Common.{arith}
+use Rattle.view_ports.specs.declared.command.Command.TheVariants.{Reset}
+use Rattle.query_protocol.proofs.Commanded.{any_ok}
+use Rattle.query_protocol.proofs.lines.reset_line.Goals as goal
+
+pub returns-clause-ok : goal.returns-clause-ok
+returns-clause-ok c = c.append.ensures.ok Reset c.in_ok-term.ensures
+
+pub returns-clause-whole : goal.returns-clause-whole
+returns-clause-whole c = any_ok c.append.result (c.append.ensures.whole Reset c.in_ok-term.ensures)
+
+pub returns-clause-reads : goal.returns-clause-reads
+returns-clause-reads c = any_ok c.append.result (c.append.ensures.reads Reset c.in_ok-term.ensures (omega arith))
