@@ -1,5 +1,5 @@
 // Reading expressions.
-ghost use Rattle.std.specs.Prelude.{◌≡◌, ℕ, ◌∷◌, ◌++◌, List, [], IfOk, IfErr, MatchOption, None, Some, Bool, map};
+ghost use Rattle.std.specs.Prelude.{◌≡◌, ℕ, ◌∷◌, List, IfOk, IfErr, MatchOption, None, Some};
 ghost use Rattle.map_lang.specs.declared.token.Token.{Token};
 ghost use Rattle.map_lang.specs.declared.syntax.Step.{Step};
 ghost use Rattle.map_lang.specs.Syntax.{Expr, Exprs, exprs_of};

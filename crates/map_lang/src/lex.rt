@@ -1,9 +1,9 @@
 // The tokens of a source.
-ghost use Rattle.std.specs.Prelude.{◌≡◌, ◌<◌, ◌≤◌, ℕ, ◌∷◌, ◌++◌, List, [], IfOk, IfErr, MatchOption, length, take, drop, true, false, slice_index};
+ghost use Rattle.std.specs.Prelude.{◌≡◌, ◌<◌, ◌≤◌, ℕ, ◌∷◌, ◌++◌, List, IfOk, IfErr, MatchOption, length, take, drop, true, false, slice_index};
 ghost use Rattle.std.specs.Fmt.{signed_decimal};
 ghost use Rattle.map_lang.specs.declared.token.Token.{Token};
 ghost use Rattle.map_lang.specs.declared.token.Token.TheVariants.{Integer};
-ghost use Rattle.map_lang.specs.Tokens.{AreTokens, IsWhole, text_of, mark_text, all_pass, first_passes, is_blank, is_letter, is_digit, is_in_word, is_in_text};
+ghost use Rattle.map_lang.specs.Tokens.{AreTokens, IsWhole, text_of, mark_text, all_pass, first_passes, is_letter, is_digit, is_in_text};
 ghost use Rattle.map_lang.specs.Lexing.{passes, IsTokenAt, IsBlankBefore, IsDigitRun, IsSignedRun};
 
 use crate::fault::ParseFault;

@@ -1,7 +1,6 @@
 // The parser: programs from sources.
-ghost use Rattle.std.specs.Prelude.{◌≡◌, ℕ, ◌∷◌, ◌++◌, List, [], IfOk, OnOk, IfErr, MatchOption, map};
+ghost use Rattle.std.specs.Prelude.{◌≡◌, IfOk, IfErr};
 ghost use Rattle.map_lang.specs.Syntax.{Stmts};
-ghost use Rattle.map_lang.specs.SeenStatements.{stmt_of};
 ghost use Rattle.map_lang.specs.Grammar.{Compiles};
 
 use crate::fault::ParseFault;

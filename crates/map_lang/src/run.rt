@@ -1,10 +1,10 @@
 // Running programs on documents.
-ghost use Rattle.std.specs.Prelude.{◌≡◌, ◌∷◌, ◌++◌, ◌+◌, [], IfOk, OnOk, Some, None, option_map, map, Ok, true, false, IsTrue, ◌↔◌};
+ghost use Rattle.std.specs.Prelude.{◌≡◌, ◌∷◌, ◌++◌, [], IfOk, OnOk, Some, map, Ok, true, false};
 ghost use Rattle.json_terms.specs.Seen.{json};
 ghost use Rattle.map_lang.specs.Syntax.{stmts_of};
 ghost use Rattle.map_lang.specs.SeenExpressions.{expr_of};
 ghost use Rattle.map_lang.specs.SeenStatements.{stmt_of};
-ghost use Rattle.map_lang.specs.Meaning.{Event, turn, emission, step, after, emitted, events_of, all_events, each_turn, are_equal, turns_of, value_of, rows_of, text_length};
+ghost use Rattle.map_lang.specs.Meaning.{turn, emission, step, after, emitted, events_of, all_events, each_turn, are_equal, turns_of, value_of, rows_of, text_length};
 ghost use Rattle.map_lang.specs.Bound.{scope_of};
 ghost use Rattle.map_lang.specs.Running.{run_of};
 

@@ -1,5 +1,5 @@
 // Reading statements.
-ghost use Rattle.std.specs.Prelude.{◌≡◌, ℕ, ◌∷◌, List, IfOk, OnOk, IfErr};
+ghost use Rattle.std.specs.Prelude.{◌≡◌, ◌∷◌, List, IfOk, OnOk, IfErr};
 ghost use Rattle.map_lang.specs.declared.token.Token.{Token};
 ghost use Rattle.map_lang.specs.declared.token.Keyword.TheVariants as keyword;
 ghost use Rattle.map_lang.specs.Syntax.{Stmt, Stmts, stmts_of};

@@ -1,5 +1,5 @@
 // The syntax of programs.
-ghost use Rattle.std.specs.Prelude.{◌≡◌, ◌++◌, ◌∷◌, [], List, map, OnOk, OnErr, IfOk, length};
+ghost use Rattle.std.specs.Prelude.{◌≡◌, ◌++◌, ◌∷◌, [], List, map, OnOk};
 
 use json_terms::{Chars, NoMemory};
 use std::alloc::Global;

@@ -1,5 +1,5 @@
 // The values of expressions.
-ghost use Rattle.std.specs.Prelude.{◌≡◌, ◌∷◌, ◌++◌, [], IfOk, Some, None, option_map, map};
+ghost use Rattle.std.specs.Prelude.{◌≡◌, IfOk, Some, None, option_map, map};
 ghost use Rattle.json_terms.specs.Seen.{json};
 ghost use Rattle.map_lang.specs.Syntax.{exprs_of};
 ghost use Rattle.map_lang.specs.SeenExpressions.{expr_of};
