@@ -1,0 +1,15 @@
+pub mod Reduce
+pub mod Laws
+pub mod Syntax
+pub mod Code
+pub mod SeenExpressions
+pub mod FallsExpressions
+pub mod SeenStatements
+pub mod FallsStatements
+pub mod Tokens
+pub mod Grammar
+pub mod Readings
+pub mod Lexing
+pub mod Meaning
+pub mod Bound
+pub mod Running

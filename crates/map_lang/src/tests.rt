@@ -1,0 +1,52 @@
+// What compiles and what programs give, worked out by hand from the language's description.
+use crate::{parse, run_map};
+use json_terms::{RowLists, read_term, write_term};
+use std::alloc::Global;
+use std::test::Fail;
+
+mod compiling;
+mod limits;
+mod reducing;
+mod running;
+
+// The text with so many copies of `open` before it and of `close` behind it.
+fn nested(
+    alloc: Global,
+    depth: usize,
+    open: &str,
+    inside: &str,
+    close: &str,
+) -> Result<String, Fail> {
+    let mut text = String::new(alloc);
+    for _ in 0..depth {
+        text.push_str(open)?;
+    }
+    text.push_str(inside)?;
+    for _ in 0..depth {
+        text.push_str(close)?;
+    }
+    Ok(text)
+}
+
+// The keys and values of the one list, as JSON.
+fn rows_text(alloc: Global, lists: &RowLists) -> Result<Vec<u8>, Fail> {
+    let mut text = Vec::new(alloc);
+    for list in lists.as_slice() {
+        for row in list.as_slice() {
+            text.push(b'[')?;
+            write_term(alloc, &row.key, &mut text)?;
+            text.push(b',')?;
+            write_term(alloc, &row.value, &mut text)?;
+            text.push(b']')?;
+        }
+    }
+    Ok(text)
+}
+
+// What a source gives of a document.
+fn mapped(alloc: Global, source: &str, document: &str) -> Result<Vec<u8>, Fail> {
+    let program = parse(alloc, source)?;
+    let document = read_term(alloc, document.as_bytes())?;
+    let lists = run_map(alloc, &program, &document)?;
+    rows_text(alloc, &lists)
+}
