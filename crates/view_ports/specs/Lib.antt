@@ -3,3 +3,7 @@ pub mod Lines
 pub mod Exchanges
 pub mod Runs
 pub mod Memory
+pub mod File
+pub mod Disk
+pub mod Causes
+pub mod FolderCalls

@@ -2,6 +2,8 @@
 //! over them is: which lines were read, what was written for each, and how the run ended.
 #![tactic(auto)]
 
+mod file_name;
+mod folder;
 mod lines;
 mod memory_sink;
 mod memory_source;
@@ -11,6 +13,8 @@ mod run_end;
 mod tests;
 mod write_text;
 
+pub use file_name::{FileName, Stem};
+pub use folder::{Folder, FolderFault};
 pub use lines::cut_in_one_way;
 pub use memory_sink::MemorySink;
 pub use memory_source::MemorySource;
