@@ -1,0 +1,4 @@
+pub mod HeldLists
+pub mod Listing
+pub mod Logs
+pub mod Results

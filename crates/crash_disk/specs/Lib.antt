@@ -1,0 +1,9 @@
+pub mod Names
+pub mod SameNames
+pub mod Held
+pub mod HeldFiles
+pub mod Moments
+pub mod Told
+pub mod Stays
+pub mod State
+pub mod Law
