@@ -1,3 +1,4 @@
+pub mod NamedLists
 pub mod HeldLists
 pub mod Listing
 pub mod Logs

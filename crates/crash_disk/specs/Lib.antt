@@ -1,5 +1,6 @@
 pub mod Names
 pub mod SameNames
+pub mod Named
 pub mod Held
 pub mod HeldFiles
 pub mod Moments

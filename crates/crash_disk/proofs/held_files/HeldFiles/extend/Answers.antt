@@ -2,7 +2,8 @@ use Rattle.std.proofs.Common.{◌++◌, replicate, cond, ap, refl, ◌∙◌}
 use Rattle.std.proofs.lemmas.Result.{on_ok_weaker, on_err_weaker}
 use Rattle.crash_disk.specs.declared.held_file.HeldFile.{HeldFile}
 use Rattle.crash_disk.specs.Names.{is_same}
-use Rattle.crash_disk.proofs.HeldLists.{apart_set, step_at, cond_same}
+use Rattle.crash_disk.proofs.HeldLists.{apart_set, step_at}
+use Rattle.crash_disk.proofs.NamedLists.{cond_same}
 use Rattle.crash_disk.proofs.held_files.HeldFiles.extend.Goals as goal
 
 pub invariant_of-self : goal.invariant_of-self
