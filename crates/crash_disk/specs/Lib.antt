@@ -8,3 +8,9 @@ pub mod Told
 pub mod Stays
 pub mod State
 pub mod Law
+pub mod Pending
+pub mod Patch
+pub mod Chosen
+pub mod PendingList
+pub mod PendingFiles
+pub mod Torn

@@ -11,7 +11,7 @@ use view_ports::FileName;
 /// Files, of which no two have the same name. A file that isn't there has no bytes.
 #[derive(Drop)]
 pub struct HeldFiles {
-    files: Vec<HeldFile>,
+    pub(crate) files: Vec<HeldFile>,
     ghost apart: { AreApart files.items } by { AreApart-prop files.items },
 }
 

@@ -5,12 +5,19 @@
 mod calls;
 mod counters;
 mod did;
+mod digits;
 mod held_file;
 mod held_files;
+mod image;
 mod log;
 mod memory_folder;
 mod moments;
 mod noted;
 mod over;
+mod patch;
+mod pending;
+mod pending_file;
+mod pending_files;
+mod pending_lists;
 
 pub use memory_folder::MemoryFolder;

@@ -1,0 +1,28 @@
+-- What a crash within a call may leave, by the moments of a disk.
+use Rattle.std.specs.Prelude.{◌≡◌, ◌⊎◌, ℕ, ◌+◌, ◌<◌, List, [], ◌∷◌, Option, Some, None, Result, IfOk, cond, length, nat_lt}
+use Rattle.view_ports.specs.declared.file_name.FileName.{FileName}
+use Rattle.view_ports.specs.File.{File, IsImage}
+use Rattle.view_ports.specs.Disk.{Disk, IsImageOf, clock}
+use Rattle.crash_disk.specs.Chosen.{IsOverwritten}
+
+abbrev pub moment_of : (FileName → File) → List (FileName → File) → ℕ → FileName → File
+moment_of now [] calls = now
+moment_of now (before ∷ past) calls = cond (nat_lt (length past) calls) now (moment_of before past calls)
+
+-- the files after so many calls
+abbrev pub moment : Disk FileName → ℕ → FileName → File
+moment disk calls = moment_of disk.now disk.past calls
+
+-- the disk tells of the call with this number
+abbrev pub IsMade : ℕ → Option (Disk FileName) → Type 0
+IsMade call None = ⊥
+IsMade call (Some disk) = call < clock disk
+
+-- The bytes that a crash within the call leaves, at a choice: an image of the files before the call or after it. Choice
+-- 0 keeps nothing that wasn't synced, 1 keeps all, and 2 is 1 with 255 in each place that was written since the last sync,
+-- where the call's own sync has not made sure of anything.
+pub record IsTorn (disk : Disk FileName) (call choice : ℕ) (image : FileName → List ℕ) : Type 0 where
+  pub stays : IsImageOf (moment disk call) image ⊎ IsImageOf (moment disk (call + 1)) image
+  pub synced_alone : choice ≡ 0 → (name : FileName) → image name ≡ (moment disk call name).durable
+  pub all : choice ≡ 1 → (name : FileName) → image name ≡ (moment disk (call + 1) name).seen
+  pub overwritten : choice ≡ 2 → ((name : FileName) → IsOverwritten (moment disk call name).written (moment disk call name).seen (image name)) ⊎ ((name : FileName) → IsOverwritten (moment disk (call + 1) name).written (moment disk (call + 1) name).seen (image name))
