@@ -5,3 +5,5 @@ pub mod Logs
 pub mod Results
 pub mod Patches
 pub mod PendingLists
+pub mod Sound
+pub mod Clock

@@ -14,3 +14,4 @@ pub mod Chosen
 pub mod PendingList
 pub mod PendingFiles
 pub mod Torn
+pub mod Within

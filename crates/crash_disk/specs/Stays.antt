@@ -16,13 +16,13 @@ use Rattle.crash_disk.specs.Told.{disk_of}
 use Rattle.crash_disk.specs.SameNames.{same_names}
 use Rattle.std.proofs.lemmas.Bool.{cond_both}
 
-change_stays : (change : Change) (file : File) → FitsIn change file → IsImage file file.seen → IsImage (stepped change file) (stepped change file).seen
+pub change_stays : (change : Change) (file : File) → FitsIn change file → IsImage file file.seen → IsImage (stepped change file) (stepped change file).seen
 change_stays (Wrote at bytes) file fits stays = stays_written at bytes.items file fits stays
 change_stays (Grew by) file fits stays = stays_grown by file stays
 change_stays Emptied file fits stays = stays_emptied file
 change_stays Synced file fits stays = settled_stays file.seen
 
-call_stays : (did : Did) (disk : Disk FileName) → Fits did disk.now → SeenStays disk → SeenStays (noted did disk)
+pub call_stays : (did : Did) (disk : Disk FileName) → Fits did disk.now → SeenStays disk → SeenStays (noted did disk)
 call_stays Passed disk fits stays = stays
 call_stays (Changed at change) disk fits stays = λ name.
     cond_both (is_same at name) (stepped change (disk.now name)) (disk.now name) (λ file. IsImage file file.seen)

@@ -4,6 +4,7 @@ use Rattle.view_ports.specs.declared.file_name.FileName.{FileName}
 use Rattle.view_ports.specs.File.{File, IsImage}
 use Rattle.view_ports.specs.Disk.{Disk, IsImageOf, clock}
 use Rattle.crash_disk.specs.Chosen.{IsOverwritten}
+use Rattle.crash_disk.specs.Moments.{disk_at}
 
 abbrev pub moment_of : (FileName → File) → List (FileName → File) → ℕ → FileName → File
 moment_of now [] calls = now
@@ -26,3 +27,7 @@ pub record IsTorn (disk : Disk FileName) (call choice : ℕ) (image : FileName �
   pub synced_alone : choice ≡ 0 → (name : FileName) → image name ≡ (moment disk call name).durable
   pub all : choice ≡ 1 → (name : FileName) → image name ≡ (moment disk (call + 1) name).seen
   pub overwritten : choice ≡ 2 → ((name : FileName) → IsOverwritten (moment disk call name).written (moment disk call name).seen (image name)) ⊎ ((name : FileName) → IsOverwritten (moment disk (call + 1) name).written (moment disk (call + 1) name).seen (image name))
+
+-- what is left is a disk with such bytes, on which nothing is pending and no call was made
+abbrev pub IsLeft : Disk FileName → ℕ → ℕ → Option (Disk FileName) → Type 0
+IsLeft disk call choice left = (image : FileName → List ℕ) × (left ≡ Some (disk_at image)) × IsTorn disk call choice image

@@ -9,6 +9,7 @@ mod digits;
 mod held_file;
 mod held_files;
 mod image;
+mod image_at;
 mod log;
 mod memory_folder;
 mod moments;
@@ -19,5 +20,6 @@ mod pending;
 mod pending_file;
 mod pending_files;
 mod pending_lists;
+mod torn;
 
 pub use memory_folder::MemoryFolder;

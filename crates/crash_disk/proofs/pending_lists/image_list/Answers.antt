@@ -1,4 +1,4 @@
-use Rattle.std.proofs.Common.{◌≡◌, ◌+◌, [], ◌∷◌, ◌++◌, take, refl, sym, ap, ◌∙◌, subst, arith}
+use Rattle.std.proofs.Common.{◌≡◌, ◌+◌, List, [], ◌∷◌, ◌++◌, take, refl, sym, ap, ◌∙◌, subst, arith}
 use Rattle.std.proofs.lemmas.List.{take_more}
 use Rattle.crash_disk.specs.Chosen.{IsChosen}
 use Rattle.crash_disk.specs.declared.held_file.HeldFile.{HeldFile}
@@ -17,4 +17,4 @@ loop-file-preserved c =
     let more : take (i + 1) files ≡ take i files ++ one ∷ [] = take_more files i one (omega arith) ∙ ap (λ file. take i files ++ file ∷ []) (sym c.file-item.is) in
     let matched = matched_push (IsChosen choice) (take i files) c.loop-file.held.items one new c.loop-file.invariant refl c.in_ok-image.ensures in
     subst (AreMatched (IsChosen choice) (take (i + 1) files)) (sym c.in_ok-push.ensures.items)
-    (subst (λ fs. AreMatched (IsChosen choice) fs (c.loop-file.held.items ++ new ∷ [])) (sym more) matched)
+    (subst (λ fs. AreMatched (IsChosen choice) fs (c.loop-file.held.items ++ new ∷ [])) (sym {A = List PendingFile} more) matched)

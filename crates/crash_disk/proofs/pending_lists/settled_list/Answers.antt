@@ -1,4 +1,4 @@
-use Rattle.std.proofs.Common.{◌≡◌, ◌+◌, [], ◌∷◌, ◌++◌, take, refl, sym, ap, ◌∙◌, subst, arith}
+use Rattle.std.proofs.Common.{◌≡◌, ◌+◌, List, [], ◌∷◌, ◌++◌, take, refl, sym, ap, ◌∙◌, subst, arith}
 use Rattle.std.proofs.lemmas.List.{take_more}
 use Rattle.view_ports.specs.File.{settled}
 use Rattle.crash_disk.specs.declared.held_file.HeldFile.{HeldFile}
@@ -16,4 +16,4 @@ loop-file-preserved c =
     let more : take (i + 1) held ≡ take i held ++ one ∷ [] = take_more held i one (omega arith) ∙ ap (λ file. take i held ++ file ∷ []) (sym c.file-item.is) in
     let matched = matched_push IsSettled c.loop-file.files.items (take i held) new one c.loop-file.invariant refl (c.in_ok-settled.ensures ∙ ap settled c.deref.ensures.value) in
     subst (λ files. AreMatched IsSettled files (take (i + 1) held)) (sym c.in_ok-push.ensures.items)
-    (subst (AreMatched IsSettled (c.loop-file.files.items ++ new ∷ [])) (sym more) matched)
+    (subst (AreMatched IsSettled (c.loop-file.files.items ++ new ∷ [])) (sym {A = List HeldFile} more) matched)
