@@ -68,3 +68,7 @@ AllFit-prop files (did ∷ log) = ×_prop (Fits-prop did files) (AllFit-prop (af
 -- the disk after one more call, which took a step on one file
 abbrev pub took : FileName → (File → File) → Disk FileName → Disk FileName
 took at step disk = record { now = λ name. cond (is_same at name) (step (disk.now name)) (disk.now name); past = disk.now ∷ disk.past }
+
+-- the disk after one more call, which changed no file
+abbrev pub passed : Disk FileName → Disk FileName
+passed disk = record { now = λ name. disk.now name; past = disk.now ∷ disk.past }

@@ -1,10 +1,11 @@
 -- What callers see of a folder in memory.
-use Rattle.std.specs.Prelude.{ℕ, List, Option}
+use Rattle.std.specs.Prelude.{◌≡◌, ◌⊎◌, ℕ, List, Option, Some, None, option_map}
 use Rattle.view_ports.specs.declared.file_name.FileName.{FileName}
-use Rattle.view_ports.specs.Disk.{Disk}
+use Rattle.view_ports.specs.Disk.{Disk, clock}
 use Rattle.view_ports.specs.Faults.{next_count}
 use Rattle.crash_disk.specs.declared.counters.Counters.{Counters}
 use Rattle.crash_disk.specs.declared.memory_folder.MemoryFolder.{MemoryFolder}
+use Rattle.crash_disk.specs.Moments.{passed}
 use Rattle.crash_disk.specs.Told.{disk_of}
 
 -- the numbers of the calls that fail, how many calls were made, and how many of them were faults and reads
@@ -35,3 +36,12 @@ failed before = record before { calls = next_count before.calls; faults = next_c
 -- one read more
 abbrev pub was_read : Counts → Counts
 was_read before = record before { reads = next_count before.reads }
+
+-- how many calls the disk tells of
+abbrev pub calls_told : Option (Disk FileName) → ℕ
+calls_told None = 0
+calls_told (Some disk) = clock disk
+
+-- a call changed no file: it is one more moment, or none where no memory was left to note it
+abbrev pub ChangedNothing : Option (Disk FileName) → Option (Disk FileName) → Type 0
+ChangedNothing old new = (new ≡ option_map passed old) ⊎ (new ≡ old)

@@ -1,8 +1,8 @@
 -- What a crash within a call may leave, by the moments of a disk.
-use Rattle.std.specs.Prelude.{◌≡◌, ◌⊎◌, ℕ, ◌+◌, ◌<◌, List, [], ◌∷◌, Option, Some, None, Result, IfOk, cond, length, nat_lt}
+use Rattle.std.specs.Prelude.{◌≡◌, ◌⊎◌, ℕ, ◌+◌, ◌<◌, List, [], ◌∷◌, Option, Some, cond, length, nat_lt}
 use Rattle.view_ports.specs.declared.file_name.FileName.{FileName}
 use Rattle.view_ports.specs.File.{File, IsImage}
-use Rattle.view_ports.specs.Disk.{Disk, IsImageOf, clock}
+use Rattle.view_ports.specs.Disk.{Disk, IsImageOf}
 use Rattle.crash_disk.specs.Chosen.{IsOverwritten}
 use Rattle.crash_disk.specs.Moments.{disk_at}
 
@@ -13,11 +13,6 @@ moment_of now (before ∷ past) calls = cond (nat_lt (length past) calls) now (m
 -- the files after so many calls
 abbrev pub moment : Disk FileName → ℕ → FileName → File
 moment disk calls = moment_of disk.now disk.past calls
-
--- the disk tells of the call with this number
-abbrev pub IsMade : ℕ → Option (Disk FileName) → Type 0
-IsMade call None = ⊥
-IsMade call (Some disk) = call < clock disk
 
 -- The bytes that a crash within the call leaves, at a choice: an image of the files before the call or after it. Choice
 -- 0 keeps nothing that wasn't synced, 1 keeps all, and 2 is 1 with 255 in each place that was written since the last sync,

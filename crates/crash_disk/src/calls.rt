@@ -1,6 +1,6 @@
 //! The calls on a folder in memory.
 
-ghost use Rattle.std.specs.Prelude.{◌≡◌, ◌↔◌, ℕ, ◌+◌, ◌≤◌, ◌^◌, [], length, Some, None, Err, IfOk, OnOk, OnErr, IsErr, IsTrue, cond};
+ghost use Rattle.std.specs.Prelude.{◌≡◌, ◌↔◌, ℕ, ◌+◌, ◌≤◌, ◌^◌, [], length, Some, None, Err, IfOk, OnOk, OnErr, IsErr, IsTrue, cond, option_map};
 ghost use Rattle.std.specs.Io.{ReadsAtMost};
 ghost use Rattle.view_ports.specs.declared.folder.FolderFault.TheVariants.{Failed};
 ghost use Rattle.view_ports.specs.Causes.{HasCauseIf};
@@ -9,8 +9,8 @@ ghost use Rattle.view_ports.specs.Faults.{HasCause, next_count};
 ghost use Rattle.view_ports.specs.File.{emptied, grew, synced, wrote};
 ghost use Rattle.view_ports.specs.FolderCalls.{Changes, IsListing, IsReadAt, Passes};
 ghost use Rattle.view_ports.specs.Memory.{is_listed};
-ghost use Rattle.crash_disk.specs.Moments.{disk_at};
-ghost use Rattle.crash_disk.specs.State.{called, counts, failed, told, was_read};
+ghost use Rattle.crash_disk.specs.Moments.{disk_at, passed, took};
+ghost use Rattle.crash_disk.specs.State.{ChangedNothing, called, counts, failed, told, was_read};
 ghost use Rattle.crash_disk.specs.Law.{told_stays};
 
 use crate::counters::Counters;
@@ -69,6 +69,8 @@ impl Folder for MemoryFolder {
         ensures listed { IsTrue (is_listed (counts self.old).fail (counts self.old).calls) → IsErr result }
         ensures ok { OnOk result (counts self.new ≡ called (counts self.old)) }
         ensures err { OnErr result (counts self.new ≡ failed (counts self.old)) }
+        ensures passed { OnOk result (told self.new ≡ option_map passed (told self.old)) }
+        ensures same { OnErr result (ChangedNothing (told self.old) (told self.new)) }
     {
         self.pass()?;
         Ok(self.files.bytes(name).len() as u64)
@@ -83,6 +85,8 @@ impl Folder for MemoryFolder {
         ensures listed { IsTrue (is_listed (counts self.old).fail (counts self.old).calls) → IsErr result }
         ensures ok { OnOk result (counts self.new ≡ called (was_read (counts self.old))) }
         ensures err { OnErr result (counts self.new ≡ failed (was_read (counts self.old))) }
+        ensures passed { OnOk result (told self.new ≡ option_map passed (told self.old)) }
+        ensures same { OnErr result (ChangedNothing (told self.old) (told self.new)) }
     {
         self.counters.read();
         self.pass()?;
@@ -101,10 +105,11 @@ impl Folder for MemoryFolder {
         ensures reads { (counts self.new).reads ≡ (counts self.old).reads }
         ensures listed { IsTrue (is_listed (counts self.old).fail (counts self.old).calls) → IsErr result }
         ensures ok { OnOk result (counts self.new ≡ called (counts self.old)) }
+        ensures taken { OnOk result (told self.new ≡ option_map (took name (wrote at from.now)) (told self.old)) }
         ensures err { OnErr result (counts self.new ≡ failed (counts self.old)) }
 
         // A call that fails changes no file.
-        ensures same { OnErr result (Tells (told self.old) (told self.new) Passes) }
+        ensures same { OnErr result (ChangedNothing (told self.old) (told self.new)) }
     {
         if self.counters.begin() {
             return Err(self.fail());
@@ -122,8 +127,9 @@ impl Folder for MemoryFolder {
         ensures reads { (counts self.new).reads ≡ (counts self.old).reads }
         ensures listed { IsTrue (is_listed (counts self.old).fail (counts self.old).calls) → IsErr result }
         ensures ok { OnOk result (counts self.new ≡ called (counts self.old)) }
+        ensures taken { OnOk result (told self.new ≡ option_map (took name (grew by)) (told self.old)) }
         ensures err { OnErr result (counts self.new ≡ failed (counts self.old)) }
-        ensures same { OnErr result (Tells (told self.old) (told self.new) Passes) }
+        ensures same { OnErr result (ChangedNothing (told self.old) (told self.new)) }
     {
         if self.counters.begin() {
             return Err(self.fail());
@@ -140,8 +146,9 @@ impl Folder for MemoryFolder {
         ensures reads { (counts self.new).reads ≡ (counts self.old).reads }
         ensures listed { IsTrue (is_listed (counts self.old).fail (counts self.old).calls) → IsErr result }
         ensures ok { OnOk result (counts self.new ≡ called (counts self.old)) }
+        ensures taken { OnOk result (told self.new ≡ option_map (took name emptied) (told self.old)) }
         ensures err { OnErr result (counts self.new ≡ failed (counts self.old)) }
-        ensures same { OnErr result (Tells (told self.old) (told self.new) Passes) }
+        ensures same { OnErr result (ChangedNothing (told self.old) (told self.new)) }
     {
         if self.counters.begin() {
             return Err(self.fail());
@@ -158,8 +165,9 @@ impl Folder for MemoryFolder {
         ensures reads { (counts self.new).reads ≡ (counts self.old).reads }
         ensures listed { IsTrue (is_listed (counts self.old).fail (counts self.old).calls) → IsErr result }
         ensures ok { OnOk result (counts self.new ≡ called (counts self.old)) }
+        ensures taken { OnOk result (told self.new ≡ option_map (took name synced) (told self.old)) }
         ensures err { OnErr result (counts self.new ≡ failed (counts self.old)) }
-        ensures same { OnErr result (Tells (told self.old) (told self.new) Passes) }
+        ensures same { OnErr result (ChangedNothing (told self.old) (told self.new)) }
     {
         if self.counters.begin() {
             return Err(self.fail());
@@ -179,6 +187,8 @@ impl Folder for MemoryFolder {
         // It fails exactly where its number is listed; want of memory is no fault.
         ensures listed { IsTrue (is_listed (counts self.old).fail (counts self.old).calls) ↔ (result ≡ Err Failed) }
         ensures counts { counts self.new ≡ cond (is_listed (counts self.old).fail (counts self.old).calls) (failed (counts self.old)) (called (counts self.old)) }
+        ensures passed { OnOk result (told self.new ≡ option_map passed (told self.old)) }
+        ensures same { OnErr result (ChangedNothing (told self.old) (told self.new)) }
     {
         if self.counters.begin() {
             let _ = self.fail();

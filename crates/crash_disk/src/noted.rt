@@ -6,9 +6,9 @@ ghost use Rattle.view_ports.specs.File.{emptied, grew, synced, wrote};
 ghost use Rattle.view_ports.specs.FolderCalls.{Passes};
 ghost use Rattle.view_ports.specs.Faults.{HasCause, next_count};
 ghost use Rattle.view_ports.specs.Memory.{is_listed};
-ghost use Rattle.crash_disk.specs.Moments.{took};
+ghost use Rattle.crash_disk.specs.Moments.{passed, took};
 ghost use Rattle.crash_disk.specs.Told.{disk_of};
-ghost use Rattle.crash_disk.specs.State.{called, counts, failed, told};
+ghost use Rattle.crash_disk.specs.State.{ChangedNothing, called, counts, failed, told};
 
 use crate::did::{Change, Did};
 use crate::log::Moments;
@@ -40,6 +40,8 @@ fn note_write(
 impl MemoryFolder {
     /// Counts a call that looks at the folder, and notes it.
     pub(crate) fn pass(&mut self) -> Result<(), PortFault>
+        ensures ok_disk { OnOk result (told self.new ≡ option_map passed (told self.old)) }
+        ensures err_disk { OnErr result (ChangedNothing (told self.old) (told self.new)) }
         ensures disk { Tells (told self.old) (told self.new) Passes }
         ensures files { self.new.files ≡ self.old.files }
         ensures listed { IsTrue (is_listed (counts self.old).fail (counts self.old).calls) → IsErr result }
@@ -47,14 +49,18 @@ impl MemoryFolder {
         ensures err { OnErr result (counts self.new ≡ failed (counts self.old)) }
         ensures cause { HasCause (counts self.old).faults (counts self.new).faults result }
     {
-        if self.counters.begin() || note(&mut self.moments, Did::Passed).is_err() {
+        if self.counters.begin() {
             return Err(self.fail());
         }
-        Ok(())
+        match note(&mut self.moments, Did::Passed) {
+            Ok(()) => Ok(()),
+            Err(_) => Err(self.fail()),
+        }
     }
 
     /// Notes a call that changes nothing as a fault.
     pub(crate) fn fail(&mut self) -> PortFault
+        ensures nothing { ChangedNothing (told self.old) (told self.new) }
         ensures disk { Tells (told self.old) (told self.new) Passes }
         ensures files { self.new.files ≡ self.old.files }
         ensures counts { self.new.counters ≡ record self.old.counters { faults = next_count self.old.counters.faults } }

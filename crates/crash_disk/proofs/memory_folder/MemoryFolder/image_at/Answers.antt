@@ -9,16 +9,16 @@ use Rattle.crash_disk.specs.declared.memory_folder.MemoryFolder.{MemoryFolder}
 use Rattle.crash_disk.specs.Chosen.{IsChosen, IsSound}
 use Rattle.crash_disk.specs.HeldFiles.{bytes_in}
 use Rattle.crash_disk.specs.Moments.{disk_at}
-use Rattle.crash_disk.specs.State.{told}
+use Rattle.crash_disk.specs.State.{calls_told, told}
 use Rattle.crash_disk.specs.Told.{disk_from, disk_of}
-use Rattle.crash_disk.specs.Torn.{IsLeft, IsMade}
+use Rattle.crash_disk.specs.Torn.{IsLeft}
 use Rattle.crash_disk.proofs.Clock.{clock_after, torn, within_sound}
 use Rattle.crash_disk.proofs.Sound.{settled_sound}
 use Rattle.crash_disk.proofs.memory_folder.MemoryFolder.image_at.Goals as goal
 
-made : (moments : Moments) (now : Option Moments) (call : ℕ) → now ≡ Some moments → IsMade call (disk_of now) → call < length moments.log.items
+made : (moments : Moments) (now : Option Moments) (call : ℕ) → now ≡ Some moments → call < calls_told (disk_of now) → call < length moments.log.items
 made moments now call is was =
-    let below : IsMade call (Some (disk_from moments)) = subst (λ m. IsMade call (disk_of m)) is was in
+    let below : call < calls_told (Some (disk_from moments)) = subst (λ m. call < calls_told (disk_of m)) is was in
     omega (arith, below, clock_after (disk_at (bytes_in moments.start)) moments.log.items)
 
 pub torn-requires : goal.torn-requires
