@@ -1,5 +1,5 @@
 -- The moments of a disk by the log that made it, and what a crash within a call finds.
-use Rattle.std.proofs.Common.{◌≡◌, ◌⊎◌, inl, inr, ℕ, ◌+◌, ◌<◌, ◌≤◌, List, [], ◌∷◌, zero, suc, Bool, true, false, cond, ltb, length, get_or, take, refl, sym, ap, ◌∙◌, subst, arith}
+use Rattle.std.proofs.Common.{◌≡◌, inl, inr, ℕ, ◌+◌, ◌<◌, ◌≤◌, List, [], ◌∷◌, zero, suc, true, false, length, get_or, take, refl, sym, ap, ◌∙◌, subst, arith}
 use Rattle.std.proofs.lemmas.Bool.{cases_Bool, cond-true, cond-false, cond_below, cond_above}
 use Rattle.std.proofs.lemmas.List.{take_more}
 use Rattle.view_ports.specs.declared.file_name.FileName.{FileName}
@@ -10,7 +10,7 @@ use Rattle.crash_disk.specs.declared.did.Change.TheVariants.{Wrote, Grew, Emptie
 use Rattle.crash_disk.specs.declared.did.Did.{Did}
 use Rattle.crash_disk.specs.declared.did.Did.TheVariants.{Passed, Changed}
 use Rattle.crash_disk.specs.Names.{is_same}
-use Rattle.crash_disk.specs.Chosen.{IsChosen, IsOverwritten, IsSound}
+use Rattle.crash_disk.specs.Chosen.{IsChosen, IsSound}
 use Rattle.crash_disk.specs.Moments.{stepped, after, noted, disk_after, disk_at, AllFit}
 use Rattle.crash_disk.specs.Torn.{moment, moment_of, IsTorn}
 use Rattle.crash_disk.specs.Within.{is_sync, within, files_before}

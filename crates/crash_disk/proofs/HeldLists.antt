@@ -7,7 +7,6 @@ use Rattle.crash_disk.specs.Names.{is_same}
 use Rattle.crash_disk.specs.Held.{bytes_of, IsAbsent, AreApart, IsAt}
 use Rattle.crash_disk.proofs.NamedLists as named
 
-
 pub absent_by_index : (name : FileName) (files : List HeldFile) → ((k : ℕ) (d : HeldFile) → k < length files → (get_or files k d).name ≢ name) → IsAbsent name files
 absent_by_index = named.absent_by_index (λ (file : HeldFile). file.name)
 

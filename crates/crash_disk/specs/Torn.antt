@@ -1,7 +1,7 @@
 -- What a crash within a call may leave, by the moments of a disk.
-use Rattle.std.specs.Prelude.{◌≡◌, ◌⊎◌, ℕ, ◌+◌, ◌<◌, List, [], ◌∷◌, Option, Some, cond, length, nat_lt}
+use Rattle.std.specs.Prelude.{◌≡◌, ◌⊎◌, ℕ, ◌+◌, List, [], ◌∷◌, Option, Some, cond, length, nat_lt}
 use Rattle.view_ports.specs.declared.file_name.FileName.{FileName}
-use Rattle.view_ports.specs.File.{File, IsImage}
+use Rattle.view_ports.specs.File.{File}
 use Rattle.view_ports.specs.Disk.{Disk, IsImageOf}
 use Rattle.crash_disk.specs.Chosen.{IsOverwritten}
 use Rattle.crash_disk.specs.Moments.{disk_at}
@@ -15,8 +15,8 @@ abbrev pub moment : Disk FileName → ℕ → FileName → File
 moment disk calls = moment_of disk.now disk.past calls
 
 -- The bytes that a crash within the call leaves, at a choice: an image of the files before the call or after it. Choice
--- 0 keeps nothing that wasn't synced, 1 keeps all, and 2 is 1 with 255 in each place that was written since the last sync,
--- where the call's own sync has not made sure of anything.
+-- 0 keeps nothing that wasn't synced before the call, 1 keeps all, and 2 puts 255 into each place that was written since
+-- the last sync, before the call or after it.
 pub record IsTorn (disk : Disk FileName) (call choice : ℕ) (image : FileName → List ℕ) : Type 0 where
   pub stays : IsImageOf (moment disk call) image ⊎ IsImageOf (moment disk (call + 1)) image
   pub synced_alone : choice ≡ 0 → (name : FileName) → image name ≡ (moment disk call name).durable

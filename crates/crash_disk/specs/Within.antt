@@ -3,7 +3,6 @@ use Rattle.std.specs.Prelude.{ℕ, Bool, true, false, List, cond, take}
 use Rattle.view_ports.specs.declared.file_name.FileName.{FileName}
 use Rattle.view_ports.specs.File.{File}
 use Rattle.view_ports.specs.Disk.{Disk}
-use Rattle.crash_disk.specs.declared.did.Change.{Change}
 use Rattle.crash_disk.specs.declared.did.Change.TheVariants.{Wrote, Grew, Emptied, Synced}
 use Rattle.crash_disk.specs.declared.did.Did.{Did}
 use Rattle.crash_disk.specs.declared.did.Did.TheVariants.{Passed, Changed}

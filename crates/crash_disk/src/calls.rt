@@ -1,6 +1,6 @@
 //! The calls on a folder in memory.
 
-ghost use Rattle.std.specs.Prelude.{◌≡◌, ◌↔◌, ℕ, ◌+◌, ◌≤◌, ◌^◌, [], length, Some, None, Err, IfOk, OnOk, OnErr, IsErr, IsTrue, cond, option_map};
+ghost use Rattle.std.specs.Prelude.{◌≡◌, ◌↔◌, ℕ, ◌+◌, ◌≤◌, ◌^◌, [], length, Some, None, Err, IfOk, OnOk, OnErr, IsErr, IsTrue, cond, option_map, is_err};
 ghost use Rattle.std.specs.Io.{ReadsAtMost};
 ghost use Rattle.view_ports.specs.declared.folder.FolderFault.TheVariants.{Failed};
 ghost use Rattle.view_ports.specs.Causes.{HasCauseIf};
@@ -67,6 +67,7 @@ impl Folder for MemoryFolder {
         ensures cause { HasCause (counts self.old).faults (counts self.new).faults result }
         ensures reads { (counts self.new).reads ≡ (counts self.old).reads }
         ensures listed { IsTrue (is_listed (counts self.old).fail (counts self.old).calls) → IsErr result }
+        ensures unkept { told self.old ≡ None → is_err result ≡ is_listed (counts self.old).fail (counts self.old).calls }
         ensures ok { OnOk result (counts self.new ≡ called (counts self.old)) }
         ensures err { OnErr result (counts self.new ≡ failed (counts self.old)) }
         ensures passed { OnOk result (told self.new ≡ option_map passed (told self.old)) }
@@ -83,6 +84,7 @@ impl Folder for MemoryFolder {
         ensures cause { HasCause (counts self.old).faults (counts self.new).faults result }
         ensures reads { (counts self.new).reads ≡ next_count (counts self.old).reads }
         ensures listed { IsTrue (is_listed (counts self.old).fail (counts self.old).calls) → IsErr result }
+        ensures unkept { told self.old ≡ None → is_err result ≡ is_listed (counts self.old).fail (counts self.old).calls }
         ensures ok { OnOk result (counts self.new ≡ called (was_read (counts self.old))) }
         ensures err { OnErr result (counts self.new ≡ failed (was_read (counts self.old))) }
         ensures passed { OnOk result (told self.new ≡ option_map passed (told self.old)) }
@@ -145,6 +147,7 @@ impl Folder for MemoryFolder {
         ensures cause { HasCause (counts self.old).faults (counts self.new).faults result }
         ensures reads { (counts self.new).reads ≡ (counts self.old).reads }
         ensures listed { IsTrue (is_listed (counts self.old).fail (counts self.old).calls) → IsErr result }
+        ensures unkept { told self.old ≡ None → is_err result ≡ is_listed (counts self.old).fail (counts self.old).calls }
         ensures ok { OnOk result (counts self.new ≡ called (counts self.old)) }
         ensures taken { OnOk result (told self.new ≡ option_map (took name emptied) (told self.old)) }
         ensures err { OnErr result (counts self.new ≡ failed (counts self.old)) }
@@ -164,6 +167,7 @@ impl Folder for MemoryFolder {
         ensures cause { HasCause (counts self.old).faults (counts self.new).faults result }
         ensures reads { (counts self.new).reads ≡ (counts self.old).reads }
         ensures listed { IsTrue (is_listed (counts self.old).fail (counts self.old).calls) → IsErr result }
+        ensures unkept { told self.old ≡ None → is_err result ≡ is_listed (counts self.old).fail (counts self.old).calls }
         ensures ok { OnOk result (counts self.new ≡ called (counts self.old)) }
         ensures taken { OnOk result (told self.new ≡ option_map (took name synced) (told self.old)) }
         ensures err { OnErr result (counts self.new ≡ failed (counts self.old)) }

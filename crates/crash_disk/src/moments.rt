@@ -1,6 +1,6 @@
 //! The moments of a folder: what it held at first, and what each call did.
 
-ghost use Rattle.std.specs.Prelude.{◌≡◌, OnOk, OnErr, option_map};
+ghost use Rattle.std.specs.Prelude.{◌≡◌, OnOk, OnErr, IsOk, None, option_map};
 ghost use Rattle.view_ports.specs.Disk.{IfTold};
 ghost use Rattle.crash_disk.specs.Moments.{Fits, noted};
 ghost use Rattle.crash_disk.specs.Told.{disk_of};
@@ -13,6 +13,7 @@ use json_terms::NoMemory;
 pub fn note(moments: &mut Option<Moments>, did: Did) -> Result<(), NoMemory>
     requires { IfTold (disk_of moments.old) (λ disk. Fits did disk.now) }
     ensures ok { OnOk result (disk_of moments.new ≡ option_map (noted did) (disk_of moments.old)) }
+    ensures unkept { disk_of moments.old ≡ None → IsOk result }
     ensures err { OnErr result (disk_of moments.new ≡ disk_of moments.old) }
 {
     if let Some(moments) = moments {

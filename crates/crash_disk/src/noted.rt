@@ -1,6 +1,6 @@
 //! Calls on a folder in memory that note what they do, and take all of their step or none of it.
 
-ghost use Rattle.std.specs.Prelude.{◌≡◌, ℕ, ◌+◌, ◌-◌, ◌≤◌, length, option_map, OnOk, OnErr, IsTrue, IsErr};
+ghost use Rattle.std.specs.Prelude.{◌≡◌, ℕ, ◌+◌, ◌-◌, ◌≤◌, length, option_map, OnOk, OnErr, IsTrue, IsErr, IsOk, None, is_err};
 ghost use Rattle.view_ports.specs.Disk.{IfTold, Tells};
 ghost use Rattle.view_ports.specs.File.{emptied, grew, synced, wrote};
 ghost use Rattle.view_ports.specs.FolderCalls.{Passes};
@@ -45,6 +45,7 @@ impl MemoryFolder {
         ensures disk { Tells (told self.old) (told self.new) Passes }
         ensures files { self.new.files ≡ self.old.files }
         ensures listed { IsTrue (is_listed (counts self.old).fail (counts self.old).calls) → IsErr result }
+        ensures unkept { told self.old ≡ None → is_err result ≡ is_listed (counts self.old).fail (counts self.old).calls }
         ensures ok { OnOk result (counts self.new ≡ called (counts self.old)) }
         ensures err { OnErr result (counts self.new ≡ failed (counts self.old)) }
         ensures cause { HasCause (counts self.old).faults (counts self.new).faults result }
@@ -106,6 +107,7 @@ impl MemoryFolder {
     /// Takes all bytes away.
     pub(crate) fn clear(&mut self, name: FileName) -> Result<(), NoMemory>
         ensures ok { OnOk result (told self.new ≡ option_map (took name emptied) (told self.old)) }
+        ensures unkept { told self.old ≡ None → IsOk result }
         ensures err { OnErr result (told self.new ≡ told self.old) }
         ensures counts { self.new.counters ≡ self.old.counters }
     {
@@ -117,6 +119,7 @@ impl MemoryFolder {
     /// Makes sure of what the file is.
     pub(crate) fn settle(&mut self, name: FileName) -> Result<(), NoMemory>
         ensures ok { OnOk result (told self.new ≡ option_map (took name synced) (told self.old)) }
+        ensures unkept { told self.old ≡ None → IsOk result }
         ensures err { OnErr result (told self.new ≡ told self.old) }
         ensures counts { self.new.counters ≡ self.old.counters }
     {

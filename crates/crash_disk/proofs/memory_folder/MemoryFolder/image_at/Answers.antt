@@ -1,11 +1,10 @@
 use Rattle.std.proofs.Common.{◌≡◌, ℕ, ◌<◌, List, Option, Some, length, sym, subst, arith}
 use Rattle.std.specs.Result.{IfOk}
 use Rattle.std.proofs.lemmas.Result.{IfOk-weaker}
-use Rattle.view_ports.specs.Disk.{Disk, IfTold}
+use Rattle.view_ports.specs.Disk.{IfTold}
 use Rattle.view_ports.specs.declared.file_name.FileName.{FileName}
 use Rattle.crash_disk.specs.declared.did.Did.TheVariants.{Passed}
 use Rattle.crash_disk.specs.declared.log.Moments.{Moments}
-use Rattle.crash_disk.specs.declared.memory_folder.MemoryFolder.{MemoryFolder}
 use Rattle.crash_disk.specs.Chosen.{IsChosen, IsSound}
 use Rattle.crash_disk.specs.HeldFiles.{bytes_in}
 use Rattle.crash_disk.specs.Moments.{disk_at}
@@ -39,9 +38,9 @@ returns-clause-image c =
     subst (λ m. IfTold (disk_of m) (λ disk. IfOk c.folder_of.result (λ folder. IsLeft disk c.args.call c.args.choice (told folder)))) (sym c.in-Some.is)
     (IfOk-weaker c.folder_of.result _ _
     (λ folder is. (
-        image,
-        is,
-        torn (bytes_in moments.start) moments.log.items c.args.call c.args.choice Passed image below
-        (λ name. subst (λ file. IsChosen c.args.choice file (image name)) (c.in_ok-pending.ensures Passed name) (c.in_ok-files.ensures name)),
-      ))
+      image,
+      is,
+      torn (bytes_in moments.start) moments.log.items c.args.call c.args.choice Passed image below
+          (λ name. subst (λ file. IsChosen c.args.choice file (image name)) (c.in_ok-pending.ensures Passed name) (c.in_ok-files.ensures name)),
+    ))
     c.folder_of.ensures.told)

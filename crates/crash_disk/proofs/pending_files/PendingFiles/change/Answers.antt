@@ -1,4 +1,4 @@
-use Rattle.std.proofs.Common.{◌≡◌, cond, ap, refl, sym, subst, ◌∙◌}
+use Rattle.std.proofs.Common.{cond, ap, refl, sym, subst, ◌∙◌}
 use Rattle.std.proofs.lemmas.Result.{on_ok_weaker}
 use Rattle.crash_disk.specs.declared.pending_file.PendingFile.{PendingFile}
 use Rattle.crash_disk.specs.Names.{is_same}
@@ -25,6 +25,6 @@ returns c =
     let held = c.place_or_new.new.self in
     on_ok_weaker c.apply.result
     (λ applied. λ n.
-      step_at c.args.name held.files.items c.in_ok-place.place c.index_mut-file.result.now _ (stepped c.args.change.now) held.apart c.in_ok-place.ensures.ok c.index_mut-file.ensures.value refl applied n
-      ∙ ap (λ file. cond (is_same c.args.name n) (stepped c.args.change.now file) file) (c.place_or_new.ensures.same n))
+    step_at c.args.name held.files.items c.in_ok-place.place c.index_mut-file.result.now _ (stepped c.args.change.now) held.apart c.in_ok-place.ensures.ok c.index_mut-file.ensures.value refl applied n
+    ∙ ap (λ file. cond (is_same c.args.name n) (stepped c.args.change.now file) file) (c.place_or_new.ensures.same n))
     c.apply.ensures

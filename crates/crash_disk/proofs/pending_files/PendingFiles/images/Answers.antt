@@ -1,4 +1,4 @@
-use Rattle.std.proofs.Common.{refl, subst, sym}
+use Rattle.std.proofs.Common.{subst, sym}
 use Rattle.std.specs.List.{All}
 use Rattle.crash_disk.specs.declared.pending_file.PendingFile.{PendingFile}
 use Rattle.crash_disk.specs.Chosen.{IsChosen, IsSound}
