@@ -27,7 +27,8 @@ impl MemoryFolder {
     /// An empty folder. The calls whose numbers are in `fail` fail, change nothing and are counted as
     /// faults; all calls of `Folder` are counted together, from 0. Where `moments` is true the folder
     /// keeps what each call did, and tells its disk. A call other than `names` that finds no memory
-    /// fails in the same way. A call that finds no memory to note it is no moment.
+    /// fails in the same way. A call that finds no memory to note it is no moment. A write that does not
+    /// lie within its file, which only a folder that tells nothing can be asked for, fails too.
     pub fn new(alloc: Global, fail: Vec<u64>, moments: bool) -> Result<MemoryFolder, NoMemory>
         ensures told { IfOk result (λ folder. told folder ≡ cond moments (Some (disk_at (λ name. []))) None) }
         ensures counts { IfOk result (λ folder. counts folder ≡ record { fail = fail.items; calls = 0; faults = 0; reads = 0 }) }
@@ -66,10 +67,14 @@ impl Folder for MemoryFolder {
         ensures disk { Tells (told self.old) (told self.new) Passes }
         ensures cause { HasCause (counts self.old).faults (counts self.new).faults result }
         ensures reads { (counts self.new).reads ≡ (counts self.old).reads }
+
+        // It fails where its number is listed, and where no memory is left; then it is a fault.
         ensures listed { IsTrue (is_listed (counts self.old).fail (counts self.old).calls) → IsErr result }
         ensures unkept { told self.old ≡ None → is_err result ≡ is_listed (counts self.old).fail (counts self.old).calls }
         ensures ok { OnOk result (counts self.new ≡ called (counts self.old)) }
         ensures err { OnErr result (counts self.new ≡ failed (counts self.old)) }
+
+        // It is one moment more, or none where it found no memory to be noted.
         ensures passed { OnOk result (told self.new ≡ option_map passed (told self.old)) }
         ensures same { OnErr result (ChangedNothing (told self.old) (told self.new)) }
     {
@@ -83,10 +88,14 @@ impl Folder for MemoryFolder {
         ensures disk { Tells (told self.old) (told self.new) Passes }
         ensures cause { HasCause (counts self.old).faults (counts self.new).faults result }
         ensures reads { (counts self.new).reads ≡ next_count (counts self.old).reads }
+
+        // It fails where its number is listed, and where no memory is left; then it is a fault.
         ensures listed { IsTrue (is_listed (counts self.old).fail (counts self.old).calls) → IsErr result }
         ensures unkept { told self.old ≡ None → is_err result ≡ is_listed (counts self.old).fail (counts self.old).calls }
         ensures ok { OnOk result (counts self.new ≡ called (was_read (counts self.old))) }
         ensures err { OnErr result (counts self.new ≡ failed (was_read (counts self.old))) }
+
+        // It is one moment more, or none where it found no memory to be noted.
         ensures passed { OnOk result (told self.new ≡ option_map passed (told self.old)) }
         ensures same { OnErr result (ChangedNothing (told self.old) (told self.new)) }
     {
@@ -105,12 +114,14 @@ impl Folder for MemoryFolder {
         ensures disk { Tells (told self.old) (told self.new) (Changes name (wrote at from.now) result) }
         ensures cause { HasCause (counts self.old).faults (counts self.new).faults result }
         ensures reads { (counts self.new).reads ≡ (counts self.old).reads }
+
+        // It fails where its number is listed, and where no memory is left; then it is a fault.
         ensures listed { IsTrue (is_listed (counts self.old).fail (counts self.old).calls) → IsErr result }
         ensures ok { OnOk result (counts self.new ≡ called (counts self.old)) }
+
+        // Its step is taken as a whole, or not at all.
         ensures taken { OnOk result (told self.new ≡ option_map (took name (wrote at from.now)) (told self.old)) }
         ensures err { OnErr result (counts self.new ≡ failed (counts self.old)) }
-
-        // A call that fails changes no file.
         ensures same { OnErr result (ChangedNothing (told self.old) (told self.new)) }
     {
         if self.counters.begin() {
@@ -127,8 +138,12 @@ impl Folder for MemoryFolder {
         ensures disk { Tells (told self.old) (told self.new) (Changes name (grew by) result) }
         ensures cause { HasCause (counts self.old).faults (counts self.new).faults result }
         ensures reads { (counts self.new).reads ≡ (counts self.old).reads }
+
+        // It fails where its number is listed, and where no memory is left; then it is a fault.
         ensures listed { IsTrue (is_listed (counts self.old).fail (counts self.old).calls) → IsErr result }
         ensures ok { OnOk result (counts self.new ≡ called (counts self.old)) }
+
+        // Its step is taken as a whole, or not at all.
         ensures taken { OnOk result (told self.new ≡ option_map (took name (grew by)) (told self.old)) }
         ensures err { OnErr result (counts self.new ≡ failed (counts self.old)) }
         ensures same { OnErr result (ChangedNothing (told self.old) (told self.new)) }
@@ -146,9 +161,13 @@ impl Folder for MemoryFolder {
         ensures disk { Tells (told self.old) (told self.new) (Changes name emptied result) }
         ensures cause { HasCause (counts self.old).faults (counts self.new).faults result }
         ensures reads { (counts self.new).reads ≡ (counts self.old).reads }
+
+        // It fails where its number is listed, and where no memory is left; then it is a fault.
         ensures listed { IsTrue (is_listed (counts self.old).fail (counts self.old).calls) → IsErr result }
         ensures unkept { told self.old ≡ None → is_err result ≡ is_listed (counts self.old).fail (counts self.old).calls }
         ensures ok { OnOk result (counts self.new ≡ called (counts self.old)) }
+
+        // Its step is taken as a whole, or not at all.
         ensures taken { OnOk result (told self.new ≡ option_map (took name emptied) (told self.old)) }
         ensures err { OnErr result (counts self.new ≡ failed (counts self.old)) }
         ensures same { OnErr result (ChangedNothing (told self.old) (told self.new)) }
@@ -166,9 +185,13 @@ impl Folder for MemoryFolder {
         ensures disk { Tells (told self.old) (told self.new) (Changes name synced result) }
         ensures cause { HasCause (counts self.old).faults (counts self.new).faults result }
         ensures reads { (counts self.new).reads ≡ (counts self.old).reads }
+
+        // It fails where its number is listed, and where no memory is left; then it is a fault.
         ensures listed { IsTrue (is_listed (counts self.old).fail (counts self.old).calls) → IsErr result }
         ensures unkept { told self.old ≡ None → is_err result ≡ is_listed (counts self.old).fail (counts self.old).calls }
         ensures ok { OnOk result (counts self.new ≡ called (counts self.old)) }
+
+        // Its step is taken as a whole, or not at all.
         ensures taken { OnOk result (told self.new ≡ option_map (took name synced) (told self.old)) }
         ensures err { OnErr result (counts self.new ≡ failed (counts self.old)) }
         ensures same { OnErr result (ChangedNothing (told self.old) (told self.new)) }
@@ -191,6 +214,8 @@ impl Folder for MemoryFolder {
         // It fails exactly where its number is listed; want of memory is no fault.
         ensures listed { IsTrue (is_listed (counts self.old).fail (counts self.old).calls) ↔ (result ≡ Err Failed) }
         ensures counts { counts self.new ≡ cond (is_listed (counts self.old).fail (counts self.old).calls) (failed (counts self.old)) (called (counts self.old)) }
+
+        // It is one moment more, or none where it found no memory to be noted.
         ensures passed { OnOk result (told self.new ≡ option_map passed (told self.old)) }
         ensures same { OnErr result (ChangedNothing (told self.old) (told self.new)) }
     {

@@ -16,5 +16,5 @@ loop-file-preserved c =
     let new : HeldFile = record { name = one.name; bytes = c.in_ok-image.field-0 } in
     let more : take (i + 1) files ≡ take i files ++ one ∷ [] = take_more files i one (omega arith) ∙ ap (λ file. take i files ++ file ∷ []) (sym c.file-item.is) in
     let matched = matched_push (IsChosen choice) (take i files) c.loop-file.held.items one new c.loop-file.invariant refl c.in_ok-image.ensures in
-    subst (AreMatched (IsChosen choice) (take (i + 1) files)) (sym c.in_ok-push.ensures.items)
+    subst (AreMatched (IsChosen choice) (take (i + 1) files)) (sym {A = List HeldFile} c.in_ok-push.ensures.items)
     (subst (λ fs. AreMatched (IsChosen choice) fs (c.loop-file.held.items ++ new ∷ [])) (sym {A = List PendingFile} more) matched)

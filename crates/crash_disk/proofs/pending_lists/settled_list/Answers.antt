@@ -15,5 +15,5 @@ loop-file-preserved c =
     let new : PendingFile = record { name = one.name; pending = c.in_ok-settled.field-0 } in
     let more : take (i + 1) held ≡ take i held ++ one ∷ [] = take_more held i one (omega arith) ∙ ap (λ file. take i held ++ file ∷ []) (sym c.file-item.is) in
     let matched = matched_push IsSettled c.loop-file.files.items (take i held) new one c.loop-file.invariant refl (c.in_ok-settled.ensures ∙ ap settled c.deref.ensures.value) in
-    subst (λ files. AreMatched IsSettled files (take (i + 1) held)) (sym c.in_ok-push.ensures.items)
+    subst (λ files. AreMatched IsSettled files (take (i + 1) held)) (sym {A = List PendingFile} c.in_ok-push.ensures.items)
     (subst (AreMatched IsSettled (c.loop-file.files.items ++ new ∷ [])) (sym {A = List HeldFile} more) matched)
