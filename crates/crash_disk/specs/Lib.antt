@@ -1,0 +1,17 @@
+pub mod Names
+pub mod SameNames
+pub mod Named
+pub mod Held
+pub mod HeldFiles
+pub mod Moments
+pub mod Told
+pub mod Stays
+pub mod State
+pub mod Law
+pub mod Pending
+pub mod Patch
+pub mod Chosen
+pub mod PendingList
+pub mod PendingFiles
+pub mod Torn
+pub mod Within
