@@ -25,7 +25,7 @@ pub enum Term {
 }
 
 /// A text: UTF-8, seen by contracts as the list of its bytes.
-#[derive(Drop)]
+#[derive(Debug, Drop)]
 pub struct Chars {
     text: String,
 }

@@ -1,0 +1,10 @@
+pub mod Replies
+pub mod Going
+pub mod Lines
+pub mod Prompts
+pub mod Asking
+pub mod Telling
+pub mod Stagings
+pub mod Attempts
+pub mod RowReplies
+pub mod Mapped

@@ -1,0 +1,152 @@
+-- A document was asked for: what follows.
+use Rattle.std.proofs.Common.{◌≡◌, ◌≢◌, ◌⊎◌, ◌≤◌, ◌+◌, ℕ, suc, take, add-one, List, [], ◌∷◌, ◌++◌, length, map, Bool, true, false, Option, Some, None, Result, Ok, Err, refl, sym, ap, ◌∙◌, subst, inl, inr}
+use Rattle.std.proofs.lemmas.List.{length-map}
+use Rattle.std.proofs.Math.Seq.{take-length}
+use Rattle.json_terms.specs.Json.{Json, depth, members_of, object}
+use Rattle.json_terms.proofs.Sames.{members_of-list_of_members}
+use Rattle.json_terms.specs.declared.rows.RowLists.{RowLists}
+use Rattle.view_ports.specs.declared.command.Command.{Command}
+use Rattle.view_ports.specs.declared.command.Command.TheVariants.{MapDoc}
+use Rattle.view_ports.specs.Calls.{Call, is_log, is_yes, sources_after}
+use Rattle.view_ports.specs.Commands.{command, document_depth}
+use Rattle.view_ports.specs.Functions.{Functions, IsMappable, source_limit, lists_term}
+use Rattle.view_ports.specs.Honest.{IsHonestLine, Spells, rows_of}
+use Rattle.query_protocol.specs.CommandLines.{command_line, document_of, IsDocument, IsProperCommand}
+use Rattle.query_protocol.specs.declared.reply.Kind.TheVariants as kind
+use Rattle.query_protocol.specs.declared.reply.Reply.{Reply}
+use Rattle.query_protocol.specs.declared.reply.Reply.TheVariants as reply
+use Rattle.query_protocol.specs.Replies.{reply_of}
+use Rattle.child_pool.specs.declared.pool_fault.PoolFault.{PoolFault}
+use Rattle.child_pool.specs.declared.pool_fault.PoolFault.TheVariants.{ServerFault}
+use Rattle.child_pool.specs.Jobs.{Job}
+use Rattle.child_pool.specs.Histories.{Went, AllShort, says, hears, talk}
+use Rattle.child_pool.specs.Sessions.{AllCompile, HasTold, IsIdle, IsTold}
+use Rattle.child_pool.specs.Stages.{AfterStages}
+use Rattle.child_pool.specs.Causes.{kind_of}
+use Rattle.child_pool.specs.Mapping.{AfterAnswer, AfterMap, AreHonestRows, HasMapped}
+use Rattle.child_pool.specs.Outcomes.{AfterPrompt, IsCaused, Replied}
+use Rattle.child_pool.specs.Pools.{rows_said}
+use Rattle.child_pool.specs.Talk.{AreTurns, Due, asks}
+use Rattle.child_pool.proofs.Going.{Went-map, Went-then}
+use Rattle.child_pool.proofs.Prompts.{caused_later}
+use Rattle.child_pool.proofs.RowReplies.{rows_reply, proper_reply}
+use Rattle.child_pool.proofs.Stagings.{caused_wider, no_log_said}
+use Rattle.child_pool.proofs.Telling.{AllShort-before, honest_line}
+
+-- what a whole result's rows are
+abbrev pub map_result : Result (Option Reply) PoolFault → Result (Option RowLists) PoolFault
+map_result (Ok None) = Ok None
+map_result (Ok (Some said)) = Ok (Some (rows_said said))
+map_result (Err f) = Err f
+
+-- what the rows of a second attempt are worth
+abbrev pub last_of : Result (Option RowLists) PoolFault → Result RowLists PoolFault
+last_of (Ok None) = Err ServerFault
+last_of (Ok (Some rows)) = Ok rows
+last_of (Err f) = Err f
+
+-- a result that needs no second attempt
+abbrev pub at_once : Result RowLists PoolFault → Result (Option RowLists) PoolFault
+at_once (Ok rows) = Ok (Some rows)
+at_once (Err f) = Err f
+
+-- what a failed start comes to
+abbrev pub failed_result : Result Bool PoolFault → Result RowLists PoolFault
+failed_result (Ok started) = Err ServerFault
+failed_result (Err f) = Err f
+
+turns_or : (turns rose : Type 0) → turns ⊎ ⊥ → turns ⊎ rose
+turns_or turns rose h = elim h [
+  | inl talked ↦ inl talked
+  | inr never ↦ absurd never
+]
+
+-- a document may be mapped
+pub proper_document : (d : Json) → IsDocument d → IsProperCommand (MapDoc (document_of d))
+proper_document d h =
+    let same : object (members_of (document_of d)) ≡ d = ap (λ (t : Json). object (members_of (document_of t))) h.is ∙ ap object (members_of-list_of_members (members_of h.members)) ∙ sym h.is in
+    subst (λ (t : Json). depth t ≤ document_depth) (sym same) h.shallow
+
+spelled_rows : (functions : Functions) (sources : List (List ℕ)) (logs : ℕ) (document : List (List ℕ × Json)) (line : List ℕ) → is_log line ≡ false → IsHonestLine functions sources logs (MapDoc document) line → Spells line (lists_term (rows_of functions sources document))
+spelled_rows functions sources logs document line no_log h = elim h [
+  | inl log ↦ absurd cc
+  | inr answer ↦ answer.1
+]
+
+module _ (functions : List ℕ → Functions) (honest : List ℕ → Type 0) where
+  module _ (path : List ℕ) (sources : List (List ℕ)) (line : List ℕ) (document : List (List ℕ × Json)) (slot : ℕ) (said : Reply) (added now : List Call)
+      (r : Replied functions honest path sources line slot (says slot line ∷ []) said added now) (is : command line ≡ MapDoc document) where
+    reads : reply_of (kind.Rows (length sources)) r.line ≡ Some said
+    reads = subst (λ (c : Command). reply_of (kind_of c (length sources)) r.line ≡ Some said) is r.reads
+
+    pub honest_rows : AreHonestRows functions honest path sources document now (rows_said said)
+    honest_rows = λ h short mappable few.
+        let earlier : AllShort r.earlier = (subst AllShort r.is short).1 in
+        let answered = honest_line functions honest path sources line r.logs slot r.earlier r.line r.asked r.answers h earlier (MapDoc document) is (mappable, few) in
+        let lists : List (List (Json × Json)) = rows_of (functions path) sources document in
+        let spells = spelled_rows (functions path) sources r.logs document r.line r.no_log answered in
+        let counted : length lists ≡ length sources = length-map sources (λ source. (functions path).map_of source document) in
+        let right = proper_reply (length sources) lists r.line spells ((functions path).proper_maps sources document few mappable) counted in
+        let both : Some said ≡ Some (reply.Rows lists) = sym reads ∙ right in
+        let same : said ≡ reply.Rows lists = cc in
+        ap rows_said same
+
+    pub mapped_turns : line ≡ command_line (MapDoc document) → AreTurns (asks slot (MapDoc document) (length sources)) (talk added)
+    mapped_turns spelled =
+        let found = rows_reply (length sources) r.line said (no_log_said functions honest path line slot sources said added now r) reads in
+        subst (AreTurns (asks slot (MapDoc document) (length sources))) (sym r.talked)
+        ((refl, spelled), ((refl, record { reply = reply.Rows found.0; answer = tt; reads = reads ∙ ap Some found.1 }), tt))
+
+  module _ {follow : List Call → Type 0} {job : Job} {slot : ℕ} {calls : List Call} (path : List ℕ) (sources : List (List ℕ)) where
+    pub map_went : (line : List ℕ) (document : List (List ℕ × Json)) (result : Result (Option Reply) PoolFault) → HasTold functions honest path sources slot calls → command line ≡ MapDoc document → line ≡ command_line (MapDoc document)
+        → Went follow job slot calls (AfterPrompt functions honest path sources line slot (says slot line ∷ []) result calls)
+        → Went follow job slot calls (AfterAnswer functions honest path sources slot document (asks slot (MapDoc document) (length sources)) (map_result result) calls)
+    map_went line document (Ok None) told is spelled w = Went-map w (AfterAnswer functions honest path sources slot document (asks slot (MapDoc document) (length sources)) (Ok None) calls) tt
+    map_went line document (Err f) told is spelled w =
+        Went-map w (AfterAnswer functions honest path sources slot document (asks slot (MapDoc document) (length sources)) (Err f) calls) (caused_wider functions honest sources f w.added calls w.holds)
+    map_went line document (Ok (Some said)) told is spelled w =
+        Went-map w (AfterAnswer functions honest path sources slot document (asks slot (MapDoc document) (length sources)) (Ok (Some (rows_said said))) calls) (record {
+          told = record {
+            idle = subst (λ (c : Command). IsIdle path (sources_after c (is_yes w.holds.line) sources) slot w.now) is w.holds.idle;
+            compile = λ h short. told.compile h (AllShort-before w.added calls (subst AllShort w.is_now short));
+          };
+          talked = inl (mapped_turns path sources line document slot said w.added w.now w.holds is spelled);
+          right = honest_rows path sources line document slot said w.added w.now w.holds is;
+        })
+
+    -- a first attempt that gave rows, or was refused
+    pub first_rows : (document : List (List ℕ × Json)) (dues : List Due) (rose : Type 0) (result : Result (Option RowLists) PoolFault) (last : Result RowLists PoolFault) → result ≡ at_once last
+        → Went follow job slot calls (AfterAnswer functions honest path sources slot document dues result calls) → Went follow job slot calls (AfterMap functions honest path sources slot document dues rose last calls)
+    first_rows document dues rose result (Ok rows) e w =
+        let v : Went follow job slot calls (AfterAnswer functions honest path sources slot document dues (Ok (Some rows)) calls) = subst (λ (r : Result (Option RowLists) PoolFault). Went follow job slot calls (AfterAnswer functions honest path sources slot document dues r calls)) e w in
+        Went-map v (AfterMap functions honest path sources slot document dues rose (Ok rows) calls) (record { told = v.holds.told; talked = turns_or (AreTurns dues (talk v.added)) rose v.holds.talked; right = v.holds.right })
+    first_rows document dues rose result (Err f) e w =
+        let v : Went follow job slot calls (AfterAnswer functions honest path sources slot document dues (Err f) calls) = subst (λ (r : Result (Option RowLists) PoolFault). Went follow job slot calls (AfterAnswer functions honest path sources slot document dues r calls)) e w in
+        Went-map v (AfterMap functions honest path sources slot document dues rose (Err f) calls) v.holds
+
+    -- a fresh child's session is ready
+    pub started_over : {P : List Call → List Call → Type 0} {second : List Call → Type 0} (told : List Due) (result : Result Bool PoolFault) → result ≡ Ok true
+        → (w : Went follow job slot calls P) (v : Went second job slot w.now (AfterStages functions honest path sources slot (length sources + 1) told result w.now))
+        → Went second job slot calls (λ added now. HasTold functions honest path sources slot now)
+    started_over told result e w v =
+        let u : AfterStages functions honest path sources slot (length sources + 1) told (Ok true) w.now v.added v.now = subst (λ (r : Result Bool PoolFault). AfterStages functions honest path sources slot (length sources + 1) told r w.now v.added v.now) e v.holds in
+        let is_told : IsTold functions honest path sources (suc (length sources)) slot v.now = subst (λ (n : ℕ). IsTold functions honest path sources n slot v.now) (add-one (length sources)) u.0 in
+        Went-then w v (λ added now. HasTold functions honest path sources slot now) (subst (λ (srcs : List (List ℕ)). HasTold functions honest path srcs slot v.now) (take-length sources) is_told)
+
+    -- no fresh child's session is ready
+    pub failed_start : {P : List Call → List Call → Type 0} {second : List Call → Type 0} (document : List (List ℕ × Json)) (dues : List Due) (rose : Type 0) (stage : ℕ) (told : List Due) (result : Result Bool PoolFault) (last : Result RowLists PoolFault) → failed_result result ≡ last
+        → (w : Went follow job slot calls P) (v : Went second job slot w.now (AfterStages functions honest path sources slot stage told result w.now))
+        → Went second job slot calls (AfterMap functions honest path sources slot document dues rose last calls)
+    failed_start document dues rose stage told (Ok started) last e w v = Went-then w v (AfterMap functions honest path sources slot document dues rose last calls) (subst (λ (l : Result RowLists PoolFault). AfterMap functions honest path sources slot document dues rose l calls (v.added ++ w.added) v.now) e tt)
+    failed_start document dues rose stage told (Err f) last e w v =
+        Went-then w v (AfterMap functions honest path sources slot document dues rose last calls) (subst (λ (l : Result RowLists PoolFault). AfterMap functions honest path sources slot document dues rose l calls (v.added ++ w.added) v.now) e (caused_later functions honest sources f v.added w.added calls w.now w.is_now v.holds))
+
+    -- the second attempt's rows
+    pub once_more : {P : List Call → List Call → Type 0} {second : List Call → Type 0} (document : List (List ℕ × Json)) (dues : List Due) (rose : Type 0) (result : Result (Option RowLists) PoolFault) (last : Result RowLists PoolFault)
+        → rose → last_of result ≡ last → (w : Went follow job slot calls P) (v : Went second job slot w.now (AfterAnswer functions honest path sources slot document dues result w.now))
+        → Went second job slot calls (AfterMap functions honest path sources slot document dues rose last calls)
+    once_more document dues rose (Ok None) last r e w v = Went-then w v (AfterMap functions honest path sources slot document dues rose last calls) (subst (λ (l : Result RowLists PoolFault). AfterMap functions honest path sources slot document dues rose l calls (v.added ++ w.added) v.now) e tt)
+    once_more document dues rose (Ok (Some rows)) last r e w v =
+        Went-then w v (AfterMap functions honest path sources slot document dues rose last calls) (subst (λ (l : Result RowLists PoolFault). AfterMap functions honest path sources slot document dues rose l calls (v.added ++ w.added) v.now) e (record { told = v.holds.told; talked = inr r; right = v.holds.right }))
+    once_more document dues rose (Err f) last r e w v =
+        Went-then w v (AfterMap functions honest path sources slot document dues rose last calls) (subst (λ (l : Result RowLists PoolFault). AfterMap functions honest path sources slot document dues rose l calls (v.added ++ w.added) v.now) e (caused_later functions honest sources f v.added w.added calls w.now w.is_now v.holds))

@@ -1,0 +1,67 @@
+-- The rows of a reply, and of an honest answer.
+use Rattle.std.proofs.Common.{◌≡◌, ◌≢◌, ◌⊎◌, ◌≤◌, ℕ, List, [], ◌∷◌, length, map, Bool, true, false, cond, ◌&&◌, nat_eq, nat_le, Option, Some, None, Result, Ok, Err, option_map, option_and_then, refl, sym, ap, ◌∙◌, subst, inl, inr, eq-eqb}
+use Rattle.std.specs.List.{AllByRecursion}
+use Rattle.std.proofs.lemmas.Bool.{le-leb}
+use Rattle.json_terms.specs.Json.{Json, items_of, depth}
+use Rattle.json_terms.specs.Reading.{reading}
+use Rattle.json_terms.specs.Text.{text_of}
+use Rattle.json_terms.specs.declared.fault.TermFault.{TermFault}
+use Rattle.view_ports.specs.Calls.{is_log, is_log_term, is_short}
+use Rattle.view_ports.specs.Functions.{AreProper, IsRowWithinBounds, IsWithinBounds, lists_term, rows_term, pair_term, part_limit, part_depth, line_limit}
+use Rattle.view_ports.specs.Honest.{Spells}
+use Rattle.view_ports.proofs.Fields.{lists_are_no_log}
+use Rattle.query_protocol.specs.declared.reply.Kind.{Kind}
+use Rattle.query_protocol.specs.declared.reply.Kind.TheVariants as kind
+use Rattle.query_protocol.specs.declared.reply.Reply.{Reply}
+use Rattle.query_protocol.specs.declared.reply.Reply.TheVariants as reply
+use Rattle.query_protocol.specs.Replies.{reply_of, reply_read, reply_in, answer_in, counted, is_within_bounds, lists_in, lists_of_items, row_in, rows_in, rows_of_items}
+use Rattle.child_pool.proofs.Replies.{chosen}
+
+-- ---- what a reply with rows can be
+
+mapped_rows : (o : Option (List (List (Json × Json)))) (said : Reply) → option_map reply.Rows o ≡ Some said → (rows : List (List (Json × Json))) × (said ≡ reply.Rows rows)
+mapped_rows None said e = absurd cc
+mapped_rows (Some rows) said e = let same : said ≡ reply.Rows rows = cc in (rows, same)
+
+rows_read : (count : ℕ) (short : Bool) (r : Result Json TermFault) (said : Reply) → said ≢ reply.Log → reply_read (kind.Rows count) short r ≡ Some said → (rows : List (List (Json × Json))) × (said ≡ reply.Rows rows)
+rows_read count short (Err fault) said other e = absurd cc
+rows_read count short (Ok t) said other e = elim (chosen (is_log_term t) (Some reply.Log) (cond short (answer_in (kind.Rows count) t) None) (Some said) e) [
+  | inl log ↦ let f : Some reply.Log ≡ Some said = log.1 in let same : said ≡ reply.Log = cc in absurd (other same)
+  | inr answer ↦ elim (chosen short (answer_in (kind.Rows count) t) None (Some said) answer.1) [
+    | inl proper ↦ mapped_rows (lists_in count t) said proper.1
+    | inr long ↦ let f : None ≡ Some said = long.1 in absurd cc
+  ]
+]
+
+pub rows_reply : (count : ℕ) (line : List ℕ) (said : Reply) → said ≢ reply.Log → reply_of (kind.Rows count) line ≡ Some said → (rows : List (List (Json × Json))) × (said ≡ reply.Rows rows)
+rows_reply count line said other e = rows_read count (is_short line) (reading line) said other e
+
+-- ---- proper rows are read
+
+within : (t : Json) → IsWithinBounds t → is_within_bounds t ≡ true
+within t w = rw (le-leb (length (text_of t)) part_limit w.size, le-leb (depth t) part_depth w.nested) refl
+
+row_read : (row : Json × Json) → IsRowWithinBounds row → row_in (pair_term row) ≡ Some row
+row_read (key, value) w = rw (within key w.0, within value w.1) refl
+
+rows_of_items-terms : (rows : List (Json × Json)) → AllByRecursion IsRowWithinBounds rows → rows_of_items (items_of (map pair_term rows)) ≡ Some rows
+rows_of_items-terms [] w = refl
+rows_of_items-terms (row ∷ rows) w = rw (row_read row w.0, rows_of_items-terms rows w.1) refl
+
+lists_of_items-terms : (lists : List (List (Json × Json))) → AllByRecursion (AllByRecursion IsRowWithinBounds) lists → lists_of_items (items_of (map rows_term lists)) ≡ Some lists
+lists_of_items-terms [] w = refl
+lists_of_items-terms (rows ∷ lists) w = rw (rows_of_items-terms rows w.0, lists_of_items-terms lists w.1) refl
+
+lists_in-term : (lists : List (List (Json × Json))) (count : ℕ) → AllByRecursion (AllByRecursion IsRowWithinBounds) lists → length lists ≡ count → lists_in count (lists_term lists) ≡ Some lists
+lists_in-term lists count w many =
+    let here : nat_eq (length lists) count ≡ true = eq-eqb (length lists) count many in
+    ap (option_and_then (counted count)) (lists_of_items-terms lists w) ∙ rw here refl
+
+proper_read : (count : ℕ) (lists : List (List (Json × Json))) → AreProper lists → length lists ≡ count → reply_in (kind.Rows count) true (lists_term lists) ≡ Some (reply.Rows lists)
+proper_read count lists proper many = rw (lists_are_no_log lists, lists_in-term lists count proper.bounded many) refl
+
+-- a proper answer's rows are its reply
+pub proper_reply : (count : ℕ) (lists : List (List (Json × Json))) (line : List ℕ) → Spells line (lists_term lists) → AreProper lists → length lists ≡ count → reply_of (kind.Rows count) line ≡ Some (reply.Rows lists)
+proper_reply count lists line spells proper many =
+    let short : is_short line ≡ true = le-leb (length line) line_limit spells.short in
+    ap (reply_read (kind.Rows count) (is_short line)) spells.spelled ∙ ap (λ (b : Bool). reply_in (kind.Rows count) b (lists_term lists)) short ∙ proper_read count lists proper many

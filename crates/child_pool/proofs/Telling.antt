@@ -1,0 +1,77 @@
+-- A stage was answered: how far the session has come, what it has said, and what an honest server's answer tells.
+use Rattle.std.proofs.Common.{◌≡◌, ◌≢◌, ◌⊎◌, ◌≤◌, ◌<◌, ◌+◌, ℕ, zero, suc, List, [], ◌∷◌, ◌++◌, length, take, get_or, Bool, true, false, Option, Some, None, Result, Ok, Err, MatchBool, refl, sym, ap, ◌∙◌, subst, inl, inr, arith, append_assoc}
+use Rattle.std.specs.List.{AllByRecursion}
+use Rattle.std.proofs.Math.Seq.{take-suc}
+use Rattle.json_terms.specs.Json.{is_true}
+use Rattle.json_terms.specs.Reading.{reading}
+use Rattle.view_ports.specs.declared.command.Command.{Command}
+use Rattle.view_ports.specs.declared.command.Command.TheVariants.{Reset, AddFun}
+use Rattle.view_ports.specs.Calls.{Call, receive, Session, session, child, is_log, is_yes, sources_after}
+use Rattle.view_ports.specs.Commands.{command}
+use Rattle.view_ports.specs.Functions.{Functions}
+use Rattle.view_ports.specs.Honest.{AnswersChild, Complains, IsAnswerable, IsHonestLine, Spells, is_complaint_read}
+use Rattle.query_protocol.specs.CommandLines.{command_line}
+use Rattle.query_protocol.specs.declared.reply.Kind.{Kind}
+use Rattle.query_protocol.specs.declared.reply.Kind.TheVariants as kind
+use Rattle.query_protocol.specs.declared.reply.Reply.{Reply}
+use Rattle.query_protocol.specs.declared.reply.Reply.TheVariants as reply
+use Rattle.query_protocol.specs.Replies.{reply_of}
+use Rattle.child_pool.specs.Jobs.{Job, IsAmong}
+use Rattle.child_pool.specs.Histories.{Went, HasReceived, IsReceipt, AllShort, Turn, says, hears, talk}
+use Rattle.child_pool.specs.Sessions.{AllCompile, HasTold, IsAt, IsIdle, IsTold}
+use Rattle.child_pool.specs.Causes.{kind_of, ComplainsOf}
+use Rattle.child_pool.specs.Outcomes.{AfterPrompt, IsCaused, Replied, WasComplaint}
+use Rattle.child_pool.specs.Stages.{AfterStages, stage_command, told_by}
+use Rattle.child_pool.specs.Talk.{AreTurns, asks, IsProperAnswer}
+use Rattle.child_pool.proofs.Going.{Went-map}
+use Rattle.child_pool.proofs.Replies.{reset_reply, source_reply, yes_no_complaint}
+
+-- ---- lists of calls
+
+pub AllShort-before : (added before : List Call) → AllShort (added ++ before) → AllShort before
+AllShort-before [] before h = h
+AllShort-before (call ∷ added) before h = AllShort-before added before h.1
+
+pub among_at : (sources : List (List ℕ)) (i : ℕ) → i < length sources → IsAmong sources (get_or sources i [])
+among_at [] i within = absurd (omega arith)
+among_at (source ∷ sources) zero within = inl refl
+among_at (source ∷ sources) (suc i) within = inr (among_at sources i (omega arith))
+
+turns_some : (said : List Turn) (turn : Turn) → [] ≡ said ++ turn ∷ [] → ⊥
+turns_some [] turn e = cc
+turns_some (first ∷ said) turn e = cc
+
+-- the last call was added
+pub received_last : (P : Option Session → List ℕ → Type 0) (slot : ℕ) (line : List ℕ) (added before now earlier : List Call) (said : List Turn) (turn : Turn)
+    → now ≡ added ++ before → now ≡ receive slot (Some line) ∷ earlier → talk added ≡ said ++ turn ∷ [] → P (child slot earlier) line → HasReceived P added before
+received_last P slot line [] before now earlier said turn is last talked p = absurd (turns_some said turn talked)
+received_last P slot line (call ∷ added) before now earlier said turn is last talked p =
+    let same : call ∷ (added ++ before) ≡ receive slot (Some line) ∷ earlier = sym is ∙ last in
+    let first : receive slot (Some line) ≡ call = cc in
+    let others : earlier ≡ added ++ before = cc in
+    inl (subst (λ (c : Call). IsReceipt P c (added ++ before)) first (subst (λ (calls : List Call). P (child slot calls) line) others p))
+
+-- ---- honest answers
+
+module _ (functions : List ℕ → Functions) (honest : List ℕ → Type 0) (path : List ℕ) (sources : List (List ℕ)) (prompt : List ℕ) (logs slot : ℕ) (earlier : List Call) (line : List ℕ) where
+  -- an honest path's answer, where no line was too long
+  pub honest_line : IsAt path sources (prompt ∷ []) logs slot earlier → AnswersChild functions honest (child slot earlier) line → honest path → AllShort earlier
+      → (c : Command) → command prompt ≡ c → IsAnswerable sources c → IsHonestLine (functions path) sources logs c line
+  honest_line at answers is_honest short c is answerable =
+      let here : AnswersChild functions honest (Some (session path sources (prompt ∷ []) logs at.sound)) line = subst (λ (st : Option Session). AnswersChild functions honest st line) at.is answers in
+      subst (λ (asked : Command). IsHonestLine (functions path) sources logs asked line) is (here is_honest (at.kept short) (subst (IsAnswerable sources) (sym is) answerable))
+
+-- a source whose answer was `true` compiles
+compiles_by : (functions : Functions) (source line : List ℕ) (b : Bool) → functions.compiles source ≡ b → MatchBool b (Spells line is_true) (Complains line) → is_yes line ≡ true → functions.compiles source ≡ true
+compiles_by functions source line true e h accepted = e
+compiles_by functions source line false e h accepted = absurd (yes_no_complaint line accepted h.1)
+
+pub honest_source : (functions : Functions) (sources : List (List ℕ)) (logs : ℕ) (source line : List ℕ) → is_log line ≡ false → is_yes line ≡ true → IsHonestLine functions sources logs (AddFun source) line → functions.compiles source ≡ true
+honest_source functions sources logs source line no_log accepted h = elim h [
+  | inl log ↦ absurd cc
+  | inr answer ↦ compiles_by functions source line (functions.compiles source) refl answer.1 accepted
+]
+
+pub AllCompile-more : (functions : Functions) (sources : List (List ℕ)) (source : List ℕ) → AllCompile functions sources → functions.compiles source ≡ true → AllCompile functions (sources ++ source ∷ [])
+AllCompile-more functions [] source h e = (e, tt)
+AllCompile-more functions (s ∷ sources) source h e = (h.0, AllCompile-more functions sources source h.1 e)

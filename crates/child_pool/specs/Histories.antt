@@ -1,0 +1,61 @@
+-- The calls that a function made on the query servers, the newest first.
+use Rattle.std.specs.Prelude.{◌≡◌, ◌⊎◌, ◌≤◌, ℕ, List, [], ◌∷◌, ◌++◌, Bool, true, false, length, Option, Some, None, if◌then◌else◌}
+use Rattle.view_ports.specs.Calls.{Call, start, send, receive, stop, Session, child, is_log}
+use Rattle.view_ports.specs.Functions.{line_limit}
+use Rattle.child_pool.specs.Jobs.{Job, AllLawful}
+
+-- what a function did on a slot: after the calls that were made `before` it made those that it `added`, each lawful, and of
+-- those that it added and of all calls now `P` holds
+pub record Went (may_follow : List Call → Type 0) (job : Job) (slot : ℕ) (before : List Call) (P : List Call → List Call → Type 0) : Type 0 where
+  pub added : List Call
+  pub now : List Call
+  pub is_now : now ≡ added ++ before
+  pub follows : may_follow now
+  pub lawful : AllLawful job slot added before
+  pub holds : P added now
+
+-- a line was received; of the child that sent it and of the line `P` holds
+abbrev pub IsReceipt : (Option Session → List ℕ → Type 0) → Call → List Call → Type 0
+IsReceipt P (receive slot (Some line)) before = P (child slot before) line
+IsReceipt P (receive slot None) before = ⊥
+IsReceipt P (start slot path started) before = ⊥
+IsReceipt P (send slot line sent) before = ⊥
+IsReceipt P (stop slot) before = ⊥
+
+-- among the added calls is such a receipt
+abbrev pub HasReceived : (Option Session → List ℕ → Type 0) → List Call → List Call → Type 0
+HasReceived P [] before = ⊥
+HasReceived P (call ∷ added) before = IsReceipt P call (added ++ before) ⊎ HasReceived P added before
+
+-- no line that was sent is too long
+abbrev pub IsShortCall : Call → Type 0
+IsShortCall (send slot line sent) = length line ≤ line_limit
+IsShortCall (start slot path started) = Unit {0}
+IsShortCall (receive slot line) = Unit {0}
+IsShortCall (stop slot) = Unit {0}
+
+abbrev pub AllShort : List Call → Type 0
+AllShort [] = Unit {0}
+AllShort (call ∷ calls) = IsShortCall call × AllShort calls
+
+-- ---- the talk: the lines that were sent and received, log lines aside, in the order of the calls
+
+pub data Turn : Type 0 where
+  says : ℕ → List ℕ → Turn
+  hears : ℕ → List ℕ → Turn
+
+abbrev pub heard_turn : Bool → ℕ → List ℕ → List Turn
+heard_turn true slot line = []
+heard_turn false slot line = hears slot line ∷ []
+
+abbrev pub turns_of : Call → List Turn
+turns_of (send slot line true) = says slot line ∷ []
+turns_of (send slot line false) = []
+turns_of (receive slot (Some line)) = heard_turn (is_log line) slot line
+turns_of (receive slot None) = []
+turns_of (start slot path started) = []
+turns_of (stop slot) = []
+
+abbrev pub talk : List Call → List Turn
+talk [] = []
+talk (call ∷ calls) = talk calls ++ turns_of call

@@ -1,0 +1,52 @@
+-- What a request asks of the query servers, and which calls it may make.
+use Rattle.std.specs.Prelude.{◌≡◌, ◌≢◌, ◌⊎◌, ℕ, List, [], ◌∷◌, ◌++◌, Bool, Option, Some, None}
+use Rattle.json_terms.specs.Json.{Json}
+use Rattle.view_ports.specs.declared.command.Command.{Command}
+use Rattle.view_ports.specs.declared.command.Command.TheVariants.{Reset, AddFun, MapDoc, Reduce, Rereduce, Other}
+use Rattle.view_ports.specs.Calls.{Call, start, send, receive, stop, Session, child, slot_of}
+use Rattle.query_protocol.specs.CommandLines.{command_line}
+
+-- a design's path, the sources of its map functions in order of the views, and the documents that are mapped
+pub record Job : Type 0 where
+  pub path : List ℕ
+  pub sources : List (List ℕ)
+  pub documents : List (List (List ℕ × Json))
+
+-- one of the list
+abbrev pub IsAmong : {A : Type 0} → List A → A → Type 0
+IsAmong [] x = ⊥
+IsAmong (y ∷ ys) x = (x ≡ y) ⊎ IsAmong ys x
+
+-- a command that maps the job's documents by the job's functions
+abbrev pub IsCommandOf : Job → Command → Type 0
+IsCommandOf job Reset = Unit {0}
+IsCommandOf job (AddFun source) = IsAmong job.sources source
+IsCommandOf job (MapDoc document) = IsAmong job.documents document
+IsCommandOf job (Reduce source rows) = ⊥
+IsCommandOf job (Rereduce source values) = ⊥
+IsCommandOf job Other = ⊥
+
+abbrev pub IsLineOfJob : Job → List ℕ → Type 0
+IsLineOfJob job line = (command : Command) × IsCommandOf job command × (line ≡ command_line command)
+
+abbrev pub HasChild : Option Session → Type 0
+HasChild None = ⊥
+HasChild (Some s) = Unit {0}
+
+-- a line was sent to the child that it hasn't answered
+abbrev pub IsAsked : Option Session → Type 0
+IsAsked None = ⊥
+IsAsked (Some s) = s.waiting ≢ []
+
+-- A child is started by the job's path alone, a line of the job is sent to a slot that has a child, and a line is
+-- received from a child that was asked.
+abbrev pub IsLawful : Job → Call → List Call → Type 0
+IsLawful job (start slot path started) before = path ≡ job.path
+IsLawful job (send slot line sent) before = IsLineOfJob job line × HasChild (child slot before)
+IsLawful job (receive slot line) before = IsAsked (child slot before)
+IsLawful job (stop slot) before = Unit {0}
+
+-- each of these calls is on the slot and lawful: the newest first, where `before` were made before them
+abbrev pub AllLawful : Job → ℕ → List Call → List Call → Type 0
+AllLawful job slot [] before = Unit {0}
+AllLawful job slot (call ∷ added) before = (slot_of call ≡ slot) × IsLawful job call (added ++ before) × AllLawful job slot added before

@@ -1,0 +1,12 @@
+pub mod Shown
+pub mod Jobs
+pub mod Histories
+pub mod Sessions
+pub mod Causes
+pub mod Answered
+pub mod Hearing
+pub mod Outcomes
+pub mod Talk
+pub mod Stages
+pub mod Mapping
+pub mod Pools

@@ -1,0 +1,45 @@
+-- The stages in which a session is made ready: reset, and then one source after another.
+use Rattle.std.specs.Prelude.{◌≡◌, ◌⊎◌, ℕ, zero, suc, List, [], ◌∷◌, ◌++◌, slice_index_or, Bool, true, false, Option, Some, None, Result, Ok, Err}
+use Rattle.view_ports.specs.declared.command.Command.{Command}
+use Rattle.view_ports.specs.declared.command.Command.TheVariants.{Reset, AddFun}
+use Rattle.view_ports.specs.Calls.{Call}
+use Rattle.view_ports.specs.Faults.{Rose}
+use Rattle.view_ports.specs.Functions.{Functions}
+use Rattle.query_protocol.specs.declared.reply.Reply.{Reply}
+use Rattle.query_protocol.specs.declared.reply.Reply.TheVariants.{Log, Yes, Rows, Value, Compile}
+use Rattle.child_pool.specs.declared.pool_fault.PoolFault.{PoolFault}
+use Rattle.child_pool.specs.declared.pool_fault.PoolFault.TheVariants as fault
+use Rattle.child_pool.specs.Histories.{talk}
+use Rattle.child_pool.specs.Outcomes.{IsCaused}
+use Rattle.child_pool.specs.Sessions.{IsTold}
+use Rattle.child_pool.specs.Talk.{Due, AreTurns, asks}
+
+-- what is said at a stage
+abbrev pub stage_command : List (List ℕ) → ℕ → Command
+stage_command sources zero = Reset
+stage_command sources (suc told) = AddFun (slice_index_or sources told [])
+
+-- the turns of the stages before this one
+abbrev pub told_turns : ℕ → List (List ℕ) → ℕ → List Due
+told_turns slot sources zero = []
+told_turns slot sources (suc stage) = told_turns slot sources stage ++ asks slot (stage_command sources stage) 0
+
+-- an answer ends a stage, but a complaint that the source doesn't compile
+abbrev pub told_by : Reply → Result Bool PoolFault
+told_by Compile = Err fault.Compile
+told_by Log = Ok true
+told_by Yes = Ok true
+told_by (Rows rows) = Ok true
+told_by (Value value) = Ok true
+
+module _ (functions : List ℕ → Functions) (honest : List ℕ → Type 0) where
+  -- after some stages: this one is reached with these turns, or a call failed, or there is a refusal with its cause
+  abbrev pub AfterStages : List ℕ → List (List ℕ) → ℕ → ℕ → List Due → Result Bool PoolFault → List Call → List Call → List Call → Type 0
+  AfterStages path sources slot stage dues (Ok true) before added now = IsTold functions honest path sources stage slot now × AreTurns dues (talk added)
+  AfterStages path sources slot stage dues (Ok false) before added now = Unit {0}
+  AfterStages path sources slot stage dues (Err f) before added now = IsCaused functions honest sources added before f
+
+  -- the same after two attempts at most: the turns are those where no fault was counted
+  abbrev pub AfterAttempts : List ℕ → List (List ℕ) → ℕ → ℕ → List Due → Type 0 → Result (Unit {0}) PoolFault → List Call → List Call → List Call → Type 0
+  AfterAttempts path sources slot stage dues rose (Ok done) before added now = IsTold functions honest path sources stage slot now × (AreTurns dues (talk added) ⊎ rose)
+  AfterAttempts path sources slot stage dues rose (Err f) before added now = IsCaused functions honest sources added before f

@@ -1,0 +1,79 @@
+-- The talk of an update without faults, log lines aside: which lines are said and heard, in which order.
+use Rattle.std.specs.Prelude.{◌≡◌, ◌-◌, ℕ, zero, suc, min, List, [], ◌∷◌, ◌++◌, length, take, drop, Option, Some}
+use Rattle.std.specs.List.{flat_map}
+use Rattle.json_terms.specs.Json.{Json}
+use Rattle.view_ports.specs.declared.command.Command.{Command}
+use Rattle.view_ports.specs.declared.command.Command.TheVariants.{Reset, AddFun, MapDoc}
+use Rattle.query_protocol.specs.CommandLines.{command_line}
+use Rattle.query_protocol.specs.declared.reply.Kind.{Kind}
+use Rattle.query_protocol.specs.declared.reply.Reply.{Reply}
+use Rattle.query_protocol.specs.declared.reply.Reply.TheVariants.{Log, Yes, Rows, Value, Compile}
+use Rattle.query_protocol.specs.Replies.{reply_of}
+use Rattle.child_pool.specs.Histories.{Turn, says, hears}
+use Rattle.child_pool.specs.Causes.{kind_of}
+
+-- a turn that is due on a slot: a command's line is said, or any proper answer to a command is heard, where so many sources were added
+pub data Due : Type 0 where
+  say : ℕ → Command → Due
+  hear : ℕ → Command → ℕ → Due
+
+abbrev pub IsAnswer : Reply → Type 0
+IsAnswer Log = ⊥
+IsAnswer Compile = ⊥
+IsAnswer Yes = Unit {0}
+IsAnswer (Rows rows) = Unit {0}
+IsAnswer (Value value) = Unit {0}
+
+pub record IsProperAnswer (kind : Kind) (line : List ℕ) : Type 0 where
+  pub reply : Reply
+  pub answer : IsAnswer reply
+  pub reads : reply_of kind line ≡ Some reply
+
+abbrev pub IsTurn : Due → Turn → Type 0
+IsTurn (say slot command) (says at line) = (at ≡ slot) × (line ≡ command_line command)
+IsTurn (hear slot command count) (hears at line) = (at ≡ slot) × IsProperAnswer (kind_of command count) line
+IsTurn (say slot command) (hears at line) = ⊥
+IsTurn (hear slot command count) (says at line) = ⊥
+
+-- these turns are those that are due, one by one
+abbrev pub AreTurns : List Due → List Turn → Type 0
+AreTurns [] [] = Unit {0}
+AreTurns [] (turn ∷ turns) = ⊥
+AreTurns (due ∷ dues) [] = ⊥
+AreTurns (due ∷ dues) (turn ∷ turns) = IsTurn due turn × AreTurns dues turns
+
+-- a command is said, and its answer is heard before anything else
+abbrev pub asks : ℕ → Command → ℕ → List Due
+asks slot command count = say slot command ∷ hear slot command count ∷ []
+
+-- a slot is made ready: it is reset, and each source is added
+abbrev pub ready : ℕ → List (List ℕ) → List Due
+ready slot sources = asks slot Reset 0 ++ flat_map (λ source. asks slot (AddFun source) 0) sources
+
+-- the first slots are made ready, in rising order
+abbrev pub ready_slots : ℕ → ℕ → List (List ℕ) → List Due
+ready_slots slot zero sources = []
+ready_slots slot (suc count) sources = ready slot sources ++ ready_slots (suc slot) count sources
+
+-- a wave: each document is said to a slot of its own, in slot order, and then the answers are heard in slot order
+abbrev pub each_said : ℕ → List (List (List ℕ × Json)) → List Due
+each_said slot [] = []
+each_said slot (document ∷ documents) = say slot (MapDoc document) ∷ each_said (suc slot) documents
+
+abbrev pub each_heard : ℕ → ℕ → List (List (List ℕ × Json)) → List Due
+each_heard slot count [] = []
+each_heard slot count (document ∷ documents) = hear slot (MapDoc document) count ∷ each_heard (suc slot) count documents
+
+abbrev pub wave : ℕ → List (List (List ℕ × Json)) → List Due
+wave count documents = each_said 0 documents ++ each_heard 0 count documents
+
+-- documents in waves of as many as the width, fewer in the last; the first number bounds how many waves there are
+abbrev pub waves : ℕ → ℕ → ℕ → List (List (List ℕ × Json)) → List Due
+waves zero width count documents = []
+waves (suc most) width count [] = []
+waves (suc most) width count (document ∷ documents) = wave count (take width (document ∷ documents)) ++ waves most width count (drop width (document ∷ documents))
+
+-- the talk of an update that maps these documents by these sources with so many slots; where there is no document nothing is said
+abbrev pub talk_of : List (List ℕ) → List (List (List ℕ × Json)) → ℕ → List Due
+talk_of sources documents width =
+    ready_slots 0 (min width (length documents)) sources ++ waves (length documents) width (length sources) documents
