@@ -2,6 +2,8 @@
 //! gate: one byte, written after all that stands behind it was synced.
 #![tactic(auto)]
 
+#[cfg(test)]
+mod crash_tests;
 mod fault;
 mod gate;
 mod root;
