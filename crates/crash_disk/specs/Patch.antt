@@ -14,3 +14,8 @@ pub record IsPatched (range : ℕ × ℕ) (old new : List ℕ) : Type 0 where
 pub record IsFilled (range : ℕ × ℕ) (byte : ℕ) (old new : List ℕ) : Type 0 where
   pub patched : IsPatched range old new
   pub inside : (place : ℕ) → IsInside range place → place < length old → slice_index new place ≡ byte
+
+-- and each that `from` reaches got its byte
+pub record IsCopied (range : ℕ × ℕ) (from old new : List ℕ) : Type 0 where
+  pub patched : IsPatched range old new
+  pub inside : (place : ℕ) → IsInside range place → place < length old → place < length from → slice_index new place ≡ slice_index from place

@@ -32,7 +32,7 @@ loop-range-2-preserved c =
       | in-0 w ↦ subst (λ (image : Vec ℕ Global). IsImage file image.items) (sym w.image-is) c.loop-range-2.invariant
       | in-1 w ↦
           subst (λ (image : Vec ℕ Global). IsImage file image.items) (sym w.image-is)
-          (patched_next file c.deref-range-items-2.result.now c.loop-range-2.range-index _ _ _ c.deref-range-items-2.ensures.value (omega arith) w.copy.ensures c.loop-range-2.invariant)
+          (patched_next file c.deref-range-items-2.result.now c.loop-range-2.range-index _ _ _ c.deref-range-items-2.ensures.value (omega arith) w.copy.ensures.patched c.loop-range-2.invariant)
       | in_default w ↦
           subst (λ (image : Vec ℕ Global). IsImage file image.items) (sym w.image-is)
           (patched_next file c.deref-range-items-2.result.now c.loop-range-2.range-index _ _ _ c.deref-range-items-2.ensures.value (omega arith) w.fill-in_default.ensures.patched c.loop-range-2.invariant)
