@@ -16,6 +16,8 @@ mod reduce_rows;
 mod run_end;
 mod script_servers;
 mod server_session;
+#[cfg(test)]
+mod server_tests;
 mod servers;
 mod servers_fault;
 mod stretch;
