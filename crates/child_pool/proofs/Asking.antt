@@ -1,7 +1,7 @@
 -- A child is started, asked, or stopped.
-use Rattle.std.proofs.Common.{◌≡◌, ◌≤◌, ℕ, List, [], ◌∷◌, length, Bool, true, false, nat_le, ◌&&◌, Option, Some, None, refl, sym, ap, ◌∙◌, subst}
+use Rattle.std.proofs.Common.{◌≡◌, ◌≤◌, ℕ, List, [], ◌∷◌, length, Bool, true, ◌&&◌, None, refl, sym, ap, ◌∙◌, subst}
 use Rattle.std.proofs.lemmas.Bool.{le-leb}
-use Rattle.view_ports.specs.Calls.{Call, start, send, receive, stop, Session, session, asked, after, child, is_short}
+use Rattle.view_ports.specs.Calls.{Call, start, send, stop, after, child, is_short}
 use Rattle.view_ports.specs.Functions.{line_limit}
 use Rattle.child_pool.specs.Jobs.{HasChild}
 use Rattle.child_pool.specs.Histories.{AllShort}

@@ -1,17 +1,13 @@
 -- Stages, one after another, and attempts.
-use Rattle.std.proofs.Common.{◌≡◌, ◌⊎◌, ◌≤◌, ◌+◌, ◌^◌, ◌-◌, ℕ, zero, suc, min, List, [], ◌∷◌, ◌++◌, length, Bool, true, false, Option, Some, None, Result, Ok, Err, get_or, refl, sym, ap, ◌∙◌, subst, inl, inr, arith, add-one}
-use Rattle.view_ports.specs.declared.command.Command.{Command}
-use Rattle.view_ports.specs.declared.command.Command.TheVariants.{Reset, AddFun}
-use Rattle.view_ports.specs.Calls.{Call, start, stop}
+use Rattle.std.proofs.Common.{◌≡◌, ◌⊎◌, ◌≤◌, ℕ, zero, suc, List, [], ◌∷◌, ◌++◌, length, Bool, true, false, Result, Ok, Err, get_or, sym, subst, inl, inr, arith}
+use Rattle.view_ports.specs.Calls.{Call}
 use Rattle.view_ports.specs.Faults.{Rose}
 use Rattle.view_ports.specs.Functions.{Functions}
-use Rattle.query_protocol.specs.CommandLines.{command_line}
 use Rattle.child_pool.specs.declared.pool_fault.PoolFault.{PoolFault}
 use Rattle.child_pool.specs.declared.pool_fault.PoolFault.TheVariants.{ServerFault}
-use Rattle.child_pool.specs.Jobs.{Job, IsAmong, IsCommandOf, IsLineOfJob}
+use Rattle.child_pool.specs.Jobs.{Job, IsAmong, IsCommandOf}
 use Rattle.child_pool.specs.Histories.{Went, Turn, talk}
-use Rattle.child_pool.specs.Sessions.{IsTold}
-use Rattle.child_pool.specs.Stages.{AfterAttempts, AfterStages, stage_command, told_turns}
+use Rattle.child_pool.specs.Stages.{AfterAttempts, AfterStages, stage_command}
 use Rattle.child_pool.specs.Talk.{Due, AreTurns}
 use Rattle.child_pool.proofs.Going.{Went-then, talk-append}
 use Rattle.child_pool.proofs.Prompts.{caused_later}

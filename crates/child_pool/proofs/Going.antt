@@ -1,9 +1,9 @@
 -- What functions did, one call or one function more.
-use Rattle.std.proofs.Common.{◌≡◌, ◌⊎◌, ◌≤◌, ℕ, List, [], ◌∷◌, ◌++◌, Bool, true, false, Option, Some, None, nat_eq, refl, sym, ap, ◌∙◌, subst, inl, inr, append_assoc, append-nil, eq-eqb, if◌then◌else◌}
-use Rattle.view_ports.specs.Calls.{Call, start, send, receive, stop, Session, after, child, slot_of}
+use Rattle.std.proofs.Common.{◌≡◌, ℕ, List, [], ◌∷◌, ◌++◌, true, Option, nat_eq, refl, sym, ap, ◌∙◌, subst, inl, inr, append_assoc, append-nil, eq-eqb}
+use Rattle.view_ports.specs.Calls.{Call, Session, after, child, slot_of}
 use Rattle.view_ports.specs.Servers.{Goes}
 use Rattle.child_pool.specs.Jobs.{Job, IsLawful, AllLawful}
-use Rattle.child_pool.specs.Histories.{Went, HasReceived, IsReceipt, Turn, talk, turns_of, AllShort}
+use Rattle.child_pool.specs.Histories.{Went, HasReceived, IsReceipt, talk, turns_of, AllShort}
 
 -- ---- lists of calls
 

@@ -1,22 +1,21 @@
 -- A line was received: what follows for the child, the talk and the refusals.
-use Rattle.std.proofs.Common.{◌≡◌, ◌≢◌, ◌⊎◌, ◌+◌, ◌<◌, ◌≤◌, ℕ, List, [], ◌∷◌, ◌++◌, length, Bool, true, false, Option, Some, None, Result, Ok, Err, refl, sym, ap, ◌∙◌, subst, inl, inr}
+use Rattle.std.proofs.Common.{◌≡◌, ◌⊎◌, ◌+◌, ◌≤◌, ℕ, List, [], ◌∷◌, length, Bool, true, false, Option, Some, None, Result, Ok, Err, refl, sym, ap, ◌∙◌, subst, inl, inr}
 use Rattle.view_ports.specs.Calls.{Call, receive, Session, session, after, heard, child, is_log, is_yes, sources_after}
 use Rattle.view_ports.specs.Commands.{command}
 use Rattle.view_ports.specs.Functions.{Functions}
 use Rattle.view_ports.specs.Honest.{AnswersChild}
 use Rattle.query_protocol.specs.declared.reply.Kind.{Kind}
-use Rattle.query_protocol.specs.declared.reply.Reply.{Reply}
 use Rattle.query_protocol.specs.Replies.{reply_of}
 use Rattle.child_pool.specs.declared.heard.Heard.{Heard}
 use Rattle.child_pool.specs.declared.heard.Heard.TheVariants.{Failed, Log, Answer}
 use Rattle.child_pool.specs.declared.pool_fault.PoolFault.{PoolFault}
 use Rattle.child_pool.specs.declared.pool_fault.PoolFault.TheVariants.{ServerFault, BadReply, Compile, UnknownLanguage, NoMemory}
 use Rattle.child_pool.specs.Jobs.{IsAsked}
-use Rattle.child_pool.specs.Histories.{AllShort, Turn, hears, talk, heard_turn}
+use Rattle.child_pool.specs.Histories.{AllShort, heard_turn}
 use Rattle.child_pool.specs.Sessions.{IsAt}
 use Rattle.child_pool.specs.Causes.{kind_of, IsBadReply}
 use Rattle.child_pool.specs.Hearing.{IsHeard, IsShown}
-use Rattle.child_pool.specs.Outcomes.{AfterLine, IsCaused, Replied, WasBad}
+use Rattle.child_pool.specs.Outcomes.{AfterLine, IsCaused, WasBad}
 use Rattle.child_pool.proofs.Going.{child_after}
 
 -- a child that has not answered a prompt was asked

@@ -1,5 +1,5 @@
 -- A document was asked for: what follows.
-use Rattle.std.proofs.Common.{◌≡◌, ◌≢◌, ◌⊎◌, ◌≤◌, ◌+◌, ℕ, suc, take, add-one, List, [], ◌∷◌, ◌++◌, length, map, Bool, true, false, Option, Some, None, Result, Ok, Err, refl, sym, ap, ◌∙◌, subst, inl, inr}
+use Rattle.std.proofs.Common.{◌≡◌, ◌⊎◌, ◌≤◌, ◌+◌, ℕ, suc, add-one, List, [], ◌∷◌, ◌++◌, length, Bool, true, false, Option, Some, None, Result, Ok, Err, refl, sym, ap, ◌∙◌, subst, inl, inr}
 use Rattle.std.proofs.lemmas.List.{length-map}
 use Rattle.std.proofs.Math.Seq.{take-length}
 use Rattle.json_terms.specs.Json.{Json, depth, members_of, object}
@@ -9,7 +9,7 @@ use Rattle.view_ports.specs.declared.command.Command.{Command}
 use Rattle.view_ports.specs.declared.command.Command.TheVariants.{MapDoc}
 use Rattle.view_ports.specs.Calls.{Call, is_log, is_yes, sources_after}
 use Rattle.view_ports.specs.Commands.{command, document_depth}
-use Rattle.view_ports.specs.Functions.{Functions, IsMappable, source_limit, lists_term}
+use Rattle.view_ports.specs.Functions.{Functions, lists_term}
 use Rattle.view_ports.specs.Honest.{IsHonestLine, Spells, rows_of}
 use Rattle.query_protocol.specs.CommandLines.{command_line, document_of, IsDocument, IsProperCommand}
 use Rattle.query_protocol.specs.declared.reply.Kind.TheVariants as kind
@@ -19,12 +19,12 @@ use Rattle.query_protocol.specs.Replies.{reply_of}
 use Rattle.child_pool.specs.declared.pool_fault.PoolFault.{PoolFault}
 use Rattle.child_pool.specs.declared.pool_fault.PoolFault.TheVariants.{ServerFault}
 use Rattle.child_pool.specs.Jobs.{Job}
-use Rattle.child_pool.specs.Histories.{Went, AllShort, says, hears, talk}
-use Rattle.child_pool.specs.Sessions.{AllCompile, HasTold, IsIdle, IsTold}
+use Rattle.child_pool.specs.Histories.{Went, AllShort, says, talk}
+use Rattle.child_pool.specs.Sessions.{HasTold, IsIdle, IsTold}
 use Rattle.child_pool.specs.Stages.{AfterStages}
 use Rattle.child_pool.specs.Causes.{kind_of}
-use Rattle.child_pool.specs.Mapping.{AfterAnswer, AfterMap, AreHonestRows, HasMapped}
-use Rattle.child_pool.specs.Outcomes.{AfterPrompt, IsCaused, Replied}
+use Rattle.child_pool.specs.Mapping.{AfterAnswer, AfterMap, AreHonestRows}
+use Rattle.child_pool.specs.Outcomes.{AfterPrompt, Replied}
 use Rattle.child_pool.specs.Pools.{rows_said}
 use Rattle.child_pool.specs.Talk.{AreTurns, Due, asks}
 use Rattle.child_pool.proofs.Going.{Went-map, Went-then}

@@ -1,14 +1,14 @@
 -- Prompts: a function more, and what its result says.
-use Rattle.std.proofs.Common.{◌≡◌, ◌⊎◌, ◌+◌, ℕ, List, [], ◌∷◌, ◌++◌, Option, Some, None, Result, Ok, Err, refl, sym, ap, ◌∙◌, subst, inl, inr, append_assoc}
-use Rattle.view_ports.specs.Calls.{Call, Session, child}
+use Rattle.std.proofs.Common.{◌≡◌, ◌+◌, ℕ, List, [], ◌∷◌, ◌++◌, Option, Some, None, Result, Ok, Err, sym, ap, ◌∙◌, subst, append_assoc}
+use Rattle.view_ports.specs.Calls.{Call, Session}
 use Rattle.view_ports.specs.Functions.{Functions}
 use Rattle.query_protocol.specs.declared.reply.Reply.{Reply}
 use Rattle.child_pool.specs.declared.heard.Heard.TheVariants.{Log}
 use Rattle.child_pool.specs.declared.pool_fault.PoolFault.{PoolFault}
 use Rattle.child_pool.specs.declared.pool_fault.PoolFault.TheVariants.{ServerFault, BadReply, Compile, UnknownLanguage, NoMemory}
 use Rattle.child_pool.specs.Jobs.{Job}
-use Rattle.child_pool.specs.Histories.{Went, HasReceived, IsReceipt, Turn, hears, talk}
-use Rattle.child_pool.specs.Outcomes.{AfterLine, AfterPrompt, IsCaused, OnlyLogged, Replied, WasBad, WasComplaint}
+use Rattle.child_pool.specs.Histories.{Went, HasReceived, Turn, hears, talk}
+use Rattle.child_pool.specs.Outcomes.{AfterLine, AfterPrompt, IsCaused, OnlyLogged, WasBad, WasComplaint}
 use Rattle.child_pool.proofs.Going.{HasReceived-after, Went-then, talk-append}
 
 pub received_later : (P : Option Session → List ℕ → Type 0) (more added before now : List Call) → now ≡ added ++ before → HasReceived P more now → HasReceived P (more ++ added) before

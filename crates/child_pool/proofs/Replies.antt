@@ -1,5 +1,5 @@
 -- What a reply says of its line.
-use Rattle.std.proofs.Common.{◌≡◌, ◌≢◌, ◌⊎◌, ◌<◌, ◌≤◌, ℕ, List, Bool, true, false, cond, ◌&&◌, Option, Some, None, Result, Ok, Err, option_map, refl, sym, subst, inl, inr}
+use Rattle.std.proofs.Common.{◌≡◌, ◌≢◌, ◌⊎◌, ℕ, List, Bool, true, false, cond, ◌&&◌, Option, Some, None, Result, Ok, Err, option_map, refl, sym, subst, inl, inr}
 use Rattle.json_terms.specs.Json.{Json, number, is_false, is_null, is_true, object, array, string}
 use Rattle.json_terms.specs.Reading.{reading}
 use Rattle.json_terms.specs.declared.fault.TermFault.{TermFault}

@@ -1,20 +1,19 @@
 -- The rows of a reply, and of an honest answer.
-use Rattle.std.proofs.Common.{◌≡◌, ◌≢◌, ◌⊎◌, ◌≤◌, ℕ, List, [], ◌∷◌, length, map, Bool, true, false, cond, ◌&&◌, nat_eq, nat_le, Option, Some, None, Result, Ok, Err, option_map, option_and_then, refl, sym, ap, ◌∙◌, subst, inl, inr, eq-eqb}
+use Rattle.std.proofs.Common.{◌≡◌, ◌≢◌, ℕ, List, [], ◌∷◌, length, map, Bool, true, cond, nat_eq, Option, Some, None, Result, Ok, Err, option_map, option_and_then, refl, ap, ◌∙◌, inl, inr, eq-eqb}
 use Rattle.std.specs.List.{AllByRecursion}
 use Rattle.std.proofs.lemmas.Bool.{le-leb}
 use Rattle.json_terms.specs.Json.{Json, items_of, depth}
 use Rattle.json_terms.specs.Reading.{reading}
 use Rattle.json_terms.specs.Text.{text_of}
 use Rattle.json_terms.specs.declared.fault.TermFault.{TermFault}
-use Rattle.view_ports.specs.Calls.{is_log, is_log_term, is_short}
+use Rattle.view_ports.specs.Calls.{is_log_term, is_short}
 use Rattle.view_ports.specs.Functions.{AreProper, IsRowWithinBounds, IsWithinBounds, lists_term, rows_term, pair_term, part_limit, part_depth, line_limit}
 use Rattle.view_ports.specs.Honest.{Spells}
 use Rattle.view_ports.proofs.Fields.{lists_are_no_log}
-use Rattle.query_protocol.specs.declared.reply.Kind.{Kind}
 use Rattle.query_protocol.specs.declared.reply.Kind.TheVariants as kind
 use Rattle.query_protocol.specs.declared.reply.Reply.{Reply}
 use Rattle.query_protocol.specs.declared.reply.Reply.TheVariants as reply
-use Rattle.query_protocol.specs.Replies.{reply_of, reply_read, reply_in, answer_in, counted, is_within_bounds, lists_in, lists_of_items, row_in, rows_in, rows_of_items}
+use Rattle.query_protocol.specs.Replies.{reply_of, reply_read, reply_in, answer_in, counted, is_within_bounds, lists_in, lists_of_items, row_in, rows_of_items}
 use Rattle.child_pool.proofs.Replies.{chosen}
 
 -- ---- what a reply with rows can be

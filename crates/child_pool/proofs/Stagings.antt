@@ -1,5 +1,5 @@
 -- A stage was asked for: what follows.
-use Rattle.std.proofs.Common.{◌≡◌, ◌≢◌, ◌⊎◌, ◌≤◌, ◌<◌, ◌+◌, ℕ, zero, suc, List, [], ◌∷◌, ◌++◌, length, take, get_or, Bool, true, false, Option, Some, None, Result, Ok, Err, refl, sym, ap, ◌∙◌, subst, inl, inr, arith}
+use Rattle.std.proofs.Common.{◌≡◌, ◌≢◌, ◌≤◌, ◌<◌, ℕ, zero, suc, List, [], ◌∷◌, ◌++◌, length, take, get_or, Bool, true, false, Option, Some, None, Result, Ok, Err, refl, sym, ap, ◌∙◌, subst, inl, inr, arith}
 use Rattle.std.proofs.Math.Seq.{take-suc}
 use Rattle.view_ports.specs.declared.command.Command.{Command}
 use Rattle.view_ports.specs.declared.command.Command.TheVariants.{Reset, AddFun}
@@ -15,9 +15,9 @@ use Rattle.query_protocol.specs.declared.reply.Reply.TheVariants as reply
 use Rattle.query_protocol.specs.Replies.{reply_of}
 use Rattle.child_pool.specs.declared.pool_fault.PoolFault.{PoolFault}
 use Rattle.child_pool.specs.declared.pool_fault.PoolFault.TheVariants.{ServerFault, BadReply, Compile, UnknownLanguage, NoMemory}
-use Rattle.child_pool.specs.Jobs.{Job, IsAmong, IsCommandOf}
+use Rattle.child_pool.specs.Jobs.{Job, IsAmong}
 use Rattle.child_pool.specs.Histories.{Went, HasReceived, IsReceipt, AllShort, says, hears, talk}
-use Rattle.child_pool.specs.Sessions.{AllCompile, HasTold, IsAt, IsIdle, IsTold}
+use Rattle.child_pool.specs.Sessions.{AllCompile, IsIdle, IsTold}
 use Rattle.child_pool.specs.Causes.{kind_of, ComplainsOf}
 use Rattle.child_pool.specs.Outcomes.{AfterPrompt, IsCaused, Replied, WasComplaint}
 use Rattle.child_pool.specs.Stages.{AfterStages, stage_command, told_by}

@@ -1,30 +1,16 @@
 -- A stage was answered: how far the session has come, what it has said, and what an honest server's answer tells.
-use Rattle.std.proofs.Common.{◌≡◌, ◌≢◌, ◌⊎◌, ◌≤◌, ◌<◌, ◌+◌, ℕ, zero, suc, List, [], ◌∷◌, ◌++◌, length, take, get_or, Bool, true, false, Option, Some, None, Result, Ok, Err, MatchBool, refl, sym, ap, ◌∙◌, subst, inl, inr, arith, append_assoc}
-use Rattle.std.specs.List.{AllByRecursion}
-use Rattle.std.proofs.Math.Seq.{take-suc}
+use Rattle.std.proofs.Common.{◌≡◌, ◌<◌, ℕ, zero, suc, List, [], ◌∷◌, ◌++◌, length, get_or, Bool, true, false, Option, Some, MatchBool, refl, sym, ◌∙◌, subst, inl, inr, arith}
 use Rattle.json_terms.specs.Json.{is_true}
-use Rattle.json_terms.specs.Reading.{reading}
 use Rattle.view_ports.specs.declared.command.Command.{Command}
-use Rattle.view_ports.specs.declared.command.Command.TheVariants.{Reset, AddFun}
-use Rattle.view_ports.specs.Calls.{Call, receive, Session, session, child, is_log, is_yes, sources_after}
+use Rattle.view_ports.specs.declared.command.Command.TheVariants.{AddFun}
+use Rattle.view_ports.specs.Calls.{Call, receive, Session, session, child, is_log, is_yes}
 use Rattle.view_ports.specs.Commands.{command}
 use Rattle.view_ports.specs.Functions.{Functions}
-use Rattle.view_ports.specs.Honest.{AnswersChild, Complains, IsAnswerable, IsHonestLine, Spells, is_complaint_read}
-use Rattle.query_protocol.specs.CommandLines.{command_line}
-use Rattle.query_protocol.specs.declared.reply.Kind.{Kind}
-use Rattle.query_protocol.specs.declared.reply.Kind.TheVariants as kind
-use Rattle.query_protocol.specs.declared.reply.Reply.{Reply}
-use Rattle.query_protocol.specs.declared.reply.Reply.TheVariants as reply
-use Rattle.query_protocol.specs.Replies.{reply_of}
-use Rattle.child_pool.specs.Jobs.{Job, IsAmong}
-use Rattle.child_pool.specs.Histories.{Went, HasReceived, IsReceipt, AllShort, Turn, says, hears, talk}
-use Rattle.child_pool.specs.Sessions.{AllCompile, HasTold, IsAt, IsIdle, IsTold}
-use Rattle.child_pool.specs.Causes.{kind_of, ComplainsOf}
-use Rattle.child_pool.specs.Outcomes.{AfterPrompt, IsCaused, Replied, WasComplaint}
-use Rattle.child_pool.specs.Stages.{AfterStages, stage_command, told_by}
-use Rattle.child_pool.specs.Talk.{AreTurns, asks, IsProperAnswer}
-use Rattle.child_pool.proofs.Going.{Went-map}
-use Rattle.child_pool.proofs.Replies.{reset_reply, source_reply, yes_no_complaint}
+use Rattle.view_ports.specs.Honest.{AnswersChild, Complains, IsAnswerable, IsHonestLine, Spells}
+use Rattle.child_pool.specs.Jobs.{IsAmong}
+use Rattle.child_pool.specs.Histories.{HasReceived, IsReceipt, AllShort, Turn, talk}
+use Rattle.child_pool.specs.Sessions.{AllCompile, IsAt}
+use Rattle.child_pool.proofs.Replies.{yes_no_complaint}
 
 -- ---- lists of calls
 

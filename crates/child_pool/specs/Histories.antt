@@ -1,5 +1,5 @@
 -- The calls that a function made on the query servers, the newest first.
-use Rattle.std.specs.Prelude.{◌≡◌, ◌⊎◌, ◌≤◌, ℕ, List, [], ◌∷◌, ◌++◌, Bool, true, false, length, Option, Some, None, if◌then◌else◌}
+use Rattle.std.specs.Prelude.{◌≡◌, ◌⊎◌, ◌≤◌, ℕ, List, [], ◌∷◌, ◌++◌, Bool, true, false, length, Option, Some, None}
 use Rattle.view_ports.specs.Calls.{Call, start, send, receive, stop, Session, child, is_log}
 use Rattle.view_ports.specs.Functions.{line_limit}
 use Rattle.child_pool.specs.Jobs.{Job, AllLawful}

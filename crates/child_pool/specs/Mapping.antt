@@ -1,8 +1,7 @@
 -- The rows of a document through a child.
-use Rattle.std.specs.Prelude.{◌≡◌, ◌⊎◌, ◌≤◌, ℕ, List, [], ◌∷◌, ◌++◌, length, Option, Some, None, Result, Ok, Err}
+use Rattle.std.specs.Prelude.{◌≡◌, ◌⊎◌, ◌≤◌, ℕ, List, length, Option, Some, None, Result, Ok, Err}
 use Rattle.json_terms.specs.Json.{Json}
 use Rattle.json_terms.specs.declared.rows.RowLists.{RowLists}
-use Rattle.view_ports.specs.declared.command.Command.TheVariants.{MapDoc}
 use Rattle.view_ports.specs.Calls.{Call}
 use Rattle.view_ports.specs.Functions.{Functions, IsMappable, source_limit}
 use Rattle.view_ports.specs.Honest.{rows_of}

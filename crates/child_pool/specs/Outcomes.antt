@@ -1,14 +1,9 @@
 -- What the steps of a session come to.
-use Rattle.std.specs.Prelude.{◌≡◌, ◌⊎◌, ◌+◌, ◌≤◌, ℕ, zero, suc, List, [], ◌∷◌, ◌++◌, length, slice_index_or, Bool, true, false, Option, Some, None, Result, Ok, Err}
-use Rattle.json_terms.specs.Json.{Json}
-use Rattle.view_ports.specs.declared.command.Command.{Command}
-use Rattle.view_ports.specs.declared.command.Command.TheVariants.{Reset, AddFun}
+use Rattle.std.specs.Prelude.{◌≡◌, ◌+◌, ℕ, List, [], ◌∷◌, ◌++◌, length, false, Option, Some, None, Result, Ok, Err}
 use Rattle.view_ports.specs.Calls.{Call, receive, Session, child, is_log, is_yes, sources_after}
 use Rattle.view_ports.specs.Commands.{command}
 use Rattle.view_ports.specs.Functions.{Functions}
 use Rattle.view_ports.specs.Honest.{AnswersChild}
-use Rattle.query_protocol.specs.CommandLines.{command_line}
-use Rattle.query_protocol.specs.declared.reply.Kind.{Kind}
 use Rattle.query_protocol.specs.declared.reply.Reply.{Reply}
 use Rattle.child_pool.specs.declared.heard.Heard.{Heard}
 use Rattle.child_pool.specs.declared.heard.Heard.TheVariants.{Failed, Log, Answer}
@@ -16,9 +11,9 @@ use Rattle.query_protocol.specs.Replies.{reply_of}
 use Rattle.child_pool.specs.declared.pool_fault.PoolFault.{PoolFault}
 use Rattle.child_pool.specs.declared.pool_fault.PoolFault.TheVariants as fault
 use Rattle.child_pool.specs.Shown.{shown}
-use Rattle.child_pool.specs.Jobs.{Job, IsAmong}
-use Rattle.child_pool.specs.Histories.{HasReceived, Turn, says, hears, talk}
-use Rattle.child_pool.specs.Sessions.{IsAt, IsIdle, IsTold}
+use Rattle.child_pool.specs.Jobs.{IsAmong}
+use Rattle.child_pool.specs.Histories.{HasReceived, Turn, hears, talk}
+use Rattle.child_pool.specs.Sessions.{IsAt, IsIdle}
 use Rattle.child_pool.specs.Causes.{IsBadReply, kind_of, ComplainsOf}
 
 -- so many log lines came since the prompt, and nothing else

@@ -1,5 +1,5 @@
 -- The pool of children.
-use Rattle.std.specs.Prelude.{ℕ, List, []}
+use Rattle.std.specs.Prelude.{List, []}
 use Rattle.json_terms.specs.Json.{Json}
 use Rattle.query_protocol.specs.declared.reply.Reply.{Reply}
 use Rattle.query_protocol.specs.declared.reply.Reply.TheVariants.{Log, Yes, Rows, Value, Compile}

@@ -1,7 +1,7 @@
 -- How far a child's session has come.
-use Rattle.std.specs.Prelude.{◌≡◌, ℕ, zero, suc, List, [], ◌∷◌, take, Bool, true, Option, Some}
+use Rattle.std.specs.Prelude.{◌≡◌, ℕ, zero, suc, List, [], take, Bool, true, Some}
 use Rattle.std.specs.List.{AllByRecursion}
-use Rattle.view_ports.specs.Calls.{Call, Session, session, child}
+use Rattle.view_ports.specs.Calls.{Call, session, child}
 use Rattle.view_ports.specs.Functions.{Functions}
 use Rattle.child_pool.specs.Histories.{AllShort}
 

@@ -1,5 +1,5 @@
 -- A received line, as a refusal shows it.
-use Rattle.std.specs.Prelude.{ℕ, List, map, take, Bool, nat_le, ◌&&◌, if◌then◌else◌}
+use Rattle.std.specs.Prelude.{ℕ, List, map, take, nat_le, ◌&&◌, if◌then◌else◌}
 
 -- so many bytes at most are shown
 abbrev pub shown_limit : ℕ

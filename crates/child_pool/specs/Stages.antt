@@ -1,9 +1,8 @@
 -- The stages in which a session is made ready: reset, and then one source after another.
-use Rattle.std.specs.Prelude.{◌≡◌, ◌⊎◌, ℕ, zero, suc, List, [], ◌∷◌, ◌++◌, slice_index_or, Bool, true, false, Option, Some, None, Result, Ok, Err}
+use Rattle.std.specs.Prelude.{◌⊎◌, ℕ, zero, suc, List, [], ◌++◌, slice_index_or, Bool, true, false, Result, Ok, Err}
 use Rattle.view_ports.specs.declared.command.Command.{Command}
 use Rattle.view_ports.specs.declared.command.Command.TheVariants.{Reset, AddFun}
 use Rattle.view_ports.specs.Calls.{Call}
-use Rattle.view_ports.specs.Faults.{Rose}
 use Rattle.view_ports.specs.Functions.{Functions}
 use Rattle.query_protocol.specs.declared.reply.Reply.{Reply}
 use Rattle.query_protocol.specs.declared.reply.Reply.TheVariants.{Log, Yes, Rows, Value, Compile}

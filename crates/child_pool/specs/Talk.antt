@@ -1,5 +1,5 @@
 -- The talk of an update without faults, log lines aside: which lines are said and heard, in which order.
-use Rattle.std.specs.Prelude.{◌≡◌, ◌-◌, ℕ, zero, suc, min, List, [], ◌∷◌, ◌++◌, length, take, drop, Option, Some}
+use Rattle.std.specs.Prelude.{◌≡◌, ℕ, zero, suc, min, List, [], ◌∷◌, ◌++◌, length, take, drop, Some}
 use Rattle.std.specs.List.{flat_map}
 use Rattle.json_terms.specs.Json.{Json}
 use Rattle.view_ports.specs.declared.command.Command.{Command}

@@ -1,5 +1,10 @@
+ghost use Rattle.std.specs.Prelude.{◌<◌};
+ghost use Rattle.crash_disk.specs.State.{calls_told, told};
+
 use super::*;
 use crash_disk::MemoryFolder;
+use std::alloc::Global;
+use std::process::Abort;
 use std::test::Fail;
 use view_ports::{FileName, Folder, Stem};
 
@@ -31,6 +36,29 @@ fn root_of(commits: u64) -> &'static [u8] {
     }
 }
 
+/// How many commits are found after a crash within a call. The root is that of the last of them.
+fn commits_found(
+    rt: &impl Abort,
+    alloc: Global,
+    whole: &MemoryFolder,
+    call: u64,
+    choice: u64,
+) -> Result<u64, Fail>
+    requires { call < calls_told (told whole.now) }
+{
+    let mut folder = whole.image_at(alloc, call, choice)?;
+    let file = GateFile::open(&mut folder, Stem::Docs)?;
+    match file.root() {
+        None => assert_eq!(rt; file.length(), 0),
+        Some((offset, len)) => {
+            let root = GateFile::read(alloc, &mut folder, DOCS, offset, len)?;
+            let want = root_of(file.commits());
+            assert_eq!(rt; root.as_slice(), want, "call {call}, choice {choice}");
+        }
+    }
+    Ok(file.commits())
+}
+
 #[test]
 fn a_crash_at_any_call_leaves_the_old_root_or_the_new_one(rt: HostRuntime) -> Result<(), Fail> {
     let alloc = rt.alloc();
@@ -39,18 +67,9 @@ fn a_crash_at_any_call_leaves_the_old_root_or_the_new_one(rt: HostRuntime) -> Re
     let mut seen = [false; 4];
     for call in 0..whole.calls_noted() {
         for choice in 0..CHOICES {
-            let mut folder = whole.image_at(alloc, call, choice)?;
-            let file = GateFile::open(&mut folder, Stem::Docs)?;
-            match file.root() {
-                None => assert_eq!(rt; file.length(), 0),
-                Some((offset, len)) => {
-                    let root = GateFile::read(alloc, &mut folder, DOCS, offset, len)?;
-                    let want = root_of(file.commits());
-                    assert_eq!(rt; root.as_slice(), want, "call {call}, choice {choice}");
-                }
-            }
-            if file.commits() < 4 {
-                seen[file.commits() as usize] = true;
+            let commits = commits_found(&rt, alloc, &whole, call, choice)?;
+            if commits < 4 {
+                seen[commits as usize] = true;
             }
         }
     }

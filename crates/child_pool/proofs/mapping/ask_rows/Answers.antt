@@ -1,13 +1,11 @@
 -- A document's rows are asked for, once.
-use Rattle.std.proofs.Common.{◌≡◌, ◌∙◌, ℕ, List, length, Ok, Err, Some, None, Result, Option, sym, ap, subst}
-use Rattle.json_terms.specs.Json.{Json}
+use Rattle.std.proofs.Common.{◌≡◌, ◌∙◌, length, Ok, Some, Result, Option, sym, ap, subst}
 use Rattle.json_terms.specs.Seen.{json}
 use Rattle.json_terms.specs.declared.rows.RowLists.{RowLists}
 use Rattle.view_ports.specs.declared.command.Command.{Command}
 use Rattle.view_ports.specs.declared.command.Command.TheVariants.{MapDoc}
 use Rattle.view_ports.specs.Commands.{command}
 use Rattle.query_protocol.specs.CommandLines.{command_line, document_of}
-use Rattle.query_protocol.specs.declared.reply.Kind.TheVariants as kind
 use Rattle.child_pool.specs.declared.pool_fault.PoolFault.{PoolFault}
 use Rattle.child_pool.specs.Causes.{kind_of}
 use Rattle.child_pool.specs.Histories.{Went}

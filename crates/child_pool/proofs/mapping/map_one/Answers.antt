@@ -1,5 +1,5 @@
 -- A document is mapped at once, or in a second attempt with a fresh child.
-use Rattle.std.proofs.Common.{◌≡◌, ◌∙◌, ◌+◌, ◌++◌, ℕ, List, length, Ok, Err, Some, None, Result, Option, refl, sym, ap, subst, inl, arith}
+use Rattle.std.proofs.Common.{◌∙◌, ◌+◌, List, length, Ok, Err, refl, ap, arith}
 use Rattle.json_terms.specs.Seen.{json}
 use Rattle.view_ports.specs.declared.command.Command.TheVariants.{MapDoc}
 use Rattle.view_ports.specs.Calls.{Call, stop}

@@ -1,5 +1,5 @@
 -- The prompt is sent, and then its answer is received.
-use Rattle.std.proofs.Common.{◌≡◌, ℕ, List, [], ◌∷◌, true, false, Some, None, Ok, Err, refl, subst, sym}
+use Rattle.std.proofs.Common.{◌≡◌, List, [], ◌∷◌, true, false, None, Ok, Err, refl}
 use Rattle.view_ports.specs.Calls.{Call, send}
 use Rattle.child_pool.specs.declared.pool_fault.PoolFault.TheVariants.{NoMemory}
 use Rattle.child_pool.specs.Histories.{Went, says, talk}

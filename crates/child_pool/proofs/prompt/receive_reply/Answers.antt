@@ -1,10 +1,8 @@
 -- Log lines, and then the answer.
-use Rattle.std.proofs.Common.{◌≡◌, ◌≤◌, ◌<◌, ℕ, List, [], ◌∷◌, Some, None, Ok, Err, sym, ap, ◌∙◌, subst, arith}
-use Rattle.view_ports.specs.Calls.{Call, receive}
+use Rattle.std.proofs.Common.{◌≡◌, ℕ, [], ◌∷◌, Some, None, Ok, Err, subst, arith}
 use Rattle.child_pool.specs.declared.heard.Heard.{Heard}
-use Rattle.child_pool.specs.declared.heard.Heard.TheVariants.{Failed, Log, Answer}
 use Rattle.child_pool.specs.Histories.{Went}
-use Rattle.child_pool.specs.Outcomes.{AfterLine, OnlyLogged}
+use Rattle.child_pool.specs.Outcomes.{AfterLine}
 use Rattle.child_pool.specs.Sessions.{IsAt}
 use Rattle.child_pool.proofs.Prompts.{logs_more, prompt_later}
 use Rattle.child_pool.proofs.prompt.receive_reply.Goals as goal

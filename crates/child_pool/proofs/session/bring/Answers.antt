@@ -1,5 +1,5 @@
 -- The first attempt failed, the child was stopped, and the second attempt was made.
-use Rattle.std.proofs.Common.{◌≡◌, ◌∙◌, ◌+◌, ℕ, suc, List, Result, Ok, Err, refl, ap, subst, arith, add-one}
+use Rattle.std.proofs.Common.{◌∙◌, ◌+◌, ℕ, suc, List, Result, Ok, refl, ap, subst, arith, add-one}
 use Rattle.view_ports.specs.Calls.{Call, stop}
 use Rattle.view_ports.specs.Faults.{Rose}
 use Rattle.child_pool.specs.declared.pool_fault.PoolFault.{PoolFault}

@@ -1,5 +1,5 @@
 -- One stage more, in two attempts at most.
-use Rattle.std.proofs.Common.{◌≡◌, ◌≤◌, ◌+◌, ℕ, suc, length, List, Result, Ok, sym, subst, arith, add-one}
+use Rattle.std.proofs.Common.{◌≡◌, ◌≤◌, ◌+◌, ℕ, suc, length, Result, Ok, sym, subst, arith, add-one}
 use Rattle.view_ports.specs.Faults.{Rose}
 use Rattle.child_pool.specs.declared.pool_fault.PoolFault.{PoolFault}
 use Rattle.child_pool.specs.Histories.{Went}

@@ -1,6 +1,6 @@
 -- The child is started, and then the stages are gone through.
-use Rattle.std.proofs.Common.{◌≡◌, ◌∙◌, ◌+◌, ℕ, suc, List, [], ◌∷◌, Bool, true, false, Result, Ok, Err, refl, sym, ap, subst, arith, add-one}
-use Rattle.view_ports.specs.Calls.{Call, start}
+use Rattle.std.proofs.Common.{◌≡◌, ◌∙◌, ℕ, suc, List, [], ◌∷◌, Bool, true, false, Result, Ok, Err, refl, sym, ap, subst, arith, add-one}
+use Rattle.view_ports.specs.Calls.{start}
 use Rattle.child_pool.specs.declared.pool_fault.PoolFault.{PoolFault}
 use Rattle.child_pool.specs.declared.pool_fault.PoolFault.TheVariants.{NoMemory}
 use Rattle.child_pool.specs.Histories.{Went}

@@ -1,5 +1,5 @@
 -- The stage's prompt is asked.
-use Rattle.std.proofs.Common.{◌≡◌, ◌∙◌, ℕ, List, length, suc, Ok, Err, Result, Bool, sym, ap, subst}
+use Rattle.std.proofs.Common.{◌≡◌, ◌∙◌, length, suc, Ok, Result, Bool, sym, ap, subst}
 use Rattle.view_ports.specs.declared.command.Command.{Command}
 use Rattle.view_ports.specs.Commands.{command}
 use Rattle.query_protocol.specs.CommandLines.{command_line}
