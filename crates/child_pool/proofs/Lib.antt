@@ -6,5 +6,6 @@ pub mod Asking
 pub mod Telling
 pub mod Stagings
 pub mod Attempts
+pub mod Prepared
 pub mod RowReplies
 pub mod Mapped

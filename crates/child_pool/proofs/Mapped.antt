@@ -1,7 +1,6 @@
 -- A document was asked for: what follows.
-use Rattle.std.proofs.Common.{◌≡◌, ◌⊎◌, ◌≤◌, ◌+◌, ℕ, suc, add-one, List, [], ◌∷◌, ◌++◌, length, Bool, true, false, Option, Some, None, Result, Ok, Err, refl, sym, ap, ◌∙◌, subst, inl, inr}
+use Rattle.std.proofs.Common.{◌≡◌, ◌⊎◌, ◌≤◌, ◌+◌, ℕ, List, [], ◌∷◌, ◌++◌, length, Bool, true, false, Option, Some, None, Result, Ok, Err, refl, sym, ap, ◌∙◌, subst, inl, inr}
 use Rattle.std.proofs.lemmas.List.{length-map}
-use Rattle.std.proofs.Math.Seq.{take-length}
 use Rattle.json_terms.specs.Json.{Json, depth, members_of, object}
 use Rattle.json_terms.proofs.Sames.{members_of-list_of_members}
 use Rattle.json_terms.specs.declared.rows.RowLists.{RowLists}
@@ -20,7 +19,7 @@ use Rattle.child_pool.specs.declared.pool_fault.PoolFault.{PoolFault}
 use Rattle.child_pool.specs.declared.pool_fault.PoolFault.TheVariants.{ServerFault}
 use Rattle.child_pool.specs.Jobs.{Job}
 use Rattle.child_pool.specs.Histories.{Went, AllShort, says, talk}
-use Rattle.child_pool.specs.Sessions.{HasTold, IsIdle, IsTold}
+use Rattle.child_pool.specs.Sessions.{HasTold, IsIdle}
 use Rattle.child_pool.specs.Stages.{AfterStages}
 use Rattle.child_pool.specs.Causes.{kind_of}
 use Rattle.child_pool.specs.Mapping.{AfterAnswer, AfterMap, AreHonestRows}
@@ -28,6 +27,7 @@ use Rattle.child_pool.specs.Outcomes.{AfterPrompt, Replied}
 use Rattle.child_pool.specs.Pools.{rows_said}
 use Rattle.child_pool.specs.Talk.{AreTurns, Due, asks}
 use Rattle.child_pool.proofs.Going.{Went-map, Went-then}
+use Rattle.child_pool.proofs.Prepared.{all_told}
 use Rattle.child_pool.proofs.Prompts.{caused_later}
 use Rattle.child_pool.proofs.RowReplies.{rows_reply, proper_reply}
 use Rattle.child_pool.proofs.Stagings.{caused_wider, no_log_said}
@@ -130,8 +130,7 @@ module _ (functions : List ℕ → Functions) (honest : List ℕ → Type 0) whe
         → Went second job slot calls (λ added now. HasTold functions honest path sources slot now)
     started_over told result e w v =
         let u : AfterStages functions honest path sources slot (length sources + 1) told (Ok true) w.now v.added v.now = subst (λ (r : Result Bool PoolFault). AfterStages functions honest path sources slot (length sources + 1) told r w.now v.added v.now) e v.holds in
-        let is_told : IsTold functions honest path sources (suc (length sources)) slot v.now = subst (λ (n : ℕ). IsTold functions honest path sources n slot v.now) (add-one (length sources)) u.0 in
-        Went-then w v (λ added now. HasTold functions honest path sources slot now) (subst (λ (srcs : List (List ℕ)). HasTold functions honest path srcs slot v.now) (take-length sources) is_told)
+        Went-then w v (λ added now. HasTold functions honest path sources slot now) (all_told functions honest path sources slot v.now u.0)
 
     -- no fresh child's session is ready
     pub failed_start : {P : List Call → List Call → Type 0} {second : List Call → Type 0} (document : List (List ℕ × Json)) (dues : List Due) (rose : Type 0) (stage : ℕ) (told : List Due) (result : Result Bool PoolFault) (last : Result RowLists PoolFault) → failed_result result ≡ last

@@ -10,3 +10,4 @@ pub mod Talk
 pub mod Stages
 pub mod Mapping
 pub mod Pools
+pub mod Preparing

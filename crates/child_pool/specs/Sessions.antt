@@ -16,6 +16,10 @@ pub record IsAt (path : List ℕ) (sources waiting : List (List ℕ)) (logs slot
 abbrev pub IsIdle : List ℕ → List (List ℕ) → ℕ → List Call → Type 0
 IsIdle path sources slot calls = IsAt path sources [] 0 slot calls
 
+-- a child that was started by this path is there, and has answered each line
+abbrev pub IsThere : List ℕ → ℕ → List Call → Type 0
+IsThere path slot calls = (old : List (List ℕ)) × IsIdle path old slot calls
+
 -- each source compiles
 abbrev pub AllCompile : Functions → List (List ℕ) → Type 0
 AllCompile functions sources = AllByRecursion (λ source. functions.compiles source ≡ true) sources
@@ -27,5 +31,5 @@ pub record HasTold (functions : List ℕ → Functions) (honest : List ℕ → T
   pub compile : honest path → AllShort calls → AllCompile (functions path) sources
 
 abbrev pub IsTold : (List ℕ → Functions) → (List ℕ → Type 0) → List ℕ → List (List ℕ) → ℕ → ℕ → List Call → Type 0
-IsTold functions honest path sources zero slot calls = (old : List (List ℕ)) × IsIdle path old slot calls
+IsTold functions honest path sources zero slot calls = IsThere path slot calls
 IsTold functions honest path sources (suc told) slot calls = HasTold functions honest path (take told sources) slot calls

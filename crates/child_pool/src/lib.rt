@@ -4,6 +4,7 @@
 mod heard;
 mod mapping;
 mod pool_fault;
+mod preparing;
 mod prompt;
 mod session;
 mod shown_line;
@@ -12,4 +13,4 @@ mod tests;
 
 pub use mapping::map_one;
 pub use pool_fault::PoolFault;
-pub use session::prepare_slot;
+pub use preparing::prepare_slot;

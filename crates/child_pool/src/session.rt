@@ -175,8 +175,8 @@ fn bring<C: Servers>(
     }
 }
 
-/// Makes a slot ready: its child is reset and has each source. A fresh child is started first.
-pub fn prepare_slot<C: Servers>(
+/// Goes all stages, with a fresh child or with the one that is there.
+pub fn tell_all<C: Servers>(
     alloc: Global,
     servers: &mut C,
     slot: u32,

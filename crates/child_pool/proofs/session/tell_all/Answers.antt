@@ -6,7 +6,7 @@ use Rattle.child_pool.specs.Histories.{Went}
 use Rattle.child_pool.specs.Stages.{AfterAttempts, stage_command, told_turns}
 use Rattle.child_pool.specs.Talk.{asks}
 use Rattle.child_pool.proofs.Attempts.{Rose-wider, attempts_then}
-use Rattle.child_pool.proofs.session.prepare_slot.Goals as goal
+use Rattle.child_pool.proofs.session.tell_all.Goals as goal
 
 pub returns-in-Err-bring-clause-went : goal.returns-in-Err-bring-clause-went
 returns-in-Err-bring-clause-went g c = λ job calls follows by same told.

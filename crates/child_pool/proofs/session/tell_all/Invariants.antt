@@ -6,7 +6,7 @@ use Rattle.child_pool.specs.Histories.{Went}
 use Rattle.child_pool.specs.Jobs.{Job}
 use Rattle.child_pool.specs.Sessions.{IsTold}
 use Rattle.child_pool.specs.Stages.{AfterAttempts, told_turns}
-use Rattle.child_pool.proofs.session.prepare_slot.Given as goal
+use Rattle.child_pool.proofs.session.tell_all.Given as goal
 
 abbrev pub invariant-loop-stage : goal.invariant-loop-stage
 invariant-loop-stage g l =
