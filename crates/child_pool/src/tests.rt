@@ -1,5 +1,5 @@
 use super::*;
-use json_terms::{Chars, RowLists, Term, read_term, write_term};
+use json_terms::{Chars, RowLists, Term, depth_within, read_term, write_term};
 use std::alloc::Global;
 use std::process::Abort;
 use std::test::Fail;
@@ -28,6 +28,25 @@ fn shown_rows(alloc: Global, lists: &RowLists) -> Result<String, Fail> {
     Ok(String::from_utf8(text)?)
 }
 
+/// A document's rows, or `None` where it may not be asked for.
+fn mapped<C: Servers>(
+    alloc: Global,
+    servers: &mut C,
+    sources: &[Chars],
+    document: &Term,
+) -> Option<Result<RowLists, PoolFault>> {
+    let Term::Object(_) = document else {
+        return None;
+    };
+    if !depth_within(document, 64) || sources.len() > 32 {
+        return None;
+    }
+    if let Err(fault) = prepare_slot(alloc, servers, 0, "field", sources, true) {
+        return Some(Err(fault));
+    }
+    Some(map_one(alloc, servers, 0, "field", sources, document))
+}
+
 /// What a fresh child answers for a document, as text.
 fn outcome<C: Servers>(
     alloc: Global,
@@ -36,14 +55,13 @@ fn outcome<C: Servers>(
     document: &Term,
 ) -> Result<String, Fail> {
     let sources = sources_of(alloc, names)?;
-    let mapped = match prepare_slot(alloc, servers, 0, "field", sources.as_slice(), true) {
-        Ok(()) => map_one(alloc, servers, 0, "field", sources.as_slice(), document),
-        Err(fault) => Err(fault),
-    };
-    match mapped {
-        Ok(lists) => shown_rows(alloc, &lists),
-        Err(PoolFault::BadReply(line)) => Ok(format!(in alloc; "bad reply {}", line.as_str())?),
-        Err(fault) => Ok(format!(in alloc; "{fault}")?),
+    match mapped(alloc, servers, sources.as_slice(), document) {
+        None => Err(Fail::from("no document")),
+        Some(Ok(lists)) => shown_rows(alloc, &lists),
+        Some(Err(PoolFault::BadReply(line))) => {
+            Ok(format!(in alloc; "bad reply {}", line.as_str())?)
+        }
+        Some(Err(fault)) => Ok(format!(in alloc; "{fault}")?),
     }
 }
 
