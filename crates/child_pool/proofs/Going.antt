@@ -3,7 +3,7 @@ use Rattle.std.proofs.Common.{◌≡◌, ℕ, List, [], ◌∷◌, ◌++◌, tru
 use Rattle.view_ports.specs.Calls.{Call, Session, after, child, slot_of}
 use Rattle.view_ports.specs.Servers.{Goes}
 use Rattle.child_pool.specs.Jobs.{Job, IsLawful, AllLawful}
-use Rattle.child_pool.specs.Histories.{Went, HasReceived, IsReceipt, talk, turns_of, AllShort}
+use Rattle.child_pool.specs.Histories.{Went, HasReceived, IsReceipt, talk, turns_of}
 
 -- ---- lists of calls
 
@@ -27,9 +27,6 @@ HasReceived-after P (call ∷ more) added before h = elim h [
 pub talk-append : (more added : List Call) → talk (more ++ added) ≡ talk added ++ talk more
 talk-append [] added = sym (append-nil (talk added))
 talk-append (call ∷ more) added = ap (λ turns. turns ++ turns_of call) (talk-append more added) ∙ append_assoc (talk added) (talk more) (turns_of call)
-
-pub AllShort-tail : (call : Call) (calls : List Call) → AllShort (call ∷ calls) → AllShort calls
-AllShort-tail call calls h = h.1
 
 -- ---- the child of a slot
 

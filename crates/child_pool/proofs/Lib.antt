@@ -3,9 +3,14 @@ pub mod Going
 pub mod Lines
 pub mod Prompts
 pub mod Asking
+pub mod Cutting
 pub mod Telling
 pub mod Stagings
 pub mod Attempts
 pub mod Prepared
 pub mod RowReplies
 pub mod Mapped
+pub mod Batches
+pub mod Pooled
+pub mod Updated
+pub mod Honesty

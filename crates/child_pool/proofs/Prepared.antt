@@ -1,5 +1,5 @@
 -- All stages are told: the slot is ready.
-use Rattle.std.proofs.Common.{◌≡◌, ◌⊎◌, ◌≤◌, ◌+◌, ℕ, zero, suc, take, get_or, List, [], ◌++◌, length, Result, Ok, Err, refl, sym, ap, ◌∙◌, subst, inl, inr, arith, add-one}
+use Rattle.std.proofs.Common.{◌≡◌, ◌≤◌, ◌+◌, ℕ, zero, suc, take, get_or, List, [], ◌++◌, length, Result, Ok, Err, refl, sym, ap, ◌∙◌, subst, arith, add-one}
 use Rattle.std.specs.List.{flat_map}
 use Rattle.std.proofs.Math.Seq.{take-length, take-suc}
 use Rattle.std.proofs.lemmas.List.{flat_map_more}
@@ -7,12 +7,12 @@ use Rattle.view_ports.specs.declared.command.Command.TheVariants.{Reset, AddFun}
 use Rattle.view_ports.specs.Calls.{Call}
 use Rattle.view_ports.specs.Functions.{Functions}
 use Rattle.child_pool.specs.declared.pool_fault.PoolFault.{PoolFault}
-use Rattle.child_pool.specs.Histories.{Went, talk}
+use Rattle.child_pool.specs.Histories.{Went}
 use Rattle.child_pool.specs.Jobs.{Job}
 use Rattle.child_pool.specs.Preparing.{AfterPrepare}
 use Rattle.child_pool.specs.Sessions.{HasTold, IsTold}
 use Rattle.child_pool.specs.Stages.{AfterAttempts, told_turns}
-use Rattle.child_pool.specs.Talk.{AreTurns, Due, asks, ready}
+use Rattle.child_pool.specs.Talk.{Due, asks, ready}
 use Rattle.child_pool.proofs.Going.{Went-map}
 
 -- the turns that add a source
@@ -35,21 +35,21 @@ ready_turns slot sources =
     ∙ turns_so_far slot sources (length sources) (omega arith)
     ∙ ap (λ (srcs : List (List ℕ)). asks slot Reset 0 ++ flat_map (added_turns slot) srcs) (take-length sources)
 
-module _ (functions : List ℕ → Functions) (honest : List ℕ → Type 0) (path : List ℕ) (sources : List (List ℕ)) (slot : ℕ) where
+module _ (functions : List ℕ → Functions) (honest : List ℕ → Type 0) (job : Job) (slot : ℕ) where
   -- at the last stage all sources are told
-  pub all_told : (now : List Call) → IsTold functions honest path sources (length sources + 1) slot now → HasTold functions honest path sources slot now
+  pub all_told : (now : List Call) → IsTold functions honest job.path job.sources (length job.sources + 1) slot now → HasTold functions honest job.path job.sources slot now
   all_told now told =
-      let is_told : IsTold functions honest path sources (suc (length sources)) slot now = subst (λ (n : ℕ). IsTold functions honest path sources n slot now) (add-one (length sources)) told in
-      subst (λ (srcs : List (List ℕ)). HasTold functions honest path srcs slot now) (take-length sources) is_told
+      let is_told : IsTold functions honest job.path job.sources (suc (length job.sources)) slot now = subst (λ (n : ℕ). IsTold functions honest job.path job.sources n slot now) (add-one (length job.sources)) told in
+      subst (λ (srcs : List (List ℕ)). HasTold functions honest job.path srcs slot now) (take-length job.sources) is_told
 
-  turns_are_ready : (added : List Call) (rose : Type 0) → AreTurns (told_turns slot sources (length sources + 1)) (talk added) ⊎ rose → AreTurns (ready slot sources) (talk added) ⊎ rose
-  turns_are_ready added rose h = elim h [
-    | inl talked ↦ inl (subst (λ (dues : List Due). AreTurns dues (talk added)) (ready_turns slot sources) talked)
-    | inr counted ↦ inr counted
-  ]
-
-  pub prepared : {follow : List Call → Type 0} {job : Job} {calls : List Call} (rose : Type 0) (result : Result (Unit {0}) PoolFault)
-      → Went follow job slot calls (AfterAttempts functions honest path sources slot (length sources + 1) (told_turns slot sources (length sources + 1)) rose result calls)
-      → Went follow job slot calls (AfterPrepare functions honest path sources slot rose result calls)
-  prepared {calls} rose (Ok done) w = Went-map w (AfterPrepare functions honest path sources slot rose (Ok done) calls) (all_told w.now w.holds.0, turns_are_ready w.added rose w.holds.1)
-  prepared {calls} rose (Err f) w = Went-map w (AfterPrepare functions honest path sources slot rose (Err f) calls) w.holds
+  pub prepared : {follow : List Call → Type 0} {calls : List Call} (rose : Type 0) (result : Result (Unit {0}) PoolFault)
+      → Went follow job slot calls (AfterAttempts functions honest job slot (length job.sources + 1) (told_turns slot job.sources (length job.sources + 1)) rose result calls)
+      → Went follow job slot calls (AfterPrepare functions honest job slot rose result calls)
+  prepared {follow = follow} {calls = calls} rose result w =
+      ready_went result (subst (λ (dues : List Due). Went follow job slot calls (AfterAttempts functions honest job slot (length job.sources + 1) dues rose result calls)) (ready_turns slot job.sources) w)
+    where
+      ready_went : (result : Result (Unit {0}) PoolFault)
+          → Went follow job slot calls (AfterAttempts functions honest job slot (length job.sources + 1) (ready slot job.sources) rose result calls)
+          → Went follow job slot calls (AfterPrepare functions honest job slot rose result calls)
+      ready_went (Ok done) w = Went-map w (AfterPrepare functions honest job slot rose (Ok done) calls) (all_told w.now w.holds.0, w.holds.1)
+      ready_went (Err f) w = Went-map w (AfterPrepare functions honest job slot rose (Err f) calls) w.holds

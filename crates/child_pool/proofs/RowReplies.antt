@@ -1,8 +1,9 @@
 -- The rows of a reply, and of an honest answer.
-use Rattle.std.proofs.Common.{◌≡◌, ◌≢◌, ℕ, List, [], ◌∷◌, length, map, Bool, true, cond, nat_eq, Option, Some, None, Result, Ok, Err, option_map, option_and_then, refl, ap, ◌∙◌, inl, inr, eq-eqb}
+use Rattle.std.proofs.Common.{◌≡◌, ◌≢◌, ℕ, List, [], ◌∷◌, length, map, Bool, true, false, cond, nat_eq, Option, Some, None, Result, Ok, Err, option_map, option_and_then, refl, ap, ◌∙◌, inl, inr, eq-eqb}
 use Rattle.std.specs.List.{AllByRecursion}
-use Rattle.std.proofs.lemmas.Bool.{le-leb}
+use Rattle.std.proofs.lemmas.Bool.{eqb-true, le-leb}
 use Rattle.json_terms.specs.Json.{Json, items_of, depth}
+use Rattle.json_terms.specs.Kinds.{items_in}
 use Rattle.json_terms.specs.Reading.{reading}
 use Rattle.json_terms.specs.Text.{text_of}
 use Rattle.json_terms.specs.declared.fault.TermFault.{TermFault}
@@ -18,21 +19,29 @@ use Rattle.child_pool.proofs.Replies.{chosen}
 
 -- ---- what a reply with rows can be
 
-mapped_rows : (o : Option (List (List (Json × Json)))) (said : Reply) → option_map reply.Rows o ≡ Some said → (rows : List (List (Json × Json))) × (said ≡ reply.Rows rows)
-mapped_rows None said e = absurd cc
-mapped_rows (Some rows) said e = let same : said ≡ reply.Rows rows = cc in (rows, same)
+-- rows as many as are counted
+abbrev pub AreCounted : ℕ → Reply → Type 0
+AreCounted count said = (rows : List (List (Json × Json))) × (said ≡ reply.Rows rows) × (length rows ≡ count)
 
-rows_read : (count : ℕ) (short : Bool) (r : Result Json TermFault) (said : Reply) → said ≢ reply.Log → reply_read (kind.Rows count) short r ≡ Some said → (rows : List (List (Json × Json))) × (said ≡ reply.Rows rows)
+counted_rows : (count : ℕ) (rows : List (List (Json × Json))) (b : Bool) → nat_eq (length rows) count ≡ b → (said : Reply) → option_map reply.Rows (cond b (Some rows) None) ≡ Some said → AreCounted count said
+counted_rows count rows true is said e = let same : said ≡ reply.Rows rows = cc in (rows, same, eqb-true (length rows) count is)
+counted_rows count rows false is said e = absurd cc
+
+mapped_rows : (count : ℕ) (o : Option (List (List (Json × Json)))) (said : Reply) → option_map reply.Rows (option_and_then (counted count) o) ≡ Some said → AreCounted count said
+mapped_rows count None said e = absurd cc
+mapped_rows count (Some rows) said e = counted_rows count rows (nat_eq (length rows) count) refl said e
+
+rows_read : (count : ℕ) (short : Bool) (r : Result Json TermFault) (said : Reply) → said ≢ reply.Log → reply_read (kind.Rows count) short r ≡ Some said → AreCounted count said
 rows_read count short (Err fault) said other e = absurd cc
 rows_read count short (Ok t) said other e = elim (chosen (is_log_term t) (Some reply.Log) (cond short (answer_in (kind.Rows count) t) None) (Some said) e) [
   | inl log ↦ let f : Some reply.Log ≡ Some said = log.1 in let same : said ≡ reply.Log = cc in absurd (other same)
   | inr answer ↦ elim (chosen short (answer_in (kind.Rows count) t) None (Some said) answer.1) [
-    | inl proper ↦ mapped_rows (lists_in count t) said proper.1
+    | inl proper ↦ mapped_rows count (option_and_then lists_of_items (items_in t)) said proper.1
     | inr long ↦ let f : None ≡ Some said = long.1 in absurd cc
   ]
 ]
 
-pub rows_reply : (count : ℕ) (line : List ℕ) (said : Reply) → said ≢ reply.Log → reply_of (kind.Rows count) line ≡ Some said → (rows : List (List (Json × Json))) × (said ≡ reply.Rows rows)
+pub rows_reply : (count : ℕ) (line : List ℕ) (said : Reply) → said ≢ reply.Log → reply_of (kind.Rows count) line ≡ Some said → AreCounted count said
 rows_reply count line said other e = rows_read count (is_short line) (reading line) said other e
 
 -- ---- proper rows are read

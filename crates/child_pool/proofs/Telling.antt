@@ -8,15 +8,11 @@ use Rattle.view_ports.specs.Commands.{command}
 use Rattle.view_ports.specs.Functions.{Functions}
 use Rattle.view_ports.specs.Honest.{AnswersChild, Complains, IsAnswerable, IsHonestLine, Spells}
 use Rattle.child_pool.specs.Jobs.{IsAmong}
-use Rattle.child_pool.specs.Histories.{HasReceived, IsReceipt, AllShort, Turn, talk}
-use Rattle.child_pool.specs.Sessions.{AllCompile, IsAt}
+use Rattle.child_pool.specs.Histories.{HasReceived, IsReceipt, Turn, talk}
+use Rattle.child_pool.specs.Sessions.{AllCompile}
 use Rattle.child_pool.proofs.Replies.{yes_no_complaint}
 
 -- ---- lists of calls
-
-pub AllShort-before : (added before : List Call) → AllShort (added ++ before) → AllShort before
-AllShort-before [] before h = h
-AllShort-before (call ∷ added) before h = AllShort-before added before h.1
 
 pub among_at : (sources : List (List ℕ)) (i : ℕ) → i < length sources → IsAmong sources (get_or sources i [])
 among_at [] i within = absurd (omega arith)
@@ -39,13 +35,13 @@ received_last P slot line (call ∷ added) before now earlier said turn is last 
 
 -- ---- honest answers
 
-module _ (functions : List ℕ → Functions) (honest : List ℕ → Type 0) (path : List ℕ) (sources : List (List ℕ)) (prompt : List ℕ) (logs slot : ℕ) (earlier : List Call) (line : List ℕ) where
-  -- an honest path's answer, where no line was too long
-  pub honest_line : IsAt path sources (prompt ∷ []) logs slot earlier → AnswersChild functions honest (child slot earlier) line → honest path → AllShort earlier
+module _ (functions : List ℕ → Functions) (honest : List ℕ → Type 0) (path : List ℕ) (sources : List (List ℕ)) (prompt : List ℕ) (logs : ℕ) (st : Option Session) (line : List ℕ) where
+  -- an honest path's answer
+  pub honest_line : st ≡ Some (session path sources (prompt ∷ []) logs true) → AnswersChild functions honest st line → honest path
       → (c : Command) → command prompt ≡ c → IsAnswerable sources c → IsHonestLine (functions path) sources logs c line
-  honest_line at answers is_honest short c is answerable =
-      let here : AnswersChild functions honest (Some (session path sources (prompt ∷ []) logs at.sound)) line = subst (λ (st : Option Session). AnswersChild functions honest st line) at.is answers in
-      subst (λ (asked : Command). IsHonestLine (functions path) sources logs asked line) is (here is_honest (at.kept short) (subst (IsAnswerable sources) (sym is) answerable))
+  honest_line at answers is_honest c is answerable =
+      let here : AnswersChild functions honest (Some (session path sources (prompt ∷ []) logs true)) line = subst (λ (s : Option Session). AnswersChild functions honest s line) at answers in
+      subst (λ (asked : Command). IsHonestLine (functions path) sources logs asked line) is (here is_honest refl (subst (IsAnswerable sources) (sym is) answerable))
 
 -- a source whose answer was `true` compiles
 compiles_by : (functions : Functions) (source line : List ℕ) (b : Bool) → functions.compiles source ≡ b → MatchBool b (Spells line is_true) (Complains line) → is_yes line ≡ true → functions.compiles source ≡ true

@@ -1,7 +1,6 @@
 -- The calls that a function made on the query servers, the newest first.
-use Rattle.std.specs.Prelude.{◌≡◌, ◌⊎◌, ◌≤◌, ℕ, List, [], ◌∷◌, ◌++◌, Bool, true, false, length, Option, Some, None}
+use Rattle.std.specs.Prelude.{◌≡◌, ◌⊎◌, ℕ, List, [], ◌∷◌, ◌++◌, Bool, true, false, Option, Some, None}
 use Rattle.view_ports.specs.Calls.{Call, start, send, receive, stop, Session, child, is_log}
-use Rattle.view_ports.specs.Functions.{line_limit}
 use Rattle.child_pool.specs.Jobs.{Job, AllLawful}
 
 -- what a function did on a slot: after the calls that were made `before` it made those that it `added`, each lawful, and of
@@ -27,17 +26,6 @@ abbrev pub HasReceived : (Option Session → List ℕ → Type 0) → List Call 
 HasReceived P [] before = ⊥
 HasReceived P (call ∷ added) before = IsReceipt P call (added ++ before) ⊎ HasReceived P added before
 
--- no line that was sent is too long
-abbrev pub IsShortCall : Call → Type 0
-IsShortCall (send slot line sent) = length line ≤ line_limit
-IsShortCall (start slot path started) = Unit {0}
-IsShortCall (receive slot line) = Unit {0}
-IsShortCall (stop slot) = Unit {0}
-
-abbrev pub AllShort : List Call → Type 0
-AllShort [] = Unit {0}
-AllShort (call ∷ calls) = IsShortCall call × AllShort calls
-
 -- ---- the talk: the lines that were sent and received, log lines aside, in the order of the calls
 
 pub data Turn : Type 0 where
@@ -59,3 +47,8 @@ turns_of (stop slot) = []
 abbrev pub talk : List Call → List Turn
 talk [] = []
 talk (call ∷ calls) = talk calls ++ turns_of call
+
+-- a line that was heard, or nothing
+abbrev pub last_heard : ℕ → Option (List ℕ) → List Turn
+last_heard slot None = []
+last_heard slot (Some line) = hears slot line ∷ []

@@ -1,9 +1,10 @@
 -- What a request asks of the query servers, and which calls it may make.
-use Rattle.std.specs.Prelude.{◌≡◌, ◌≢◌, ◌⊎◌, ℕ, List, [], ◌∷◌, ◌++◌, Option, Some, None}
+use Rattle.std.specs.Prelude.{◌≡◌, ◌≢◌, ◌⊎◌, ◌≤◌, ℕ, List, [], ◌∷◌, ◌++◌, length, Option, Some, None}
 use Rattle.json_terms.specs.Json.{Json}
 use Rattle.view_ports.specs.declared.command.Command.{Command}
 use Rattle.view_ports.specs.declared.command.Command.TheVariants.{Reset, AddFun, MapDoc, Reduce, Rereduce, Other}
 use Rattle.view_ports.specs.Calls.{Call, start, send, receive, stop, Session, child, slot_of}
+use Rattle.view_ports.specs.Functions.{IsMappable, line_limit}
 use Rattle.query_protocol.specs.CommandLines.{command_line}
 
 -- a design's path, the sources of its map functions in order of the views, and the documents that are mapped
@@ -11,6 +12,9 @@ pub record Job : Type 0 where
   pub path : List ℕ
   pub sources : List (List ℕ)
   pub documents : List (List (List ℕ × Json))
+
+abbrev pub job_of : List ℕ → List (List ℕ) → List (List (List ℕ × Json)) → Job
+job_of path sources documents = record { path = path; sources = sources; documents = documents }
 
 -- one of the list
 abbrev pub IsAmong : {A : Type 0} → List A → A → Type 0
@@ -29,6 +33,16 @@ IsCommandOf job Other = ⊥
 abbrev pub IsLineOfJob : Job → List ℕ → Type 0
 IsLineOfJob job line = (command : Command) × IsCommandOf job command × (line ≡ command_line command)
 
+-- a prompt of the job to a child that has these sources: where it maps a document, they are all those of the job, and the
+-- document is within the bounds
+abbrev pub IsPromptOf : Job → List (List ℕ) → Command → Type 0
+IsPromptOf job sources Reset = Unit {0}
+IsPromptOf job sources (AddFun source) = IsAmong job.sources source
+IsPromptOf job sources (MapDoc document) = IsAmong job.documents document × (sources ≡ job.sources) × IsMappable document
+IsPromptOf job sources (Reduce source rows) = ⊥
+IsPromptOf job sources (Rereduce source values) = ⊥
+IsPromptOf job sources Other = ⊥
+
 abbrev pub HasChild : Option Session → Type 0
 HasChild None = ⊥
 HasChild (Some s) = Unit {0}
@@ -38,11 +52,11 @@ abbrev pub IsAsked : Option Session → Type 0
 IsAsked None = ⊥
 IsAsked (Some s) = s.waiting ≢ []
 
--- A child is started by the job's path alone, a line of the job is sent to a slot that has a child, and a line is
--- received from a child that was asked.
+-- A child is started by the job's path alone, a line of the job that isn't too long is sent to a slot that has a child, and
+-- a line is received from a child that was asked.
 abbrev pub IsLawful : Job → Call → List Call → Type 0
 IsLawful job (start slot path started) before = path ≡ job.path
-IsLawful job (send slot line sent) before = IsLineOfJob job line × HasChild (child slot before)
+IsLawful job (send slot line sent) before = IsLineOfJob job line × (length line ≤ line_limit) × HasChild (child slot before)
 IsLawful job (receive slot line) before = IsAsked (child slot before)
 IsLawful job (stop slot) before = Unit {0}
 

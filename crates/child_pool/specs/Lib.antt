@@ -7,7 +7,11 @@ pub mod Answered
 pub mod Hearing
 pub mod Outcomes
 pub mod Talk
+pub mod Refused
+pub mod Honesty
 pub mod Stages
 pub mod Mapping
+pub mod Languages
 pub mod Pools
+pub mod Updates
 pub mod Preparing

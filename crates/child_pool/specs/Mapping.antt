@@ -3,31 +3,34 @@ use Rattle.std.specs.Prelude.{◌≡◌, ◌⊎◌, ◌≤◌, ℕ, List, length
 use Rattle.json_terms.specs.Json.{Json}
 use Rattle.json_terms.specs.declared.rows.RowLists.{RowLists}
 use Rattle.view_ports.specs.Calls.{Call}
-use Rattle.view_ports.specs.Functions.{Functions, IsMappable, source_limit}
+use Rattle.view_ports.specs.Functions.{Functions, source_limit}
 use Rattle.view_ports.specs.Honest.{rows_of}
 use Rattle.child_pool.specs.declared.pool_fault.PoolFault.{PoolFault}
-use Rattle.child_pool.specs.Histories.{AllShort, talk}
-use Rattle.child_pool.specs.Outcomes.{IsCaused}
+use Rattle.child_pool.specs.Histories.{talk}
+use Rattle.child_pool.specs.Jobs.{Job}
+use Rattle.child_pool.specs.Refused.{Refused}
 use Rattle.child_pool.specs.Sessions.{HasTold}
 use Rattle.child_pool.specs.Talk.{AreTurns, Due}
 
 module _ (functions : List ℕ → Functions) (honest : List ℕ → Type 0) where
   -- on an honest path these are the rows of the path's map functions
-  abbrev pub AreHonestRows : List ℕ → List (List ℕ) → List (List ℕ × Json) → List Call → List (List (Json × Json)) → Type 0
-  AreHonestRows path sources document calls rows = honest path → AllShort calls → IsMappable document → length sources ≤ source_limit → rows ≡ rows_of (functions path) sources document
+  abbrev pub AreHonestRows : List ℕ → List (List ℕ) → List (List ℕ × Json) → List (List (Json × Json)) → Type 0
+  AreHonestRows path sources document rows = honest path → length sources ≤ source_limit → rows ≡ rows_of (functions path) sources document
 
-  -- a document was mapped: the session is as ready as before, the turns are the document's where no fault was counted, and the rows are those of an honest path
-  pub record HasMapped (path : List ℕ) (sources : List (List ℕ)) (slot : ℕ) (document : List (List ℕ × Json)) (dues : List Due) (rose : Type 0) (rows : List (List (Json × Json))) (added now : List Call) : Type 0 where
-    pub told : HasTold functions honest path sources slot now
+  -- a document was mapped: the session is as ready as before, the turns are the document's where no fault was counted, and there is
+  -- a list of rows for each source, which are those of an honest path
+  pub record HasMapped (job : Job) (slot : ℕ) (document : List (List ℕ × Json)) (dues : List Due) (rose : Type 0) (rows : List (List (Json × Json))) (added now : List Call) : Type 0 where
+    pub told : HasTold functions honest job.path job.sources slot now
     pub talked : AreTurns dues (talk added) ⊎ rose
-    pub right : AreHonestRows path sources document now rows
+    pub right : AreHonestRows job.path job.sources document rows
+    pub each : length rows ≡ length job.sources
 
-  abbrev pub AfterMap : List ℕ → List (List ℕ) → ℕ → List (List ℕ × Json) → List Due → Type 0 → Result RowLists PoolFault → List Call → List Call → List Call → Type 0
-  AfterMap path sources slot document dues rose (Ok rows) before added now = HasMapped path sources slot document dues rose rows added now
-  AfterMap path sources slot document dues rose (Err f) before added now = IsCaused functions honest sources added before f
+  abbrev pub AfterMap : Job → ℕ → List (List ℕ × Json) → List Due → Type 0 → Result RowLists PoolFault → List Call → List Call → List Call → Type 0
+  AfterMap job slot document dues rose (Ok rows) before added now = HasMapped job slot document dues rose rows added now
+  AfterMap job slot document dues rose (Err f) before added now = Refused functions honest job slot dues rose f before added
 
   -- one prompt's answer, without what came before it
-  abbrev pub AfterAnswer : List ℕ → List (List ℕ) → ℕ → List (List ℕ × Json) → List Due → Result (Option RowLists) PoolFault → List Call → List Call → List Call → Type 0
-  AfterAnswer path sources slot document dues (Ok (Some rows)) before added now = HasMapped path sources slot document dues ⊥ rows added now
-  AfterAnswer path sources slot document dues (Ok None) before added now = Unit {0}
-  AfterAnswer path sources slot document dues (Err f) before added now = IsCaused functions honest sources added before f
+  abbrev pub AfterAnswer : Job → ℕ → List (List ℕ × Json) → List Due → Result (Option RowLists) PoolFault → List Call → List Call → List Call → Type 0
+  AfterAnswer job slot document dues (Ok (Some rows)) before added now = HasMapped job slot document dues ⊥ rows added now
+  AfterAnswer job slot document dues (Ok None) before added now = Unit {0}
+  AfterAnswer job slot document dues (Err f) before added now = Refused functions honest job slot dues ⊥ f before added

@@ -1,9 +1,11 @@
 -- What the steps of a session come to.
-use Rattle.std.specs.Prelude.{◌≡◌, ◌+◌, ℕ, List, [], ◌∷◌, ◌++◌, length, false, Option, Some, None, Result, Ok, Err}
-use Rattle.view_ports.specs.Calls.{Call, receive, Session, child, is_log, is_yes, sources_after}
+use Rattle.std.specs.Prelude.{◌≡◌, ◌⊎◌, ◌+◌, ℕ, List, [], ◌∷◌, ◌++◌, length, true, false, Option, Some, None, Result, Ok, Err}
+use Rattle.json_terms.specs.Reading.{reading}
+use Rattle.view_ports.specs.declared.command.Command.TheVariants.{AddFun}
+use Rattle.view_ports.specs.Calls.{Call, receive, Session, session, child, is_log, is_yes, sources_after}
 use Rattle.view_ports.specs.Commands.{command}
 use Rattle.view_ports.specs.Functions.{Functions}
-use Rattle.view_ports.specs.Honest.{AnswersChild}
+use Rattle.view_ports.specs.Honest.{AnswersChild, is_complaint_read}
 use Rattle.query_protocol.specs.declared.reply.Reply.{Reply}
 use Rattle.child_pool.specs.declared.heard.Heard.{Heard}
 use Rattle.child_pool.specs.declared.heard.Heard.TheVariants.{Failed, Log, Answer}
@@ -11,36 +13,51 @@ use Rattle.query_protocol.specs.Replies.{reply_of}
 use Rattle.child_pool.specs.declared.pool_fault.PoolFault.{PoolFault}
 use Rattle.child_pool.specs.declared.pool_fault.PoolFault.TheVariants as fault
 use Rattle.child_pool.specs.Shown.{shown}
-use Rattle.child_pool.specs.Jobs.{IsAmong}
-use Rattle.child_pool.specs.Histories.{HasReceived, Turn, hears, talk}
+use Rattle.child_pool.specs.Jobs.{Job, IsAmong, IsPromptOf}
+use Rattle.child_pool.specs.Histories.{HasReceived, Turn, hears, last_heard, talk}
 use Rattle.child_pool.specs.Sessions.{IsAt, IsIdle}
-use Rattle.child_pool.specs.Causes.{IsBadReply, kind_of, ComplainsOf}
+use Rattle.child_pool.specs.Causes.{IsBadReply, kind_of}
 
 -- so many log lines came since the prompt, and nothing else
 abbrev pub OnlyLogged : List ℕ → List (List ℕ) → List ℕ → ℕ → ℕ → List Call → List Call → Type 0
 OnlyLogged path sources prompt logs slot added now = IsAt path sources (prompt ∷ []) logs slot now × (talk added ≡ [])
 
+-- nothing was said, or this was said and one line was heard at most
+abbrev pub StopsAfter : ℕ → List Turn → List Turn → Type 0
+StopsAfter slot said turns = (turns ≡ []) ⊎ ((last : Option (List ℕ)) × (turns ≡ said ++ last_heard slot last))
+
 module _ (functions : List ℕ → Functions) (honest : List ℕ → Type 0) where
-  -- a bad line was received from a child, and is shown so
-  pub record WasBad (text : List ℕ) (st : Option Session) (line : List ℕ) : Type 0 where
-    pub bad : IsBadReply st line
-    pub as_shown : text ≡ shown line
+  -- a line came from a child that was started by the job's path and whose calls all went well, in reply to a prompt of the job
+  pub record IsReplyFor (job : Job) (st : Option Session) (line : List ℕ) : Type 0 where
+    pub sources : List (List ℕ)
+    pub prompt : List ℕ
+    pub logs : ℕ
+    pub is : st ≡ Some (session job.path sources (prompt ∷ []) logs true)
+    pub asked : IsPromptOf job sources (command prompt)
     pub answers : AnswersChild functions honest st line
 
-  -- a child complained that one of these sources doesn't compile
-  pub record WasComplaint (sources : List (List ℕ)) (st : Option Session) (line : List ℕ) : Type 0 where
+  -- a bad reply was received, and is shown so
+  pub record WasBad (job : Job) (text : List ℕ) (st : Option Session) (line : List ℕ) : Type 0 where
+    pub reply : IsReplyFor job st line
+    pub bad : IsBadReply (command reply.prompt) (length reply.sources) reply.logs line
+    pub as_shown : text ≡ shown line
+
+  -- a child complained that one of the job's sources doesn't compile
+  pub record WasComplaint (job : Job) (st : Option Session) (line : List ℕ) : Type 0 where
+    pub reply : IsReplyFor job st line
     pub source : List ℕ
-    pub among : IsAmong sources source
-    pub complains : ComplainsOf source st line
-    pub answers : AnswersChild functions honest st line
+    pub among : IsAmong job.sources source
+    pub asks : command reply.prompt ≡ AddFun source
+    pub complains : is_complaint_read (reading line) ≡ true
+    pub silent : is_log line ≡ false
 
   -- each refusal has its cause among the calls that were added
-  abbrev pub IsCaused : List (List ℕ) → List Call → List Call → PoolFault → Type 0
-  IsCaused sources added before (fault.BadReply text) = HasReceived (WasBad text) added before
-  IsCaused sources added before fault.Compile = HasReceived (WasComplaint sources) added before
-  IsCaused sources added before fault.ServerFault = Unit {0}
-  IsCaused sources added before fault.UnknownLanguage = ⊥
-  IsCaused sources added before fault.NoMemory = Unit {0}
+  abbrev pub IsCaused : Job → List Call → List Call → PoolFault → Type 0
+  IsCaused job added before (fault.BadReply text) = HasReceived (WasBad job text) added before
+  IsCaused job added before fault.Compile = HasReceived (WasComplaint job) added before
+  IsCaused job added before fault.ServerFault = Unit {0}
+  IsCaused job added before fault.UnknownLanguage = ⊥
+  IsCaused job added before fault.NoMemory = Unit {0}
 
   -- the last call received the answer to a prompt, and the reply is what the answer says; before the answer these turns were
   -- added to the talk
@@ -57,14 +74,14 @@ module _ (functions : List ℕ → Functions) (honest : List ℕ → Type 0) whe
     pub talked : talk added ≡ said ++ hears slot line ∷ []
 
   -- after one line was received, or the call failed
-  abbrev pub AfterLine : List ℕ → List (List ℕ) → List ℕ → ℕ → ℕ → Result Heard PoolFault → List Call → List Call → List Call → Type 0
-  AfterLine path sources prompt logs slot (Ok Failed) before added now = Unit {0}
-  AfterLine path sources prompt logs slot (Ok Log) before added now = OnlyLogged path sources prompt (logs + 1) slot added now
-  AfterLine path sources prompt logs slot (Ok (Answer reply)) before added now = Replied path sources prompt slot [] reply added now
-  AfterLine path sources prompt logs slot (Err f) before added now = IsCaused [] added before f
+  abbrev pub AfterLine : Job → List (List ℕ) → List ℕ → ℕ → ℕ → Result Heard PoolFault → List Call → List Call → List Call → Type 0
+  AfterLine job sources prompt logs slot (Ok Failed) before added now = Unit {0}
+  AfterLine job sources prompt logs slot (Ok Log) before added now = OnlyLogged job.path sources prompt (logs + 1) slot added now
+  AfterLine job sources prompt logs slot (Ok (Answer reply)) before added now = Replied job.path sources prompt slot [] reply added now
+  AfterLine job sources prompt logs slot (Err f) before added now = IsCaused job added before f × StopsAfter slot [] (talk added)
 
   -- after a prompt was answered, or a call failed
-  abbrev pub AfterPrompt : List ℕ → List (List ℕ) → List ℕ → ℕ → List Turn → Result (Option Reply) PoolFault → List Call → List Call → List Call → Type 0
-  AfterPrompt path sources prompt slot said (Ok None) before added now = Unit {0}
-  AfterPrompt path sources prompt slot said (Ok (Some reply)) before added now = Replied path sources prompt slot said reply added now
-  AfterPrompt path sources prompt slot said (Err f) before added now = IsCaused [] added before f
+  abbrev pub AfterPrompt : Job → List (List ℕ) → List ℕ → ℕ → List Turn → Result (Option Reply) PoolFault → List Call → List Call → List Call → Type 0
+  AfterPrompt job sources prompt slot said (Ok None) before added now = Unit {0}
+  AfterPrompt job sources prompt slot said (Ok (Some reply)) before added now = Replied job.path sources prompt slot said reply added now
+  AfterPrompt job sources prompt slot said (Err f) before added now = IsCaused job added before f × StopsAfter slot said (talk added)

@@ -1,16 +1,13 @@
 -- How far a child's session has come.
-use Rattle.std.specs.Prelude.{◌≡◌, ℕ, zero, suc, List, [], take, Bool, true, Some}
+use Rattle.std.specs.Prelude.{◌≡◌, ℕ, zero, suc, List, [], take, true, Some}
 use Rattle.std.specs.List.{AllByRecursion}
 use Rattle.view_ports.specs.Calls.{Call, session, child}
 use Rattle.view_ports.specs.Functions.{Functions}
-use Rattle.child_pool.specs.Histories.{AllShort}
 
 -- the slot's child was started by this path, has these sources, hasn't answered these lines, and has printed so many log
--- lines since its last answer; it is sound where no line was too long
+-- lines since its last answer; no call of its session failed, and no line was too long
 pub record IsAt (path : List ℕ) (sources waiting : List (List ℕ)) (logs slot : ℕ) (calls : List Call) : Type 0 where
-  pub sound : Bool
-  pub kept : AllShort calls → sound ≡ true
-  pub is : child slot calls ≡ Some (session path sources waiting logs sound)
+  pub is : child slot calls ≡ Some (session path sources waiting logs true)
 
 -- it has answered each line
 abbrev pub IsIdle : List ℕ → List (List ℕ) → ℕ → List Call → Type 0
@@ -28,7 +25,7 @@ AllCompile functions sources = AllByRecursion (λ source. functions.compiles sou
 -- on an honest path the sources that it has compile
 pub record HasTold (functions : List ℕ → Functions) (honest : List ℕ → Type 0) (path : List ℕ) (sources : List (List ℕ)) (slot : ℕ) (calls : List Call) : Type 0 where
   pub idle : IsIdle path sources slot calls
-  pub compile : honest path → AllShort calls → AllCompile (functions path) sources
+  pub compile : honest path → AllCompile (functions path) sources
 
 abbrev pub IsTold : (List ℕ → Functions) → (List ℕ → Type 0) → List ℕ → List (List ℕ) → ℕ → ℕ → List Call → Type 0
 IsTold functions honest path sources zero slot calls = IsThere path slot calls

@@ -9,7 +9,8 @@ use Rattle.query_protocol.specs.declared.reply.Reply.TheVariants.{Log, Yes, Rows
 use Rattle.child_pool.specs.declared.pool_fault.PoolFault.{PoolFault}
 use Rattle.child_pool.specs.declared.pool_fault.PoolFault.TheVariants as fault
 use Rattle.child_pool.specs.Histories.{talk}
-use Rattle.child_pool.specs.Outcomes.{IsCaused}
+use Rattle.child_pool.specs.Jobs.{Job}
+use Rattle.child_pool.specs.Refused.{Refused}
 use Rattle.child_pool.specs.Sessions.{IsTold}
 use Rattle.child_pool.specs.Talk.{Due, AreTurns, asks}
 
@@ -32,13 +33,13 @@ told_by (Rows rows) = Ok true
 told_by (Value value) = Ok true
 
 module _ (functions : List ℕ → Functions) (honest : List ℕ → Type 0) where
-  -- after some stages: this one is reached with these turns, or a call failed, or there is a refusal with its cause
-  abbrev pub AfterStages : List ℕ → List (List ℕ) → ℕ → ℕ → List Due → Result Bool PoolFault → List Call → List Call → List Call → Type 0
-  AfterStages path sources slot stage dues (Ok true) before added now = IsTold functions honest path sources stage slot now × AreTurns dues (talk added)
-  AfterStages path sources slot stage dues (Ok false) before added now = Unit {0}
-  AfterStages path sources slot stage dues (Err f) before added now = IsCaused functions honest sources added before f
+  -- after some stages: this one is reached with these turns, or a call failed, or there is a refusal
+  abbrev pub AfterStages : Job → ℕ → ℕ → List Due → Result Bool PoolFault → List Call → List Call → List Call → Type 0
+  AfterStages job slot stage dues (Ok true) before added now = IsTold functions honest job.path job.sources stage slot now × AreTurns dues (talk added)
+  AfterStages job slot stage dues (Ok false) before added now = Unit {0}
+  AfterStages job slot stage dues (Err f) before added now = Refused functions honest job slot dues ⊥ f before added
 
   -- the same after two attempts at most: the turns are those where no fault was counted
-  abbrev pub AfterAttempts : List ℕ → List (List ℕ) → ℕ → ℕ → List Due → Type 0 → Result (Unit {0}) PoolFault → List Call → List Call → List Call → Type 0
-  AfterAttempts path sources slot stage dues rose (Ok done) before added now = IsTold functions honest path sources stage slot now × (AreTurns dues (talk added) ⊎ rose)
-  AfterAttempts path sources slot stage dues rose (Err f) before added now = IsCaused functions honest sources added before f
+  abbrev pub AfterAttempts : Job → ℕ → ℕ → List Due → Type 0 → Result (Unit {0}) PoolFault → List Call → List Call → List Call → Type 0
+  AfterAttempts job slot stage dues rose (Ok done) before added now = IsTold functions honest job.path job.sources stage slot now × (AreTurns dues (talk added) ⊎ rose)
+  AfterAttempts job slot stage dues rose (Err f) before added now = Refused functions honest job slot dues rose f before added

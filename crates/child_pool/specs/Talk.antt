@@ -1,5 +1,5 @@
 -- The talk of an update without faults, log lines aside: which lines are said and heard, in which order.
-use Rattle.std.specs.Prelude.{◌≡◌, ℕ, zero, suc, min, List, [], ◌∷◌, ◌++◌, length, take, drop, Some}
+use Rattle.std.specs.Prelude.{◌≡◌, ℕ, zero, suc, min, List, [], ◌∷◌, ◌++◌, length, take, drop, Option, Some}
 use Rattle.std.specs.List.{flat_map}
 use Rattle.json_terms.specs.Json.{Json}
 use Rattle.view_ports.specs.declared.command.Command.{Command}
@@ -9,7 +9,7 @@ use Rattle.query_protocol.specs.declared.reply.Kind.{Kind}
 use Rattle.query_protocol.specs.declared.reply.Reply.{Reply}
 use Rattle.query_protocol.specs.declared.reply.Reply.TheVariants.{Log, Yes, Rows, Value, Compile}
 use Rattle.query_protocol.specs.Replies.{reply_of}
-use Rattle.child_pool.specs.Histories.{Turn, says, hears}
+use Rattle.child_pool.specs.Histories.{Turn, says, hears, last_heard}
 use Rattle.child_pool.specs.Causes.{kind_of}
 
 -- a turn that is due on a slot: a command's line is said, or any proper answer to a command is heard, where so many sources were added
@@ -42,6 +42,16 @@ AreTurns [] (turn ∷ turns) = ⊥
 AreTurns (due ∷ dues) [] = ⊥
 AreTurns (due ∷ dues) (turn ∷ turns) = IsTurn due turn × AreTurns dues turns
 
+-- these turns are the first of those that are due, and one line more may have been heard
+pub record AreCutShort (slot : ℕ) (dues : List Due) (turns : List Turn) : Type 0 where
+  pub done : List Due
+  pub left : List Due
+  pub all : dues ≡ done ++ left
+  pub said : List Turn
+  pub are : AreTurns done said
+  pub last : Option (List ℕ)
+  pub is : turns ≡ said ++ last_heard slot last
+
 -- a command is said, and its answer is heard before anything else
 abbrev pub asks : ℕ → Command → ℕ → List Due
 asks slot command count = say slot command ∷ hear slot command count ∷ []
@@ -72,6 +82,10 @@ abbrev pub waves : ℕ → ℕ → ℕ → List (List (List ℕ × Json)) → Li
 waves zero width count documents = []
 waves (suc most) width count [] = []
 waves (suc most) width count (document ∷ documents) = wave count (take width (document ∷ documents)) ++ waves most width count (drop width (document ∷ documents))
+
+-- documents one after another, each answered before the next
+abbrev pub one_by_one : ℕ → List (List (List ℕ × Json)) → List Due
+one_by_one count documents = flat_map (λ document. asks 0 (MapDoc document) count) documents
 
 -- the talk of an update that maps these documents by these sources with so many slots; where there is no document nothing is said
 abbrev pub talk_of : List (List ℕ) → List (List (List ℕ × Json)) → ℕ → List Due

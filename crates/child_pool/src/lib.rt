@@ -1,8 +1,13 @@
 //! The pool of query servers: sessions are made ready, documents are mapped, and each prompt has two attempts.
 #![tactic(auto)]
 
+mod doc_rows;
+mod document;
 mod heard;
+mod languages;
+mod laws;
 mod mapping;
+mod pool;
 mod pool_fault;
 mod preparing;
 mod prompt;
@@ -11,6 +16,11 @@ mod shown_line;
 #[cfg(test)]
 mod tests;
 
+pub use doc_rows::DocRowLists;
+pub use document::Document;
+pub use languages::language_word;
+pub use laws::honest_paths_are_refused_rightly;
 pub use mapping::map_one;
+pub use pool::Pool;
 pub use pool_fault::PoolFault;
 pub use preparing::prepare_slot;

@@ -1,10 +1,11 @@
 //! Making the child of a slot ready.
 
-ghost use Rattle.std.specs.Prelude.{◌≡◌, ◌<◌, ◌≤◌, List, Err, false};
+ghost use Rattle.std.specs.Prelude.{◌≡◌, ◌≢◌, ◌<◌, ◌≤◌, ℕ, List, Err, false};
+ghost use Rattle.json_terms.specs.Json.{Json};
 ghost use Rattle.view_ports.specs.Calls.{Call};
 ghost use Rattle.view_ports.specs.Faults.{Rose, RoseBy};
 ghost use Rattle.child_pool.specs.Histories.{Went};
-ghost use Rattle.child_pool.specs.Jobs.{Job};
+ghost use Rattle.child_pool.specs.Jobs.{job_of};
 ghost use Rattle.child_pool.specs.Preparing.{AfterPrepare};
 ghost use Rattle.child_pool.specs.Sessions.{IsThere};
 
@@ -25,11 +26,12 @@ pub fn prepare_slot<C: Servers>(
     fresh: bool,
 ) -> Result<(), PoolFault>
     requires { slot < SLOT_COUNT }
-    ensures went { (job : Job) (calls : List Call) → C.may_follow servers.old calls → job.path ≡ path.now → job.sources ≡ sources.now
-        → (fresh ≡ false → IsThere job.path slot calls)
-        → Went (C.may_follow servers.new) job slot calls (AfterPrepare C.functions C.honest job.path sources.now slot (Rose (C.faults servers.old) (C.faults servers.new)) result calls) }
+    ensures went { (documents : List (List (List ℕ × Json))) (calls : List Call) → C.may_follow servers.old calls
+        → (fresh ≡ false → IsThere path.now slot calls)
+        → Went (C.may_follow servers.new) (job_of path.now sources.now documents) slot calls (AfterPrepare C.functions C.honest (job_of path.now sources.now documents) slot (Rose (C.faults servers.old) (C.faults servers.new)) result calls) }
     ensures later { C.faults servers.old ≤ C.faults servers.new }
     ensures twice { result ≡ Err PoolFault.ServerFault → RoseBy 2 (C.faults servers.old) (C.faults servers.new) }
+    ensures language { result ≢ Err PoolFault.UnknownLanguage }
 {
     tell_all(alloc, servers, slot, path, sources, fresh)
 }

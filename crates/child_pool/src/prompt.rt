@@ -8,7 +8,7 @@ ghost use Rattle.query_protocol.specs.CommandLines.{IsWhole};
 ghost use Rattle.child_pool.specs.Causes.{kind_of};
 ghost use Rattle.child_pool.specs.Hearing.{IsHeard, IsKept, IsShown};
 ghost use Rattle.child_pool.specs.Histories.{Went, says};
-ghost use Rattle.child_pool.specs.Jobs.{Job, IsLineOfJob};
+ghost use Rattle.child_pool.specs.Jobs.{Job, IsLineOfJob, IsPromptOf};
 ghost use Rattle.child_pool.specs.Outcomes.{AfterLine, AfterPrompt};
 ghost use Rattle.child_pool.specs.Sessions.{IsAt, IsIdle};
 
@@ -22,6 +22,9 @@ use view_ports::{SLOT_COUNT, Servers, ServersFault};
 /// How many log lines may come before one answer.
 const LOG_LIMIT: u32 = 1_000;
 
+/// How many bytes a line to a child has at most.
+const LINE_LIMIT: usize = 134_217_728;
+
 /// Receives one line in reply to a prompt, behind `logs` log lines.
 fn receive_line<C: Servers>(
     alloc: Global,
@@ -31,13 +34,14 @@ fn receive_line<C: Servers>(
     logs: u32,
 ) -> Result<Heard, PoolFault>
     requires { slot < SLOT_COUNT }
-    ensures went { (job : Job) (path : List ℕ) (sources : List (List ℕ)) (prompt : List ℕ) (calls : List Call) → C.may_follow servers.old calls
-        → kind ≡ kind_of (command prompt) (length sources) → IsAt path sources (prompt ∷ []) logs slot calls
-        → Went (C.may_follow servers.new) job slot calls (AfterLine C.functions C.honest path sources prompt logs slot result calls) }
+    ensures went { (job : Job) (sources : List (List ℕ)) (prompt : List ℕ) (calls : List Call) → C.may_follow servers.old calls
+        → kind ≡ kind_of (command prompt) (length sources) → IsPromptOf job sources (command prompt) → IsAt job.path sources (prompt ∷ []) logs slot calls
+        → Went (C.may_follow servers.new) job slot calls (AfterLine C.functions C.honest job sources prompt logs slot result calls) }
     ensures later { C.faults servers.old ≤ C.faults servers.new }
     ensures failed { result ≡ Ok Heard.Failed → Rose (C.faults servers.old) (C.faults servers.new) }
     ensures few { result ≡ Ok Heard.Log → logs < 1000 }
     ensures no_fault { result ≢ Err PoolFault.ServerFault }
+    ensures language { result ≢ Err PoolFault.UnknownLanguage }
 {
     let line = match servers.receive(alloc, slot) {
         Ok(line) => line,
@@ -55,12 +59,13 @@ fn receive_reply<C: Servers>(
     kind: Kind,
 ) -> Result<Option<Reply>, PoolFault>
     requires { slot < SLOT_COUNT }
-    ensures went { (job : Job) (path : List ℕ) (sources : List (List ℕ)) (prompt : List ℕ) (calls : List Call) → C.may_follow servers.old calls
-        → kind ≡ kind_of (command prompt) (length sources) → IsAt path sources (prompt ∷ []) 0 slot calls
-        → Went (C.may_follow servers.new) job slot calls (AfterPrompt C.functions C.honest path sources prompt slot [] result calls) }
+    ensures went { (job : Job) (sources : List (List ℕ)) (prompt : List ℕ) (calls : List Call) → C.may_follow servers.old calls
+        → kind ≡ kind_of (command prompt) (length sources) → IsPromptOf job sources (command prompt) → IsAt job.path sources (prompt ∷ []) 0 slot calls
+        → Went (C.may_follow servers.new) job slot calls (AfterPrompt C.functions C.honest job sources prompt slot [] result calls) }
     ensures later { C.faults servers.old ≤ C.faults servers.new }
     ensures failed { result ≡ Ok None → Rose (C.faults servers.old) (C.faults servers.new) }
     ensures no_fault { result ≢ Err PoolFault.ServerFault }
+    ensures language { result ≢ Err PoolFault.UnknownLanguage }
 {
     for logs in 0..LOG_LIMIT {
         match receive_line(alloc, servers, slot, kind, logs) {
@@ -78,7 +83,8 @@ fn receive_reply<C: Servers>(
     }
 }
 
-/// Sends a prompt and receives its reply, or nothing where a call fails.
+/// Sends a prompt and receives its reply, or nothing where a call fails. A line past 134,217,728 bytes isn't sent: there is
+/// no memory for it.
 pub fn ask<C: Servers>(
     alloc: Global,
     servers: &mut C,
@@ -88,13 +94,17 @@ pub fn ask<C: Servers>(
 ) -> Result<Option<Reply>, PoolFault>
     requires slot { slot < SLOT_COUNT }
     requires whole { IsWhole line.now }
-    ensures went { (job : Job) (path : List ℕ) (sources : List (List ℕ)) (calls : List Call) → C.may_follow servers.old calls
-        → kind ≡ kind_of (command line.now) (length sources) → IsLineOfJob job line.now → IsIdle path sources slot calls
-        → Went (C.may_follow servers.new) job slot calls (AfterPrompt C.functions C.honest path sources line.now slot (says slot line.now ∷ []) result calls) }
+    ensures went { (job : Job) (sources : List (List ℕ)) (calls : List Call) → C.may_follow servers.old calls
+        → kind ≡ kind_of (command line.now) (length sources) → IsLineOfJob job line.now → IsPromptOf job sources (command line.now) → IsIdle job.path sources slot calls
+        → Went (C.may_follow servers.new) job slot calls (AfterPrompt C.functions C.honest job sources line.now slot (says slot line.now ∷ []) result calls) }
     ensures later { C.faults servers.old ≤ C.faults servers.new }
     ensures failed { result ≡ Ok None → Rose (C.faults servers.old) (C.faults servers.new) }
     ensures no_fault { result ≢ Err PoolFault.ServerFault }
+    ensures language { result ≢ Err PoolFault.UnknownLanguage }
 {
+    if line.len() > LINE_LIMIT {
+        return Err(PoolFault::NoMemory);
+    }
     match servers.send(alloc, slot, line) {
         Ok(()) => receive_reply(alloc, servers, slot, kind),
         Err(ServersFault::Failed) => Ok(None),

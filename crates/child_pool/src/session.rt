@@ -1,13 +1,14 @@
 //! Making a child's session ready: start, reset, and one source after another. Each prompt has two attempts.
 
 ghost use Rattle.std.specs.Prelude.{◌≡◌, ◌≢◌, ◌<◌, ◌≤◌, ◌+◌, ℕ, List, [], ◌∷◌, Ok, Err, IfOk, true, false, map, length, suc};
+ghost use Rattle.json_terms.specs.Json.{Json};
 ghost use Rattle.view_ports.specs.Calls.{Call, child};
 ghost use Rattle.view_ports.specs.Commands.{command};
 ghost use Rattle.view_ports.specs.Faults.{Rose, RoseBy};
 ghost use Rattle.query_protocol.specs.CommandLines.{command_line, IsWhole};
 ghost use Rattle.child_pool.specs.Causes.{kind_of};
 ghost use Rattle.child_pool.specs.Histories.{Went};
-ghost use Rattle.child_pool.specs.Jobs.{Job};
+ghost use Rattle.child_pool.specs.Jobs.{job_of};
 ghost use Rattle.child_pool.specs.Sessions.{IsTold};
 ghost use Rattle.child_pool.specs.Stages.{AfterStages, AfterAttempts, stage_command, told_by, told_turns};
 ghost use Rattle.child_pool.specs.Talk.{asks};
@@ -67,12 +68,13 @@ fn tell<C: Servers>(
 ) -> Result<bool, PoolFault>
     requires slot { slot < SLOT_COUNT }
     requires stage { stage ≤ length sources.now }
-    ensures went { (job : Job) (calls : List Call) → C.may_follow servers.old calls → job.sources ≡ sources.now
-        → IsTold C.functions C.honest job.path sources.now stage slot calls
-        → Went (C.may_follow servers.new) job slot calls (AfterStages C.functions C.honest job.path sources.now slot (suc stage) (asks slot (stage_command sources.now stage) 0) result calls) }
+    ensures went { (path : List ℕ) (documents : List (List (List ℕ × Json))) (calls : List Call) → C.may_follow servers.old calls
+        → IsTold C.functions C.honest path sources.now stage slot calls
+        → Went (C.may_follow servers.new) (job_of path sources.now documents) slot calls (AfterStages C.functions C.honest (job_of path sources.now documents) slot (suc stage) (asks slot (stage_command sources.now stage) 0) result calls) }
     ensures later { C.faults servers.old ≤ C.faults servers.new }
     ensures failed { result ≡ Ok false → Rose (C.faults servers.old) (C.faults servers.new) }
     ensures no_fault { result ≢ Err PoolFault.ServerFault }
+    ensures language { result ≢ Err PoolFault.UnknownLanguage }
 {
     let line = match stage_line(alloc, sources, stage) {
         Ok(line) => line,
@@ -96,11 +98,12 @@ pub fn start_over<C: Servers>(
 ) -> Result<bool, PoolFault>
     requires slot { slot < SLOT_COUNT }
     requires stages { stages ≤ length sources.now + 1 }
-    ensures went { (job : Job) (calls : List Call) → C.may_follow servers.old calls → job.path ≡ path.now → job.sources ≡ sources.now
-        → Went (C.may_follow servers.new) job slot calls (AfterStages C.functions C.honest job.path sources.now slot stages (told_turns slot sources.now stages) result calls) }
+    ensures went { (documents : List (List (List ℕ × Json))) (calls : List Call) → C.may_follow servers.old calls
+        → Went (C.may_follow servers.new) (job_of path.now sources.now documents) slot calls (AfterStages C.functions C.honest (job_of path.now sources.now documents) slot stages (told_turns slot sources.now stages) result calls) }
     ensures later { C.faults servers.old ≤ C.faults servers.new }
     ensures failed { result ≡ Ok false → Rose (C.faults servers.old) (C.faults servers.new) }
     ensures no_fault { result ≢ Err PoolFault.ServerFault }
+    ensures language { result ≢ Err PoolFault.UnknownLanguage }
 {
     match servers.start(alloc, slot, path) {
         Ok(()) => {}
@@ -130,12 +133,13 @@ fn first_attempt<C: Servers>(
     requires slot { slot < SLOT_COUNT }
     requires stage { stage ≤ length sources.now }
     requires fresh { fresh ≡ true → stage ≡ 0 }
-    ensures went { (job : Job) (calls : List Call) → C.may_follow servers.old calls → job.path ≡ path.now → job.sources ≡ sources.now
-        → (fresh ≡ false → IsTold C.functions C.honest job.path sources.now stage slot calls)
-        → Went (C.may_follow servers.new) job slot calls (AfterStages C.functions C.honest job.path sources.now slot (suc stage) (asks slot (stage_command sources.now stage) 0) result calls) }
+    ensures went { (documents : List (List (List ℕ × Json))) (calls : List Call) → C.may_follow servers.old calls
+        → (fresh ≡ false → IsTold C.functions C.honest path.now sources.now stage slot calls)
+        → Went (C.may_follow servers.new) (job_of path.now sources.now documents) slot calls (AfterStages C.functions C.honest (job_of path.now sources.now documents) slot (suc stage) (asks slot (stage_command sources.now stage) 0) result calls) }
     ensures later { C.faults servers.old ≤ C.faults servers.new }
     ensures failed { result ≡ Ok false → Rose (C.faults servers.old) (C.faults servers.new) }
     ensures no_fault { result ≢ Err PoolFault.ServerFault }
+    ensures language { result ≢ Err PoolFault.UnknownLanguage }
 {
     if fresh {
         return start_over(alloc, servers, slot, path, sources, 1);
@@ -156,11 +160,12 @@ fn bring<C: Servers>(
     requires slot { slot < SLOT_COUNT }
     requires stage { stage ≤ length sources.now }
     requires fresh { fresh ≡ true → stage ≡ 0 }
-    ensures went { (job : Job) (calls : List Call) → C.may_follow servers.old calls → job.path ≡ path.now → job.sources ≡ sources.now
-        → (fresh ≡ false → IsTold C.functions C.honest job.path sources.now stage slot calls)
-        → Went (C.may_follow servers.new) job slot calls (AfterAttempts C.functions C.honest job.path sources.now slot (suc stage) (asks slot (stage_command sources.now stage) 0) (Rose (C.faults servers.old) (C.faults servers.new)) result calls) }
+    ensures went { (documents : List (List (List ℕ × Json))) (calls : List Call) → C.may_follow servers.old calls
+        → (fresh ≡ false → IsTold C.functions C.honest path.now sources.now stage slot calls)
+        → Went (C.may_follow servers.new) (job_of path.now sources.now documents) slot calls (AfterAttempts C.functions C.honest (job_of path.now sources.now documents) slot (suc stage) (asks slot (stage_command sources.now stage) 0) (Rose (C.faults servers.old) (C.faults servers.new)) result calls) }
     ensures later { C.faults servers.old ≤ C.faults servers.new }
     ensures twice { result ≡ Err PoolFault.ServerFault → RoseBy 2 (C.faults servers.old) (C.faults servers.new) }
+    ensures language { result ≢ Err PoolFault.UnknownLanguage }
 {
     match first_attempt(alloc, servers, slot, path, sources, stage, fresh) {
         Ok(true) => return Ok(()),
@@ -185,11 +190,12 @@ pub fn tell_all<C: Servers>(
     fresh: bool,
 ) -> Result<(), PoolFault>
     requires { slot < SLOT_COUNT }
-    ensures went { (job : Job) (calls : List Call) → C.may_follow servers.old calls → job.path ≡ path.now → job.sources ≡ sources.now
-        → (fresh ≡ false → IsTold C.functions C.honest job.path sources.now 0 slot calls)
-        → Went (C.may_follow servers.new) job slot calls (AfterAttempts C.functions C.honest job.path sources.now slot (length sources.now + 1) (told_turns slot sources.now (length sources.now + 1)) (Rose (C.faults servers.old) (C.faults servers.new)) result calls) }
+    ensures went { (documents : List (List (List ℕ × Json))) (calls : List Call) → C.may_follow servers.old calls
+        → (fresh ≡ false → IsTold C.functions C.honest path.now sources.now 0 slot calls)
+        → Went (C.may_follow servers.new) (job_of path.now sources.now documents) slot calls (AfterAttempts C.functions C.honest (job_of path.now sources.now documents) slot (length sources.now + 1) (told_turns slot sources.now (length sources.now + 1)) (Rose (C.faults servers.old) (C.faults servers.new)) result calls) }
     ensures later { C.faults servers.old ≤ C.faults servers.new }
     ensures twice { result ≡ Err PoolFault.ServerFault → RoseBy 2 (C.faults servers.old) (C.faults servers.new) }
+    ensures language { result ≢ Err PoolFault.UnknownLanguage }
 {
     match bring(alloc, servers, slot, path, sources, 0, fresh) {
         Ok(()) => {}

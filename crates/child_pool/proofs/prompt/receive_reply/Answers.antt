@@ -8,73 +8,73 @@ use Rattle.child_pool.proofs.Prompts.{logs_more, prompt_later}
 use Rattle.child_pool.proofs.prompt.receive_reply.Goals as goal
 
 pub returns-in-Ok-Answer-clause-went : goal.returns-in-Ok-Answer-clause-went
-returns-in-Ok-Answer-clause-went g c = λ job path sources prompt calls follows is at.
+returns-in-Ok-Answer-clause-went g c = λ job sources prompt calls follows is of at.
     let functions = g.C.Servers.functions in
     let honest = g.C.Servers.honest in
     let slot = c.args.slot in
-    let w = c.loop-logs.invariant.1 job path sources prompt calls follows is at in
-    let v = subst (λ (h : Heard). Went (g.C.Servers.may_follow c.receive_line.new.servers) job slot w.now (AfterLine functions honest path sources prompt c.loop-logs.logs slot (Ok h) w.now)) c.in-Ok-Answer.field-0-is (c.in-Ok-Answer.ensures.went job path sources prompt w.now w.follows is w.holds.0) in
-    prompt_later functions honest path sources prompt [] [] (Ok (Some c.in-Ok-Answer.reply)) w w.holds.1 v
+    let w = c.loop-logs.invariant.1 job sources prompt calls follows is of at in
+    let v = subst (λ (h : Heard). Went (g.C.Servers.may_follow c.receive_line.new.servers) job slot w.now (AfterLine functions honest job sources prompt c.loop-logs.logs slot (Ok h) w.now)) c.in-Ok-Answer.field-0-is (c.in-Ok-Answer.ensures.went job sources prompt w.now w.follows is of w.holds.0) in
+    prompt_later functions honest job sources prompt [] (Ok (Some c.in-Ok-Answer.reply)) w w.holds.1 v
 
 pub returns-in-Ok-Failed-clause-went : goal.returns-in-Ok-Failed-clause-went
-returns-in-Ok-Failed-clause-went g c = λ job path sources prompt calls follows is at.
+returns-in-Ok-Failed-clause-went g c = λ job sources prompt calls follows is of at.
     let functions = g.C.Servers.functions in
     let honest = g.C.Servers.honest in
     let slot = c.args.slot in
-    let w = c.loop-logs.invariant.1 job path sources prompt calls follows is at in
-    let v = subst (λ (h : Heard). Went (g.C.Servers.may_follow c.receive_line.new.servers) job slot w.now (AfterLine functions honest path sources prompt c.loop-logs.logs slot (Ok h) w.now)) c.in-Ok-Failed.field-0-is (c.in-Ok-Failed.ensures.went job path sources prompt w.now w.follows is w.holds.0) in
-    prompt_later functions honest path sources prompt [] [] (Ok None) w w.holds.1 v
+    let w = c.loop-logs.invariant.1 job sources prompt calls follows is of at in
+    let v = subst (λ (h : Heard). Went (g.C.Servers.may_follow c.receive_line.new.servers) job slot w.now (AfterLine functions honest job sources prompt c.loop-logs.logs slot (Ok h) w.now)) c.in-Ok-Failed.field-0-is (c.in-Ok-Failed.ensures.went job sources prompt w.now w.follows is of w.holds.0) in
+    prompt_later functions honest job sources prompt [] (Ok None) w w.holds.1 v
 
 pub returns-in-Err-clause-went : goal.returns-in-Err-clause-went
-returns-in-Err-clause-went g c = λ job path sources prompt calls follows is at.
+returns-in-Err-clause-went g c = λ job sources prompt calls follows is of at.
     let functions = g.C.Servers.functions in
     let honest = g.C.Servers.honest in
     let slot = c.args.slot in
-    let w = c.loop-logs.invariant.1 job path sources prompt calls follows is at in
-    let v = c.in-Err.ensures.went job path sources prompt w.now w.follows is w.holds.0 in
-    prompt_later functions honest path sources prompt [] [] (Err c.in-Err.fault) w w.holds.1 v
+    let w = c.loop-logs.invariant.1 job sources prompt calls follows is of at in
+    let v = c.in-Err.ensures.went job sources prompt w.now w.follows is of w.holds.0 in
+    prompt_later functions honest job sources prompt [] (Err c.in-Err.fault) w w.holds.1 v
 
 pub loop-logs-preserved : goal.loop-logs-preserved
 loop-logs-preserved g c = (
   omega (arith, c.loop-logs.invariant.0, c.in-Ok-Log.ensures.later),
-  λ job path sources prompt calls follows is at.
+  λ job sources prompt calls follows is of at.
       let functions = g.C.Servers.functions in
       let honest = g.C.Servers.honest in
       let slot = c.args.slot in
-      let w = c.loop-logs.invariant.1 job path sources prompt calls follows is at in
-      let v = subst (λ (h : Heard). Went (g.C.Servers.may_follow c.receive_line.new.servers) job slot w.now (AfterLine functions honest path sources prompt c.loop-logs.logs slot (Ok h) w.now)) c.in-Ok-Log.field-0-is (c.in-Ok-Log.ensures.went job path sources prompt w.now w.follows is w.holds.0) in
-      logs_more functions honest path sources prompt c.loop-logs.logs w v,
+      let w = c.loop-logs.invariant.1 job sources prompt calls follows is of at in
+      let v = subst (λ (h : Heard). Went (g.C.Servers.may_follow c.receive_line.new.servers) job slot w.now (AfterLine functions honest job sources prompt c.loop-logs.logs slot (Ok h) w.now)) c.in-Ok-Log.field-0-is (c.in-Ok-Log.ensures.went job sources prompt w.now w.follows is of w.holds.0) in
+      logs_more functions honest job sources prompt c.loop-logs.logs w v,
 )
 
 pub returns-in-Ok-Answer-receive_line-clause-went : goal.returns-in-Ok-Answer-receive_line-clause-went
-returns-in-Ok-Answer-receive_line-clause-went g c = λ job path sources prompt calls follows is at.
+returns-in-Ok-Answer-receive_line-clause-went g c = λ job sources prompt calls follows is of at.
     let functions = g.C.Servers.functions in
     let honest = g.C.Servers.honest in
     let slot = c.args.slot in
-    let w = c.loop-logs.invariant.1 job path sources prompt calls follows is at in
+    let w = c.loop-logs.invariant.1 job sources prompt calls follows is of at in
     let all : c.loop-logs.logs ≡ 1000 = omega arith in
-    let there : IsAt path sources (prompt ∷ []) 1000 slot w.now = subst (λ (logs : ℕ). IsAt path sources (prompt ∷ []) logs slot w.now) all w.holds.0 in
-    let v = subst (λ (h : Heard). Went (g.C.Servers.may_follow c.receive_line-2.new.servers) job slot w.now (AfterLine functions honest path sources prompt 1000 slot (Ok h) w.now)) c.in-Ok-Answer-receive_line.field-0-is (c.in-Ok-Answer-receive_line.ensures.went job path sources prompt w.now w.follows is there) in
-    prompt_later functions honest path sources prompt [] [] (Ok (Some c.in-Ok-Answer-receive_line.reply)) w w.holds.1 v
+    let there : IsAt job.path sources (prompt ∷ []) 1000 slot w.now = subst (λ (logs : ℕ). IsAt job.path sources (prompt ∷ []) logs slot w.now) all w.holds.0 in
+    let v = subst (λ (h : Heard). Went (g.C.Servers.may_follow c.receive_line-2.new.servers) job slot w.now (AfterLine functions honest job sources prompt 1000 slot (Ok h) w.now)) c.in-Ok-Answer-receive_line.field-0-is (c.in-Ok-Answer-receive_line.ensures.went job sources prompt w.now w.follows is of there) in
+    prompt_later functions honest job sources prompt [] (Ok (Some c.in-Ok-Answer-receive_line.reply)) w w.holds.1 v
 
 pub returns-in-Ok-Failed-receive_line-clause-went : goal.returns-in-Ok-Failed-receive_line-clause-went
-returns-in-Ok-Failed-receive_line-clause-went g c = λ job path sources prompt calls follows is at.
+returns-in-Ok-Failed-receive_line-clause-went g c = λ job sources prompt calls follows is of at.
     let functions = g.C.Servers.functions in
     let honest = g.C.Servers.honest in
     let slot = c.args.slot in
-    let w = c.loop-logs.invariant.1 job path sources prompt calls follows is at in
+    let w = c.loop-logs.invariant.1 job sources prompt calls follows is of at in
     let all : c.loop-logs.logs ≡ 1000 = omega arith in
-    let there : IsAt path sources (prompt ∷ []) 1000 slot w.now = subst (λ (logs : ℕ). IsAt path sources (prompt ∷ []) logs slot w.now) all w.holds.0 in
-    let v = subst (λ (h : Heard). Went (g.C.Servers.may_follow c.receive_line-2.new.servers) job slot w.now (AfterLine functions honest path sources prompt 1000 slot (Ok h) w.now)) c.in-Ok-Failed-receive_line.field-0-is (c.in-Ok-Failed-receive_line.ensures.went job path sources prompt w.now w.follows is there) in
-    prompt_later functions honest path sources prompt [] [] (Ok None) w w.holds.1 v
+    let there : IsAt job.path sources (prompt ∷ []) 1000 slot w.now = subst (λ (logs : ℕ). IsAt job.path sources (prompt ∷ []) logs slot w.now) all w.holds.0 in
+    let v = subst (λ (h : Heard). Went (g.C.Servers.may_follow c.receive_line-2.new.servers) job slot w.now (AfterLine functions honest job sources prompt 1000 slot (Ok h) w.now)) c.in-Ok-Failed-receive_line.field-0-is (c.in-Ok-Failed-receive_line.ensures.went job sources prompt w.now w.follows is of there) in
+    prompt_later functions honest job sources prompt [] (Ok None) w w.holds.1 v
 
 pub returns-in-Err-receive_line-clause-went : goal.returns-in-Err-receive_line-clause-went
-returns-in-Err-receive_line-clause-went g c = λ job path sources prompt calls follows is at.
+returns-in-Err-receive_line-clause-went g c = λ job sources prompt calls follows is of at.
     let functions = g.C.Servers.functions in
     let honest = g.C.Servers.honest in
     let slot = c.args.slot in
-    let w = c.loop-logs.invariant.1 job path sources prompt calls follows is at in
+    let w = c.loop-logs.invariant.1 job sources prompt calls follows is of at in
     let all : c.loop-logs.logs ≡ 1000 = omega arith in
-    let there : IsAt path sources (prompt ∷ []) 1000 slot w.now = subst (λ (logs : ℕ). IsAt path sources (prompt ∷ []) logs slot w.now) all w.holds.0 in
-    let v = c.in-Err-receive_line.ensures.went job path sources prompt w.now w.follows is there in
-    prompt_later functions honest path sources prompt [] [] (Err c.in-Err-receive_line.fault) w w.holds.1 v
+    let there : IsAt job.path sources (prompt ∷ []) 1000 slot w.now = subst (λ (logs : ℕ). IsAt job.path sources (prompt ∷ []) logs slot w.now) all w.holds.0 in
+    let v = c.in-Err-receive_line.ensures.went job sources prompt w.now w.follows is of there in
+    prompt_later functions honest job sources prompt [] (Err c.in-Err-receive_line.fault) w w.holds.1 v

@@ -1,0 +1,27 @@
+-- What an honest path's children are not refused for.
+use Rattle.std.specs.Prelude.{◌≡◌, ◌≤◌, ℕ, List, length, false}
+use Rattle.view_ports.specs.Calls.{Call}
+use Rattle.view_ports.specs.Functions.{Functions, source_limit}
+use Rattle.child_pool.specs.declared.pool_fault.PoolFault.TheVariants.{BadReply, Compile}
+use Rattle.child_pool.specs.Jobs.{Job, IsAmong}
+use Rattle.child_pool.specs.Outcomes.{IsCaused}
+
+-- a job on an honest path whose sources aren't too many
+pub record IsHonestJob (honest : List ℕ → Type 0) (job : Job) : Type 0 where
+  pub path : honest job.path
+  pub few : length job.sources ≤ source_limit
+
+-- one of the sources doesn't compile
+pub record SomeSourceFails (functions : Functions) (sources : List (List ℕ)) : Type 0 where
+  pub source : List ℕ
+  pub among : IsAmong sources source
+  pub fails : functions.compiles source ≡ false
+
+module _ (functions : List ℕ → Functions) (honest : List ℕ → Type 0) (job : Job) (added before : List Call) where
+  -- no line of an honest path is a bad reply
+  abbrev pub GivesNoBadReply : List ℕ → Type 0
+  GivesNoBadReply text = IsHonestJob honest job → IsCaused functions honest job added before (BadReply text) → ⊥
+
+  -- and it complains only where a source doesn't compile
+  abbrev pub ComplainsRightly : Type 0
+  ComplainsRightly = honest job.path → IsCaused functions honest job added before Compile → SomeSourceFails (functions job.path) job.sources

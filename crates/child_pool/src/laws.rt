@@ -1,0 +1,13 @@
+//! What the causes of refusals say of honest paths.
+ghost use Rattle.std.specs.Prelude.{ℕ, List};
+ghost use Rattle.view_ports.specs.Calls.{Call};
+ghost use Rattle.child_pool.specs.Honesty.{ComplainsRightly, GivesNoBadReply};
+ghost use Rattle.child_pool.specs.Jobs.{Job};
+
+use view_ports::Servers;
+
+/// The children of an honest path give no bad reply, and complain only of a source that doesn't compile.
+pub fn honest_paths_are_refused_rightly<C: Servers>()
+    ensures replies { (job : Job) (added before : List Call) (text : List ℕ) → GivesNoBadReply C.functions C.honest job added before text }
+    ensures complaints { (job : Job) (added before : List Call) → ComplainsRightly C.functions C.honest job added before }
+{}
