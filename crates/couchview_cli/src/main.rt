@@ -4,16 +4,15 @@
 mod command;
 mod serve;
 mod session;
-mod streams;
 #[cfg(test)]
 mod tests;
 
 pub use command::couchview;
+use real_ports::{StdSink, StdSource};
 use std::alloc::AllocError;
 use std::env;
 use std::io::ErrorKind;
 use std::process::ExitCode;
-use streams::{StdSink, StdSource};
 use view_ports::RunEnd;
 
 /// The words after the program's name. None are given where one of them isn't UTF-8, since then

@@ -1,6 +1,6 @@
 use Rattle.std.proofs.Common.{◌≡◌}
 use Rattle.std.specs.Io.KnownBytes.{Keeps}
-use Rattle.couchview_cli.proofs.streams.StdSinkSink.write.Given as goal
+use Rattle.real_ports.proofs.streams.StdSinkSink.write.Given as goal
 
 -- what was interrupted wrote nothing, and is no fault
 abbrev pub invariant-loop : goal.invariant-loop

@@ -1,6 +1,6 @@
 use Rattle.std.proofs.Common.{◌≡◌}
 use Rattle.std.specs.Io.KnownBytes.{Keeps}
-use Rattle.couchview_cli.proofs.streams.StdSourceSource.read.Given as goal
+use Rattle.real_ports.proofs.streams.StdSourceSource.read.Given as goal
 
 -- what was interrupted took nothing, and is no fault
 abbrev pub invariant-loop : goal.invariant-loop

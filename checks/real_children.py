@@ -1,0 +1,279 @@
+"""Runs couchview over real child processes and compares each reply: python3 real_children.py PROGRAM SERVERS
+
+PROGRAM is the built couchview, SERVERS the folder of the example query servers. It ends with status 1 and a complaint
+that names the step where a reply differs, a step takes a minute, a child is left behind, or the program takes more than
+600 MB.
+"""
+import json
+import os
+import signal
+import subprocess
+import sys
+import tempfile
+
+SECONDS = 60
+MEMORY_KB = 600_000
+
+# What each bad server does once it was sent a reset and one function, and has answered `true` to both.
+BAD_SERVERS = {
+    "dies": "os.kill(os.getpid(), signal.SIGKILL)",
+    "ends": "sys.exit(0)",
+    "recovers": """
+mark = os.path.join(folder, "recovers.mark")
+if not os.path.exists(mark):
+    open(mark, "w").close()
+    os.kill(os.getpid(), signal.SIGKILL)
+answer_all(b'[[["again",1]]]')
+""",
+    "garbage": r"read(); write(b'no \xc3\xa9\tJSON\n'); read()",
+    "thousand_logs": r"""
+for line in lines:
+    write(b'["log","x"]\n' * 1000 + b'[[["quiet",1]]]\n')
+""",
+    "flood": r"""read(); write(b'["log","x"]\n' * 1001 + b'[[]]\n'); read()""",
+    "endless": r"""
+read()
+for _ in range(200):
+    write(b'x' * 1_000_000)
+read()
+""",
+    # It prints more than the pipe holds before it reads its first document.
+    "early": r"""
+write(b'["log","' + b'x' * 1000 + b'"]\n' + b'["log",""]\n' * 99)
+for _ in range(5):
+    write((b'["log","' + b'x' * 1000 + b'"]\n') * 100)
+answer_all(b'[[["early",1]]]')
+""",
+    "echo": "os.execv('/bin/cat', [sys.argv[0]])",
+}
+
+BAD_SERVER = r"""#!{python} -u
+import os, signal, sys
+folder = {folder!r}
+lines = iter(sys.stdin.buffer.readline, b'')
+def read():
+    return next(lines, b'')
+def write(text):
+    sys.stdout.buffer.write(text)
+    sys.stdout.buffer.flush()
+def answer_all(text):
+    for line in lines:
+        write(text + b'\n')
+# `cat` goes on with what was not read yet, so no more than the two lines are read here.
+for _ in range(2):
+    while os.read(0, 1) not in (b'\n', b''):
+        pass
+    write(b'true\n')
+{does}
+"""
+
+
+# The programs that run.
+programs = []
+
+
+def complain(step, text):
+    print("real_children: %s: %s" % (step, text), file=sys.stderr)
+    for program in programs:
+        program.kill()
+    sys.exit(1)
+
+
+def compact(value):
+    return json.dumps(value, separators=(",", ":"), ensure_ascii=False)
+
+
+def processes(word, program=None):
+    """The command lines that have the word, but for the program's own."""
+    found = []
+    for name in os.listdir("/proc"):
+        if not name.isdigit() or int(name) == program:
+            continue
+        try:
+            with open("/proc/%s/cmdline" % name, "rb") as file:
+                line = file.read().replace(b"\0", b" ").decode(errors="replace")
+        except OSError:
+            continue
+        if word in line:
+            found.append(line)
+    return found
+
+
+def zombies(parent):
+    """The children of the process that have ended and that nobody has waited for."""
+    found = []
+    for name in os.listdir("/proc"):
+        if not name.isdigit():
+            continue
+        try:
+            with open("/proc/%s/stat" % name) as file:
+                state, number = file.read().rsplit(")", 1)[1].split()[:2]
+        except OSError:
+            continue
+        if state == "Z" and int(number) == parent:
+            found.append(int(name))
+    return found
+
+
+class Program:
+    """A run of `couchview serve` with these languages."""
+
+    def __init__(self, path, languages):
+        words = [path, "serve"] + ["%s=%s" % pair for pair in languages.items()]
+        # The servers of a run may say on standard error what they think of their functions.
+        self.process = subprocess.Popen(words, stdin=subprocess.PIPE, stdout=subprocess.PIPE, stderr=subprocess.DEVNULL)
+        programs.append(self.process)
+
+    def ask(self, step, line):
+        """The reply to the line."""
+        signal.signal(signal.SIGALRM, lambda *_: complain(step, "no reply within %d seconds to %s" % (SECONDS, line[:200])))
+        signal.alarm(SECONDS)
+        try:
+            self.process.stdin.write(line.encode() + b"\n")
+            self.process.stdin.flush()
+            reply = self.process.stdout.readline()
+        except BrokenPipeError:
+            reply = b""
+        signal.alarm(0)
+        if not reply.endswith(b"\n"):
+            complain(step, "the program ended, and didn't reply to %s" % line[:200])
+        return reply[:-1].decode(errors="replace")
+
+    def expect(self, step, request, reply):
+        """Sends the request, and wants this reply."""
+        got = self.ask(step, compact(request))
+        if got != compact(reply):
+            complain(step, "the reply is\n  %s\nin place of\n  %s" % (got[:1500], compact(reply)[:1500]))
+        left = zombies(self.process.pid)
+        if left:
+            complain(step, "ended children are left behind: %s" % left)
+
+    def put(self, step, document):
+        reply = self.ask(step, compact({"put": document}))
+        if not reply.startswith('{"ok":true'):
+            complain(step, "the put is answered %s" % reply[:1500])
+
+    def design(self, name, language, **maps):
+        views = {view: {"map": source} for view, source in maps.items()}
+        self.put("design %s" % name, {"_id": "_design/" + name, "language": language, "views": views})
+
+    def check_memory(self, step):
+        with open("/proc/%d/status" % self.process.pid) as file:
+            most = next(int(line.split()[1]) for line in file if line.startswith("VmHWM"))
+        if most > MEMORY_KB:
+            complain(step, "the program took %d kB" % most)
+
+    def end(self, step, status=0):
+        self.process.stdin.close()
+        try:
+            got = self.process.wait(SECONDS)
+        except subprocess.TimeoutExpired:
+            complain(step, "the program didn't end within %d seconds" % SECONDS)
+        if got != status:
+            complain(step, "the exit status is %d" % got)
+
+
+def rows(*all_rows):
+    """The reply of a view with these rows, each an id, a key and a value."""
+    return {"total_rows": len(all_rows), "offset": 0, "rows": [{"id": row[0], "key": row[1], "value": row[2]} for row in all_rows]}
+
+
+FAULT = {"error": "server_fault", "reason": "query server failed twice"}
+
+
+def shown(text):
+    return {"error": "server_reply", "reason": text}
+
+
+def good_servers(program):
+    program.put("document a", {"_id": "a", "n": 1, "tags": ["x", "y"]})
+    program.put("document b", {"_id": "b", "n": 7, "tags": ["x"]})
+    program.design(
+        "js", "javascript",
+        one="function (doc) { emit(doc.n, 1) }",
+        tags="function (doc) { doc.tags.forEach(function (tag) { emit(tag, doc.n) }); emit('z') }",
+        throws="function (doc) { if (doc.n > 5) throw new Error('too big'); emit(doc.n, {\"a\": [doc._id]}) }",
+    )
+    program.expect("javascript: one emit", {"view": ["js", "one"]}, rows(("a", 1, 1), ("b", 7, 1)))
+    tags = rows(("a", "x", 1), ("b", "x", 7), ("a", "y", 1), ("a", "z", None), ("b", "z", None))
+    program.expect("javascript: several emits", {"view": ["js", "tags"]}, tags)
+    program.expect("javascript: a map that throws", {"view": ["js", "throws"]}, rows(("a", 1, {"a": ["a"]})))
+    program.design("bad", "javascript", v="function (doc { }")
+    program.expect("javascript: no compilation", {"view": ["bad", "v"]}, {"error": "compilation_error", "reason": "_design/bad"})
+    program.expect("javascript: after it", {"view": ["js", "one"]}, rows(("a", 1, 1), ("b", 7, 1)))
+    program.design(
+        "py", "python",
+        one="def fun(doc):\n    yield doc['n'], 1\n",
+        tags="def fun(doc):\n    for tag in doc['tags']:\n        yield tag, doc['n']\n    yield 'z', None\n",
+        throws="def fun(doc):\n    if doc['n'] > 5: raise ValueError('too big')\n    yield doc['n'], {'a': [doc['_id']]}\n",
+    )
+    program.expect("python: one emit", {"view": ["py", "one"]}, rows(("a", 1, 1), ("b", 7, 1)))
+    program.expect("python: several emits", {"view": ["py", "tags"]}, tags)
+    program.expect("python: a map that throws", {"view": ["py", "throws"]}, rows(("a", 1, {"a": ["a"]})))
+    program.design("bad_py", "python", v="def fun(doc:")
+    program.expect("python: no compilation", {"view": ["bad_py", "v"]}, {"error": "compilation_error", "reason": "_design/bad_py"})
+
+
+def bad_servers(program, folder):
+    def view(server, reply):
+        program.design(server, server, v="v")
+        program.expect(server, {"view": [server, "v"]}, reply)
+        # A child whose view was refused is ended.
+        if "error" in reply and processes(os.path.join(folder, server), program.process.pid):
+            complain(server, "its child is left behind")
+        program.expect("after " + server, {"view": ["js", "one"]}, rows(("a", 1, 1), ("b", 7, 1)))
+
+    view("odd", shown('["reset",{"reduce_limit":false}]'))
+    view("absent", FAULT)
+    view("dies", FAULT)
+    view("ends", FAULT)
+    view("recovers", rows(("a", "again", 1), ("b", "again", 1)))
+    view("garbage", shown("no ???JSON"))
+    view("thousand_logs", rows(("a", "quiet", 1), ("b", "quiet", 1)))
+    view("flood", shown('["log","x"]'))
+    view("endless", FAULT)
+    program.check_memory("endless")
+
+
+def long_documents(program):
+    text = "x" * 500_000
+    program.put("long document", {"_id": "long", "text": text})
+    program.design("early", "early", v="v")
+    program.expect("early", {"view": ["early", "v"]}, rows(("long", "early", 1)))
+    program.design("echo", "echo", v="v")
+    got = program.ask("echo", compact({"view": ["echo", "v"]}))
+    begin = compact(shown('["map_doc",{"_id":"long","_rev":"'))[:-2]
+    if not got.startswith(begin) or not got.endswith('xxx"}') or len(got) > 1100:
+        complain("echo", "the reply is %s" % got[:1500])
+    program.check_memory("long documents")
+
+
+def main():
+    couchview, servers = sys.argv[1:]
+    servers = os.path.abspath(servers)
+    signal.signal(signal.SIGPIPE, signal.SIG_IGN)
+    with tempfile.TemporaryDirectory(prefix="couchview-children-") as folder:
+        languages = {"odd": "cat", "absent": os.path.join(folder, "absent")}
+        # Each path is below the folder, so that no process of another run is taken for one of ours.
+        for name, file in (("javascript", "javascript.js"), ("python", "python.py")):
+            languages[name] = os.path.join(folder, file)
+            os.symlink(os.path.join(servers, file), languages[name])
+        for name, does in BAD_SERVERS.items():
+            languages[name] = os.path.join(folder, name)
+            with open(languages[name], "w") as file:
+                file.write(BAD_SERVER.format(python=sys.executable, folder=folder, does=does))
+            os.chmod(languages[name], 0o755)
+        program = Program(couchview, languages)
+        good_servers(program)
+        bad_servers(program, folder)
+        program.end("end")
+        program = Program(couchview, languages)
+        long_documents(program)
+        program.end("end after long documents")
+        left = processes(folder)
+        if left:
+            complain("end", "children are left behind: %s" % left)
+    print("real_children: all replies are as they should be")
+
+
+main()

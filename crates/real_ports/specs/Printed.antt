@@ -1,0 +1,11 @@
+-- Bytes that a child has printed.
+use Rattle.std.specs.Prelude.{◌≡◌, ◌≢◌, ◌<◌, ◌+◌, ℕ, List, length, slice_index}
+use Rattle.view_ports.specs.Lines.{newline}
+
+-- no line ends in so many bytes from this place on
+abbrev pub IsUnended : List ℕ → ℕ → ℕ → Type 0
+IsUnended bytes from count = (k : ℕ) → k < count → slice_index bytes (from + k) ≢ newline
+
+-- the bytes from a place on are there, from another place on
+abbrev pub IsThere : List ℕ → ℕ → List ℕ → ℕ → Type 0
+IsThere old from new to = (k : ℕ) → from + k < length old → slice_index new (to + k) ≡ slice_index old (from + k)

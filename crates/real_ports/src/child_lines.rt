@@ -1,0 +1,120 @@
+//! What a child prints, cut into lines.
+
+ghost use Rattle.std.specs.Prelude.{◌≡◌, ◌≤◌, ◌<◌, ◌+◌, ◌-◌, IfOk, OnOk, length, vec_len};
+ghost use Rattle.real_ports.specs.Printed.{IsThere, IsUnended};
+ghost use Rattle.real_ports.specs.declared.child_lines.TheConstants.{LINE_LIMIT, PIECE};
+ghost use Rattle.view_ports.specs.Lines.{IsLine};
+
+use memchr::memchr;
+use std::alloc::Global;
+use std::io::{ErrorKind, Read};
+use std::os::fd::{AsRawFd, RawFd};
+use std::process::ChildStdout;
+use view_ports::ServersFault;
+
+/// How many bytes a line has at most, its newline aside. A child that has printed more than this, unread and without an
+/// end of a line, or while it doesn't take what it is sent, is given up.
+pub const LINE_LIMIT: usize = 134_217_728;
+
+/// How many bytes are read at a time, at most.
+pub const PIECE: usize = 65_536;
+
+/// The output of a child. What was read of it and not yet taken is kept: `LINE_LIMIT` bytes and one piece at most.
+#[derive(Drop)]
+pub struct ChildLines {
+    pipe: ChildStdout,
+    kept: Vec<u8>,
+    // The bytes before this place were taken.
+    taken: usize,
+    ghost within: { taken ≤ vec_len kept },
+    ghost bounded: { vec_len kept ≤ LINE_LIMIT + PIECE },
+}
+
+impl ChildLines {
+    /// The lines of this pipe.
+    pub fn new(alloc: Global, pipe: ChildStdout) -> ChildLines {
+        ChildLines {
+            pipe,
+            kept: Vec::new(alloc),
+            taken: 0,
+        }
+    }
+
+    /// The number of the pipe.
+    pub fn number(&self) -> RawFd {
+        self.pipe.as_raw_fd()
+    }
+
+    /// The next line without its newline. It waits until there is one. `Failed` where the output ends or can't be read,
+    /// or the line is longer than `LINE_LIMIT`. Bytes are read through the piece.
+    pub fn next_line(&mut self, alloc: Global, piece: &mut [u8]) -> Result<Vec<u8>, ServersFault>
+        requires { length piece.old ≤ PIECE }
+        ensures short { IfOk result (λ line. vec_len line ≤ LINE_LIMIT) }
+        ensures line { IfOk result (λ line. IsLine line.items) }
+    {
+        let mut searched = 0;
+        for _ in 0..u64::MAX {
+            if let Some(at) = memchr(b'\n', &self.kept[self.taken + searched..]) {
+                return self.take_line(alloc, searched + at);
+            }
+            searched = self.kept.len() - self.taken;
+            self.read_more(piece)?;
+        }
+        Err(ServersFault::Failed)
+    }
+
+    /// Takes so many bytes and the newline behind them.
+    fn take_line(&mut self, alloc: Global, count: usize) -> Result<Vec<u8>, ServersFault>
+        requires within { self.old.taken + count < vec_len self.old.kept }
+        requires unended { IsUnended self.old.kept.items self.old.taken count }
+        ensures short { IfOk result (λ line. vec_len line ≤ LINE_LIMIT) }
+        ensures line { IfOk result (λ line. IsLine line.items) }
+    {
+        if count > LINE_LIMIT {
+            return Err(ServersFault::Failed);
+        }
+        let end = self.taken + count;
+        let line = Vec::from_slice(alloc, &self.kept[self.taken..end])?;
+        self.taken = end + 1;
+        if self.taken == self.kept.len() {
+            self.kept.clear();
+            self.taken = 0;
+        }
+        Ok(line)
+    }
+
+    /// Reads some more bytes through the piece. It waits until there are some. `Failed` where the output ends or can't be
+    /// read, or more than `LINE_LIMIT` bytes are kept already.
+    pub fn read_more(&mut self, piece: &mut [u8]) -> Result<(), ServersFault>
+        requires { length piece.old ≤ PIECE }
+        ensures grows { OnOk result (vec_len self.old.kept - self.old.taken ≤ vec_len self.new.kept - self.new.taken) }
+        ensures kept { OnOk result (IsThere self.old.kept.items self.old.taken self.new.kept.items self.new.taken) }
+    {
+        if self.kept.len() - self.taken > LINE_LIMIT {
+            return Err(ServersFault::Failed);
+        }
+        let count = match self.pipe.read(piece) {
+            Ok(0) => return Err(ServersFault::Failed),
+            Ok(count) => count,
+            Err(error) if error.kind() == ErrorKind::Interrupted => return Ok(()),
+            Err(_) => return Err(ServersFault::Failed),
+        };
+        self.drop_taken();
+        self.kept.extend_from_slice(&piece[..count])?;
+        Ok(())
+    }
+
+    /// Moves what isn't taken to the front.
+    fn drop_taken(&mut self)
+        ensures rest { vec_len self.new.kept ≡ vec_len self.old.kept - self.old.taken }
+        ensures none { self.new.taken ≡ 0 }
+        ensures kept { IsThere self.old.kept.items self.old.taken self.new.kept.items 0 }
+    {
+        let rest = self.kept.len() - self.taken;
+        if self.taken > 0 {
+            self.kept.copy_within(self.taken.., 0);
+            self.kept.truncate(rest);
+            self.taken = 0;
+        }
+    }
+}
