@@ -1,0 +1,52 @@
+-- The history of the documents: the accepted writes, the newest first.
+use Rattle.std.specs.Prelude.{ℕ, List, [], ◌∷◌, not, Option, Some, None, option_map, option_and_then, bytes_eq, if◌then◌else◌, count_by, filter, length}
+use Rattle.std.specs.List.{filter_map}
+use Rattle.std.specs.Ordering.{nat_cmp}
+use Rattle.std.specs.Cmp.Lexicographic.{slice_cmp}
+use Rattle.std.specs.BTreeMap.{insert_entry}
+use Rattle.json_terms.specs.Json.{Json}
+use Rattle.design_docs.specs.Documents.{is_design_id}
+
+-- an accepted write: the stored document of an id, or a deletion (a tombstone), which stores none
+pub record Write : Type 0 where
+  pub id : List ℕ
+  pub document : Option Json
+
+-- the number of accepted writes: the newest one has this number
+abbrev pub update_seq : List Write → ℕ
+update_seq history = length history
+
+-- how many writes the id has had
+abbrev pub generation : List Write → List ℕ → ℕ
+generation history id = count_by (λ write. bytes_eq id write.id) history
+
+-- the newest write of the id
+abbrev pub last_write : List Write → List ℕ → Option Write
+last_write [] id = None
+last_write (write ∷ older) id = if bytes_eq id write.id then Some write else last_write older id
+
+-- the number of the newest write of the id, 0 where it has none
+abbrev pub last_seq : List Write → List ℕ → ℕ
+last_seq [] id = 0
+last_seq (write ∷ older) id = if bytes_eq id write.id then length (write ∷ older) else last_seq older id
+
+-- the newest write of each id, in byte order of id
+abbrev pub last_writes : List Write → List (List ℕ × Write)
+last_writes [] = []
+last_writes (write ∷ older) = insert_entry (slice_cmp nat_cmp) (last_writes older) write.id write
+
+-- the stored document of a write beside its id, unless the write is a deletion
+abbrev pub stored : List ℕ × Write → Option (List ℕ × Json)
+stored entry = option_map (λ document. (entry.0, document)) (entry.1).document
+
+-- the live documents: those whose last write is no deletion, in byte order of id
+abbrev pub live : List Write → List (List ℕ × Json)
+live history = filter_map stored (last_writes history)
+
+-- the live document of the id
+abbrev pub live_document : List Write → List ℕ → Option Json
+live_document history id = option_and_then (λ write. write.document) (last_write history id)
+
+-- the live documents that views map: all but the design documents
+abbrev pub mapped : List Write → List (List ℕ × Json)
+mapped history = filter (λ entry. not (is_design_id entry.0)) (live history)

@@ -1,0 +1,114 @@
+//! The documents of a database, by their last writes.
+
+ghost use Rattle.std.specs.Prelude.{◌≡◌};
+
+use crate::body::find_last;
+use crate::entry::Entry;
+use crate::fault::DocFault;
+use crate::load::{load_body, load_root};
+use gate_file::{GateFault, GateFile};
+use json_terms::Term;
+use std::alloc::Global;
+use view_ports::{Folder, Stem};
+
+/// The documents of a database: their file, the number of accepted writes and the last write of each id.
+#[derive(Drop)]
+pub struct Docs {
+    file: GateFile,
+    seq: u64,
+    // In byte order of id.
+    entries: Vec<Entry>,
+}
+
+/// Counts of documents.
+#[derive(Clone, Copy, Debug, PartialEq, Eq)]
+pub struct Info {
+    /// How many documents are live.
+    pub doc_count: u64,
+    /// How many ids have a deletion as their last write.
+    pub doc_del_count: u64,
+    /// How many writes were accepted.
+    pub update_seq: u64,
+}
+
+impl Docs {
+    ghost use Rattle.std.specs.Prelude.{◌≡◌, ◌↔◌, ◌⊎◌, ℕ, None, true, Err, IfOk, IfErr};
+    ghost use Rattle.json_terms.specs.Seen.{json};
+    ghost use Rattle.view_ports.specs.Causes.{HasCauseIf, RisesBy};
+    ghost use Rattle.view_ports.specs.Disk.{IfTold, Tells, Moves, MovesNone};
+    ghost use Rattle.view_ports.specs.declared.file_name.FileName.{FileName as Name};
+    ghost use Rattle.gate_file.specs.GateFile.{name_of};
+    ghost use Rattle.gate_file.specs.Open.{opened, IsFirstDamage, IsOpened, WhileOpening};
+    ghost use Rattle.doc_file.specs.Held.{IsRootPlace};
+    ghost use Rattle.doc_file.specs.Docs.{file_of, seq_of, entries_of, last_of, is_deleted, IsLoaded, IsLive, IsSpoiled, info_of};
+
+    /// Opens the documents' file. Without a commit there was no write.
+    ///
+    /// The file is `Damaged` where a slot of the pair is, the first one being named, and else at the place of the root record
+    /// where this spells none. At each moment a crash leaves what it might have left before, or, once both sides are synced,
+    /// the side that is taken as it is.
+    pub fn open<F: Folder>(alloc: Global, folder: &mut F) -> Result<Docs, DocFault>
+        ensures opened { IfTold (F.disk folder.old) (λ d. IfOk result (λ docs. file_of docs ≡ opened Stem.Docs d.now)) }
+        ensures loaded { IfTold (F.disk folder.new) (λ d. IfOk result (λ docs. IsLoaded docs d.now)) }
+        ensures damaged { IfTold (F.disk folder.old) (λ d. (name : Name) (at : ℕ) → result ≡ Err (DocFault.Gate (GateFault.Damaged name at)) →
+            IsFirstDamage Stem.Docs d.now name at ⊎ IsRootPlace (opened Stem.Docs d.now) name at) }
+        ensures faults { IfErr result (λ e. (e ≡ DocFault.Gate GateFault.DiskFault) ⊎ (e ≡ DocFault.NoMemory) ⊎ ((name : Name) × (at : ℕ) × (e ≡ DocFault.Gate (GateFault.Damaged name at)))) }
+        ensures disk { Tells (F.disk folder.old) (F.disk folder.new)
+            (λ old new. Moves (λ name. name.stem ≡ Stem.Docs) (WhileOpening Stem.Docs old.now) (λ files. IfOk result (λ docs. IsOpened (file_of docs) old.now files)) old new) }
+        ensures cause { HasCauseIf (λ e. e ≡ DocFault.Gate GateFault.DiskFault) (F.faults folder.old) (F.faults folder.new) result }
+        ensures reads { RisesBy 5 (F.reads folder.old) (F.reads folder.new) }
+    {
+        let file = GateFile::open(folder, Stem::Docs)?;
+        let root = load_root(alloc, folder, &file)?;
+        Ok(Docs {
+            file,
+            seq: root.seq,
+            entries: root.entries,
+        })
+    }
+
+    /// The stored document of an id, with its present revision.
+    ///
+    /// `Missing` comes exactly where the id was never written, `Deleted` exactly where its last write was a deletion. The
+    /// file is `Damaged` at the place of the body exactly where no object of depth 64 at most is spelled there.
+    pub fn get<F: Folder>(&self, alloc: Global, folder: &mut F, id: &str) -> Result<Term, DocFault>
+        ensures live { IfTold (F.disk folder.old) (λ d. IfOk result (λ t. IsLive (d.now (name_of (file_of self.now))).seen (last_of self.now id.now) (json t))) }
+        ensures missing { (result ≡ Err DocFault.Missing) ↔ (last_of self.now id.now ≡ None) }
+        ensures deleted { (result ≡ Err DocFault.Deleted) ↔ (is_deleted (last_of self.now id.now) ≡ true) }
+        ensures damaged { IfTold (F.disk folder.old) (λ d. (name : Name) (at : ℕ) → result ≡ Err (DocFault.Gate (GateFault.Damaged name at)) →
+            (name ≡ name_of (file_of self.now)) × IsSpoiled (d.now (name_of (file_of self.now))).seen (last_of self.now id.now) at) }
+        ensures faults { IfErr result (λ e. (e ≡ DocFault.Missing) ⊎ (e ≡ DocFault.Deleted) ⊎ (e ≡ DocFault.Gate GateFault.DiskFault) ⊎ (e ≡ DocFault.NoMemory) ⊎ ((name : Name) × (at : ℕ) × (e ≡ DocFault.Gate (GateFault.Damaged name at)))) }
+        ensures disk { Tells (F.disk folder.old) (F.disk folder.new) MovesNone }
+        ensures cause { HasCauseIf (λ e. e ≡ DocFault.Gate GateFault.DiskFault) (F.faults folder.old) (F.faults folder.new) result }
+        ensures reads { RisesBy 1 (F.reads folder.old) (F.reads folder.new) }
+    {
+        match find_last(id, self.entries.as_slice()) {
+            Some(last) => {
+                if last.deleted {
+                    return Err(DocFault::Deleted);
+                }
+                load_body(alloc, folder, self.file.name(), last)
+            }
+            None => Err(DocFault::Missing),
+        }
+    }
+
+    /// How many documents are live and deleted, and how many writes were accepted. It takes no memory.
+    pub fn info(&self) -> Info
+        ensures { result ≡ info_of self.now }
+    {
+        Info {
+            doc_count: self
+                .entries
+                .iter()
+                .filter(|entry| !entry.last.deleted)
+                .count() as u64,
+            doc_del_count: self
+                .entries
+                .iter()
+                .filter(|entry| entry.last.deleted)
+                .count() as u64,
+            update_seq: self.seq,
+        }
+    }
+}

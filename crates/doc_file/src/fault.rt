@@ -1,0 +1,57 @@
+//! Why a call on documents is refused.
+
+ghost use Rattle.std.specs.Prelude.{◌≡◌};
+ghost use Rattle.doc_file.specs.declared.fault.DocFault.TheVariants.{NoMemory as OutOfMemory};
+ghost use Rattle.doc_file.specs.Faults.{doc_fault};
+
+use gate_file::GateFault;
+use json_terms::NoMemory;
+use std::alloc::AllocError;
+use thiserror::Error;
+
+/// Why a call on documents is refused.
+#[derive(Clone, Copy, Debug, PartialEq, Eq, Error)]
+pub enum DocFault {
+    /// The revision that was given isn't the present one, or none was given where one is needed.
+    #[error("conflict")]
+    Conflict,
+    /// The id was never written.
+    #[error("missing")]
+    Missing,
+    /// The last write of the id was a deletion.
+    #[error("deleted")]
+    Deleted,
+    /// A call on the documents' file failed, or what stands there is no root record or no body.
+    #[error("the documents' file: {0}")]
+    Gate(GateFault),
+    /// Memory ran out.
+    #[error("out of memory")]
+    NoMemory,
+}
+
+impl From<GateFault> for DocFault {
+    ghost from_gives = { λ fault e. e ≡ doc_fault fault };
+
+    fn from(fault: GateFault) -> DocFault {
+        match fault {
+            GateFault::NoMemory => DocFault::NoMemory,
+            other => DocFault::Gate(other),
+        }
+    }
+}
+
+impl From<NoMemory> for DocFault {
+    ghost from_gives = { λ _ e. e ≡ OutOfMemory };
+
+    fn from(_fault: NoMemory) -> DocFault {
+        DocFault::NoMemory
+    }
+}
+
+impl From<AllocError> for DocFault {
+    ghost from_gives = { λ _ e. e ≡ OutOfMemory };
+
+    fn from(_fault: AllocError) -> DocFault {
+        DocFault::NoMemory
+    }
+}

@@ -1,0 +1,108 @@
+use super::*;
+use crash_disk::MemoryFolder;
+use gate_file::{GateFault, GateFile};
+use json_terms::{NoMemory, write_term};
+use std::alloc::Global;
+use std::test::Fail;
+use view_ports::{FileName, Folder, Stem};
+
+const DOCS: FileName = FileName {
+    stem: Stem::Docs,
+    side: false,
+};
+
+/// The spelling of `{"_id":"a"}`.
+const BODY: &[u8] = b"\x05\x01\0\0\0\x03\0\0\0_id\x07\x01\0\0\0a";
+
+/// The spelling of `["_id"]`, which is no object.
+const ARRAY: &[u8] = b"\x06\x01\0\0\0\x07\x03\0\0\0_id";
+
+/// A root record of two writes: of `a`, with a body of this length at this place, and of `b`, deleted.
+fn root(alloc: Global, offset: u64, length: u32) -> Result<Vec<u8>, NoMemory> {
+    let mut bytes = Vec::new(alloc);
+    bytes.extend_from_slice(b"\x02\0\0\0\0\0\0\0\x02\0\0\0\0\0\0\0")?;
+    bytes.extend_from_slice(b"\x22\0\0\0\x01\0\0\0a\x01\0\0\0\0\0\0\0\x01\0\0\0\0\0\0\0\0")?;
+    bytes.extend_from_slice(&offset.to_le_bytes())?;
+    bytes.extend_from_slice(&length.to_le_bytes())?;
+    bytes.extend_from_slice(b"\x22\0\0\0\x01\0\0\0b\x02\0\0\0\0\0\0\0\x01\0\0\0\0\0\0\0\x01")?;
+    bytes.extend_from_slice(b"\0\0\0\0\0\0\0\0\0\0\0\0")?;
+    Ok(bytes)
+}
+
+/// A file with a body at 8,192 and then a root record.
+fn commit<F: Folder>(folder: &mut F, body: &[u8], root: &[u8]) -> Result<(), GateFault> {
+    let mut file = GateFile::open(folder, Stem::Docs)?;
+    file.append(folder, body)?;
+    let at = file.append(folder, root)?;
+    file.commit(folder, at, root.len() as u64)
+}
+
+fn folder_of(alloc: Global, body: &[u8], root: &[u8]) -> Result<MemoryFolder, Fail> {
+    let mut folder = MemoryFolder::new(alloc, Vec::new(alloc), false)?;
+    commit(&mut folder, body, root)?;
+    Ok(folder)
+}
+
+#[test]
+fn an_empty_folder_has_no_documents(rt: HostRuntime) -> Result<(), Fail> {
+    let alloc = rt.alloc();
+    let mut folder = MemoryFolder::new(alloc, Vec::new(alloc), false)?;
+    let docs = Docs::open(alloc, &mut folder)?;
+    let none = Info {
+        doc_count: 0,
+        doc_del_count: 0,
+        update_seq: 0,
+    };
+    assert_eq!(rt; docs.info(), none);
+    assert!(rt; docs.get(alloc, &mut folder, "a").err() == Some(DocFault::Missing));
+    Ok(())
+}
+
+#[test]
+fn documents_are_found_again(rt: HostRuntime) -> Result<(), Fail> {
+    let alloc = rt.alloc();
+    let root = root(alloc, 8192, BODY.len() as u32)?;
+    let mut folder = folder_of(alloc, BODY, root.as_slice())?;
+    let docs = Docs::open(alloc, &mut folder)?;
+    let info = Info {
+        doc_count: 1,
+        doc_del_count: 1,
+        update_seq: 2,
+    };
+    assert_eq!(rt; docs.info(), info);
+    let document = docs.get(alloc, &mut folder, "a")?;
+    let mut text = Vec::new(alloc);
+    write_term(alloc, &document, &mut text)?;
+    assert_eq!(rt; text.as_slice(), b"{\"_id\":\"a\"}".as_slice());
+    assert!(rt; docs.get(alloc, &mut folder, "b").err() == Some(DocFault::Deleted));
+    assert!(rt; docs.get(alloc, &mut folder, "c").err() == Some(DocFault::Missing));
+    Ok(())
+}
+
+fn damage(offset: u64) -> Option<DocFault> {
+    Some(DocFault::Gate(GateFault::Damaged { name: DOCS, offset }))
+}
+
+#[test]
+fn damage_is_named_at_its_place(rt: HostRuntime) -> Result<(), Fail> {
+    let alloc = rt.alloc();
+    for (body, offset, length) in [
+        (BODY, 8192, 17),
+        (BODY, 8193, 18),
+        (BODY, 8192, 19),
+        (ARRAY, 8192, 13),
+        (BODY, 1 << 39, 18),
+    ] {
+        let root = root(alloc, offset, length)?;
+        let mut folder = folder_of(alloc, body, root.as_slice())?;
+        let docs = Docs::open(alloc, &mut folder)?;
+        let fault = docs.get(alloc, &mut folder, "a").err();
+        assert!(rt; fault == damage(offset), "{length} bytes at {offset}");
+    }
+    let mut long = root(alloc, 8192, 18)?;
+    long.push(0)?;
+    let mut folder = folder_of(alloc, BODY, long.as_slice())?;
+    let fault = Docs::open(alloc, &mut folder).err();
+    assert!(rt; fault == damage(8210));
+    Ok(())
+}

@@ -1,0 +1,24 @@
+//! The documents of a database in their file.
+#![tactic(auto)]
+
+mod accept;
+mod body;
+mod docs;
+mod entry;
+mod fault;
+#[cfg(test)]
+mod file_tests;
+mod load;
+mod record;
+mod rev;
+#[cfg(test)]
+mod tests;
+
+pub use accept::{may_delete, may_put};
+pub use body::read_body;
+pub use docs::{Docs, Info};
+pub use entry::{Entry, LastWrite};
+pub use fault::DocFault;
+pub use load::{load_body, load_root};
+pub use record::{RootRecord, read_root, write_root};
+pub use rev::{Rev, is_revision};

@@ -1,0 +1,8 @@
+mod Counts
+pub mod Words
+pub mod Texts
+pub mod Spelled
+mod Read
+mod Places
+mod Follows
+mod Parts
