@@ -1,0 +1,9 @@
+pub mod Reducible
+pub mod Reducing
+pub mod Answering
+pub mod Mapping
+pub mod Results
+pub mod Finding
+pub mod Keeping
+pub mod Progressing
+pub mod Ending

@@ -1,0 +1,23 @@
+use Rattle.std.proofs.Common.{◌≡◌, ◌≤◌, ◌∙◌, ℕ, Vec, Global, Some, subst, sym, ap}
+use Rattle.std.proofs.lemmas.Result.{IfOk-weaker}
+use Rattle.json_terms.specs.Json.{Json, depth}
+use Rattle.json_terms.specs.Seen.{json}
+use Rattle.map_lang.specs.Reduce.{reduce_named, rereduce_of}
+use Rattle.view_ports.specs.Honest.{IsTextOf}
+use Rattle.map_server.specs.Replies.{result_depth, result_term}
+use Rattle.map_server.proofs.Reducing.{rereduce_shallow, rereduce_answer}
+use Rattle.map_server.proofs.replies.rereduce.Goals as goal
+
+pub result_text-requires : goal.result_text-requires
+result_text-requires c =
+    let same : json c.in_ok-run_rereduce.field-0 ≡ rereduce_of c.in-Some.how c.args.values =
+    c.in_ok-run_rereduce.ensures ∙ ap (rereduce_of c.in-Some.how) c.as_slice.ensures in
+    subst (λ (t : Json). depth t ≤ result_depth) (sym same) (rereduce_shallow c.in-Some.how c.args.values c.requires.1)
+
+pub returns : goal.returns
+returns c =
+    let same : json c.in_ok-run_rereduce.field-0 ≡ rereduce_of c.in-Some.how c.args.values =
+    c.in_ok-run_rereduce.ensures ∙ ap (rereduce_of c.in-Some.how) c.as_slice.ensures in
+    let named : reduce_named c.args.source ≡ Some c.in-Some.how = ap reduce_named (sym c.as_str.ensures) ∙ sym c.parse_reduce.ensures ∙ c.in-Some.is in
+    let answer = ap result_term same ∙ rereduce_answer c.args.source c.in-Some.how c.args.values named in
+    IfOk-weaker _ _ _ (λ (text : Vec ℕ Global) (is : IsTextOf (result_term (json c.in_ok-run_rereduce.field-0)) text.items). λ sources. subst (λ (t : Json). IsTextOf t text.items) answer is) c.result_text.ensures

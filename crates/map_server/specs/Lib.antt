@@ -1,0 +1,13 @@
+pub mod SourceTokens
+pub mod TokenPrograms
+pub mod Programs
+pub mod PickFunctions
+pub mod PickTerms
+pub mod PickBounds
+pub mod PickReduces
+pub mod Pick
+pub mod Replies
+pub mod Changes
+pub mod Serving
+pub mod Dialogues
+pub mod Laws
