@@ -41,7 +41,7 @@ among_themselves (x ∷ xs) = (inl refl, among_more x xs xs (among_themselves xs
 stands_ready : (pool : Pool) (path : List ℕ) (calls : List Call) → pool.started ≡ Some path → IsThere path 0 calls → Stands pool calls
 stands_ready pool path calls is there = subst (λ (o : Option (List ℕ)). MatchOption o (Unit {0}) (λ p. IsThere p 0 calls)) (sym is) there
 
-stands_stopped : (pool : Pool) (calls : List Call) → AreStopped pool calls → Stands pool calls
+pub stands_stopped : (pool : Pool) (calls : List Call) → AreStopped pool calls → Stands pool calls
 stands_stopped pool calls stopped = subst (λ (o : Option (List ℕ)). MatchOption o (Unit {0}) (λ p. IsThere p 0 calls)) (sym stopped.forgotten) tt
 
 module _ (functions : List ℕ → Functions) (honest : List ℕ → Type 0) (job : Job) {calls : List Call} where
@@ -67,7 +67,7 @@ module _ (functions : List ℕ → Functions) (honest : List ℕ → Type 0) (jo
   refused_at_first rose pool f some w =
       let turns = waves (length job.documents) 1 (length job.sources) job.documents in
       Went-map w (AfterUpdate functions honest job rose pool (Err f) calls) (
-        stands_stopped pool w.now w.holds.stopped,
+        w.holds.stopped,
         refused_wider functions honest job 0 calls (ready 0 job.sources) (talk_of job.sources job.documents 1) rose f w.added (turns, talk_is job.documents job.sources some) w.holds.refused,
       )
 
@@ -90,6 +90,6 @@ module _ (functions : List ℕ → Functions) (honest : List ℕ → Type 0) (jo
         let turns = waves (length job.documents) 1 (length job.sources) job.documents in
         let refused = refused_then functions honest job (ready 0 job.sources) turns rose_first rose_second rose f g fault w v w.holds.1 v.holds.refused in
         Went-then w v (AfterUpdate functions honest job rose pool (Err fault) calls) (
-          stands_stopped pool v.now v.holds.stopped,
+          v.holds.stopped,
           subst (λ (dues : List Due). Refused functions honest job 0 dues rose fault calls (v.added ++ w.added)) (sym (talk_is job.documents job.sources some)) refused,
         )

@@ -7,7 +7,7 @@ use Rattle.child_pool.specs.declared.pool.Pool.{Pool}
 use Rattle.child_pool.specs.declared.pool_fault.PoolFault.{PoolFault}
 use Rattle.child_pool.specs.Histories.{talk}
 use Rattle.child_pool.specs.Jobs.{Job}
-use Rattle.child_pool.specs.Pools.{AreRowsOf, Stands}
+use Rattle.child_pool.specs.Pools.{AreRowsOf, AreStopped, Stands}
 use Rattle.child_pool.specs.Refused.{Refused}
 use Rattle.child_pool.specs.Sessions.{AllCompile}
 use Rattle.child_pool.specs.Talk.{AreTurns, talk_of}
@@ -20,6 +20,7 @@ module _ (functions : List ℕ → Functions) (honest : List ℕ → Type 0) whe
     pub compile : honest job.path → job.documents ≢ [] → AllCompile (functions job.path) job.sources
     pub talked : AreTurns (talk_of job.sources job.documents 1) (talk added) ⊎ rose
 
+  -- a refusal stops all children
   abbrev pub AfterUpdate : Job → Type 0 → Pool → Result DocRowLists PoolFault → List Call → List Call → List Call → Type 0
   AfterUpdate job rose pool (Ok lists) before added now = Stands pool now × HasUpdated job rose lists added
-  AfterUpdate job rose pool (Err f) before added now = Stands pool now × Refused functions honest job 0 (talk_of job.sources job.documents 1) rose f before added
+  AfterUpdate job rose pool (Err f) before added now = AreStopped pool now × Refused functions honest job 0 (talk_of job.sources job.documents 1) rose f before added
