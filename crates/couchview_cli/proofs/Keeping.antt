@@ -3,13 +3,12 @@ use Rattle.std.specs.Prelude.{◌≡◌, ◌≢◌, ◌<◌, ◌≤◌, ◌+◌,
 use Rattle.std.proofs.Common.{refl, sym, ap, ◌∙◌, subst, arith, add-one, inl, inr}
 use Rattle.std.proofs.lemmas.Bool.{cases_lt}
 use Rattle.std.proofs.lemmas.List.{take_all}
-use Rattle.view_engine.specs.declared.engine.Engine.{Engine}
-use Rattle.view_engine.specs.World.{World}
+use Rattle.view_ports.specs.Functions.{Functions}
+use Rattle.view_engine.specs.Moments.{Moment}
 use Rattle.view_engine.specs.declared.refusal.Refusal.TheVariants.{NoMemory}
-use Rattle.view_engine.specs.Refusals.{line_limit, refusal_text}
-use Rattle.view_engine.specs.Engine.{IsWorldOf}
+use Rattle.view_engine.specs.Refusals.{line_limit, refusal_text, request_of}
 use Rattle.view_ports.specs.Lines.{ended}
-use Rattle.view_engine.specs.Steps.{Answers}
+use Rattle.view_engine.specs.Steps.{Answers, MayHaveCalled}
 use Rattle.view_engine.proofs.LineLimit.{Answers-cut, line_limit-is}
 use Rattle.couchview_cli.specs.Session.{kept, Answered}
 
@@ -59,38 +58,45 @@ long_or_whole limit line =
       | inr short ↦ inr (take_all (limit + 1) line (omega arith))
     ]
 
--- a line is answered as what is kept of it
-pub Answers-kept : (world : World) (line text : List ℕ) (new : World) → Answers world (record { line = kept line; text = text }) new → Answers world (record { line = line; text = text }) new
-Answers-kept world line text new answers =
-    elim (long_or_whole line_limit line) [
-      | inl long ↦ Answers-cut world line text new long answers
-      | inr whole ↦ subst (λ (l : List ℕ). Answers world (record { line = l; text = text }) new) whole answers
-    ]
-
-pub Answered-same : (Wrote : List ℕ → Type 0) (world : World) (line line' : List ℕ) (engine : Engine) → line ≡ line' → Answered Wrote world line engine → Answered Wrote world line' engine
-Answered-same Wrote world line line' engine same answered =
-    subst (λ (l : List ℕ). Answered Wrote world l engine) same answered
-
-pub Answered-kept : (Wrote : List ℕ → Type 0) (world : World) (line : List ℕ) (engine : Engine) → Answered Wrote world (kept line) engine → Answered Wrote world line engine
-Answered-kept Wrote world line engine answered = record {
-  text = answered.text;
-  after = answered.after;
-  answers = Answers-kept world line answered.text answered.after answered.answers;
-  stands = answered.stands;
-  wrote = answered.wrote;
-}
-
--- where memory ran out the answer is a constant, and nothing has changed
-pub Answered-no_memory : (Wrote : List ℕ → Type 0) (world : World) (line : List ℕ) (engine : Engine) → line ≢ [] → IsWorldOf engine world → Wrote (ended (refusal_text NoMemory))
-    → Answered Wrote world line engine
-Answered-no_memory Wrote world line engine some stands wrote = record {
-  text = ended (refusal_text NoMemory);
-  after = world;
-  answers = inr (some, refl, refl);
-  stands = stands;
-  wrote = wrote;
-}
-
 -- something stands before the end of a line of which something is kept
 pub kept-some : (rest line : List ℕ) → line ≡ kept rest → length line ≢ 0 → rest ≢ []
 kept-some rest line is some none = some (ap length (is ∙ ap kept none ∙ kept-nil))
+
+module _ (functions : List ℕ → Functions) (honest : List ℕ → Type 0) (languages : List (List ℕ × List ℕ)) where
+  -- a line is answered as what is kept of it
+  pub Answers-kept : (before : Moment) (line text : List ℕ) (after : Moment) → Answers functions honest languages before (record { line = kept line; text = text }) after
+      → Answers functions honest languages before (record { line = line; text = text }) after
+  Answers-kept before line text after answers =
+      elim (long_or_whole line_limit line) [
+        | inl long ↦ Answers-cut functions honest languages before line text after long answers
+        | inr whole ↦ subst (λ (l : List ℕ). Answers functions honest languages before (record { line = l; text = text }) after) whole answers
+      ]
+
+  -- where memory ran out the answer is a constant
+  pub Answered-no_memory : (Wrote : List ℕ → Type 0) (before : Moment) (line : List ℕ) (Stands : Moment → Type 0) (after : Moment) → line ≢ [] → MayHaveCalled languages before (request_of line) after
+      → Stands after → Wrote (ended (refusal_text NoMemory)) → Answered functions honest languages Wrote before line Stands
+  Answered-no_memory Wrote before line Stands after some called stands wrote = record {
+    text = ended (refusal_text NoMemory);
+    after = after;
+    answers = inr (some, refl, called);
+    stands = stands;
+    wrote = wrote;
+  }
+
+module _ {functions : List ℕ → Functions} {honest : List ℕ → Type 0} {languages : List (List ℕ × List ℕ)} {Wrote : List ℕ → Type 0} {before : Moment} {Stands : Moment → Type 0} where
+  pub Answered-same : (line line' : List ℕ) → line ≡ line' → Answered functions honest languages Wrote before line Stands → Answered functions honest languages Wrote before line' Stands
+  Answered-same line line' same answered = subst (λ (l : List ℕ). Answered functions honest languages Wrote before l Stands) same answered
+
+  -- the same languages, written in another way
+  pub Answered-of : (languages' : List (List ℕ × List ℕ)) (line : List ℕ) → languages ≡ languages' → Answered functions honest languages Wrote before line Stands
+      → Answered functions honest languages' Wrote before line Stands
+  Answered-of languages' line same answered = subst (λ (ls : List (List ℕ × List ℕ)). Answered functions honest ls Wrote before line Stands) same answered
+
+  pub Answered-kept : (line : List ℕ) → Answered functions honest languages Wrote before (kept line) Stands → Answered functions honest languages Wrote before line Stands
+  Answered-kept line answered = record {
+    text = answered.text;
+    after = answered.after;
+    answers = Answers-kept functions honest languages before line answered.text answered.after answered.answers;
+    stands = answered.stands;
+    wrote = answered.wrote;
+  }

@@ -3,3 +3,4 @@ pub mod Finding
 pub mod Keeping
 pub mod Progressing
 pub mod Ending
+pub mod Naming

@@ -10,11 +10,6 @@ pub OnErr-map : {T E : Type 0} (result : Result T E) (P Q : Type 0) → (P → Q
 OnErr-map (Ok value) P Q f on = tt
 OnErr-map (Err fault) P Q f on = f on
 
--- the same of two facts
-pub OnOk-join : {T E : Type 0} (result : Result T E) (P Q R : Type 0) → (P → Q → R) → OnOk result P → OnOk result Q → OnOk result R
-OnOk-join (Ok value) P Q R f first second = f first second
-OnOk-join (Err fault) P Q R f first second = tt
-
 -- the same of a fact on the error
 pub IfErr-map : {T E : Type 0} (result : Result T E) (P Q : E → Type 0) → ((e : E) → P e → Q e) → IfErr result P → IfErr result Q
 IfErr-map (Ok value) P Q f on = tt

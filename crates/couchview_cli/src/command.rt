@@ -1,16 +1,24 @@
 //! The commands.
-ghost use Rattle.std.specs.Prelude.{◌≡◌, ◌≤◌, ◌⊎◌, ◌↔◌, IsTrue};
+ghost use Rattle.std.specs.Prelude.{◌≡◌, ◌≤◌, ◌⊎◌, ◌↔◌, [], IsTrue, bytes_eq, map, string_bytes};
 ghost use Rattle.std.specs.Io.KnownBytes.{IsAtEnd};
+ghost use Rattle.std.specs.List.{IsDistinct, list_all, list_any};
+ghost use Rattle.std.specs.Map.{keys_of};
 ghost use Rattle.view_ports.specs.Faults.{Rose};
-ghost use Rattle.couchview_cli.specs.Command.{IsServe, ShowsUsage, usage_line};
-ghost use Rattle.couchview_cli.specs.Serving.{Serves, StopsAtLimit, IsShort};
+ghost use Rattle.child_pool.specs.Languages.{language_in, languages_in};
+ghost use Rattle.couchview_cli.specs.Command.{AreLanguages, IsApart, IsServe, ShowsUsage, languages_named, usage_line};
+ghost use Rattle.couchview_cli.specs.Command as spec;
+ghost use Rattle.couchview_cli.specs.Serving.{AreLeft, Serves, StopsAtLimit, IsShort};
 
 use crate::serve::serve;
+use child_pool::language_word;
 use std::alloc::Global;
-use view_ports::{PortFault, RunEnd, Sink, Source, write_all};
+use view_ports::{PortFault, RunEnd, Servers, Sink, Source, write_all};
 
 /// The exit status for words that are no command.
 const USAGE_STATUS: u8 = 2;
+
+/// How many languages the command line may name.
+const LANGUAGES: usize = 8;
 
 fn usage() -> &'static [u8]
     ensures { result.now ≡ usage_line }
@@ -18,27 +26,106 @@ fn usage() -> &'static [u8]
     b"usage: couchview serve [--width N] [LANG=PATH]... | couchview load DOCS NUMBER\n"
 }
 
+/// Whether a language may have this path.
+fn is_path(path: &str) -> bool
+    ensures { result ≡ spec.is_path path.now }
+{
+    !path.as_bytes().starts_with(b"builtin:") || path == "builtin:field"
+}
+
+/// Whether this is a word LANG=PATH.
+fn is_language(word: &str) -> bool
+    ensures { result ≡ spec.is_language word.now }
+{
+    match language_word(word) {
+        Some((_language, path)) => !word.as_bytes().starts_with(b"-") && is_path(path),
+        None => false,
+    }
+}
+
+/// Whether each word is LANG=PATH.
+fn all_languages(words: &[String]) -> bool
+    ensures { result ≡ list_all (λ word. spec.is_language (string_bytes word)) words.now }
+{
+    words.iter().all(|word| is_language(word.as_str()))
+}
+
+/// Whether a word is LANG=PATH with this language.
+fn names(word: &str, language: &str) -> bool
+    ensures { result ≡ spec.names language.now (language_in word.now) }
+{
+    match language_word(word) {
+        Some((found, _path)) => language == found,
+        None => false,
+    }
+}
+
+/// Whether one of the words is LANG=PATH with this language.
+fn is_named(words: &[String], language: &str) -> bool
+    ensures { result ≡ list_any (λ word. spec.names language.now (language_in (string_bytes word))) words.now }
+{
+    words.iter().any(|word| names(word.as_str(), language))
+}
+
+/// Whether the language of the first word is named by none of the others.
+fn is_apart(first: &str, others: &[String]) -> bool
+    ensures { IsTrue result ↔ IsApart (language_in first.now) (keys_of (languages_in (map string_bytes others.now))) }
+{
+    match language_word(first) {
+        Some((language, _path)) => !is_named(others, language),
+        None => true,
+    }
+}
+
+/// Whether no two words name one language.
+fn are_apart(words: &[String]) -> bool
+    ensures { IsTrue result ↔ IsDistinct bytes_eq (keys_of (languages_in (map string_bytes words.now))) }
+{
+    match words.split_first() {
+        Some((first, others)) => is_apart(first.as_str(), others) && are_apart(others),
+        None => true,
+    }
+}
+
+/// Whether these words may stand behind `serve`.
+fn are_languages(words: &[String]) -> bool
+    ensures { IsTrue result ↔ AreLanguages (map string_bytes words.now) }
+{
+    words.len() <= LANGUAGES && all_languages(words) && are_apart(words)
+}
+
 fn is_serve(words: &[String]) -> bool
     ensures { IsTrue result ↔ IsServe words.now }
 {
-    words.len() == 1 && words[0].as_str() == "serve"
+    match words.split_first() {
+        Some((first, others)) => first.as_str() == "serve" && are_languages(others),
+        None => false,
+    }
 }
 
 /// Does the command that the words name, and answers the exit status. The words are those after the
 /// program's name.
 ///
 /// `serve` reads request lines from the source, and writes a reply line to the sink for each that isn't
-/// empty, in order. Other words are answered with the usage line.
-pub fn couchview<S: Source, K: Sink>(
+/// empty, in order. The words LANG=PATH behind it name the query servers of languages; at the end no
+/// child is left. Other words are answered with the usage line.
+pub fn couchview<S: Source, K: Sink, C: Servers>(
     alloc: Global,
     words: &[String],
     source: &mut S,
     sink: &mut K,
+    servers: &mut C,
 ) -> u8
-    // What is read, written and kept.
-    ensures serves { IsServe words.now → Serves (record { left = S.left source.old; held = K.held sink.old }) (record { left = S.left source.new; held = K.held sink.new }) result }
+    requires { C.may_follow servers.old [] }
+
+    // What is read, written, asked and kept.
+    ensures serves { IsServe words.now → Serves C.functions C.honest (languages_named words.now)
+        (record { left = S.left source.old; held = K.held sink.old; faults = C.faults servers.old })
+        (record { left = S.left source.new; held = K.held sink.new; faults = C.faults servers.new })
+        (AreLeft (C.may_follow servers.new)) result }
     ensures refuses { ¬ IsServe words.now → ShowsUsage (K.held sink.old) (K.held sink.new) result }
     ensures unread { ¬ IsServe words.now → source.new ≡ source.old }
+    ensures unasked { ¬ IsServe words.now → servers.new ≡ servers.old }
 
     // The cause of each status.
     ensures ended { result ≡ 0 → IsServe words.now × IsAtEnd (S.left source.new) }
@@ -49,12 +136,13 @@ pub fn couchview<S: Source, K: Sink>(
     ensures limit { IsServe words.now → StopsAtLimit (S.left source.old) (S.left source.new) result }
     ensures source_count { S.faults source.old ≤ S.faults source.new }
     ensures sink_count { K.faults sink.old ≤ K.faults sink.new }
+    ensures server_count { C.faults servers.old ≤ C.faults servers.new }
 
     // Where no port fails, input that is short enough is read to its end.
     ensures complete { IsServe words.now → IsShort (S.left source.old) → ¬ Rose (S.faults source.old) (S.faults source.new) → ¬ Rose (K.faults sink.old) (K.faults sink.new) → (result ≡ 0) ⊎ (result ≡ 6) }
 {
     if is_serve(words) {
-        return serve(alloc, source, sink).status();
+        return serve(alloc, &words[1..], source, sink, servers).status();
     }
     match write_all(sink, usage()) {
         Ok(()) => USAGE_STATUS,

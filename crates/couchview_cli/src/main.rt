@@ -8,7 +8,8 @@ mod session;
 mod tests;
 
 pub use command::couchview;
-use real_ports::{StdSink, StdSource};
+use json_terms::NoMemory;
+use real_ports::{Mixed, RealServers, StdSink, StdSource};
 use std::alloc::AllocError;
 use std::env;
 use std::io::ErrorKind;
@@ -25,12 +26,18 @@ fn words(rt: HostRuntime) -> Result<Vec<String>, AllocError> {
     }
 }
 
-fn main(rt: HostRuntime) -> ExitCode {
+/// Does the command that the words name over the streams of the process, and answers its exit status.
+fn run(rt: HostRuntime, words: &[String]) -> Result<u8, NoMemory> {
     let mut source = StdSource::new(rt.stdin());
     let mut sink = StdSink::new(rt.stdout());
+    let mut servers = Mixed::new(rt.alloc(), RealServers::new(rt)?)?;
+    Ok(couchview(rt.alloc(), words, &mut source, &mut sink, &mut servers))
+}
+
+fn main(rt: HostRuntime) -> ExitCode {
     let status = match words(rt) {
-        Ok(words) => couchview(rt.alloc(), &words, &mut source, &mut sink),
-        Err(AllocError) => RunEnd::OutOfMemory.status(),
+        Ok(words) => run(rt, &words),
+        Err(AllocError) => Err(NoMemory),
     };
-    ExitCode::from(status)
+    ExitCode::from(status.unwrap_or(RunEnd::OutOfMemory.status()))
 }

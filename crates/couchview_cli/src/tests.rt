@@ -4,9 +4,11 @@ ghost use Rattle.std.specs.Prelude.{◌≢◌};
 use crate::command::couchview;
 use std::alloc::Global;
 use std::test::Fail;
-use view_ports::{MemorySink, MemorySource};
+use view_ports::{FieldServers, MemorySink, MemorySource};
 
 mod engine;
+mod servers;
+mod watched;
 
 const PUTS_AND_A_VIEW: &[u8] =
     br#"{"put":{"_id":"_design/people","language":"field","views":{"by_name":{"map":"name"}}}}
@@ -18,6 +20,15 @@ const PUTS_AND_A_VIEW: &[u8] =
 
 const USAGE: &[u8] =
     b"usage: couchview serve [--width N] [LANG=PATH]... | couchview load DOCS NUMBER\n";
+
+/// The words of a text, which are separated by spaces.
+fn words_of(alloc: Global, text: &str) -> Result<Vec<String>, Fail> {
+    let mut words = Vec::new(alloc);
+    for word in text.split_whitespace() {
+        words.push(word.to_string(alloc)?)?;
+    }
+    Ok(words)
+}
 
 /// The status of a run over ports that take at most `piece` bytes a call, and what it wrote. The
 /// words are separated by spaces.
@@ -31,13 +42,11 @@ fn run(
 ) -> Result<(u8, Vec<u8>), Fail>
     requires { piece ≢ 0 }
 {
-    let mut owned = Vec::new(alloc);
-    for word in words.split_whitespace() {
-        owned.push(word.to_string(alloc)?)?;
-    }
+    let owned = words_of(alloc, words)?;
     let mut source = MemorySource::new(alloc, input, piece, failing_reads.to_vec(alloc)?)?;
     let mut sink = MemorySink::new(alloc, piece, failing_writes.to_vec(alloc)?)?;
-    let status = couchview(alloc, &owned, &mut source, &mut sink);
+    let mut servers = FieldServers::new(alloc, Vec::new(alloc))?;
+    let status = couchview(alloc, &owned, &mut source, &mut sink, &mut servers);
     Ok((status, sink.held().to_vec(alloc)?))
 }
 
@@ -121,6 +130,29 @@ fn a_failing_write_ends_the_run(rt: HostRuntime) -> Result<(), Fail> {
 }
 
 #[test]
+fn languages_may_stand_behind_serve(rt: HostRuntime) -> Result<(), Fail> {
+    let alloc = rt.alloc();
+    for words in [
+        "serve",
+        "serve js=node",
+        "serve js=",
+        "serve js=a=b",
+        "serve js=-node",
+        "serve js=builtin",
+        "serve js=builtin:field",
+        "serve field=builtin:field",
+        "serve js=node py=node",
+        "serve js=node j=node s=node",
+        "serve a=1 b=2 c=3 d=4 e=5 f=6 g=7 h=8",
+    ] {
+        let (status, held) = run(alloc, words, b"", 1000, &[], &[])?;
+        assert_eq!(rt; status, 0, "{words}");
+        assert!(rt; held.is_empty(), "{words}");
+    }
+    Ok(())
+}
+
+#[test]
 fn other_words_are_answered_with_the_usage_line(rt: HostRuntime) -> Result<(), Fail> {
     let alloc = rt.alloc();
     for words in [
@@ -128,15 +160,27 @@ fn other_words_are_answered_with_the_usage_line(rt: HostRuntime) -> Result<(), F
         "load",
         "Serve",
         "--help",
+        "js=node",
         "serve serve",
         "serve --width 9",
+        "serve js",
+        "serve =node",
+        "serve -js=node",
+        "serve --js=node",
+        "serve js=builtin:",
+        "serve js=builtin:fields",
+        "serve js=builtin:js",
+        "serve js=node js=node",
+        "serve js=node py=node js=other",
+        "serve js=node node",
+        "serve a=1 b=2 c=3 d=4 e=5 f=6 g=7 h=8 i=9",
     ] {
         let (status, held) = run(alloc, words, b"x\n", 1000, &[], &[])?;
-        assert_eq!(rt; status, 2);
-        assert_eq!(rt; held.as_slice(), USAGE);
+        assert_eq!(rt; status, 2, "{words}");
+        assert_eq!(rt; held.as_slice(), USAGE, "{words}");
         let (status, held) = run(alloc, words, b"x\n", 10, &[], &[3])?;
-        assert_eq!(rt; status, 4);
-        assert_eq!(rt; held.as_slice(), &USAGE[..30]);
+        assert_eq!(rt; status, 4, "{words}");
+        assert_eq!(rt; held.as_slice(), &USAGE[..30], "{words}");
     }
     Ok(())
 }

@@ -7,48 +7,65 @@ use Rattle.view_engine.specs.declared.request.Request.{Request}
 use Rattle.view_engine.specs.declared.request.Request.TheVariants.{Put, View}
 use Rattle.view_engine.specs.declared.refusal.Refusal.{Refusal}
 use Rattle.view_engine.specs.declared.refusal.Refusal.TheVariants.{NoMemory}
+use Rattle.view_ports.specs.Functions.{Functions}
+use Rattle.view_engine.specs.Moments.{Moment}
 use Rattle.view_engine.specs.World.{World}
 use Rattle.view_engine.specs.Refusals.{request_of, refusal_text}
-use Rattle.view_engine.specs.Steps.{refusal_of, Performs, Refuses, DoesRequest, Does, Answers}
+use Rattle.view_engine.specs.Steps.{Answers, Does, DoesRequest, MayHaveCalled, Performs, Refuses, refusal_of}
 use Rattle.view_engine.specs.Accepted.{is_ok, after_exchange, accepted}
 
--- a refusal reads as no `ok`, and adds no write
-refuses-accepted : (world : World) (refusal : Refusal) (e : Exchange) (reply : List ℕ) (new : World) → Refuses world refusal reply new → e.text ≡ ended reply
-    → new ≡ after_exchange world e
-refuses-accepted world refusal e reply new done is =
-    let text : e.text ≡ ended (refusal_text refusal) = is ∙ ap ended done.0 in
-    rw text done.1
+module _ (functions : List ℕ → Functions) (honest : List ℕ → Type 0) (languages : List (List ℕ × List ℕ)) where
+  either_way : (b : Bool) (world : World) → world ≡ (if b then world else world)
+  either_way true world = refl
+  either_way false world = refl
 
-either_way : (b : Bool) (world : World) → world ≡ (if b then world else world)
-either_way true world = refl
-either_way false world = refl
+  -- a refusal reads as no `ok`, and adds no write
+  not_ok : (refusal : Refusal) (text : List ℕ) → text ≡ ended (refusal_text refusal) → is_ok text ≡ false
+  not_ok refusal text is = rw is refl
 
--- a request that is done adds its write, if it is a put
-performs-accepted : (world : World) (request : Request) (e : Exchange) (reply : List ℕ) (new : World) → request_of e.line ≡ Ok request
-    → Performs world request reply new → e.text ≡ ended reply → new ≡ after_exchange world e
-performs-accepted world (Put document) e reply new is done text = rw (is, text, done.0, done.1) refl
-performs-accepted world (View name None) e reply new is done text = rw (is, done.1) (either_way (is_ok e.text) world)
-performs-accepted world other e reply new is done text = absurd done
+  refuses-accepted : (before : Moment) (refusal : Refusal) (e : Exchange) (reply : List ℕ) (after : Moment) → Refuses before refusal reply after → e.text ≡ ended reply
+      → after.world ≡ after_exchange before.world e
+  refuses-accepted before refusal e reply after done is =
+      let text : e.text ≡ ended (refusal_text refusal) = is ∙ ap ended done.0 in
+      rw text (ap (λ (m : Moment). m.world) done.1)
 
-accepts-accepted : (world : World) (request : Request) (e : Exchange) (reply : List ℕ) (new : World) (refusal : Option Refusal) → request_of e.line ≡ Ok request
-    → MatchOption refusal (Performs world request reply new) (λ r. Refuses world r reply new) → e.text ≡ ended reply → new ≡ after_exchange world e
-accepts-accepted world request e reply new None is done text = performs-accepted world request e reply new is done text
-accepts-accepted world request e reply new (Some refusal) is done text = refuses-accepted world refusal e reply new done text
+  -- a request that is done adds its write, if it is a put
+  performs-accepted : (before : Moment) (request : Request) (e : Exchange) (reply : List ℕ) (after : Moment) → request_of e.line ≡ Ok request
+      → Performs functions honest languages before request reply after → e.text ≡ ended reply → after.world ≡ after_exchange before.world e
+  performs-accepted before (Put document) e reply after is done text =
+      let acted : after.world ≡ done.0 = ap (λ (m : Moment). m.world) done.2 in
+      rw (is, text, (done.1).0) (acted ∙ (done.1).1)
+  performs-accepted before (View name None) e reply after is done text = rw (is, done.same) (either_way (is_ok e.text) before.world)
+  performs-accepted before other e reply after is done text = absurd done
 
-request-accepted : (world : World) (request : Result Request Refusal) (e : Exchange) (reply : List ℕ) (new : World) → request_of e.line ≡ request
-    → DoesRequest world request reply new → e.text ≡ ended reply → new ≡ after_exchange world e
-request-accepted world (Ok request) e reply new is done text = accepts-accepted world request e reply new (refusal_of world request) is done text
-request-accepted world (Err refusal) e reply new is done text = refuses-accepted world refusal e reply new done text
+  accepts-accepted : (before : Moment) (request : Request) (e : Exchange) (reply : List ℕ) (after : Moment) (refusal : Option Refusal) → request_of e.line ≡ Ok request
+      → MatchOption refusal (Performs functions honest languages before request reply after) (λ r. Refuses before r reply after) → e.text ≡ ended reply → after.world ≡ after_exchange before.world e
+  accepts-accepted before request e reply after None is done text = performs-accepted before request e reply after is done text
+  accepts-accepted before request e reply after (Some refusal) is done text = refuses-accepted before refusal e reply after done text
 
-does-accepted : (world : World) (line : List ℕ) (e : Exchange) (new : World) → e.line ≡ line → Does world line e.text new → new ≡ after_exchange world e
-does-accepted world [] e new is done = rw (done.0, done.1) refl
-does-accepted world (byte ∷ bytes) e new is done = request-accepted world (request_of (byte ∷ bytes)) e done.0 new (ap request_of is) done.1 done.2
+  request-accepted : (before : Moment) (request : Result Request Refusal) (e : Exchange) (reply : List ℕ) (after : Moment) → request_of e.line ≡ request
+      → DoesRequest functions honest languages before request reply after → e.text ≡ ended reply → after.world ≡ after_exchange before.world e
+  request-accepted before (Ok request) e reply after is done text = accepts-accepted before request e reply after (refusal_of functions honest languages before.world request) is done text
+  request-accepted before (Err refusal) e reply after is done text = refuses-accepted before refusal e reply after done text
 
-pub Answers-accepted : (world : World) (e : Exchange) (new : World) → Answers world e new → new ≡ after_exchange world e
-Answers-accepted world e new (inl done) = does-accepted world e.line e new refl done
-Answers-accepted world e new (inr gave_up) = refuses-accepted world NoMemory e (refusal_text NoMemory) new (refl, gave_up.2) gave_up.1
+  does-accepted : (before : Moment) (line : List ℕ) (e : Exchange) (after : Moment) → e.line ≡ line → Does functions honest languages before line e.text after → after.world ≡ after_exchange before.world e
+  does-accepted before [] e after is done = rw done.0 (ap (λ (m : Moment). m.world) done.1)
+  does-accepted before (byte ∷ bytes) e after is done = request-accepted before (request_of (byte ∷ bytes)) e done.0 after (ap request_of is) done.1 done.2
 
-pub LeadsTo-accepted : (world : World) (exchanges : List Exchange) (new : World) → LeadsTo Answers world exchanges new → new ≡ accepted world exchanges
-LeadsTo-accepted world [] new leads = leads
-LeadsTo-accepted world (e ∷ exchanges) new leads =
-    LeadsTo-accepted leads.0 exchanges new leads.2 ∙ ap (λ w. accepted w exchanges) (Answers-accepted world e leads.0 leads.1)
+  -- where memory ran out no document was written
+  kept_world : (before : Moment) (request : Result Request Refusal) (after : Moment) → MayHaveCalled languages before request after → after.world ≡ before.world
+  kept_world before (Ok (View name None)) after (inl same) = ap (λ (m : Moment). m.world) same
+  kept_world before (Ok (View name None)) after (inr asked) = ((asked.1).1).2
+  kept_world before other after same = ap (λ (m : Moment). m.world) same
+
+  gave_up-accepted : (before : Moment) (e : Exchange) (after : Moment) → e.text ≡ ended (refusal_text NoMemory) → after.world ≡ before.world → after.world ≡ after_exchange before.world e
+  gave_up-accepted before e after text same = rw text same
+
+  pub Answers-accepted : (before : Moment) (e : Exchange) (after : Moment) → Answers functions honest languages before e after → after.world ≡ after_exchange before.world e
+  Answers-accepted before e after (inl done) = does-accepted before e.line e after refl done
+  Answers-accepted before e after (inr gave_up) = gave_up-accepted before e after gave_up.1 (kept_world before (request_of e.line) after gave_up.2)
+
+  pub LeadsTo-accepted : (before : Moment) (exchanges : List Exchange) (after : Moment) → LeadsTo (Answers functions honest languages) before exchanges after → after.world ≡ accepted before.world exchanges
+  LeadsTo-accepted before [] after leads = ap (λ (m : Moment). m.world) leads
+  LeadsTo-accepted before (e ∷ exchanges) after leads =
+      LeadsTo-accepted leads.0 exchanges after leads.2 ∙ ap (λ w. accepted w exchanges) (Answers-accepted before e leads.0 leads.1)

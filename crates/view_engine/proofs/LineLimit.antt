@@ -3,7 +3,8 @@ use Rattle.std.specs.Prelude.{◌≡◌, ◌<◌, ◌≤◌, ◌+◌, ℕ, List,
 use Rattle.std.proofs.Common.{refl, sym, ap, ◌∙◌, subst, arith, add-one, length-take, inl, inr}
 use Rattle.std.proofs.lemmas.Bool.{lt-ltb, le-ltb}
 use Rattle.json_terms.specs.Reading.{reading}
-use Rattle.view_engine.specs.World.{World}
+use Rattle.view_ports.specs.Functions.{Functions}
+use Rattle.view_engine.specs.Moments.{Moment}
 use Rattle.view_engine.specs.declared.request.Request.{Request}
 use Rattle.view_engine.specs.declared.refusal.Refusal.{Refusal}
 use Rattle.view_engine.specs.declared.refusal.Refusal.TheVariants.{LineTooLong, UnknownRequest}
@@ -11,7 +12,7 @@ use Rattle.view_engine.specs.Refusals.{line_limit, request_of, request_in, unrea
 use Rattle.view_engine.specs.Requests.{form_of}
 use Rattle.json_terms.specs.Json.{Json}
 use Rattle.json_terms.specs.declared.fault.TermFault.{TermFault}
-use Rattle.view_engine.specs.Steps.{DoesRequest, Answers}
+use Rattle.view_engine.specs.Steps.{Answers, DoesRequest, MayHaveCalled}
 
 pub line_limit-is : line_limit ≡ 2097152
 unfolding line_limit
@@ -39,16 +40,17 @@ pub request_of-unread : (line : List ℕ) (fault : TermFault) → length line �
 request_of-unread line fault short reads = request_of-short line (rw line_limit-is short) ∙ ap request_in reads
 
 -- a line that is too long is answered as its first bytes are
-pub Answers-cut : (world : World) (line text : List ℕ) (new : World) → line_limit < length line
-    → Answers world (record { line = take (line_limit + 1) line; text = text }) new → Answers world (record { line = line; text = text }) new
-Answers-cut world [] text new long answers = absurd (omega arith)
-Answers-cut world (byte ∷ bytes) text new long answers =
-    let front : take (line_limit + 1) (byte ∷ bytes) ≡ byte ∷ take line_limit bytes = rw add-one refl in
-    let cut : Answers world (record { line = byte ∷ take line_limit bytes; text = text }) new =
-    subst (λ (l : List ℕ). Answers world (record { line = l; text = text }) new) front answers in
-    let same : request_of (byte ∷ take line_limit bytes) ≡ request_of (byte ∷ bytes) =
-    request_of-long (byte ∷ take line_limit bytes) (omega (arith, length-take line_limit bytes)) ∙ sym (request_of-long (byte ∷ bytes) long) in
-    elim cut [
-      | inl done ↦ inl (done.0, subst (λ (r : Result Request Refusal). DoesRequest world r done.0 new) same done.1, done.2)
-      | inr gave_up ↦ inr (λ none. absurd (let e : byte ∷ bytes ≡ [] = none in cc), gave_up.1, gave_up.2)
-    ]
+module _ (functions : List ℕ → Functions) (honest : List ℕ → Type 0) (languages : List (List ℕ × List ℕ)) where
+  pub Answers-cut : (before : Moment) (line text : List ℕ) (after : Moment) → line_limit < length line
+      → Answers functions honest languages before (record { line = take (line_limit + 1) line; text = text }) after → Answers functions honest languages before (record { line = line; text = text }) after
+  Answers-cut before [] text after long answers = absurd (omega arith)
+  Answers-cut before (byte ∷ bytes) text after long answers =
+      let front : take (line_limit + 1) (byte ∷ bytes) ≡ byte ∷ take line_limit bytes = rw add-one refl in
+      let cut : Answers functions honest languages before (record { line = byte ∷ take line_limit bytes; text = text }) after =
+      subst (λ (l : List ℕ). Answers functions honest languages before (record { line = l; text = text }) after) front answers in
+      let same : request_of (byte ∷ take line_limit bytes) ≡ request_of (byte ∷ bytes) =
+      request_of-long (byte ∷ take line_limit bytes) (omega (arith, length-take line_limit bytes)) ∙ sym (request_of-long (byte ∷ bytes) long) in
+      elim cut [
+        | inl done ↦ inl (done.0, subst (λ (r : Result Request Refusal). DoesRequest functions honest languages before r done.0 after) same done.1, done.2)
+        | inr gave_up ↦ inr (λ none. absurd (let e : byte ∷ bytes ≡ [] = none in cc), gave_up.1, subst (λ (r : Result Request Refusal). MayHaveCalled languages before r after) same gave_up.2)
+      ]

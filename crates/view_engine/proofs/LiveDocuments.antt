@@ -14,7 +14,7 @@ use Rattle.std.proofs.lemmas.Map.Text.{is_eq-slice_cmp}
 use Rattle.json_terms.specs.Json.{Json}
 use Rattle.view_engine.specs.World.{World, Write, last_writes, stored, live}
 use Rattle.view_engine.specs.Laws.{HasLastWrites, HasLiveDocuments, IsInOrderOfId}
-use Rattle.view_engine.proofs.KeptDocuments.{last_write-lookup}
+use Rattle.view_engine.proofs.LastWrites.{last_write-lookup}
 
 abbrev order : List ℕ → List ℕ → Ordering
 order = slice_cmp nat_cmp

@@ -1,13 +1,14 @@
 pub mod World
 pub mod Kinds
 pub mod Revision
-pub mod PlainDocument
 pub mod Rows
 pub mod Answer
 pub mod Requests
 pub mod Refusals
+pub mod Moments
 pub mod Put
 pub mod View
+pub mod ViewPlan
 pub mod Steps
 pub mod Outcome
 pub mod Documents

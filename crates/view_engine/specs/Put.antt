@@ -5,7 +5,8 @@ use Rattle.view_engine.specs.declared.refusal.Refusal.{Refusal}
 use Rattle.view_engine.specs.declared.refusal.Refusal.TheVariants.{NotBuiltYet, Conflict}
 use Rattle.view_engine.specs.World.{World, Write, written, generation, update_seq, live_document}
 use Rattle.view_engine.specs.Revision.{revision, stored_document}
-use Rattle.view_engine.specs.PlainDocument.{is_plain, id_of}
+use Rattle.design_docs.specs.Documents.{id_of}
+use Rattle.design_docs.specs.PlainDocument.{is_plain}
 use Rattle.view_engine.specs.Answer.{write_text}
 use Rattle.view_engine.specs.Refusals.{first_of, refused_unless}
 

@@ -1,12 +1,13 @@
 -- Refusals: their texts, and which of several comes.
 use Rattle.std.specs.Prelude.{ℕ, List, [], ◌∷◌, ◌++◌, Bool, nat_lt, length, codes, Option, Some, None, Result, Ok, Err, ok_or, if◌then◌else◌}
-use Rattle.json_terms.specs.Json.{Json}
+use Rattle.json_terms.specs.Json.{Json, string}
 use Rattle.json_terms.specs.Reading.{reading}
+use Rattle.json_terms.specs.Text.{text_of}
 use Rattle.json_terms.specs.declared.fault.TermFault.{TermFault}
 use Rattle.json_terms.specs.declared.fault.TermFault.TheVariants as fault
 use Rattle.view_engine.specs.declared.request.Request.{Request}
 use Rattle.view_engine.specs.declared.refusal.Refusal.{Refusal}
-use Rattle.view_engine.specs.declared.refusal.Refusal.TheVariants.{LineTooLong, NotJson, NotWhole, TooDeep, UnknownRequest, NotBuiltYet, Missing, Deleted, MissingNamedView, Conflict, NoMemory}
+use Rattle.view_engine.specs.declared.refusal.Refusal.TheVariants.{LineTooLong, NotJson, NotWhole, TooDeep, UnknownRequest, NotBuiltYet, Missing, Deleted, MissingNamedView, Conflict, UnknownLanguage, CompilationError, ServerFault, ServerReply, NoMemory}
 use Rattle.view_engine.specs.Requests.{form_of}
 
 -- the longest request line, in bytes
@@ -24,23 +25,36 @@ error_name Missing = codes "not_found"
 error_name Deleted = codes "not_found"
 error_name MissingNamedView = codes "not_found"
 error_name Conflict = codes "conflict"
+error_name (UnknownLanguage language) = codes "unknown_language"
+error_name (CompilationError id) = codes "compilation_error"
+error_name ServerFault = codes "server_fault"
+error_name (ServerReply line) = codes "server_reply"
 error_name NoMemory = codes "no_memory"
 
+-- a text that needs no escapes, in quotes
+abbrev pub in_quotes : List ℕ → List ℕ
+in_quotes text = codes "\"" ++ text ++ codes "\""
+
+-- the reason, as a JSON string
 abbrev pub error_reason : Refusal → List ℕ
-error_reason LineTooLong = codes "line passes 2097152 bytes"
-error_reason NotJson = codes "line is not JSON"
-error_reason NotWhole = codes "number is not whole"
-error_reason TooDeep = codes "line is too deep"
-error_reason UnknownRequest = codes "unknown request"
-error_reason NotBuiltYet = codes "not built yet"
-error_reason Missing = codes "missing"
-error_reason Deleted = codes "deleted"
-error_reason MissingNamedView = codes "missing_named_view"
-error_reason Conflict = codes "Document update conflict."
-error_reason NoMemory = codes "out of memory"
+error_reason LineTooLong = in_quotes (codes "line passes 2097152 bytes")
+error_reason NotJson = in_quotes (codes "line is not JSON")
+error_reason NotWhole = in_quotes (codes "number is not whole")
+error_reason TooDeep = in_quotes (codes "line is too deep")
+error_reason UnknownRequest = in_quotes (codes "unknown request")
+error_reason NotBuiltYet = in_quotes (codes "not built yet")
+error_reason Missing = in_quotes (codes "missing")
+error_reason Deleted = in_quotes (codes "deleted")
+error_reason MissingNamedView = in_quotes (codes "missing_named_view")
+error_reason Conflict = in_quotes (codes "Document update conflict.")
+error_reason (UnknownLanguage language) = text_of (string language)
+error_reason (CompilationError id) = text_of (string id)
+error_reason ServerFault = in_quotes (codes "query server failed twice")
+error_reason (ServerReply line) = text_of (string line)
+error_reason NoMemory = in_quotes (codes "out of memory")
 
 abbrev pub refusal_text : Refusal → List ℕ
-refusal_text refusal = codes "{\"error\":\"" ++ error_name refusal ++ codes "\",\"reason\":\"" ++ error_reason refusal ++ codes "\"}"
+refusal_text refusal = codes "{\"error\":\"" ++ error_name refusal ++ codes "\",\"reason\":" ++ error_reason refusal ++ codes "}"
 
 -- the first refusal that stands
 abbrev pub first_of : List (Option Refusal) → Option Refusal

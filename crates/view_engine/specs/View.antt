@@ -1,27 +1,34 @@
 -- What a view request does.
-use Rattle.std.specs.Prelude.{◌≡◌, ◌++◌, ℕ, List, [], ◌∷◌, codes, Option, Some, None, option_and_then, IsSomeAnd}
+use Rattle.std.specs.Prelude.{◌≡◌, ◌≢◌, ◌⊎◌, ◌++◌, ℕ, List, [], ◌∷◌, map, length, codes, Option, Some, None, option_and_then}
 use Rattle.json_terms.specs.Json.{Json}
-use Rattle.json_terms.specs.Find.{member_of}
+use Rattle.design_docs.specs.Design.{language_of, map_sources, source_of, views_of}
+use Rattle.view_ports.specs.Calls.{Call, child}
+use Rattle.view_ports.specs.Faults.{Rose, RoseBy}
+use Rattle.view_ports.specs.Functions.{Functions}
+use Rattle.query_protocol.specs.CommandLines.{document_of}
+use Rattle.child_pool.specs.declared.pool_fault.PoolFault.TheVariants as fault
+use Rattle.child_pool.specs.Histories.{talk}
+use Rattle.child_pool.specs.Honesty.{SomeSourceFails}
+use Rattle.child_pool.specs.Jobs.{Job}
+use Rattle.child_pool.specs.Languages.{path_in}
+use Rattle.child_pool.specs.Outcomes.{IsCaused}
+use Rattle.child_pool.specs.Sessions.{AllCompile}
+use Rattle.child_pool.specs.Talk.{AreCutShort, AreTurns, talk_of}
+use Rattle.raw_collation.specs.Sorting.{sorted_rows}
 use Rattle.view_engine.specs.declared.request.ViewName.{ViewName}
 use Rattle.view_engine.specs.declared.refusal.Refusal.{Refusal}
-use Rattle.view_engine.specs.declared.refusal.Refusal.TheVariants.{Missing, Deleted, MissingNamedView}
-use Rattle.view_engine.specs.World.{World, Write, last_write, live_document}
-use Rattle.view_engine.specs.Kinds.{text_in}
-use Rattle.view_engine.specs.Rows.{view_rows}
+use Rattle.view_engine.specs.declared.refusal.Refusal.TheVariants.{LineTooLong, NotJson, NotWhole, TooDeep, UnknownRequest, NotBuiltYet, Missing, Deleted, MissingNamedView, Conflict, UnknownLanguage, CompilationError, ServerFault, ServerReply, NoMemory}
+use Rattle.view_engine.specs.World.{World, Write, last_write, live_document, mapped}
+use Rattle.view_engine.specs.Moments.{Called, Moment}
+use Rattle.view_engine.specs.Rows.{emitted_rows}
 use Rattle.view_engine.specs.Answer.{answer}
-use Rattle.view_engine.specs.Refusals.{first_of}
+use Rattle.view_engine.specs.Refusals.{first_of, refusal_text}
 
 -- the id of the design document with this name
 abbrev pub design_id : List ℕ → List ℕ
 design_id name = codes "_design/" ++ name
 
--- the map function of a view of the design document
-abbrev pub map_in : List ℕ → Json → Option (List ℕ)
-map_in view design =
-    option_and_then text_in (option_and_then (member_of (codes "map")) (option_and_then (member_of view) (member_of (codes "views") design)))
-
-abbrev pub map_of : World → ViewName → Option (List ℕ)
-map_of world name = option_and_then (map_in name.view) (live_document world (design_id name.design))
+-- ---- refusals that come before any server is asked
 
 abbrev pub not_live : Option Write → Option Refusal
 not_live None = Some Missing
@@ -34,9 +41,79 @@ abbrev pub no_view : Option (List ℕ) → Option Refusal
 no_view None = Some MissingNamedView
 no_view (Some source) = None
 
-abbrev pub view_refusal : World → ViewName → Option Refusal
-view_refusal world name = first_of (not_live (last_write world.history (design_id name.design)) ∷ no_view (map_of world name) ∷ [])
+abbrev pub no_path : List ℕ → Option (List ℕ) → Option Refusal
+no_path language None = Some (UnknownLanguage language)
+no_path language (Some path) = None
 
--- all rows of the view are printed, and the world stays
-abbrev pub DoesView : World → ViewName → List ℕ → World → Type 0
-DoesView world name reply new = IsSomeAnd (map_of world name) (λ source. reply ≡ answer (view_rows world source)) × (new ≡ world)
+-- the language of a design document must have a path
+abbrev pub no_language : List (List ℕ × List ℕ) → Option Json → Option Refusal
+no_language languages None = None
+no_language languages (Some design) = no_path (language_of design) (path_in languages (language_of design))
+
+abbrev pub view_refusal : List (List ℕ × List ℕ) → World → ViewName → Option Refusal
+view_refusal languages world name =
+    let design = live_document world (design_id name.design) in
+    first_of (not_live (last_write world.history (design_id name.design)) ∷ no_view (option_and_then (source_of name.view) design) ∷ no_language languages design ∷ [])
+
+-- ---- what the query servers are asked for
+
+-- the job of a view's design: its path, the sources of all its views, and the documents that are mapped; and the view's own source
+pub record IsJobOf (languages : List (List ℕ × List ℕ)) (world : World) (name : ViewName) (job : Job) (source : List ℕ) : Type 0 where
+  pub design : Json
+  pub live : live_document world (design_id name.design) ≡ Some design
+  pub source_is : source_of name.view design ≡ Some source
+  pub path_is : path_in languages (language_of design) ≡ Some job.path
+  pub sources : job.sources ≡ map_sources (views_of design)
+  pub documents : job.documents ≡ map (λ entry. document_of entry.1) (mapped world)
+
+module _ (functions : List ℕ → Functions) (honest : List ℕ → Type 0) where
+  -- the rows of the view, sorted, are printed. There is a list of emissions for each document, which on an honest path is
+  -- that of the path's map function; and all sources of the design compile there, unless no document is mapped.
+  pub record PrintsRows (job : Job) (source : List ℕ) (world : World) (reply : List ℕ) : Type 0 where
+    pub emitted : List (List (Json × Json))
+    pub each : length emitted ≡ length (mapped world)
+    pub right : honest job.path → emitted ≡ map ((functions job.path).map_of source) job.documents
+    pub compile : honest job.path → job.documents ≢ [] → AllCompile (functions job.path) job.sources
+    pub prints : reply ≡ answer (sorted_rows (emitted_rows (mapped world) emitted))
+
+  -- a refusal that is met while documents are mapped, and its cause: on an honest path a source that doesn't compile, and
+  -- elsewhere a complaint; two failed attempts; or a bad reply, which is none on an honest path
+  abbrev pub IsMet : ViewName → Job → Moment → Moment → List Call → Refusal → Type 0
+  IsMet name job before after added (CompilationError id) =
+      (id ≡ design_id name.design) × IsCaused functions honest job added before.calls fault.Compile × (honest job.path → SomeSourceFails (functions job.path) job.sources)
+  IsMet name job before after added ServerFault = RoseBy 2 before.faults after.faults
+  IsMet name job before after added (ServerReply line) = IsCaused functions honest job added before.calls (fault.BadReply line) × (honest job.path → ⊥)
+  IsMet name job before after added LineTooLong = ⊥
+  IsMet name job before after added NotJson = ⊥
+  IsMet name job before after added NotWhole = ⊥
+  IsMet name job before after added TooDeep = ⊥
+  IsMet name job before after added UnknownRequest = ⊥
+  IsMet name job before after added NotBuiltYet = ⊥
+  IsMet name job before after added Missing = ⊥
+  IsMet name job before after added Deleted = ⊥
+  IsMet name job before after added MissingNamedView = ⊥
+  IsMet name job before after added Conflict = ⊥
+  IsMet name job before after added (UnknownLanguage language) = ⊥
+  IsMet name job before after added NoMemory = ⊥
+
+  -- a refusal that was met: no child is left, and the talk is the first turns of the update's, and one more line at most, where
+  -- no fault was counted
+  pub record IsRefused (name : ViewName) (job : Job) (before after : Moment) (reply : List ℕ) (added : List Call) : Type 0 where
+    pub refusal : Refusal
+    pub met : IsMet name job before after added refusal
+    pub prints : reply ≡ refusal_text refusal
+    pub stopped : child 0 after.calls ≡ None
+    pub talked : AreCutShort 0 (talk_of job.sources job.documents 1) (talk added) ⊎ Rose before.faults after.faults
+
+  -- the rows: the talk is that of an update which maps all documents, where no fault was counted
+  pub record IsAnswered (job : Job) (source : List ℕ) (before after : Moment) (reply : List ℕ) (added : List Call) : Type 0 where
+    pub rows : PrintsRows job source before.world reply
+    pub talked : AreTurns (talk_of job.sources job.documents 1) (talk added) ⊎ Rose before.faults after.faults
+
+  -- the world stays
+  pub record DoesView (languages : List (List ℕ × List ℕ)) (before : Moment) (name : ViewName) (reply : List ℕ) (after : Moment) : Type 0 where
+    pub job : Job
+    pub source : List ℕ
+    pub is_job : IsJobOf languages before.world name job source
+    pub same : after.world ≡ before.world
+    pub called : Called job before after (λ added. IsAnswered job source before after reply added ⊎ IsRefused name job before after reply added)

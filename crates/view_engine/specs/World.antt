@@ -1,11 +1,11 @@
 -- The world that requests act on. Its one part so far is the history of the documents.
-use Rattle.std.specs.Prelude.{ℕ, List, [], ◌∷◌, Bool, not, Option, Some, None, option_map, option_and_then, bytes_eq, if◌then◌else◌, count_by, filter, codes, length}
-use Rattle.std.specs.List.{filter_map, starts_with}
-use Rattle.std.specs.Prelude.{nat_eq}
+use Rattle.std.specs.Prelude.{ℕ, List, [], ◌∷◌, ◌++◌, option_to_list, not, Option, Some, None, option_map, option_and_then, bytes_eq, if◌then◌else◌, count_by, filter, length}
+use Rattle.std.specs.List.{filter_map}
 use Rattle.std.specs.Ordering.{nat_cmp}
 use Rattle.std.specs.Cmp.Lexicographic.{slice_cmp}
 use Rattle.std.specs.BTreeMap.{insert_entry}
 use Rattle.json_terms.specs.Json.{Json}
+use Rattle.design_docs.specs.Documents.{is_design_id}
 
 -- an accepted write: the stored document of an id, or a deletion (a tombstone), which stores none
 pub record Write : Type 0 where
@@ -52,10 +52,18 @@ live world = filter_map stored (last_writes world.history)
 abbrev pub live_document : World → List ℕ → Option Json
 live_document world id = option_and_then (λ write. write.document) (last_write world.history id)
 
--- design documents are those whose ids begin so
-abbrev pub is_design_id : List ℕ → Bool
-is_design_id id = starts_with nat_eq id (codes "_design/")
+-- what a write leaves to be mapped: its document, unless it is a deletion or a design document
+abbrev pub mapped_by : Write → List (List ℕ × Json)
+mapped_by write = if is_design_id write.id then [] else option_to_list (stored (write.id, write))
 
--- the live documents that views map: all but the design documents
+-- the entries of other ids
+abbrev pub without : List ℕ → List (List ℕ × Json) → List (List ℕ × Json)
+without id entries = filter (λ entry. not (bytes_eq id entry.0)) entries
+
+-- of these writes, the documents that views map: the live ones but the design documents, in the order of their last writes
+abbrev pub mapped_in : List Write → List (List ℕ × Json)
+mapped_in [] = []
+mapped_in (write ∷ older) = without write.id (mapped_in older) ++ mapped_by write
+
 abbrev pub mapped : World → List (List ℕ × Json)
-mapped world = filter (λ entry. not (is_design_id entry.0)) (live world)
+mapped world = mapped_in world.history

@@ -2,16 +2,19 @@
 #![tactic(auto)]
 
 mod answer;
+mod design;
+mod documents;
 mod engine;
 mod fault_line;
 mod forms;
 mod laws;
 mod line;
 mod outcome;
-mod plain;
+mod put;
 mod refusal;
 mod request;
 mod revision;
+mod rows;
 #[cfg(test)]
 mod tests;
 

@@ -1,17 +1,27 @@
-// What a request will answer and store. It is made first, so that nothing has changed where memory runs out.
-use json_terms::Term;
+// What a request will answer and write. It is made first, so that nothing has changed where memory runs out.
+use crate::design::PlainDesign;
+use child_pool::Document;
 
-/// A document to be stored, and the update sequence of its write.
+/// A document to be stored.
 #[derive(Drop)]
-pub(crate) struct StoredDocument {
+pub enum Stored {
+    /// A design document.
+    Design(PlainDesign),
+    /// Another document, which views map.
+    Document(Document),
+}
+
+/// A write: the id, the document that is stored, and the update sequence.
+#[derive(Drop)]
+pub struct Write {
     pub id: String,
-    pub document: Term,
+    pub stored: Stored,
     pub update_seq: u64,
 }
 
-/// The reply line of a request, with its newline, and what it stores.
+/// The reply line of a request, with its newline, and what it writes.
 #[derive(Drop)]
-pub(crate) struct Outcome {
+pub struct Outcome {
     pub reply: Vec<u8>,
-    pub stored: Option<StoredDocument>,
+    pub write: Option<Write>,
 }

@@ -1,12 +1,12 @@
 // Refusals, and the reply lines that name them.
-ghost use Rattle.std.specs.Prelude.{◌≡◌, IfOk};
+ghost use Rattle.std.specs.Prelude.{◌≡◌, ◌++◌, IfOk, OnOk};
 ghost use Rattle.view_ports.specs.Lines.{ended};
 
-use json_terms::{NoMemory, TermFault};
+use json_terms::{Chars, NoMemory, TermFault, write_text};
 use std::alloc::{AllocError, AllocFailed, Global};
 
 /// Why a request line was not done, in the order in which the causes are looked for.
-#[derive(Clone, Copy, Debug, PartialEq, Eq)]
+#[derive(Drop, Debug)]
 pub enum Refusal {
     /// More than 2,097,152 bytes stand before the line's end.
     LineTooLong,
@@ -28,6 +28,14 @@ pub enum Refusal {
     MissingNamedView,
     /// The document is live, and its present revision was not given.
     Conflict,
+    /// No query server is known for this language.
+    UnknownLanguage(Chars),
+    /// A source of the design document with this id doesn't compile.
+    CompilationError(Chars),
+    /// Two attempts on one prompt to a query server failed.
+    ServerFault,
+    /// A query server sent this line, as shown, which is no proper reply.
+    ServerReply(Chars),
     /// Memory ran out.
     NoMemory,
 }
@@ -85,8 +93,8 @@ impl Refusal {
     ghost use Rattle.view_engine.specs.Refusals.{error_name, error_reason, refusal_text};
 
     /// The name of the error.
-    pub fn name(self) -> &'static str
-        ensures { result.now ≡ error_name self }
+    pub fn name(&self) -> &'static str
+        ensures { result.now ≡ error_name self.now }
     {
         match self {
             Refusal::LineTooLong => "line_too_long",
@@ -97,38 +105,47 @@ impl Refusal {
             | Refusal::NotBuiltYet => "bad_request",
             Refusal::Missing | Refusal::Deleted | Refusal::MissingNamedView => "not_found",
             Refusal::Conflict => "conflict",
+            Refusal::UnknownLanguage(_language) => "unknown_language",
+            Refusal::CompilationError(_id) => "compilation_error",
+            Refusal::ServerFault => "server_fault",
+            Refusal::ServerReply(_line) => "server_reply",
             Refusal::NoMemory => "no_memory",
         }
     }
 
-    /// The reason, as a JSON string without its quotes.
-    pub fn reason(self) -> &'static str
-        ensures { result.now ≡ error_reason self }
+    /// Appends the reason, as a JSON string.
+    fn write_reason(&self, alloc: Global, out: &mut Vec<u8>) -> Result<(), NoMemory>
+        ensures { OnOk result (out.new.items ≡ out.old.items ++ error_reason self.now) }
     {
         match self {
-            Refusal::LineTooLong => "line passes 2097152 bytes",
-            Refusal::NotJson => "line is not JSON",
-            Refusal::NotWhole => "number is not whole",
-            Refusal::TooDeep => "line is too deep",
-            Refusal::UnknownRequest => "unknown request",
-            Refusal::NotBuiltYet => "not built yet",
-            Refusal::Missing => "missing",
-            Refusal::Deleted => "deleted",
-            Refusal::MissingNamedView => "missing_named_view",
-            Refusal::Conflict => "Document update conflict.",
-            Refusal::NoMemory => "out of memory",
+            Refusal::LineTooLong => out.extend_from_slice(b"\"line passes 2097152 bytes\"")?,
+            Refusal::NotJson => out.extend_from_slice(b"\"line is not JSON\"")?,
+            Refusal::NotWhole => out.extend_from_slice(b"\"number is not whole\"")?,
+            Refusal::TooDeep => out.extend_from_slice(b"\"line is too deep\"")?,
+            Refusal::UnknownRequest => out.extend_from_slice(b"\"unknown request\"")?,
+            Refusal::NotBuiltYet => out.extend_from_slice(b"\"not built yet\"")?,
+            Refusal::Missing => out.extend_from_slice(b"\"missing\"")?,
+            Refusal::Deleted => out.extend_from_slice(b"\"deleted\"")?,
+            Refusal::MissingNamedView => out.extend_from_slice(b"\"missing_named_view\"")?,
+            Refusal::Conflict => out.extend_from_slice(b"\"Document update conflict.\"")?,
+            Refusal::ServerFault => out.extend_from_slice(b"\"query server failed twice\"")?,
+            Refusal::NoMemory => out.extend_from_slice(b"\"out of memory\"")?,
+            Refusal::UnknownLanguage(text)
+            | Refusal::CompilationError(text)
+            | Refusal::ServerReply(text) => write_text(alloc, text.as_str(), out)?,
         }
+        Ok(())
     }
 
     /// The reply line of the refusal, with its newline.
-    pub fn line(self, alloc: Global) -> Result<Vec<u8>, NoMemory>
-        ensures { IfOk result (λ line. line.items ≡ ended (refusal_text self)) }
+    pub fn line(&self, alloc: Global) -> Result<Vec<u8>, NoMemory>
+        ensures { IfOk result (λ line. line.items ≡ ended (refusal_text self.now)) }
     {
         let mut line = Vec::from_slice(alloc, b"{\"error\":\"")?;
         line.extend_from_slice(self.name().as_bytes())?;
-        line.extend_from_slice(b"\",\"reason\":\"")?;
-        line.extend_from_slice(self.reason().as_bytes())?;
-        line.extend_from_slice(b"\"}\n")?;
+        line.extend_from_slice(b"\",\"reason\":")?;
+        self.write_reason(alloc, &mut line)?;
+        line.extend_from_slice(b"}\n")?;
         Ok(line)
     }
 }

@@ -1,24 +1,45 @@
 use super::*;
+use json_terms::Chars;
 use std::alloc::Global;
 use std::process::Abort;
 use std::test::Fail;
+use view_ports::{Answer, FieldServers, ScriptServers, Servers};
 
 const PEOPLE: &str =
     "{\"put\":{\"_id\":\"_design/people\",\"language\":\"field\",\"views\":{\"by_name\":{\"map\":\"name\"}}}}";
 
-/// The reply lines to some request lines.
-fn replies(alloc: Global, lines: &[&str]) -> Result<Vec<u8>, Fail> {
-    let mut engine = match Engine::open(alloc) {
+/// The reply lines to some request lines, over these query servers.
+fn replies_over<C: Servers>(
+    alloc: Global,
+    servers: &mut C,
+    words: &[&str],
+    lines: &[&str],
+) -> Result<Vec<u8>, Fail> {
+    let mut languages = Vec::new(alloc);
+    for word in words {
+        languages.push(String::from_str(alloc, word)?)?;
+    }
+    let mut engine = match Engine::open(alloc, &languages) {
         Ok(engine) => engine,
         Err(_) => return Err(Fail::from("no memory")),
     };
     let mut out = Vec::new(alloc);
     for line in lines {
-        if engine.step(alloc, line.as_bytes(), &mut out).is_err() {
+        if engine
+            .step(alloc, servers, line.as_bytes(), &mut out)
+            .is_err()
+        {
             out.extend_from_slice(no_memory_line())?;
         }
     }
+    engine.finish(servers);
     Ok(out)
+}
+
+/// The reply lines to some request lines.
+fn replies(alloc: Global, lines: &[&str]) -> Result<Vec<u8>, Fail> {
+    let mut servers = FieldServers::new(alloc, Vec::new(alloc))?;
+    replies_over(alloc, &mut servers, &[], lines)
 }
 
 fn assert_replies(rt: &impl Abort, alloc: Global, lines: &[&str], want: &str) -> Result<(), Fail> {
@@ -240,32 +261,12 @@ fn lines_are_refused(rt: HostRuntime) -> Result<(), Fail> {
             "not built yet",
         ),
         (
-            "{\"put\":{\"_id\":\"_design/d\",\"views\":{}}}",
-            "bad_request",
-            "not built yet",
-        ),
-        (
-            "{\"put\":{\"_id\":\"_design/d\",\"language\":\"field\"}}",
-            "bad_request",
-            "not built yet",
-        ),
-        (
-            "{\"put\":{\"_id\":\"_design/d\",\"language\":\"pick\",\"views\":{}}}",
-            "bad_request",
-            "not built yet",
-        ),
-        (
             "{\"put\":{\"_id\":\"_design/d\",\"language\":\"field\",\"options\":{},\"views\":{}}}",
             "bad_request",
             "not built yet",
         ),
         (
             "{\"put\":{\"_id\":\"_design/d\",\"language\":\"field\",\"views\":{\"lib\":{\"map\":\"n\"}}}}",
-            "bad_request",
-            "not built yet",
-        ),
-        (
-            "{\"put\":{\"_id\":\"_design/d\",\"language\":\"field\",\"views\":{\"v\":{\"map\":\"\"}}}}",
             "bad_request",
             "not built yet",
         ),
@@ -360,6 +361,100 @@ fn depths_have_limits(rt: HostRuntime) -> Result<(), Fail> {
         }
         line.push_str("}}")?;
         assert_replies(&rt, rt.alloc(), &[line.as_str()], want)?;
+    }
+    Ok(())
+}
+
+#[test]
+fn designs_of_any_language_are_taken(rt: HostRuntime) -> Result<(), Fail> {
+    assert_replies(
+        &rt,
+        rt.alloc(),
+        &[
+            "{\"put\":{\"_id\":\"_design/a\",\"views\":{\"v\":{\"map\":\"\"}}}}",
+            "{\"put\":{\"_id\":\"_design/b\",\"language\":\"pick\"}}",
+            "{\"put\":{\"_id\":\"x\"}}",
+            "{\"view\":[\"a\",\"v\"]}",
+            "{\"view\":[\"b\",\"v\"]}",
+        ],
+        "{\"ok\":true,\"id\":\"_design/a\",\"rev\":\"1-00000000000000000000000000000001\"}\n\
+{\"ok\":true,\"id\":\"_design/b\",\"rev\":\"1-00000000000000000000000000000002\"}\n\
+{\"ok\":true,\"id\":\"x\",\"rev\":\"1-00000000000000000000000000000003\"}\n\
+{\"error\":\"unknown_language\",\"reason\":\"javascript\"}\n\
+{\"error\":\"not_found\",\"reason\":\"missing_named_view\"}\n",
+    )
+}
+
+/// A view of one document, over a server that answers these lines.
+fn scripted(alloc: Global, lines: &[&str]) -> Result<Vec<u8>, Fail> {
+    let mut answers = Vec::new(alloc);
+    for line in lines {
+        answers.push(Answer::Line(Chars::from_text(alloc, line)?))?;
+    }
+    let mut servers = ScriptServers::new(alloc, answers)?;
+    replies_over(
+        alloc,
+        &mut servers,
+        &["script=sh"],
+        &[
+            "{\"put\":{\"_id\":\"_design/d\",\"language\":\"script\",\"views\":{\"v\":{\"map\":\"f\"}}}}",
+            "{\"put\":{\"_id\":\"x\"}}",
+            "{\"view\":[\"d\",\"v\"]}",
+        ],
+    )
+}
+
+#[test]
+fn a_view_is_what_its_server_answers(rt: HostRuntime) -> Result<(), Fail> {
+    let written =
+        "{\"ok\":true,\"id\":\"_design/d\",\"rev\":\"1-00000000000000000000000000000001\"}\n\
+{\"ok\":true,\"id\":\"x\",\"rev\":\"1-00000000000000000000000000000002\"}\n";
+    for (lines, want) in [
+        (
+            &["true", "true", "[[[2,\"b\"],[1,\"a\"]]]"],
+            "{\"total_rows\":2,\"offset\":0,\"rows\":[{\"id\":\"x\",\"key\":1,\"value\":\"a\"},{\"id\":\"x\",\"key\":2,\"value\":\"b\"}]}\n",
+        ),
+        (
+            &["true", "[\"error\",\"compilation_error\",\"no\"]", ""],
+            "{\"error\":\"compilation_error\",\"reason\":\"_design/d\"}\n",
+        ),
+        (
+            &["true", "true", "[\"\\\\\"]"],
+            "{\"error\":\"server_reply\",\"reason\":\"[\\\"\\\\\\\\\\\"]\"}\n",
+        ),
+        (
+            &["true", "true", "{}"],
+            "{\"error\":\"server_reply\",\"reason\":\"{}\"}\n",
+        ),
+    ] {
+        let got = scripted(rt.alloc(), lines)?;
+        assert!(rt; got.as_slice().starts_with(written.as_bytes()));
+        assert_eq!(rt; &got.as_slice()[written.len()..], want.as_bytes());
+    }
+    Ok(())
+}
+
+// The calls of a view: the start 0; `reset` 1 and 2; `add_fun` 3 and 4; `map_doc` of the one document 5 and 6.
+#[test]
+fn two_failed_attempts_are_a_fault(rt: HostRuntime) -> Result<(), Fail> {
+    let alloc = rt.alloc();
+    let lines = &[
+        PEOPLE,
+        "{\"put\":{\"_id\":\"b\",\"name\":\"Ida\"}}",
+        "{\"view\":[\"people\",\"by_name\"]}",
+        "{\"view\":[\"people\",\"by_name\"]}",
+    ];
+    let written =
+        "{\"ok\":true,\"id\":\"_design/people\",\"rev\":\"1-00000000000000000000000000000001\"}\n\
+{\"ok\":true,\"id\":\"b\",\"rev\":\"1-00000000000000000000000000000002\"}\n";
+    let rows =
+        "{\"total_rows\":1,\"offset\":0,\"rows\":[{\"id\":\"b\",\"key\":\"Ida\",\"value\":null}]}\n";
+    let fault = "{\"error\":\"server_fault\",\"reason\":\"query server failed twice\"}\n";
+    for (calls, first) in [(&[6_u64][..], rows), (&[6, 13][..], fault)] {
+        let mut servers = FieldServers::new(alloc, Vec::from_slice(alloc, calls)?)?;
+        let got = replies_over(alloc, &mut servers, &[], lines)?;
+        let want = format!(in alloc; "{written}{first}{rows}")?;
+        assert_eq!(rt; got.as_slice(), want.as_bytes());
     }
     Ok(())
 }

@@ -1,64 +1,145 @@
 // The request `view`.
-ghost use Rattle.std.specs.Prelude.{◌≡◌, ◌≢◌, ℕ, List, IfOk, IfErr, None, Some, Option, option_map, map, filter, not, string_bytes, option_to_list};
-ghost use Rattle.std.specs.List.{flat_map};
-ghost use Rattle.json_terms.specs.Seen.{json};
+ghost use Rattle.std.specs.Prelude.{◌≡◌, ◌≢◌, ◌≤◌, ◌<◌, ◌^◌, bytes_eq, ℕ, List, IfOk, IfErr, OnOk, None, Some, Ok, Err, Option, IfSome, option_map, map, length, string_bytes};
+ghost use Rattle.std.specs.Map.{lookup};
 ghost use Rattle.view_ports.specs.Lines.{ended};
 ghost use Rattle.raw_collation.specs.Sorting.{sorted_rows};
+ghost use Rattle.design_docs.specs.Laws.{entry_of as named};
+ghost use Rattle.child_pool.specs.Languages.{path_in};
+ghost use Rattle.child_pool.specs.Pools.{languages_of};
 ghost use Rattle.view_engine.specs.Answer.{answer};
-ghost use Rattle.view_engine.specs.Outcome.{Yields, IsNextAfter};
-ghost use Rattle.view_engine.specs.World.{World};
-ghost use Rattle.view_engine.specs.World as world;
-ghost use Rattle.view_engine.specs.Rows.{document_rows};
+ghost use Rattle.view_engine.specs.Documents.{AreOf, entry_of};
+ghost use Rattle.view_engine.specs.Engine.{IsAt, Leaves};
+ghost use Rattle.view_engine.specs.Moments.{Moment};
+ghost use Rattle.view_engine.specs.Outcome.{Yields};
+ghost use Rattle.view_engine.specs.Refusals.{refusal_text};
+ghost use Rattle.view_engine.specs.Rows.{emitted_by, emitted_rows};
+ghost use Rattle.view_engine.specs.Steps.{DoesRequest, MayHaveCalled};
 ghost use Rattle.view_engine.specs.View as spec;
-ghost use Rattle.view_engine.specs.Documents.{kept_document};
+ghost use Rattle.view_engine.specs.ViewPlan.{IsPlan, met_by, source_at};
+ghost use Rattle.view_engine.specs.World.{World};
 
 use crate::answer::write_answer;
 use crate::engine::Engine;
 use crate::outcome::Outcome;
-use crate::plain::{DESIGN_PREFIX, is_design_id};
 use crate::refusal::Refusal;
-use crate::request::ViewName;
-use json_terms::{Chars, NoMemory, Row, Term, copy_term, member};
+use crate::request::{Request, ViewName};
+use crate::rows::rows_of;
+use child_pool::{Document, PoolFault};
+use design_docs::{DESIGN_PREFIX, Design, View, read_design};
+use json_terms::{Chars, NoMemory, RowLists};
 use raw_collation::sort_rows;
 use std::alloc::Global;
-use std::collections::BTreeMap;
+use view_ports::Servers;
+
+/// What a view request is about: the id of the design document, its design, and the place of the view.
+#[derive(Drop)]
+struct Plan {
+    id: Chars,
+    design: Design,
+    place: usize,
+}
 
 impl Engine {
-    ghost use Rattle.view_engine.specs.Engine.{IsWorldOf};
+    /// Prints all rows of a view: all documents are mapped through the query server of its language.
+    pub(super) fn view<C: Servers>(
+        &mut self,
+        alloc: Global,
+        servers: &mut C,
+        name: ViewName,
+    ) -> Result<Outcome, Refusal>
+        ensures done { IfOk result (λ outcome. (before : Moment) → IsAt (C.may_follow servers.old) (C.faults servers.old) self.old before
+            → Leaves (C.may_follow servers.new) (C.faults servers.new) self.new (λ after. Yields (DoesRequest C.functions C.honest (languages_of self.old.pool) before (Ok (Request.View name None))) after outcome
+            × MayHaveCalled (languages_of self.old.pool) before (Ok (Request.View name None)) after)) }
+        ensures next { IfOk result (λ outcome. outcome.write ≡ None) }
+        ensures refused { IfErr result (λ refusal. (before : Moment) → IsAt (C.may_follow servers.old) (C.faults servers.old) self.old before
+            → Leaves (C.may_follow servers.new) (C.faults servers.new) self.new (λ after. (refusal ≢ Refusal.NoMemory → DoesRequest C.functions C.honest (languages_of self.old.pool) before (Ok (Request.View name None)) (refusal_text refusal) after)
+            × MayHaveCalled (languages_of self.old.pool) before (Ok (Request.View name None)) after)) }
+        ensures documents { self.new.documents ≡ self.old.documents }
+        ensures languages { languages_of self.new.pool ≡ languages_of self.old.pool }
+        ensures later { C.faults servers.old ≤ C.faults servers.new }
+    {
+        let plan = match self.plan(alloc, &name) {
+            Ok(plan) => plan,
+            Err(refusal) => return Err(refusal),
+        };
+        match self
+            .pool
+            .map_all(alloc, servers, &plan.design, self.documents.mapped())
+        {
+            Ok(lists) => match rows_reply(
+                alloc,
+                self.documents.mapped(),
+                lists.as_slice(),
+                plan.place,
+            ) {
+                Ok(reply) => Ok(Outcome { reply, write: None }),
+                Err(NoMemory) => Err(Refusal::NoMemory),
+            },
+            Err(fault) => Err(refusal_of(fault, plan.id)),
+        }
+    }
 
-    /// Prints all rows of a view, mapped afresh.
-    pub(super) fn view(&self, alloc: Global, name: ViewName) -> Result<Outcome, Refusal>
-        ensures done { IfOk result (λ outcome. (world : World) → IsWorldOf self.now world → Yields (λ reply new.
-            (spec.view_refusal world name ≡ None) × spec.DoesView world name reply new) world outcome) }
-        ensures next { IfOk result (λ outcome. IsNextAfter self.now.update_seq outcome.stored) }
-        ensures refused { IfErr result (λ refusal. refusal ≢ Refusal.NoMemory → (world : World) → IsWorldOf self.now world
-            → spec.view_refusal world name ≡ Some refusal) }
+    /// What a view request is about, or why it is refused before any server is asked.
+    fn plan(&self, alloc: Global, name: &ViewName) -> Result<Plan, Refusal>
+        ensures plan { IfOk result (λ plan. (world : World) → AreOf self.now.documents world → IsPlan (languages_of self.now.pool) world name.now plan.id plan.design plan.place) }
+        ensures few { IfOk result (λ plan. length plan.design.views < 2 ^ 32) }
+        ensures within { IfOk result (λ plan. plan.place < length plan.design.views) }
+        ensures known { IfOk result (λ plan. path_in (languages_of self.now.pool) plan.design.language ≢ None) }
+        ensures refused { IfErr result (λ refusal. refusal ≢ Refusal.NoMemory → (world : World) → AreOf self.now.documents world
+            → spec.view_refusal (languages_of self.now.pool) world name.now ≡ Some refusal) }
     {
         let id = design_id(alloc, name.design.as_str())?;
-        let Some(design) = self.documents.get(id.as_str()) else {
+        let Some(design) = self.documents.design(id.as_str()) else {
             return Err(Refusal::Missing);
         };
-        let Some(source) = map_in(name.view.as_str(), design) else {
+        let design = read_design(alloc, &design.document)?;
+        let Some(place) = place_of(design.views.as_slice(), name.view.as_str()) else {
             return Err(Refusal::MissingNamedView);
         };
-        let reply = rows_reply(alloc, &self.documents, source)?;
-        Ok(Outcome {
-            reply,
-            stored: None,
-        })
+        match self.pool.path_of(design.language.as_str()) {
+            Some(_path) => Ok(Plan { id, design, place }),
+            None => Err(Refusal::UnknownLanguage(design.language)),
+        }
     }
 }
 
-/// The reply line with the rows of the view with this map function.
+/// The place of the first of the views with this name.
+fn place_of(views: &[View], name: &str) -> Option<usize>
+    ensures within { IfSome result (λ place. place < length views.now) }
+    ensures named { option_map (source_at views.now) result ≡ lookup (λ key. bytes_eq key name.now) (map named views.now) }
+{
+    for (place, view) in views.iter().enumerate() {
+        if view.name.as_str() == name {
+            return Some(place);
+        }
+    }
+    None
+}
+
+/// The refusal of a view whose documents could not be mapped.
+fn refusal_of(fault: PoolFault, id: Chars) -> Refusal
+    requires { fault ≢ PoolFault.UnknownLanguage }
+    ensures { result ≡ met_by id fault }
+{
+    match fault {
+        PoolFault::ServerFault => Refusal::ServerFault,
+        PoolFault::BadReply(line) => Refusal::ServerReply(line),
+        PoolFault::Compile => Refusal::CompilationError(id),
+        PoolFault::NoMemory => Refusal::NoMemory,
+        PoolFault::UnknownLanguage => unreachable!(),
+    }
+}
+
+/// The reply line with the rows of the view in this place.
 fn rows_reply(
     alloc: Global,
-    documents: &BTreeMap<String, Term>,
-    source: &str,
+    documents: &[Document],
+    lists: &[RowLists],
+    place: usize,
 ) -> Result<Vec<u8>, NoMemory>
-    ensures { IfOk result (λ reply. reply.items ≡ ended (answer (sorted_rows (flat_map (document_rows source.now)
-        (filter (λ entry. not (world.is_design_id entry.0)) (map kept_document documents.now.entries)))))) }
+    ensures { IfOk result (λ reply. reply.items ≡ ended (answer (sorted_rows (emitted_rows (map entry_of documents.now) (emitted_by place lists.now))))) }
 {
-    let mut rows = emitted_rows(alloc, documents, source)?;
+    let mut rows = rows_of(alloc, documents, lists, place)?;
     sort_rows(&mut rows);
     let mut reply = Vec::new(alloc);
     write_answer(alloc, rows.as_slice(), &mut reply)?;
@@ -67,65 +148,10 @@ fn rows_reply(
 }
 
 /// The id of the design document with this name.
-fn design_id(alloc: Global, name: &str) -> Result<String, NoMemory>
-    ensures { IfOk result (λ id. string_bytes id ≡ spec.design_id name.now) }
+fn design_id(alloc: Global, name: &str) -> Result<Chars, NoMemory>
+    ensures { IfOk result (λ id. id ≡ spec.design_id name.now) }
 {
     let mut id = String::from_str(alloc, DESIGN_PREFIX)?;
     id.push_str(name)?;
-    Ok(id)
-}
-
-/// The map function of a view of the design document.
-fn map_in<'a>(view: &str, design: &'a Term) -> Option<&'a str>
-    ensures { option_map (λ source. source.now) result ≡ spec.map_in view.now (json design.now) }
-{
-    let views = member(design, "views")?;
-    let view = member(views, view)?;
-    match member(view, "map")? {
-        Term::Text(source) => Some(source.as_str()),
-        _ => None,
-    }
-}
-
-/// What the map function emits for the documents that aren't design documents, in order of id.
-fn emitted_rows(
-    alloc: Global,
-    documents: &BTreeMap<String, Term>,
-    source: &str,
-) -> Result<Vec<Row>, NoMemory>
-    ensures { IfOk result (λ rows. rows.items ≡ flat_map (document_rows source.now)
-        (filter (λ entry. not (world.is_design_id entry.0)) (map kept_document documents.now.entries))) }
-{
-    let mut rows = Vec::new(alloc);
-    for (id, document) in documents {
-        if is_design_id(id.as_str()) {
-            continue;
-        }
-        if let Some(row) = document_row(alloc, id.as_str(), document, source)? {
-            rows.push(row)?;
-        }
-    }
-    Ok(rows)
-}
-
-/// What the map function emits for a document: a row with the member's value as its key, where there is such a member.
-fn document_row(
-    alloc: Global,
-    id: &str,
-    document: &Term,
-    source: &str,
-) -> Result<Option<Row>, NoMemory>
-    ensures { IfOk result (λ row. option_to_list row ≡ document_rows source.now (id.now, json document.now)) }
-{
-    let Some(key) = member(document, source) else {
-        return Ok(None);
-    };
-    let key = copy_term(alloc, key)?;
-    let id = Chars::from_text(alloc, id)?;
-    Ok(Some(Row {
-        key,
-        id,
-        place: 0,
-        value: Term::Null,
-    }))
+    Ok(Chars::new(id))
 }

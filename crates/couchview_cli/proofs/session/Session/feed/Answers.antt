@@ -1,17 +1,17 @@
 use Rattle.std.proofs.Common.{◌≡◌, ◌++◌, ◌+◌, List, ℕ, [], take, drop, sym, ap, ◌∙◌, subst, append_assoc, append-nil, refl, arith}
 use Rattle.std.proofs.lemmas.List.{take_rest}
 use Rattle.view_ports.specs.Lines.{ended}
-use Rattle.view_ports.specs.declared.run_end.RunEnd.TheVariants.{OutOfMemory}
+use Rattle.view_engine.specs.Engine.{IsAt}
 use Rattle.couchview_cli.specs.declared.session.SessionError.{SessionError}
 use Rattle.couchview_cli.specs.Session.{Ended, end_of}
-use Rattle.couchview_cli.proofs.Results.{OnOk-join, IfErr-map}
+use Rattle.couchview_cli.proofs.Results.{OnOk-map, IfErr-map}
 use Rattle.couchview_cli.proofs.Finding.{is_line_none, first_line_found}
 use Rattle.couchview_cli.proofs.Progressing.{Progress-same, Progress-kept}
 use Rattle.couchview_cli.proofs.Ending.{Ended-same, Ended-out_of_memory}
 use Rattle.couchview_cli.proofs.session.Session.feed.Goals as goal
 
 pub loop-length-init : goal.loop-length-init
-loop-length-init g c = ([], refl, λ held bytes progress. Progress-same progress (bytes ++ []) (sym (append-nil bytes)), omega arith)
+loop-length-init g c = ([], refl, λ origin bytes progress. Progress-same progress (bytes ++ []) (sym (append-nil bytes)), omega arith, omega arith)
 
 pub end_line-requires : goal.end_line-requires
 end_line-requires g c = (first_line_found c.loop-length.rest.now c.in-Some.length c.in-Some.ensures).0
@@ -26,9 +26,9 @@ returns-in-Err-clause-err g c =
     let more = drop (size + 1) rest in
     let found = first_line_found rest size c.in-Some.ensures in
     let joined : front ++ (line ++ more) ≡ c.args.piece.now = ap (λ (l : List ℕ). front ++ l) (sym found.1) ∙ sym done.1 in
-    λ held bytes progress. Ended-same held _ (bytes ++ front ++ line ++ more) (bytes ++ c.args.piece.now) _
+    λ origin bytes progress. Ended-same (bytes ++ front ++ line ++ more) (bytes ++ c.args.piece.now)
     (append_assoc (bytes ++ front) line more ∙ append_assoc bytes front (line ++ more) ∙ ap (λ (l : List ℕ). bytes ++ l) joined)
-    (c.in-Err.ensures.err held (bytes ++ front) more (done.2 held bytes progress))
+    (c.in-Err.ensures.err origin (bytes ++ front) more (done.2 origin bytes progress))
 
 pub loop-length-preserved : goal.loop-length-preserved
 loop-length-preserved g c =
@@ -41,8 +41,9 @@ loop-length-preserved g c =
     let found = first_line_found rest size c.in-Some.ensures in (
       front ++ line,
       done.1 ∙ ap (λ (l : List ℕ). front ++ l) (found.1 ∙ ap (λ (l : List ℕ). line ++ l) (sym (take_rest rest (size + 1)))) ∙ sym (append_assoc front line _),
-      λ held bytes progress. Progress-same (c.in-Ok.ensures.ok held (bytes ++ front) (done.2 held bytes progress)) (bytes ++ (front ++ line)) (append_assoc bytes front line),
+      λ origin bytes progress. Progress-same (c.in-Ok.ensures.ok origin (bytes ++ front) (done.2 origin bytes progress)) (bytes ++ (front ++ line)) (append_assoc bytes front line),
       omega (arith, done.3, c.in-Ok.ensures.count),
+      omega (arith, done.4, c.in-Ok.ensures.server_count),
     )
 
 pub returns-clause-ok : goal.returns-clause-ok
@@ -50,10 +51,10 @@ returns-clause-ok g c =
     let done = c.loop-length.invariant in
     let front = done.0 in
     let rest = c.loop-length.rest.now in
-    OnOk-join c.keep.result _ _ _
-    (λ is same held bytes progress. Progress-same (Progress-kept (done.2 held bytes progress) rest (is_line_none rest c.in_default.ensures) _ same is) (bytes ++ c.args.piece.now)
+    OnOk-map c.keep.result _ _
+    (λ is origin bytes progress. Progress-same (Progress-kept (done.2 origin bytes progress) rest (is_line_none rest c.in_default.ensures) _ c.keep.ensures.same is) (bytes ++ c.args.piece.now)
     (append_assoc bytes front rest ∙ ap (λ (l : List ℕ). bytes ++ l) (sym done.1)))
-    c.keep.ensures.ok c.keep.ensures.same
+    c.keep.ensures.ok
 
 pub returns-clause-err : goal.returns-clause-err
 returns-clause-err g c =
@@ -61,8 +62,10 @@ returns-clause-err g c =
     let front = done.0 in
     let rest = c.loop-length.rest.now in
     let now = g.K.Sink.held c.loop-length.sink in
+    let servers = c.loop-length.servers in
+    let engine = c.keep.new.self.responder.engine in
     IfErr-map c.keep.result _ _
-    (λ e is held bytes progress. subst (λ (x : SessionError). Ended held now (bytes ++ c.args.piece.now) (end_of x)) (sym is)
-    (Ended-same held now (bytes ++ front ++ rest) (bytes ++ c.args.piece.now) OutOfMemory (append_assoc bytes front rest ∙ ap (λ (l : List ℕ). bytes ++ l) (sym done.1))
-    (Ended-out_of_memory (done.2 held bytes progress) rest)))
+    (λ e is origin bytes progress. subst (λ (x : SessionError). Ended g.C.Servers.functions g.C.Servers.honest origin now (bytes ++ c.args.piece.now) (IsAt (g.C.Servers.may_follow servers) (g.C.Servers.faults servers) engine) (end_of x)) (sym is)
+    (Ended-same (bytes ++ front ++ rest) (bytes ++ c.args.piece.now) (append_assoc bytes front rest ∙ ap (λ (l : List ℕ). bytes ++ l) (sym done.1))
+    (Ended-out_of_memory (done.2 origin bytes progress) rest engine (ap (λ (r : _). r.engine) c.keep.ensures.same))))
     c.keep.ensures.err

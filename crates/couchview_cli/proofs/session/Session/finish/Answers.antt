@@ -1,7 +1,8 @@
 use Rattle.std.proofs.Common.{◌≢◌, length, sym, ◌∙◌, arith}
 use Rattle.std.proofs.lemmas.Bool.{eqb-false}
+use Rattle.couchview_cli.specs.Session.{kept}
 use Rattle.couchview_cli.proofs.Results.{OnOk-map, OnErr-map}
-use Rattle.couchview_cli.proofs.Keeping.{kept-some, Answered-kept, Answered-same}
+use Rattle.couchview_cli.proofs.Keeping.{kept-some, Answered-kept, Answered-of, Answered-same}
 use Rattle.couchview_cli.proofs.Ending.{Ended-last, Ended-last_failed}
 use Rattle.couchview_cli.proofs.session.Session.finish.Goals as goal
 
@@ -10,8 +11,10 @@ returns-clause-ok g c =
     let line = c.args.self.now.line in
     let some : length line.items ≢ 0 = λ none. eqb-false _ _ (sym c.if-is_empty.ensures) (omega arith) in
     OnOk-map c.answer.result _ _
-    (λ answered held bytes progress. Ended-last progress (kept-some progress.reached.rest line.items progress.pending some) _ _
-    (Answered-kept _ _ _ _ (Answered-same _ _ _ _ _ (c.deref.ensures.value ∙ progress.pending) (answered progress.reached.after progress.stands))))
+    (λ answered origin bytes progress. Ended-last progress (kept-some progress.reached.rest line.items progress.pending some) _ _
+    (Answered-kept progress.reached.rest
+    (Answered-of origin.languages (kept progress.reached.rest) progress.languages
+    (Answered-same c.deref.result.now (kept progress.reached.rest) (c.deref.ensures.value ∙ progress.pending) (answered progress.reached.after progress.stands)))))
     c.answer.ensures.ok
 
 pub returns-clause-err : goal.returns-clause-err
@@ -19,6 +22,8 @@ returns-clause-err g c =
     let line = c.args.self.now.line in
     let some : length line.items ≢ 0 = λ none. eqb-false _ _ (sym c.if-is_empty.ensures) (omega arith) in
     OnErr-map c.answer.result _ _
-    (λ answered held bytes progress. Ended-last_failed progress (kept-some progress.reached.rest line.items progress.pending some) _ _
-    (Answered-kept _ _ _ _ (Answered-same _ _ _ _ _ (c.deref.ensures.value ∙ progress.pending) (answered progress.reached.after progress.stands))))
+    (λ answered origin bytes progress. Ended-last_failed progress (kept-some progress.reached.rest line.items progress.pending some) _ _
+    (Answered-kept progress.reached.rest
+    (Answered-of origin.languages (kept progress.reached.rest) progress.languages
+    (Answered-same c.deref.result.now (kept progress.reached.rest) (c.deref.ensures.value ∙ progress.pending) (answered progress.reached.after progress.stands)))))
     c.answer.ensures.err
