@@ -185,9 +185,13 @@ def shown(text):
     return {"error": "server_reply", "reason": text}
 
 
-def good_servers(program):
+def two_documents(program):
     program.put("document a", {"_id": "a", "n": 1, "tags": ["x", "y"]})
     program.put("document b", {"_id": "b", "n": 7, "tags": ["x"]})
+
+
+def good_servers(program):
+    two_documents(program)
     program.design(
         "js", "javascript",
         one="function (doc) { emit(doc.n, 1) }",
@@ -214,8 +218,11 @@ def good_servers(program):
     program.expect("python: no compilation", {"view": ["bad_py", "v"]}, {"error": "compilation_error", "reason": "_design/bad_py"})
 
 
-def bad_servers(program, folder):
-    def view(server, reply):
+def bad_servers(program, folder, replies):
+    """Asks for a view of each server, and for one of a good server after it."""
+    two_documents(program)
+    program.design("js", "javascript", one="function (doc) { emit(doc.n, 1) }")
+    for server, reply in replies.items():
         program.design(server, server, v="v")
         program.expect(server, {"view": [server, "v"]}, reply)
         # A child whose view was refused is ended.
@@ -223,16 +230,20 @@ def bad_servers(program, folder):
             complain(server, "its child is left behind")
         program.expect("after " + server, {"view": ["js", "one"]}, rows(("a", 1, 1), ("b", 7, 1)))
 
-    view("odd", shown('["reset",{"reduce_limit":false}]'))
-    view("absent", FAULT)
-    view("dies", FAULT)
-    view("ends", FAULT)
-    view("recovers", rows(("a", "again", 1), ("b", "again", 1)))
-    view("garbage", shown("no ???JSON"))
-    view("thousand_logs", rows(("a", "quiet", 1), ("b", "quiet", 1)))
-    view("flood", shown('["log","x"]'))
-    view("endless", FAULT)
-    program.check_memory("endless")
+
+FAILING = {
+    "odd": shown('["reset",{"reduce_limit":false}]'),
+    "absent": FAULT,
+    "dies": FAULT,
+    "ends": FAULT,
+    "recovers": rows(("a", "again", 1), ("b", "again", 1)),
+}
+PRINTING = {
+    "garbage": shown("no ???JSON"),
+    "thousand_logs": rows(("a", "quiet", 1), ("b", "quiet", 1)),
+    "flood": shown('["log","x"]'),
+    "endless": FAULT,
+}
 
 
 def long_documents(program):
@@ -245,7 +256,6 @@ def long_documents(program):
     begin = compact(shown('["map_doc",{"_id":"long","_rev":"'))[:-2]
     if not got.startswith(begin) or not got.endswith('xxx"}') or len(got) > 1100:
         complain("echo", "the reply is %s" % got[:1500])
-    program.check_memory("long documents")
 
 
 def main():
@@ -263,13 +273,18 @@ def main():
             with open(languages[name], "w") as file:
                 file.write(BAD_SERVER.format(python=sys.executable, folder=folder, does=does))
             os.chmod(languages[name], 0o755)
-        program = Program(couchview, languages)
-        good_servers(program)
-        bad_servers(program, folder)
-        program.end("end")
-        program = Program(couchview, languages)
-        long_documents(program)
-        program.end("end after long documents")
+
+        def run(step, names, does):
+            """A run with these languages, of which there may be eight."""
+            program = Program(couchview, {name: languages[name] for name in names})
+            does(program)
+            program.check_memory(step)
+            program.end("end of " + step)
+
+        run("good servers", ["javascript", "python"], good_servers)
+        run("failing servers", ["javascript", *FAILING], lambda program: bad_servers(program, folder, FAILING))
+        run("printing servers", ["javascript", *PRINTING], lambda program: bad_servers(program, folder, PRINTING))
+        run("long documents", ["early", "echo"], long_documents)
         left = processes(folder)
         if left:
             complain("end", "children are left behind: %s" % left)
