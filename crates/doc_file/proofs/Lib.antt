@@ -5,3 +5,9 @@ mod Entries
 mod EntryParts
 mod Bodies
 mod Stretches
+mod CountsKept
+mod Images
+mod Carried
+mod Setting
+mod Histories
+mod Standing

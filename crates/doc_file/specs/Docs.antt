@@ -1,15 +1,17 @@
 -- What the object keeps of the documents.
-use Rattle.std.specs.Prelude.{◌≡◌, ℕ, List, Bool, false, not, count_by, Option, Some, None}
+use Rattle.std.specs.Prelude.{◌≡◌, ◌≢◌, ℕ, List, [], Bool, false, not, count_by, length, Option, Some, None}
 use Rattle.json_terms.specs.Json.{Json}
 use Rattle.gate_file.specs.declared.gate.GateFile.{GateFile}
-use Rattle.gate_file.specs.GateFile.{name_of, root_of}
+use Rattle.gate_file.specs.GateFile.{name_of, root_of, commits_of, Keeps as KeepsFile}
 use Rattle.view_ports.specs.declared.file_name.FileName.{FileName}
-use Rattle.view_ports.specs.File.{File}
+use Rattle.view_ports.specs.declared.file_name.Stem.TheVariants.{Docs as DocsStem}
+use Rattle.view_ports.specs.File.{File, settled}
 use Rattle.doc_file.specs.declared.docs.Docs.{Docs}
 use Rattle.doc_file.specs.declared.docs.Info.{Info}
 use Rattle.doc_file.specs.declared.entry.LastWrite.{LastWrite}
 use Rattle.doc_file.specs.declared.entry.Entry.{Entry}
-use Rattle.doc_file.specs.Held.{HasBody, HoldsRoot, find_last}
+use Rattle.doc_file.specs.Held.{HasBody, HoldsRoot, KeepsEach, find_last}
+use Rattle.doc_file.specs.History.{Write}
 
 abbrev pub file_of : Docs → GateFile
 file_of docs = docs.file
@@ -26,23 +28,51 @@ entries_of docs = docs.entries.items
 abbrev pub last_of : Docs → List ℕ → Option LastWrite
 last_of docs id = find_last id (entries_of docs)
 
+-- the bytes of the documents' file
+abbrev pub bytes_in : Docs → (FileName → File) → List ℕ
+bytes_in docs files = (files (name_of (file_of docs))).seen
+
 -- what the object keeps is what the root record of its file holds
 abbrev pub IsLoaded : Docs → (FileName → File) → Type 0
-IsLoaded docs files = HoldsRoot (root_of (file_of docs)) (files (name_of (file_of docs))).seen (seq_of docs) (entries_of docs)
+IsLoaded docs files = HoldsRoot (root_of (file_of docs)) (commits_of (file_of docs)) (bytes_in docs files) (seq_of docs) (entries_of docs)
+
+-- a file of the documents
+abbrev pub IsDocsFile : FileName → Type 0
+IsDocsFile name = name.stem ≡ DocsStem
+
+-- What the object keeps is what the folder holds: its file, of which nothing is pending, and beside it a side without bytes.
+pub record IsOpen (docs : Docs) (files : FileName → File) : Type 0 where
+  pub own : IsDocsFile (name_of (file_of docs))
+  pub keeps : KeepsFile (file_of docs) (files (name_of (file_of docs)))
+  pub whole : files (name_of (file_of docs)) ≡ settled (bytes_in docs files)
+  pub other : (name : FileName) → IsDocsFile name → name ≢ name_of (file_of docs) → files name ≡ settled []
+  pub loaded : IsLoaded docs files
+
+-- the object and the folder are at the end of this history
+pub record IsAt (docs : Docs) (files : FileName → File) (history : List Write) : Type 0 where
+  pub is_open : IsOpen docs files
+  pub count : seq_of docs ≡ length history
+  pub each : KeepsEach history (bytes_in docs files) (entries_of docs)
+
+-- nothing has changed of what is kept
+pub record IsSame (old new : Docs) : Type 0 where
+  pub file : file_of new ≡ file_of old
+  pub seq : seq_of new ≡ seq_of old
+  pub entries : entries_of new ≡ entries_of old
 
 abbrev pub is_deleted : Option LastWrite → Bool
 is_deleted None = false
 is_deleted (Some last) = last.deleted
 
--- the document is the body of a last write that is no deletion
-abbrev pub IsLive : List ℕ → Option LastWrite → Json → Type 0
-IsLive bytes None document = ⊥
-IsLive bytes (Some last) document = (last.deleted ≡ false) × HasBody bytes last document
+-- the document is the body of an id's last write, which is no deletion
+abbrev pub IsLive : List ℕ → List ℕ → Option LastWrite → Json → Type 0
+IsLive id bytes None document = ⊥
+IsLive id bytes (Some last) document = (last.deleted ≡ false) × HasBody id bytes last document
 
--- the place of the body of a last write, and that no document is spelled there
-abbrev pub IsSpoiled : List ℕ → Option LastWrite → ℕ → Type 0
-IsSpoiled bytes None at = ⊥
-IsSpoiled bytes (Some last) at = (at ≡ last.offset) × ((document : Json) → HasBody bytes last document → ⊥)
+-- the place of the body of an id's last write, and that no document of the id is spelled there
+abbrev pub IsSpoiled : List ℕ → List ℕ → Option LastWrite → ℕ → Type 0
+IsSpoiled id bytes None at = ⊥
+IsSpoiled id bytes (Some last) at = (at ≡ last.offset) × ((document : Json) → HasBody id bytes last document → ⊥)
 
 abbrev pub info_of : Docs → Info
 info_of docs = record {

@@ -1,5 +1,5 @@
 -- The history of the documents: the accepted writes, the newest first.
-use Rattle.std.specs.Prelude.{ℕ, List, [], ◌∷◌, not, Option, Some, None, option_map, option_and_then, bytes_eq, if◌then◌else◌, count_by, filter, length}
+use Rattle.std.specs.Prelude.{ℕ, ◌+◌, List, [], ◌∷◌, ◌++◌, not, Option, Some, None, option_map, option_and_then, bytes_eq, if◌then◌else◌, count_by, filter, length, nat_lt}
 use Rattle.std.specs.List.{filter_map}
 use Rattle.std.specs.Ordering.{nat_cmp}
 use Rattle.std.specs.Cmp.Lexicographic.{slice_cmp}
@@ -50,3 +50,13 @@ live_document history id = option_and_then (λ write. write.document) (last_writ
 -- the live documents that views map: all but the design documents
 abbrev pub mapped : List Write → List (List ℕ × Json)
 mapped history = filter (λ entry. not (is_design_id entry.0)) (live history)
+
+-- of these writes, each with its number, those of other ids
+abbrev pub of_others : List ℕ → List (ℕ × Write) → List (ℕ × Write)
+of_others id changes = filter (λ change. not (bytes_eq id (change.1).id)) changes
+
+-- the last write of each id that was written after the first `seq` writes, with its number, in the order of the numbers
+abbrev pub changes_after : ℕ → List Write → List (ℕ × Write)
+changes_after seq [] = []
+changes_after seq (write ∷ older) =
+    if nat_lt seq (length (write ∷ older)) then of_others write.id (changes_after seq older) ++ (length (write ∷ older), write) ∷ [] else []

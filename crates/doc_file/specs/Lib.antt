@@ -1,8 +1,12 @@
 pub mod History
 pub mod Revision
 pub mod Accepted
+pub mod Content
 pub mod Record
+pub mod Counts
 pub mod Reading
 pub mod Held
+pub mod Stored
+pub mod Places
 pub mod Faults
 pub mod Docs

@@ -1,12 +1,15 @@
-//! Bodies: the spellings of stored documents, and finding them by id.
+//! Bodies: the spellings of stored documents.
 
-ghost use Rattle.std.specs.Prelude.{◌≡◌, ◌↔◌, None, Ok, IfOk, IfSome, IsTrue, option_map};
+ghost use Rattle.std.specs.Prelude.{◌≡◌, ◌↔◌, None, Ok, IfOk, IfSome, IsTrue};
 ghost use Rattle.json_terms.specs.Json.{Json};
 ghost use Rattle.json_terms.specs.Seen.{json};
 ghost use Rattle.term_codec.specs.Spelling.{spelling};
-ghost use Rattle.doc_file.specs.Held.{IsDocument, IsObject, find_last};
+ghost use Rattle.design_docs.specs.PlainDocument.{is_plain};
+ghost use Rattle.doc_file.specs.Content.{unrevised};
+ghost use Rattle.doc_file.specs.Held.{IsBodyOf, IsDocument, IsObject};
 
-use crate::entry::{Entry, LastWrite};
+use crate::content::unrevised;
+use design_docs::{is_design_id, is_plain};
 use json_terms::{NoMemory, Term, depth_within};
 use std::alloc::Global;
 use term_codec::{CodecFault, decode_term};
@@ -14,11 +17,28 @@ use term_codec::{CodecFault, decode_term};
 /// The greatest depth of a document.
 const DEPTH_LIMIT: u32 = 64;
 
-/// The document that these bytes spell, whole, or none where they spell no object of depth 64 at most. The one error is
-/// want of memory.
-pub fn read_body(alloc: Global, bytes: &[u8]) -> Result<Option<Term>, NoMemory>
+/// The document of an id that these bytes spell, whole, or none where they spell no object of depth 64 at most, or, under the
+/// id of a design document, one that but for its `_rev` isn't plain. The one error is want of memory.
+pub fn read_body(alloc: Global, id: &str, bytes: &[u8]) -> Result<Option<Term>, NoMemory>
+    ensures some { IfOk result (λ found. IfSome found (λ t. IsBodyOf id.now (json t) × (bytes.now ≡ spelling (json t)))) }
+    ensures none { result ≡ Ok None → (t : Json) → IsBodyOf id.now t → bytes.now ≡ spelling t → ⊥ }
+{
+    match read_document(alloc, bytes)? {
+        Some(document) => {
+            if is_design_id(id) && !is_plain_design(alloc, &document)? {
+                return Ok(None);
+            }
+            Ok(Some(document))
+        }
+        None => Ok(None),
+    }
+}
+
+/// The document that these bytes spell, whole, or none where they spell no object of depth 64 at most.
+fn read_document(alloc: Global, bytes: &[u8]) -> Result<Option<Term>, NoMemory>
     ensures some { IfOk result (λ found. IfSome found (λ t. IsDocument (json t) × (bytes.now ≡ spelling (json t)))) }
     ensures none { result ≡ Ok None → (t : Json) → IsDocument t → bytes.now ≡ spelling t → ⊥ }
+    ensures only { IfOk result (λ found. IfSome found (λ t. (u : Json) → IsDocument u → bytes.now ≡ spelling u → u ≡ json t)) }
 {
     match decode_term(alloc, bytes, 0) {
         Ok((term, end)) => {
@@ -47,14 +67,10 @@ fn is_object(term: &Term) -> bool
     }
 }
 
-/// The last write of an id among these.
-pub(crate) fn find_last(id: &str, entries: &[Entry]) -> Option<LastWrite>
-    ensures { result ≡ find_last id.now entries.now }
+/// Whether a design document is plain but for its revision.
+fn is_plain_design(alloc: Global, document: &Term) -> Result<bool, NoMemory>
+    ensures { IfOk result (λ plain. plain ≡ is_plain (unrevised (json document.now))) }
 {
-    for entry in entries {
-        if id == entry.id.as_str() {
-            return Some(entry.last);
-        }
-    }
-    None
+    let document = unrevised(alloc, document)?;
+    is_plain(alloc, &document)
 }

@@ -1,8 +1,11 @@
 //! The documents of a database, by their last writes.
 
-ghost use Rattle.std.specs.Prelude.{◌≡◌};
+ghost use Rattle.std.specs.Prelude.{◌≡◌, IsTrue};
+ghost use Rattle.std.specs.List.{list_all};
+ghost use Rattle.gate_file.specs.GateFile.{commits_of};
+ghost use Rattle.doc_file.specs.Counts.{are_counted, has_room};
 
-use crate::body::find_last;
+use crate::last_writes::find_last;
 use crate::entry::Entry;
 use crate::fault::DocFault;
 use crate::load::{load_body, load_root};
@@ -18,6 +21,8 @@ pub struct Docs {
     seq: u64,
     // In byte order of id.
     entries: Vec<Entry>,
+    ghost counted: { IsTrue (are_counted (commits_of file) seq entries.items) },
+    ghost room: { IsTrue (list_all has_room entries.items) },
 }
 
 /// Counts of documents.
@@ -40,7 +45,7 @@ impl Docs {
     ghost use Rattle.gate_file.specs.GateFile.{name_of};
     ghost use Rattle.gate_file.specs.Open.{opened, IsFirstDamage, IsOpened, WhileOpening};
     ghost use Rattle.doc_file.specs.Held.{IsRootPlace};
-    ghost use Rattle.doc_file.specs.Docs.{file_of, seq_of, entries_of, last_of, is_deleted, IsLoaded, IsLive, IsSpoiled, info_of};
+    ghost use Rattle.doc_file.specs.Docs.{bytes_in, file_of, info_of, last_of, is_deleted, IsLoaded, IsLive, IsSpoiled};
 
     /// Opens the documents' file. Without a commit there was no write.
     ///
@@ -72,11 +77,11 @@ impl Docs {
     /// `Missing` comes exactly where the id was never written, `Deleted` exactly where its last write was a deletion. The
     /// file is `Damaged` at the place of the body exactly where no object of depth 64 at most is spelled there.
     pub fn get<F: Folder>(&self, alloc: Global, folder: &mut F, id: &str) -> Result<Term, DocFault>
-        ensures live { IfTold (F.disk folder.old) (λ d. IfOk result (λ t. IsLive (d.now (name_of (file_of self.now))).seen (last_of self.now id.now) (json t))) }
+        ensures live { IfTold (F.disk folder.old) (λ d. IfOk result (λ t. IsLive id.now (bytes_in self.now d.now) (last_of self.now id.now) (json t))) }
         ensures missing { (result ≡ Err DocFault.Missing) ↔ (last_of self.now id.now ≡ None) }
         ensures deleted { (result ≡ Err DocFault.Deleted) ↔ (is_deleted (last_of self.now id.now) ≡ true) }
         ensures damaged { IfTold (F.disk folder.old) (λ d. (name : Name) (at : ℕ) → result ≡ Err (DocFault.Gate (GateFault.Damaged name at)) →
-            (name ≡ name_of (file_of self.now)) × IsSpoiled (d.now (name_of (file_of self.now))).seen (last_of self.now id.now) at) }
+            (name ≡ name_of (file_of self.now)) × IsSpoiled id.now (bytes_in self.now d.now) (last_of self.now id.now) at) }
         ensures faults { IfErr result (λ e. (e ≡ DocFault.Missing) ⊎ (e ≡ DocFault.Deleted) ⊎ (e ≡ DocFault.Gate GateFault.DiskFault) ⊎ (e ≡ DocFault.NoMemory) ⊎ ((name : Name) × (at : ℕ) × (e ≡ DocFault.Gate (GateFault.Damaged name at)))) }
         ensures disk { Tells (F.disk folder.old) (F.disk folder.new) MovesNone }
         ensures cause { HasCauseIf (λ e. e ≡ DocFault.Gate GateFault.DiskFault) (F.faults folder.old) (F.faults folder.new) result }
@@ -87,7 +92,7 @@ impl Docs {
                 if last.deleted {
                     return Err(DocFault::Deleted);
                 }
-                load_body(alloc, folder, self.file.name(), last)
+                load_body(alloc, folder, self.file.name(), id, last)
             }
             None => Err(DocFault::Missing),
         }

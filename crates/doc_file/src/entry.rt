@@ -5,7 +5,8 @@ ghost use Rattle.std.specs.Int.{from_le_bytes, w32, w64};
 ghost use Rattle.doc_file.specs.Record.{last_bytes, flag_byte};
 ghost use Rattle.doc_file.specs.Reading.{last_at, is_sound};
 
-use json_terms::Chars;
+use json_terms::{Chars, NoMemory};
+use std::alloc::Global;
 
 /// How many bytes the parts of a last write take that have one length.
 pub(crate) const LAST_LENGTH: usize = 29;
@@ -30,6 +31,20 @@ pub struct LastWrite {
 pub struct Entry {
     pub id: Chars,
     pub last: LastWrite,
+}
+
+impl Entry {
+    ghost use Rattle.std.specs.Prelude.{◌≡◌, IfOk};
+
+    /// An equal entry. The one error is want of memory.
+    pub(crate) fn copy(&self, alloc: Global) -> Result<Entry, NoMemory>
+        ensures { IfOk result (λ entry. entry ≡ self.now) }
+    {
+        Ok(Entry {
+            id: self.id.copy(alloc)?,
+            last: self.last,
+        })
+    }
 }
 
 impl LastWrite {

@@ -3,12 +3,15 @@
 
 mod accept;
 mod body;
+mod content;
 mod docs;
 mod entry;
 mod fault;
 #[cfg(test)]
 mod file_tests;
+mod last_writes;
 mod load;
+mod publish;
 mod record;
 mod rev;
 #[cfg(test)]

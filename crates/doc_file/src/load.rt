@@ -1,13 +1,15 @@
 //! Reading what the documents' file holds.
 
-ghost use Rattle.std.specs.Prelude.{◌≡◌, ◌⊎◌, ℕ, List, Err, IfOk, IfErr};
+ghost use Rattle.std.specs.Prelude.{◌≡◌, ◌⊎◌, ℕ, List, Err, IfOk, IfErr, IsTrue};
+ghost use Rattle.std.specs.List.{list_all};
 ghost use Rattle.json_terms.specs.Json.{Json};
 ghost use Rattle.json_terms.specs.Seen.{json};
 ghost use Rattle.view_ports.specs.Causes.{HasCauseIf, RisesBy};
 ghost use Rattle.view_ports.specs.Disk.{IfTold, Tells, MovesNone};
 ghost use Rattle.view_ports.specs.declared.file_name.FileName.{FileName as Name};
-ghost use Rattle.gate_file.specs.GateFile.{name_of, root_of};
+ghost use Rattle.gate_file.specs.GateFile.{commits_of, name_of, root_of};
 ghost use Rattle.doc_file.specs.declared.entry.Entry.{Entry as EntryValue};
+ghost use Rattle.doc_file.specs.Counts.{are_counted, has_room};
 ghost use Rattle.doc_file.specs.Held.{HasBody, HoldsRoot, IsRootPlace};
 
 use crate::body::read_body;
@@ -20,15 +22,16 @@ use std::alloc::Global;
 use view_ports::{FileName, Folder};
 
 /// What the root record of an open file holds. The file is `Damaged` at the place of the record exactly where it spells no
-/// root record.
+/// root record, or one whose counts are those of no history.
 pub fn load_root<F: Folder>(
     alloc: Global,
     folder: &mut F,
     file: &GateFile,
 ) -> Result<RootRecord, DocFault>
-    ensures held { IfTold (F.disk folder.old) (λ d. IfOk result (λ root. HoldsRoot (root_of file.now) (d.now (name_of file.now)).seen root.seq root.entries.items)) }
+    ensures counted { IfOk result (λ root. IsTrue (are_counted (commits_of file.now) root.seq root.entries.items) × IsTrue (list_all has_room root.entries.items)) }
+    ensures held { IfTold (F.disk folder.old) (λ d. IfOk result (λ root. HoldsRoot (root_of file.now) (commits_of file.now) (d.now (name_of file.now)).seen root.seq root.entries.items)) }
     ensures damaged { IfTold (F.disk folder.old) (λ d. (name : Name) (at : ℕ) → result ≡ Err (DocFault.Gate (GateFault.Damaged name at)) →
-        (seq : ℕ) (entries : List EntryValue) → HoldsRoot (root_of file.now) (d.now (name_of file.now)).seen seq entries → ⊥) }
+        (seq : ℕ) (entries : List EntryValue) → HoldsRoot (root_of file.now) (commits_of file.now) (d.now (name_of file.now)).seen seq entries → ⊥) }
     ensures place { (name : Name) (at : ℕ) → result ≡ Err (DocFault.Gate (GateFault.Damaged name at)) → IsRootPlace file.now name at }
     ensures faults { IfErr result (λ e. (e ≡ DocFault.Gate GateFault.DiskFault) ⊎ (e ≡ DocFault.NoMemory) ⊎ ((name : Name) × (at : ℕ) × (e ≡ DocFault.Gate (GateFault.Damaged name at)))) }
     ensures disk { Tells (F.disk folder.old) (F.disk folder.new) MovesNone }
@@ -40,8 +43,8 @@ pub fn load_root<F: Folder>(
             let name = file.name();
             let bytes = GateFile::read(alloc, folder, name, offset, length)?;
             match read_root(alloc, bytes.as_slice())? {
-                Some(root) => Ok(root),
-                None => Err(DocFault::Gate(GateFault::Damaged { name, offset })),
+                Some(root) if root.is_counted(file.commits()) => Ok(root),
+                _ => Err(DocFault::Gate(GateFault::Damaged { name, offset })),
             }
         }
         None => Ok(RootRecord {
@@ -51,23 +54,24 @@ pub fn load_root<F: Folder>(
     }
 }
 
-/// The stored document of a last write. The file is `Damaged` at the place of the body exactly where no document is spelled
+/// The stored document of an id's last write. The file is `Damaged` at the place of the body exactly where no document is spelled
 /// there.
 pub fn load_body<F: Folder>(
     alloc: Global,
     folder: &mut F,
     name: FileName,
+    id: &str,
     last: LastWrite,
 ) -> Result<Term, DocFault>
-    ensures held { IfTold (F.disk folder.old) (λ d. IfOk result (λ t. HasBody (d.now name).seen last (json t))) }
-    ensures damaged { IfTold (F.disk folder.old) (λ d. result ≡ Err (DocFault.Gate (GateFault.Damaged name last.offset)) → (t : Json) → HasBody (d.now name).seen last t → ⊥) }
+    ensures held { IfTold (F.disk folder.old) (λ d. IfOk result (λ t. HasBody id.now (d.now name).seen last (json t))) }
+    ensures damaged { IfTold (F.disk folder.old) (λ d. result ≡ Err (DocFault.Gate (GateFault.Damaged name last.offset)) → (t : Json) → HasBody id.now (d.now name).seen last t → ⊥) }
     ensures faults { IfErr result (λ e. (e ≡ DocFault.Gate GateFault.DiskFault) ⊎ (e ≡ DocFault.NoMemory) ⊎ (e ≡ DocFault.Gate (GateFault.Damaged name last.offset))) }
     ensures disk { Tells (F.disk folder.old) (F.disk folder.new) MovesNone }
     ensures cause { HasCauseIf (λ e. e ≡ DocFault.Gate GateFault.DiskFault) (F.faults folder.old) (F.faults folder.new) result }
     ensures reads { RisesBy 1 (F.reads folder.old) (F.reads folder.new) }
 {
     let bytes = GateFile::read(alloc, folder, name, last.offset, u64::from(last.length))?;
-    match read_body(alloc, bytes.as_slice())? {
+    match read_body(alloc, id, bytes.as_slice())? {
         Some(document) => Ok(document),
         None => Err(DocFault::Gate(GateFault::Damaged {
             name,

@@ -1,14 +1,20 @@
 //! The root record: the number of accepted writes, and the last write of each id.
 
-ghost use Rattle.std.specs.Prelude.{◌≡◌, ℕ, ◌+◌, ◌<◌, ◌≤◌, ◌^◌, ◌++◌, length, List, None, Ok, IfOk, OnOk, IfSome, option_map};
+ghost use Rattle.std.specs.Prelude.{◌≡◌, ℕ, ◌+◌, ◌<◌, ◌≤◌, ◌^◌, ◌++◌, length, List, None, Ok, IfOk, OnOk, IfSome, IsTrue, option_map};
+ghost use Rattle.std.specs.List.{list_all};
 ghost use Rattle.doc_file.specs.declared.entry.Entry.{Entry as EntryValue};
+ghost use Rattle.doc_file.specs.Counts.{has_room, is_counted};
 ghost use Rattle.doc_file.specs.Record.{whole_bytes, entry_bytes, entries_bytes, record_bytes, IsRoot, IdsFit};
 ghost use Rattle.doc_file.specs.Reading.{whole_in, last_in, entry_of_id, entry_of_size, entry_in, follows, entry_after, whole_entries, root_of, root_in};
 
 use crate::entry::{Entry, LAST_LENGTH, LastWrite};
+use gate_file::MAX_COMMITS;
 use json_terms::{Chars, NoMemory};
 use std::alloc::Global;
 use term_codec::{put_count, put_text, read_count, read_text};
+
+/// The most writes of a commit.
+const WRITES: u64 = 1000;
 
 /// What a root record holds.
 #[derive(Drop)]
@@ -17,6 +23,36 @@ pub struct RootRecord {
     pub seq: u64,
     /// The last write of each id, in byte order of id.
     pub entries: Vec<Entry>,
+}
+
+impl RootRecord {
+    ghost use Rattle.std.specs.Prelude.{◌≡◌};
+    ghost use Rattle.doc_file.specs.Counts.{are_counted};
+
+    /// Whether the counts are those of a history of so many commits: each of at most 1,000 writes, of which the last write of
+    /// each id is one, and not before the id's first.
+    pub(crate) fn is_counted(&self, commits: u64) -> bool
+        ensures { result ≡ are_counted commits self.now.seq self.now.entries.items }
+    {
+        if self.seq > WRITES * commits.min(MAX_COMMITS) {
+            return false;
+        }
+        are_each_counted(self.entries.as_slice(), self.seq)
+    }
+}
+
+fn are_each_counted(entries: &[Entry], seq: u64) -> bool
+    ensures { result ≡ list_all (is_counted seq) entries.now }
+{
+    entries.iter().all(|entry| is_counted(entry, seq))
+}
+
+fn is_counted(entry: &Entry, seq: u64) -> bool
+    ensures { result ≡ is_counted seq entry.now }
+{
+    0 < entry.last.generation
+        && entry.last.generation <= entry.last.seq
+        && entry.last.seq <= seq
 }
 
 /// The bytes of a root record. Each id is shorter than 2^32 - 33 bytes. The one error is want of memory.
@@ -64,6 +100,8 @@ fn put_entry(entry: &Entry, out: &mut Vec<u8>) -> Result<(), NoMemory>
 /// one error is want of memory.
 pub fn read_root(alloc: Global, bytes: &[u8]) -> Result<Option<RootRecord>, NoMemory>
     ensures some { IfOk result (λ found. IfSome found (λ root. IsRoot root.seq root.entries.items × (bytes.now ≡ record_bytes root.seq root.entries.items))) }
+    ensures only { IfOk result (λ found. IfSome found (λ root. (seq : ℕ) (entries : List EntryValue) → IsRoot seq entries → bytes.now ≡ record_bytes seq entries → (seq ≡ root.seq) × (entries ≡ root.entries.items))) }
+    ensures room { IfOk result (λ found. IfSome found (λ root. IsTrue (list_all has_room root.entries.items))) }
     ensures none { result ≡ Ok None → (seq : ℕ) (entries : List EntryValue) → IsRoot seq entries → bytes.now ≡ record_bytes seq entries → ⊥ }
 {
     parse_root(alloc, bytes)

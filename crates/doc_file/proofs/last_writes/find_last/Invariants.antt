@@ -1,6 +1,6 @@
 use Rattle.std.proofs.Common.{◌≡◌, drop}
 use Rattle.doc_file.specs.Held.{find_last}
-use Rattle.doc_file.proofs.body.find_last.Given as goal
+use Rattle.doc_file.proofs.last_writes.find_last.Given as goal
 
 -- the search goes on in what is left
 abbrev pub invariant-loop-entry : goal.invariant-loop-entry

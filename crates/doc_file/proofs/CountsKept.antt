@@ -1,0 +1,15 @@
+-- The counts of entries, and setting one.
+use Rattle.std.proofs.Common.{refl, ◌≡◌, ◌⊎◌, inl, inr, ℕ, ◌+◌, ◌*◌, ◌^◌, ◌<◌, ◌≤◌, List, [], ◌∷◌, ◌++◌, length, Bool, true, false, ◌&&◌, nat_lt, nat_le, IsTrue, sym, ap, ◌∙◌, subst, arith}
+use Rattle.std.specs.List.{list_all}
+use Rattle.std.proofs.lemmas.Bool.Decides.{nat_tests}
+use Rattle.doc_file.specs.declared.entry.Entry.{Entry}
+use Rattle.doc_file.specs.Record.{AreEntries}
+use Rattle.doc_file.specs.Counts.{has_room}
+
+pub room_of_entries : (entries : List Entry) → AreEntries entries → list_all has_room entries ≡ true
+room_of_entries [] are = refl
+room_of_entries (entry ∷ entries) are =
+    let rest = room_of_entries entries are.2 in
+    let short = (are.0).short in
+    let here : has_room entry ≡ true = grind (arith, nat_tests) in
+    ap (λ b. b && list_all has_room entries) here ∙ rest

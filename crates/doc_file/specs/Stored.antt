@@ -1,0 +1,92 @@
+-- What is stored of an accepted write: its body, its entry, and the root record with it.
+use Rattle.std.specs.Prelude.{◌≡◌, ◌⊎◌, ℕ, ◌+◌, ◌-◌, List, [], ◌∷◌, ◌++◌, length, is_none, Option, Some, None, option_map, if◌then◌else◌}
+use Rattle.std.specs.Ordering.{nat_cmp, match_ordering}
+use Rattle.std.specs.Cmp.Lexicographic.{slice_cmp}
+use Rattle.json_terms.specs.Json.{Json}
+use Rattle.term_codec.specs.Spelling.{spelling}
+use Rattle.view_ports.specs.File.{File, settled}
+use Rattle.gate_file.specs.declared.root.Root.{Root}
+use Rattle.gate_file.specs.declared.gate.GateFile.{GateFile}
+use Rattle.gate_file.specs.Shown.{Shows, IsFront}
+use Rattle.gate_file.specs.GateFile.{root_of, start_of, appended, next_root, committed, Keeps}
+use Rattle.doc_file.specs.declared.entry.LastWrite.{LastWrite}
+use Rattle.doc_file.specs.declared.entry.Entry.{Entry}
+use Rattle.doc_file.specs.declared.rev.Rev.{Rev}
+use Rattle.doc_file.specs.Record.{record_bytes}
+use Rattle.doc_file.specs.Held.{find_last}
+use Rattle.doc_file.specs.Revision.{revision, stored_document}
+use Rattle.doc_file.specs.History.{Write, generation}
+
+abbrev pub entry_of : List ℕ → LastWrite → Entry
+entry_of id last = record { id = id; last = last }
+
+-- the entries with this one set, in byte order of id
+abbrev pub with_last : List ℕ → LastWrite → List Entry → List Entry
+with_last id last [] = entry_of id last ∷ []
+with_last id last (entry ∷ entries) =
+    match_ordering (slice_cmp nat_cmp id entry.id) (entry_of id last ∷ entry ∷ entries) (entry_of id last ∷ entries) (entry ∷ with_last id last entries)
+
+abbrev pub generation_in : Option LastWrite → ℕ
+generation_in None = 0
+generation_in (Some last) = last.generation
+
+-- the revision of the next write of an id, after so many writes
+abbrev pub next_rev : ℕ → List Entry → List ℕ → Rev
+next_rev seq entries id = record { generation = generation_in (find_last id entries) + 1; seq = seq + 1 }
+
+-- the document that is stored under a revision, unless the write is a deletion
+abbrev pub revised : Option Json → Rev → Option Json
+revised content rev = option_map (λ c. stored_document c (revision rev.generation rev.seq)) content
+
+-- the body of a write; a deletion has none
+abbrev pub body_of : Option Json → List ℕ
+body_of None = []
+body_of (Some document) = spelling document
+
+-- the place of a body, for bytes that are appended at `start`
+abbrev pub place_in : ℕ → Option Json → ℕ
+place_in start None = 0
+place_in start (Some document) = start
+
+-- what the root record keeps of a write whose body stands at `start`
+abbrev pub last_of : ℕ → Rev → Option Json → LastWrite
+last_of start rev document = record {
+  seq = rev.seq;
+  generation = rev.generation;
+  deleted = is_none document;
+  offset = place_in start document;
+  length = length (body_of document);
+}
+
+-- what is appended: the body and the new root record
+abbrev pub bytes_of : ℕ → List Entry → Option Json → List ℕ
+bytes_of seq entries document = body_of document ++ record_bytes seq entries
+
+-- the file after bytes were appended to it, and what stands behind the first `skipped` of them became its root
+abbrev pub published : GateFile → ℕ → ℕ → GateFile
+published gate size skipped = let longer = appended gate size in committed longer (next_root longer (start_of gate + skipped) (size - skipped))
+
+-- what a crash leaves of the file with its new root
+pub record ShowsNew (root : Root) (bytes : List ℕ) (file : File) (image : List ℕ) : Type 0 where
+  pub front : List ℕ
+  pub made : IsFront file.seen front
+  pub shows : Shows (Some root) (front ++ bytes) image
+
+-- the file with its new root: nothing is pending
+pub record IsPublished (gate : GateFile) (bytes : List ℕ) (old new : File) : Type 0 where
+  pub front : List ℕ
+  pub made : IsFront old.seen front
+  pub shows : Shows (root_of gate) (front ++ bytes) new.seen
+  pub size : length new.seen ≡ length (front ++ bytes)
+  pub whole : new ≡ settled new.seen
+  pub keeps : Keeps gate new
+
+-- ---- over the history
+
+-- the revision of the next write of the id
+abbrev pub next_revision : List Write → List ℕ → List ℕ
+next_revision history id = revision (generation history id + 1) (length history + 1)
+
+-- the write of a document, which is stored under its revision, or a deletion
+abbrev pub write_of : List Write → List ℕ → Option Json → Write
+write_of history id content = record { id = id; document = option_map (λ c. stored_document c (next_revision history id)) content }
