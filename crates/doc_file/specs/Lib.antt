@@ -1,6 +1,7 @@
 pub mod History
 pub mod Revision
 pub mod Accepted
+pub mod Incoming
 pub mod Record
 pub mod Reading
 pub mod Held
