@@ -3,11 +3,13 @@ use Rattle.std.specs.Prelude.{◌≡◌, ◌⊎◌, ℕ, ◌≤◌, List, Bool, 
 use Rattle.json_terms.specs.Json.{Json, number, is_false, is_null, is_true, object, array, string, Members, no_members, member, depth}
 use Rattle.json_terms.specs.Find.{member_of}
 use Rattle.json_terms.specs.Kinds.{text_in}
+use Rattle.json_terms.specs.Seen.{json}
 use Rattle.json_terms.specs.Text.{text_of}
 use Rattle.design_docs.specs.Documents.{id_of, is_special, is_design_id}
 use Rattle.design_docs.specs.PlainDocument.{size_limit, document_depth_limit}
 use Rattle.doc_file.specs.declared.fault.DocFault.{DocFault}
 use Rattle.doc_file.specs.declared.fault.DocFault.TheVariants.{BadId, BadMember, BadRev, TooLarge, TooDeep, Conflict, Missing, Deleted, Gate, NoMemory}
+use Rattle.doc_file.specs.declared.incoming.Incoming.{Incoming}
 use Rattle.doc_file.specs.Revision.{IsRevision}
 
 -- an id isn't empty, and begins with an underscore only where it is that of a design document with a name
@@ -104,3 +106,11 @@ says_true other = false
 -- whether the put is a deletion
 abbrev pub deletes : Json → Bool
 deletes document = says_true (member_of (codes "_deleted") document)
+
+-- what is read of a document that may be put
+pub record IsReadAs (document : Json) (incoming : Incoming) : Type 0 where
+  pub writable : IsWritable document
+  pub id : incoming.id ≡ id_of document
+  pub given : incoming.given ≡ given_revision document
+  pub deletes : incoming.deletes ≡ deletes document
+  pub content : json incoming.content ≡ content document

@@ -8,6 +8,9 @@ mod entry;
 mod fault;
 #[cfg(test)]
 mod file_tests;
+mod incoming;
+#[cfg(test)]
+mod incoming_tests;
 mod load;
 mod record;
 mod rev;
