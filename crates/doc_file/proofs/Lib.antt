@@ -5,3 +5,7 @@ mod Entries
 mod EntryParts
 mod Bodies
 mod Stretches
+mod Sizes
+mod Changed
+mod Left
+mod Contents

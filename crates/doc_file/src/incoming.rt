@@ -200,9 +200,10 @@ fn kept(alloc: Global, members: Members) -> Result<Members, NoMemory>
     let mut left = Members::with_capacity(alloc, members.len())?;
     for member in members.into_vec() {
         let Member { name, value } = member;
-        if is_kept(name.as_str()) {
-            left.push(name, value)?;
+        if !is_kept(name.as_str()) {
+            continue;
         }
+        left.push(name, value)?;
     }
     Ok(left)
 }
