@@ -1,6 +1,9 @@
 -- What is stored of a document that may be put.
-use Rattle.std.proofs.Common.{◌≡◌, ◌+◌, ◌*◌, ◌<◌, ◌≤◌, ◌^◌, ℕ, List, [], ◌++◌, length, codes, decimal, Option, Some, None, option_and_then, unwrap_or, IsUtf8, refl, ap, ◌∙◌, arith, length-append}
+use Rattle.std.proofs.Common.{◌≡◌, ◌+◌, ◌*◌, ◌<◌, ◌≤◌, ◌^◌, ◌&&◌, nat_lt, Bool, true, ℕ, List, [], ◌∷◌, ◌++◌, length, codes, decimal, Option, Some, None, option_and_then, unwrap_or, IsUtf8, refl, ap, ◌∙◌, arith, length-append}
 use Rattle.std.specs.Int.{w128, to_be_bytes}
+use Rattle.std.specs.Str.{IsAscii}
+use Rattle.std.proofs.lemmas.Bool.{and_parts, ltb-true}
+use Rattle.std.proofs.lemmas.Str.Ascii.{IsAscii-nil, IsAscii-cons}
 use Rattle.std.proofs.lemmas.Fmt.{IsAscii-decimal, length-decimal-le}
 use Rattle.std.proofs.lemmas.Str.{IsUtf8-append, IsUtf8-nil, IsUtf8-from_ascii}
 use Rattle.hex.specs.Hex.{encode_lower, lower_digits}
@@ -22,7 +25,7 @@ use Rattle.doc_file.specs.Incoming.{content, without, IsWritable}
 use Rattle.doc_file.specs.Revision.{revision, stored_document}
 use Rattle.doc_file.proofs.Changed.{AreMembers-without, depth-without, find-without, members_count-with_member, MembersFit-with_member, depth-with_member, length-with_member}
 use Rattle.doc_file.proofs.Left.{kept}
-use Rattle.doc_file.proofs.Sizes.{length-quoted, length-text_bytes, length-spelling, CountsFit-short}
+use Rattle.doc_file.proofs.Sizes.{length-quoted, length-text_bytes, length-spelling, members_count-fits, CountsFit-short}
 
 AreMembers-kept : (members : Members) → AreMembers members → AreMembers (kept members)
 AreMembers-kept members all = AreMembers-without (codes "_deleted") (without (codes "_rev") members) (AreMembers-without (codes "_rev") members all)
@@ -78,6 +81,14 @@ id_utf8 other term = IsUtf8-nil
 
 -- ---- the revision
 
+abbrev are_ascii : List ℕ → Bool
+are_ascii [] = true
+are_ascii (x ∷ xs) = nat_lt x 128 && are_ascii xs
+
+IsAscii-of : (xs : List ℕ) → are_ascii xs ≡ true → IsAscii xs
+IsAscii-of [] e = IsAscii-nil
+IsAscii-of (x ∷ xs) e = let p = and_parts _ _ e in IsAscii-cons x xs (ltb-true x 128 p.0) (IsAscii-of xs p.1)
+
 pub length-revision : (generation seq : ℕ) → generation < 2 ^ 64 → length (revision generation seq) ≤ 100
 unfolding revision
 length-revision generation seq small =
@@ -90,12 +101,15 @@ length-revision generation seq small =
 
 pub IsUtf8-revision : (generation seq : ℕ) → generation < 2 ^ 64 → IsUtf8 (revision generation seq)
 unfolding revision
-IsUtf8-revision generation seq small = ?
+IsUtf8-revision generation seq small =
+    let digits = IsUtf8-from_ascii (encode_lower (to_be_bytes w128 seq)) (IsAscii-encode_with lower_digits (to_be_bytes w128 seq) (IsAscii-of lower_digits refl)) in
+    let front = IsUtf8-from_ascii (decimal generation) (IsAscii-decimal generation small) in
+    IsUtf8-append (decimal generation ++ codes "-") (encode_lower (to_be_bytes w128 seq)) (IsUtf8-append (decimal generation) (codes "-") front (IsUtf8-from_ascii (codes "-") (IsAscii-of (codes "-") refl))) digits
 
 -- ---- the stored document
 
 IsUtf8-rev_name : IsUtf8 (codes "_rev")
-IsUtf8-rev_name = ?
+IsUtf8-rev_name = IsUtf8-from_ascii (codes "_rev") (IsAscii-of (codes "_rev") refl)
 
 -- what is stored is what a body spells
 pub IsDocument-stored : (document : Json) (rev : List ℕ) → IsTerm document → IsObject document → IsWritable document → IsUtf8 rev → length rev ≤ 100 → IsDocument (stored_document (content document) rev)
@@ -104,6 +118,7 @@ IsDocument-stored (object members) rev term is writable utf8 short =
     let small = writable.small in
     let shallow = writable.shallow in
     let fit : CountsFit (object left) = CountsFit-short (object left) (omega arith) in
+    let few = members_count-fits left in
     let count = members_count-with_member (codes "_rev") (string rev) left in
     let deep = depth-with_member (codes "_rev") (string rev) left in
     let one = depth-without (codes "_rev") members in

@@ -1,7 +1,8 @@
 -- How long the spelling of a term is and how large its counts are, by the length of its text.
-use Rattle.std.proofs.Common.{◌≡◌, ◌+◌, ◌*◌, ◌<◌, ◌≤◌, ◌^◌, ℕ, suc, pos, negsuc, List, [], ◌∷◌, ◌++◌, length, Bool, true, false, cond, decimal, arith, length-append}
+use Rattle.std.proofs.Common.{◌≡◌, ◌+◌, ◌*◌, ◌/◌, ◌%◌, ◌<◌, ◌≤◌, ◌^◌, nat_lt, ℕ, suc, pos, negsuc, List, [], ◌∷◌, ◌++◌, length, Bool, true, false, cond, decimal, arith, length-append}
 use Rattle.std.proofs.lemmas.Fmt.{decimal_nonempty}
-use Rattle.json.specs.Print.{escape_byte, escape, quoted}
+use Rattle.std.specs.Char.{digit_char}
+use Rattle.json.specs.Print.{escape_letter, escape_byte, escape, quoted}
 use Rattle.serde_json.specs.Written.{comma_if, items_text, members_text}
 use Rattle.json_terms.specs.Json.{Json, number, is_false, is_null, is_true, object, array, string, Items, no_items, item, Members, no_members, member}
 use Rattle.json_terms.specs.Terms.{IsTerm, AreTerms, AreMembers}
@@ -19,7 +20,9 @@ one_of false xs ys p q = q
 -- each byte of a string takes one byte at least
 length-escape_byte : (x : ℕ) → 1 ≤ length (escape_byte x)
 unfolding escape_byte
-length-escape_byte x = one_of _ _ _ (omega arith) (one_of _ _ _ (omega arith) (omega arith))
+length-escape_byte x =
+    let coded : List ℕ = 92 ∷ 117 ∷ 48 ∷ 48 ∷ digit_char (x / 16) ∷ digit_char (x % 16) ∷ [] in
+    one_of (nat_lt 0 (escape_letter x)) (92 ∷ escape_letter x ∷ []) (cond (nat_lt x 32) coded (x ∷ [])) (omega arith) (one_of (nat_lt x 32) coded (x ∷ []) (omega arith) (omega arith))
 
 length-escape : (s : List ℕ) → length s ≤ length (escape s)
 length-escape [] = omega arith
