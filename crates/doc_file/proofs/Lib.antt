@@ -11,3 +11,7 @@ mod Carried
 mod Setting
 mod Histories
 mod Standing
+mod Sizes
+mod Changed
+mod Left
+mod Contents

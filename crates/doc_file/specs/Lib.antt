@@ -2,6 +2,7 @@ pub mod History
 pub mod Revision
 pub mod Accepted
 pub mod Content
+pub mod Incoming
 pub mod Record
 pub mod Counts
 pub mod Reading

@@ -5,13 +5,28 @@ ghost use Rattle.doc_file.specs.declared.fault.DocFault.TheVariants.{NoMemory as
 ghost use Rattle.doc_file.specs.Faults.{doc_fault};
 
 use gate_file::GateFault;
-use json_terms::NoMemory;
+use json_terms::{Chars, NoMemory};
 use std::alloc::AllocError;
 use thiserror::Error;
 
 /// Why a call on documents is refused.
-#[derive(Clone, Copy, Debug, PartialEq, Eq, Error)]
+#[derive(Debug, Drop, Error)]
 pub enum DocFault {
+    /// The `_id` is no text, is empty, or begins with an underscore and is no design document's.
+    #[error("bad id")]
+    BadId,
+    /// The member with this name is one that no document may have, and the first such.
+    #[error("bad member")]
+    BadMember(Chars),
+    /// The `_rev` has not the form of a revision.
+    #[error("bad revision")]
+    BadRev,
+    /// The document's text has more than 524,288 bytes, its `_rev` and `_deleted` left out.
+    #[error("too large")]
+    TooLarge,
+    /// Objects and arrays nest more than 64 deep.
+    #[error("too deep")]
+    TooDeep,
     /// The revision that was given isn't the present one, or none was given where one is needed.
     #[error("conflict")]
     Conflict,

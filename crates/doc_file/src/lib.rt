@@ -9,6 +9,9 @@ mod entry;
 mod fault;
 #[cfg(test)]
 mod file_tests;
+mod incoming;
+#[cfg(test)]
+mod incoming_tests;
 mod last_writes;
 mod load;
 mod publish;

@@ -163,6 +163,17 @@ fn root_records_are_written(rt: HostRuntime) -> Result<(), Fail> {
     Ok(())
 }
 
+/// The word for what is answered.
+fn word_of(answer: Result<(), DocFault>) -> &'static str {
+    match answer {
+        Ok(()) => "accepted",
+        Err(DocFault::Conflict) => "conflict",
+        Err(DocFault::Missing) => "missing",
+        Err(DocFault::Deleted) => "deleted",
+        Err(_) => "another fault",
+    }
+}
+
 /// The state of an id, the revision that is given, and what a put and a deletion answer.
 #[test]
 fn the_last_write_decides_what_is_accepted(rt: HostRuntime) -> Result<(), Fail> {
@@ -170,34 +181,14 @@ fn the_last_write_decides_what_is_accepted(rt: HostRuntime) -> Result<(), Fail> 
     let present = "2-00000000000000000000000000000007";
     let other = "1-00000000000000000000000000000007";
     for (deleted, given, put, delete) in [
-        (None, None, Ok(()), Err(DocFault::Missing)),
-        (
-            None,
-            Some(present),
-            Err(DocFault::Conflict),
-            Err(DocFault::Missing),
-        ),
-        (
-            Some(false),
-            None,
-            Err(DocFault::Conflict),
-            Err(DocFault::Conflict),
-        ),
-        (Some(false), Some(present), Ok(()), Ok(())),
-        (
-            Some(false),
-            Some(other),
-            Err(DocFault::Conflict),
-            Err(DocFault::Conflict),
-        ),
-        (Some(true), None, Ok(()), Err(DocFault::Deleted)),
-        (Some(true), Some(present), Ok(()), Err(DocFault::Deleted)),
-        (
-            Some(true),
-            Some(other),
-            Err(DocFault::Conflict),
-            Err(DocFault::Deleted),
-        ),
+        (None, None, "accepted", "missing"),
+        (None, Some(present), "conflict", "missing"),
+        (Some(false), None, "conflict", "conflict"),
+        (Some(false), Some(present), "accepted", "accepted"),
+        (Some(false), Some(other), "conflict", "conflict"),
+        (Some(true), None, "accepted", "deleted"),
+        (Some(true), Some(present), "accepted", "deleted"),
+        (Some(true), Some(other), "conflict", "deleted"),
     ] {
         let last = deleted.map(|deleted| LastWrite {
             seq: 7,
@@ -206,8 +197,8 @@ fn the_last_write_decides_what_is_accepted(rt: HostRuntime) -> Result<(), Fail> 
             offset: 0,
             length: 0,
         });
-        assert!(rt; may_put(alloc, last, given) == put);
-        assert!(rt; may_delete(alloc, last, given) == delete);
+        assert_eq!(rt; word_of(may_put(alloc, last, given)), put);
+        assert_eq!(rt; word_of(may_delete(alloc, last, given)), delete);
     }
     Ok(())
 }
