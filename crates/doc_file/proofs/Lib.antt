@@ -15,3 +15,4 @@ mod Sizes
 mod Changed
 mod Left
 mod Contents
+mod Stores

@@ -18,7 +18,7 @@ use Rattle.doc_file.specs.Record.{IsEntry, IsLast, IsRoot, AreEntries, record_by
 use Rattle.doc_file.specs.Counts.{is_counted, are_counted, has_room, most_writes}
 use Rattle.doc_file.specs.History.{Write, generation, last_write}
 use Rattle.doc_file.specs.Held.{HasBody, HoldsRoot, IsBodyOf, Keeps, KeepsDocument, KeepsEach, StandsFor, find_last}
-use Rattle.doc_file.specs.Stored.{body_of, bytes_of, entry_of, generation_in, last_of, next_rev, place_in, revised, with_last, write_of}
+use Rattle.doc_file.specs.Stored.{body_of, entry_of, generation_in, last_of, next_rev, place_in, revised, with_last, write_of}
 use Rattle.std.specs.Cmp.{first_so, second_so}
 use Rattle.doc_file.proofs.Setting.{passes, list_all-with_last, list_all-weaker, AreEntries-with_last}
 use Rattle.doc_file.proofs.Histories.{each_written, generation_kept}
@@ -104,11 +104,11 @@ module _ (gate : GateFile) (seq : ℕ) (entries : List Entry) (id : List ℕ) (r
         };
       }
         where
-          place_small : (d : Option Json) → place_in (start_of gate) d < 2 ^ 64
+          place_small : (d : Option Json) → place_in (start_of gate) (is_none d) < 2 ^ 64
           place_small None = omega arith
           place_small (Some d) = small
 
-          tombstone : (d : Option Json) → is_none d ≡ true → (place_in (start_of gate) d ≡ 0) × (length (body_of d) ≡ 0)
+          tombstone : (d : Option Json) → is_none d ≡ true → (place_in (start_of gate) (is_none d) ≡ 0) × (length (body_of d) ≡ 0)
           tombstone None is = (refl, refl)
           tombstone (Some d) is = absurd (let clash : ⊥ = cc in clash)
 

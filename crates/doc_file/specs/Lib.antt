@@ -9,5 +9,6 @@ pub mod Reading
 pub mod Held
 pub mod Stored
 pub mod Places
+pub mod Drafts
 pub mod Faults
 pub mod Docs

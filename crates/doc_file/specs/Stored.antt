@@ -1,5 +1,5 @@
 -- What is stored of an accepted write: its body, its entry, and the root record with it.
-use Rattle.std.specs.Prelude.{◌≡◌, ◌⊎◌, ℕ, ◌+◌, ◌-◌, List, [], ◌∷◌, ◌++◌, length, is_none, Option, Some, None, option_map, if◌then◌else◌}
+use Rattle.std.specs.Prelude.{◌≡◌, ◌⊎◌, ℕ, ◌+◌, ◌-◌, ◌^◌, ◌<◌, List, [], ◌∷◌, ◌++◌, length, Bool, is_none, Option, Some, None, option_map, if◌then◌else◌}
 use Rattle.std.specs.Ordering.{nat_cmp, match_ordering}
 use Rattle.std.specs.Cmp.Lexicographic.{slice_cmp}
 use Rattle.json_terms.specs.Json.{Json}
@@ -13,7 +13,7 @@ use Rattle.doc_file.specs.declared.entry.LastWrite.{LastWrite}
 use Rattle.doc_file.specs.declared.entry.Entry.{Entry}
 use Rattle.doc_file.specs.declared.rev.Rev.{Rev}
 use Rattle.doc_file.specs.Record.{record_bytes}
-use Rattle.doc_file.specs.Held.{find_last}
+use Rattle.doc_file.specs.Held.{IsBodyOf, find_last}
 use Rattle.doc_file.specs.Revision.{revision, stored_document}
 use Rattle.doc_file.specs.History.{Write, generation}
 
@@ -43,10 +43,9 @@ abbrev pub body_of : Option Json → List ℕ
 body_of None = []
 body_of (Some document) = spelling document
 
--- the place of a body, for bytes that are appended at `start`
-abbrev pub place_in : ℕ → Option Json → ℕ
-place_in start None = 0
-place_in start (Some document) = start
+-- the place of a write's body, for bytes that are appended at `start`; that of a deletion is 0
+abbrev pub place_in : ℕ → Bool → ℕ
+place_in start deleted = if deleted then 0 else start
 
 -- what the root record keeps of a write whose body stands at `start`
 abbrev pub last_of : ℕ → Rev → Option Json → LastWrite
@@ -54,13 +53,13 @@ last_of start rev document = record {
   seq = rev.seq;
   generation = rev.generation;
   deleted = is_none document;
-  offset = place_in start document;
+  offset = place_in start (is_none document);
   length = length (body_of document);
 }
 
--- what is appended: the body and the new root record
-abbrev pub bytes_of : ℕ → List Entry → Option Json → List ℕ
-bytes_of seq entries document = body_of document ++ record_bytes seq entries
+-- what is appended: the body and the root record with the entry of the write
+abbrev pub bytes_of : ℕ → ℕ → List Entry → List ℕ → Rev → Option Json → List ℕ
+bytes_of start seq entries id rev document = body_of document ++ record_bytes (seq + 1) (with_last id (last_of start rev document) entries)
 
 -- the file after bytes were appended to it, and what stands behind the first `skipped` of them became its root
 abbrev pub published : GateFile → ℕ → ℕ → GateFile
@@ -90,3 +89,12 @@ next_revision history id = revision (generation history id + 1) (length history 
 -- the write of a document, which is stored under its revision, or a deletion
 abbrev pub write_of : List Write → List ℕ → Option Json → Write
 write_of history id content = record { id = id; document = option_map (λ c. stored_document c (next_revision history id)) content }
+
+-- under each revision the content is a document of the id, whose spelling is short enough
+pub record IsShort (id : List ℕ) (content : Json) (revision : List ℕ) : Type 0 where
+  pub body : IsBodyOf id (stored_document content revision)
+  pub short : length (spelling (stored_document content revision)) < 2 ^ 32
+
+abbrev pub IsStorable : List ℕ → Option Json → Type 0
+IsStorable id None = Unit {0}
+IsStorable id (Some content) = (rev : Rev) → rev.generation < 2 ^ 64 → IsShort id content (revision rev.generation rev.seq)

@@ -5,6 +5,7 @@ mod accept;
 mod body;
 mod content;
 mod docs;
+mod draft;
 mod entry;
 mod fault;
 #[cfg(test)]
