@@ -16,3 +16,4 @@ mod Changed
 mod Left
 mod Contents
 mod Stores
+mod Storing

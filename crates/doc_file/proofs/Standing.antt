@@ -49,6 +49,17 @@ generation_small seq entries id (Some last) is all =
 counted_more : (seq : ℕ) (e : Entry) → is_counted seq e ≡ true → is_counted (seq + 1) e ≡ true
 counted_more seq e is = grind (arith, nat_tests)
 
+-- there is room for one more write
+pub seq_room : (commits seq : ℕ) (entries : List Entry) → are_counted commits seq entries ≡ true → seq + 1 < 2 ^ 64
+seq_room commits seq entries counted =
+    let le : nat_le seq (most_writes commits) ≡ true = first_so (nat_le seq (most_writes commits)) (list_all (is_counted seq) entries) counted in
+    let most : seq ≤ most_writes commits = grind (arith, nat_tests) in
+    omega arith
+
+pub generation_room : (commits seq : ℕ) (entries : List Entry) (id : List ℕ) → are_counted commits seq entries ≡ true → generation_in (find_last id entries) ≤ seq
+generation_room commits seq entries id counted =
+    generation_small seq entries id (find_last id entries) refl (second_so (nat_le seq (most_writes commits)) (list_all (is_counted seq) entries) counted)
+
 module _ (gate : GateFile) (seq : ℕ) (entries : List Entry) (id : List ℕ) (rev : Rev) (document : Option Json) where
   abbrev last : LastWrite
   last = last_of (start_of gate) rev document

@@ -61,6 +61,10 @@ last_of start rev document = record {
 abbrev pub bytes_of : ℕ → ℕ → List Entry → List ℕ → Rev → Option Json → List ℕ
 bytes_of start seq entries id rev document = body_of document ++ record_bytes (seq + 1) (with_last id (last_of start rev document) entries)
 
+-- how many bytes are appended for the next write of an id, after so many writes
+abbrev pub size_of : ℕ → ℕ → List Entry → List ℕ → Option Json → ℕ
+size_of start seq entries id content = let rev = next_rev seq entries id in length (bytes_of start seq entries id rev (revised content rev))
+
 -- the file after bytes were appended to it, and what stands behind the first `skipped` of them became its root
 abbrev pub published : GateFile → ℕ → ℕ → GateFile
 published gate size skipped = let longer = appended gate size in committed longer (next_root longer (start_of gate + skipped) (size - skipped))

@@ -1,5 +1,7 @@
 //! The documents of a database, by their last writes.
 
+mod write;
+
 ghost use Rattle.std.specs.Prelude.{◌≡◌, IsTrue};
 ghost use Rattle.std.specs.List.{list_all};
 ghost use Rattle.gate_file.specs.GateFile.{commits_of};
