@@ -1,5 +1,5 @@
 -- How long the spelling of a term is and how large its counts are, by the length of its text.
-use Rattle.std.proofs.Common.{◌≡◌, ◌+◌, ◌*◌, ◌/◌, ◌%◌, ◌<◌, ◌≤◌, ◌^◌, nat_lt, ℕ, suc, pos, negsuc, List, [], ◌∷◌, ◌++◌, length, Bool, true, false, cond, decimal, arith, length-append}
+use Rattle.std.proofs.Common.{◌≡◌, ◌+◌, ◌*◌, ◌/◌, ◌%◌, ◌<◌, ◌≤◌, ◌^◌, nat_lt, ℕ, suc, pos, negsuc, List, [], ◌∷◌, ◌++◌, length, Bool, true, false, cond, arith, length-append}
 use Rattle.std.proofs.lemmas.Fmt.{decimal_nonempty}
 use Rattle.std.specs.Char.{digit_char}
 use Rattle.json.specs.Print.{escape_letter, escape_byte, escape, quoted}
@@ -7,7 +7,7 @@ use Rattle.serde_json.specs.Written.{comma_if, items_text, members_text}
 use Rattle.json_terms.specs.Json.{Json, number, is_false, is_null, is_true, object, array, string, Items, no_items, item, Members, no_members, member}
 use Rattle.json_terms.specs.Terms.{IsTerm, AreTerms, AreMembers}
 use Rattle.json_terms.specs.Text.{text_of, items_serde_of, members_serde_of}
-use Rattle.term_codec.specs.Spelling.{spelling, items_spelling, members_spelling, items_count, members_count, count_bytes, number_bytes, text_bytes}
+use Rattle.term_codec.specs.Spelling.{spelling, items_spelling, members_spelling, items_count, members_count, count_bytes, text_bytes}
 use Rattle.term_codec.specs.Stands.{CountsFit, ItemsFit, MembersFit}
 use Rattle.term_codec.proofs.Words.{length-count_bytes, length-number_bytes}
 
