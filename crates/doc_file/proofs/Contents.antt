@@ -32,7 +32,7 @@ AreMembers-kept members all = AreMembers-without (codes "_deleted") (without (co
 
 -- a document that may be put is an object, since it has an id
 pub IsObject-writable : (document : Json) → IsWritable document → IsObject document
-IsObject-writable (object members) writable = tt
+IsObject-writable (object _) writable = tt
 IsObject-writable other writable = let id = writable.id in absurd (cc)
 
 -- ---- the id
