@@ -112,7 +112,7 @@ mutual
 
 -- ---- counts
 
--- there are no more elements than bytes, with the bracket behind them
+-- behind another each element has a comma, and the last has a bracket behind it
 items_count-le : (ts : Items) → items_count ts + 1 ≤ length (items_text true (items_serde_of ts))
 items_count-le no_items = omega arith
 items_count-le (item t ts) =
@@ -120,14 +120,14 @@ items_count-le (item t ts) =
     let text = length-items_text true t ts in
     omega arith
 
-pub members_count-le : (ms : Members) → members_count ms + 1 ≤ length (members_text true (members_serde_of ms))
+members_count-le : (ms : Members) → members_count ms + 1 ≤ length (members_text true (members_serde_of ms))
 members_count-le no_members = omega arith
 members_count-le (member n t ms) =
     let others = members_count-le ms in
     let text = length-members_text true n t ms in
     omega arith
 
--- with or without a comma in front
+-- there are no more parts than the whole text has bytes
 items_count-fits : (ts : Items) → items_count ts ≤ length (text_of (array ts))
 items_count-fits no_items = omega arith
 items_count-fits (item t ts) =
@@ -159,7 +159,7 @@ mutual
       let text = length-items_text later t ts in
       (CountsFit-short t (omega arith), ItemsFit-short true ts (omega arith))
 
-  pub MembersFit-short : (later : Bool) (ms : Members) → length (members_text later (members_serde_of ms)) < 2 ^ 32 → MembersFit ms
+  MembersFit-short : (later : Bool) (ms : Members) → length (members_text later (members_serde_of ms)) < 2 ^ 32 → MembersFit ms
   MembersFit-short later no_members short = tt
   MembersFit-short later (member n t ms) short =
       let text = length-members_text later n t ms in
