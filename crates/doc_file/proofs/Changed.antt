@@ -1,12 +1,12 @@
 -- Objects with a member left out, and with one set.
-use Rattle.std.proofs.Common.{◌≡◌, ◌+◌, ◌<◌, ◌≤◌, ◌^◌, ℕ, suc, List, ◌++◌, length, Bool, true, false, bytes_eq, Option, Some, None, max, if◌then◌else◌, refl, sym, ap, ◌∙◌, arith, length-append}
+use Rattle.std.proofs.Common.{◌≡◌, ◌+◌, ◌<◌, ◌≤◌, ◌^◌, ℕ, suc, List, ◌++◌, length, true, false, bytes_eq, Some, max, if◌then◌else◌, refl, sym, ap, ◌∙◌, arith, length-append}
 use Rattle.std.specs.declared.cmp.Ordering.TheVariants.{Less, Equal, Greater}
 use Rattle.std.specs.Ordering.{nat_cmp, match_ordering}
 use Rattle.std.specs.Cmp.Lexicographic.{slice_cmp}
 use Rattle.std.proofs.lemmas.Cmp.{nat_list_cmp_total}
 use Rattle.std.proofs.lemmas.Slice.Eq.{bytes_eq-Decides}
 use Rattle.json_terms.specs.Json.{Json, Members, no_members, member, depth, members_depth}
-use Rattle.json_terms.specs.Terms.{IsTerm, AreMembers, ComesBefore}
+use Rattle.json_terms.specs.Terms.{AreMembers, ComesBefore}
 use Rattle.json_terms.specs.Find.{find, with_member}
 use Rattle.term_codec.specs.Spelling.{spelling, members_spelling, members_count, text_bytes}
 use Rattle.term_codec.specs.Stands.{CountsFit, MembersFit}

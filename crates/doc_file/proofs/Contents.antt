@@ -1,5 +1,5 @@
 -- What is stored of a document that may be put.
-use Rattle.std.proofs.Common.{◌≡◌, ◌+◌, ◌*◌, ◌<◌, ◌≤◌, ◌^◌, ◌&&◌, nat_lt, Bool, true, ℕ, List, [], ◌∷◌, ◌++◌, length, codes, decimal, Option, Some, None, option_and_then, unwrap_or, IsUtf8, refl, ap, ◌∙◌, arith, length-append}
+use Rattle.std.proofs.Common.{◌≡◌, ◌<◌, ◌≤◌, ◌^◌, ◌&&◌, nat_lt, Bool, true, ℕ, List, [], ◌∷◌, ◌++◌, length, codes, decimal, Option, Some, None, option_and_then, unwrap_or, IsUtf8, refl, ap, ◌∙◌, arith, length-append}
 use Rattle.std.specs.Int.{w128, to_be_bytes}
 use Rattle.std.specs.Str.{IsAscii}
 use Rattle.std.proofs.lemmas.Bool.{and_parts, ltb-true}
@@ -30,6 +30,11 @@ use Rattle.doc_file.proofs.Sizes.{length-quoted, length-text_bytes, length-spell
 
 AreMembers-kept : (members : Members) → AreMembers members → AreMembers (kept members)
 AreMembers-kept members all = AreMembers-without (codes "_deleted") (without (codes "_rev") members) (AreMembers-without (codes "_rev") members all)
+
+-- a document that may be put is an object, since it has an id
+pub IsObject-writable : (document : Json) → IsWritable document → IsObject document
+IsObject-writable (object _) writable = tt
+IsObject-writable other writable = let id = writable.id in absurd (cc)
 
 -- ---- the id
 

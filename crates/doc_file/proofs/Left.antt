@@ -3,7 +3,6 @@ use Rattle.std.proofs.Common.{◌≡◌, ◌<◌, ◌&&◌, ℕ, zero, suc, List
 use Rattle.std.specs.declared.cmp.Ordering.TheVariants.{Less}
 use Rattle.std.specs.Ordering.{nat_cmp}
 use Rattle.std.specs.Cmp.Lexicographic.{slice_cmp}
-use Rattle.std.proofs.lemmas.Bool.{and_parts}
 use Rattle.json_terms.specs.declared.term.Member.{Member}
 use Rattle.json_terms.specs.Json.{Json, Members, no_members, member, members_of}
 use Rattle.json_terms.specs.Terms.{AreMembers, ComesBefore, ComesAfter}

@@ -1,5 +1,5 @@
 -- How long the spelling of a term is and how large its counts are, by the length of its text.
-use Rattle.std.proofs.Common.{◌≡◌, ◌+◌, ◌*◌, ◌/◌, ◌%◌, ◌<◌, ◌≤◌, ◌^◌, nat_lt, ℕ, suc, pos, negsuc, List, [], ◌∷◌, ◌++◌, length, Bool, true, false, cond, decimal, arith, length-append}
+use Rattle.std.proofs.Common.{◌≡◌, ◌+◌, ◌*◌, ◌/◌, ◌%◌, ◌<◌, ◌≤◌, ◌^◌, nat_lt, ℕ, suc, pos, negsuc, List, [], ◌∷◌, ◌++◌, length, Bool, true, false, cond, arith, length-append}
 use Rattle.std.proofs.lemmas.Fmt.{decimal_nonempty}
 use Rattle.std.specs.Char.{digit_char}
 use Rattle.json.specs.Print.{escape_letter, escape_byte, escape, quoted}
@@ -7,7 +7,7 @@ use Rattle.serde_json.specs.Written.{comma_if, items_text, members_text}
 use Rattle.json_terms.specs.Json.{Json, number, is_false, is_null, is_true, object, array, string, Items, no_items, item, Members, no_members, member}
 use Rattle.json_terms.specs.Terms.{IsTerm, AreTerms, AreMembers}
 use Rattle.json_terms.specs.Text.{text_of, items_serde_of, members_serde_of}
-use Rattle.term_codec.specs.Spelling.{spelling, items_spelling, members_spelling, items_count, members_count, count_bytes, number_bytes, text_bytes}
+use Rattle.term_codec.specs.Spelling.{spelling, items_spelling, members_spelling, items_count, members_count, count_bytes, text_bytes}
 use Rattle.term_codec.specs.Stands.{CountsFit, ItemsFit, MembersFit}
 use Rattle.term_codec.proofs.Words.{length-count_bytes, length-number_bytes}
 
@@ -112,7 +112,7 @@ mutual
 
 -- ---- counts
 
--- there are no more elements than bytes, with the bracket behind them
+-- behind another each element has a comma, and the last has a bracket behind it
 items_count-le : (ts : Items) → items_count ts + 1 ≤ length (items_text true (items_serde_of ts))
 items_count-le no_items = omega arith
 items_count-le (item t ts) =
@@ -120,14 +120,14 @@ items_count-le (item t ts) =
     let text = length-items_text true t ts in
     omega arith
 
-pub members_count-le : (ms : Members) → members_count ms + 1 ≤ length (members_text true (members_serde_of ms))
+members_count-le : (ms : Members) → members_count ms + 1 ≤ length (members_text true (members_serde_of ms))
 members_count-le no_members = omega arith
 members_count-le (member n t ms) =
     let others = members_count-le ms in
     let text = length-members_text true n t ms in
     omega arith
 
--- with or without a comma in front
+-- there are no more parts than the whole text has bytes
 items_count-fits : (ts : Items) → items_count ts ≤ length (text_of (array ts))
 items_count-fits no_items = omega arith
 items_count-fits (item t ts) =
@@ -159,7 +159,7 @@ mutual
       let text = length-items_text later t ts in
       (CountsFit-short t (omega arith), ItemsFit-short true ts (omega arith))
 
-  pub MembersFit-short : (later : Bool) (ms : Members) → length (members_text later (members_serde_of ms)) < 2 ^ 32 → MembersFit ms
+  MembersFit-short : (later : Bool) (ms : Members) → length (members_text later (members_serde_of ms)) < 2 ^ 32 → MembersFit ms
   MembersFit-short later no_members short = tt
   MembersFit-short later (member n t ms) short =
       let text = length-members_text later n t ms in

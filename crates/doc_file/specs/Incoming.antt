@@ -1,5 +1,5 @@
 -- What a document must be to be put, and what of it is stored.
-use Rattle.std.specs.Prelude.{◌≡◌, ◌⊎◌, ℕ, ◌≤◌, List, Bool, true, false, not, ◌&&◌, ◌||◌, nat_lt, length, codes, bytes_eq, if◌then◌else◌, Option, Some, None, option_and_then, IsTrue}
+use Rattle.std.specs.Prelude.{◌≡◌, ℕ, ◌≤◌, List, Bool, true, false, not, ◌&&◌, ◌||◌, nat_lt, length, codes, bytes_eq, if◌then◌else◌, Option, Some, None, option_and_then, IsTrue}
 use Rattle.json_terms.specs.Json.{Json, number, is_false, is_null, is_true, object, array, string, Members, no_members, member, depth}
 use Rattle.json_terms.specs.Find.{member_of}
 use Rattle.json_terms.specs.Kinds.{text_in}

@@ -1,12 +1,11 @@
 //! Documents that are put: what they must be, and what of them is stored.
 
 ghost use Rattle.std.specs.Prelude.{◌≡◌, ◌≤◌, ◌⊎◌, ◌↔◌, ◌&&◌, not, IfOk, IfErr, IsTrue, length, map, option_map, codes, bytes_eq, string_bytes};
-ghost use Rattle.json_terms.specs.Json.{depth, members_of};
+ghost use Rattle.json_terms.specs.Json.{members_of};
 ghost use Rattle.json_terms.specs.Seen.{json, pair_of};
 ghost use Rattle.json_terms.specs.Text.{text_of};
 ghost use Rattle.design_docs.specs.Documents as ids;
 ghost use Rattle.design_docs.specs.PlainDocument.{size_limit};
-ghost use Rattle.doc_file.specs.Held.{IsObject};
 ghost use Rattle.doc_file.specs.Content as parts;
 ghost use Rattle.doc_file.specs.Incoming as spec;
 ghost use Rattle.doc_file.specs.Revision as revision;
@@ -41,8 +40,6 @@ pub(crate) struct Incoming {
 /// Reads a document that is put, or refuses it with the first cause: its id, a member that no document may have, its
 /// revision, its size, its depth. Want of memory may come at any time: it takes as much as the document's text has bytes.
 pub(crate) fn read_incoming(alloc: Global, document: Term) -> Result<Incoming, DocFault>
-    requires object { IsObject (json document) }
-    requires depth { depth (json document) ≤ 100 }
     ensures ok { IfOk result (λ incoming. spec.IsReadAs (json document) incoming) }
     ensures err { IfErr result (λ e. spec.IsUnfit (json document) e ⊎ (e ≡ DocFault.NoMemory)) }
 {

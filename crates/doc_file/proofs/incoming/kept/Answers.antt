@@ -1,10 +1,10 @@
 -- The names of what is left rise, as those of the members do.
-use Rattle.std.proofs.Common.{◌≡◌, ◌<◌, ◌&&◌, List, map, take, length, not, true, false, codes, bytes_eq, sym, ap, ◌∙◌, subst}
+use Rattle.std.proofs.Common.{◌≡◌, ◌&&◌, List, map, take, length, not, true, false, codes, bytes_eq, sym, ap, ◌∙◌, subst}
 use Rattle.std.proofs.lemmas.Iterator.Adapters.{YieldsList-from_vec}
-use Rattle.std.proofs.lemmas.Iterator.Consumers.{YieldsList-so_far, YieldsList-turn, YieldsList-end}
+use Rattle.std.proofs.lemmas.Iterator.Consumers.{YieldsList-so_far, YieldsList-turn}
 use Rattle.json_terms.specs.declared.term.Member.{Member}
 use Rattle.json_terms.specs.Json.{members_of}
-use Rattle.json_terms.specs.Seen.{json, pair_of}
+use Rattle.json_terms.specs.Seen.{pair_of}
 use Rattle.json_terms.specs.Terms.{AreMembers, ComesAfter}
 use Rattle.doc_file.proofs.Left.{kept, ComesAfter-kept, kept-taken, kept-left, itself}
 use Rattle.doc_file.proofs.incoming.kept.Goals as goal
