@@ -17,3 +17,4 @@ mod Left
 mod Contents
 mod Stores
 mod Storing
+mod Storable

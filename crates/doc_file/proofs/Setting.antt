@@ -22,7 +22,7 @@ same_id a b is = (bytes_eq-Decides a b).0 is
 pub bytes_eq-same : (a : List ℕ) → bytes_eq a a ≡ true
 bytes_eq-same a = (bytes_eq-Decides a a).1 refl
 
-equal_id : (a b : List ℕ) → slice_cmp nat_cmp a b ≡ Equal → a ≡ b
+pub equal_id : (a b : List ℕ) → slice_cmp nat_cmp a b ≡ Equal → a ≡ b
 equal_id a b equal = same_id a b (sym (is_eq-slice_cmp a b) ∙ ap is_eq equal)
 
 -- an id that is greater is another

@@ -10,5 +10,6 @@ pub mod Held
 pub mod Stored
 pub mod Places
 pub mod Drafts
+pub mod Writes
 pub mod Faults
 pub mod Docs

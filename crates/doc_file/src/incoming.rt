@@ -37,6 +37,33 @@ pub(crate) struct Incoming {
     pub content: Term,
 }
 
+impl Incoming {
+    ghost use Rattle.std.specs.Prelude.{◌≡◌, Some, None, option_map, if◌then◌else◌};
+    ghost use Rattle.json_terms.specs.Seen.{json};
+
+    /// The text of the revision that it names.
+    pub(crate) fn given_text(&self) -> Option<&str>
+        ensures { option_map (λ text. text.now) result ≡ self.now.given }
+    {
+        match &self.given {
+            Some(given) => Some(given.as_str()),
+            None => None,
+        }
+    }
+
+    /// The id, and what is stored, which for a deletion is nothing.
+    pub(crate) fn into_stored(self) -> (Chars, Option<Term>)
+        ensures id { result.0 ≡ self.id }
+        ensures content { option_map json result.1 ≡ (if self.deletes then None else Some (json self.content)) }
+    {
+        if self.deletes {
+            (self.id, None)
+        } else {
+            (self.id, Some(self.content))
+        }
+    }
+}
+
 /// Reads a document that is put, or refuses it with the first cause: its id, a member that no document may have, its
 /// revision, its size, its depth. Want of memory may come at any time: it takes as much as the document's text has bytes.
 pub(crate) fn read_incoming(alloc: Global, document: Term) -> Result<Incoming, DocFault>

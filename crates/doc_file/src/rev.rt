@@ -1,6 +1,7 @@
 //! Revisions.
 
-ghost use Rattle.std.specs.Prelude.{◌≡◌, ℕ, ◌≤◌, ◌<◌, ◌^◌, ◌↔◌, IfOk, IsTrue, EachIndex, slice_index, string_bytes, decimal};
+ghost use Rattle.std.specs.Prelude.{◌≡◌, ℕ, ◌≤◌, ◌<◌, ◌^◌, ◌↔◌, IfOk, IsTrue, EachIndex, slice_index, string_bytes, decimal, option_map};
+ghost use Rattle.doc_file.specs.Writes.{IsGiven};
 ghost use Rattle.doc_file.specs.Revision.{revision, IsHexDigit, IsGeneration, IsSequence, IsRevision};
 
 use itoa::Buffer;
@@ -56,6 +57,16 @@ pub fn is_revision(text: &str) -> bool
         return false;
     }
     is_sequence(seq)
+}
+
+/// Whether no revision is given, or one of the form of a revision.
+pub(crate) fn is_given(rev: Option<&str>) -> bool
+    ensures { IsTrue result ↔ IsGiven (option_map (λ text. text.now) rev.entry) }
+{
+    match rev {
+        Some(text) => is_revision(text),
+        None => true,
+    }
 }
 
 fn is_generation(digits: &[u8]) -> bool
