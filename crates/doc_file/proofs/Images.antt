@@ -19,27 +19,27 @@ use Rattle.gate_file.proofs.Windows.{get_or-window}
 use Rattle.doc_file.specs.History.{Write}
 use Rattle.doc_file.specs.Held.{AreApart, Stands, StandsFor, open_roots, side_in}
 
-abbrev low_side : FileName
+abbrev pub low_side : FileName
 low_side = side_of DocsStem false
 
-abbrev high_side : FileName
+abbrev pub high_side : FileName
 high_side = side_of DocsStem true
 
-option_cases : (o : Option Root) → (o ≡ None) ⊎ ((root : Root) × (o ≡ Some root))
+pub option_cases : (o : Option Root) → (o ≡ None) ⊎ ((root : Root) × (o ≡ Some root))
 option_cases None = inl refl
 option_cases (Some root) = inr (root, refl)
 
 closed_there : (at : ℕ) → open_root (slot_at [] at) ≡ None
 closed_there at = open_root-closed (slot_at [] at) (λ opened. omega (arith, get_or-window [] at 65 64 (omega arith), opened))
 
-fit_there : (at : ℕ) → IsFit at []
+pub fit_there : (at : ℕ) → IsFit at []
 fit_there at = IsFit-closed at [] (λ opened. omega (arith, get_or-window [] at 65 64 (omega arith), opened))
 
-none_there : newest [] ≡ None
+pub none_there : newest [] ≡ None
 none_there = ap (λ o. newer o (open_root (slot_at [] 4096))) (closed_there 0) ∙ closed_there 4096
 
 -- what is found by the root of the last commit
-found_is : (name : FileName) (bytes : List ℕ) (root : Option Root) → newest bytes ≡ root
+pub found_is : (name : FileName) (bytes : List ℕ) (root : Option Root) → newest bytes ≡ root
     → found name bytes ≡ found_newest name (length bytes) (open_root (slot_at bytes 0)) (open_root (slot_at bytes 4096)) root
 found_is name bytes root is = ap (λ o. found_newest name (length bytes) (open_root (slot_at bytes 0)) (open_root (slot_at bytes 4096)) o) is
 
@@ -108,7 +108,7 @@ Across low high =
     × AreApart (open_root (slot_at low 4096)) (open_root (slot_at high 0)) × AreApart (open_root (slot_at low 4096)) (open_root (slot_at high 4096))
 
 -- without a root there are no writes, whatever the bytes are
-none_stands : (history : List Write) (bytes other : List ℕ) → StandsFor None bytes history → StandsFor None other history
+pub none_stands : (history : List Write) (bytes other : List ℕ) → StandsFor None bytes history → StandsFor None other history
 none_stands [] bytes other for = record {
   entries = [];
   holds = (refl, refl);

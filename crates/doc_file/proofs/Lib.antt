@@ -18,3 +18,4 @@ mod Contents
 mod Stores
 mod Storing
 mod Storable
+mod Opened

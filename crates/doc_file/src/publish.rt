@@ -10,6 +10,16 @@ ghost use Rattle.doc_file.specs.Stored.{published, IsPublished, ShowsNew};
 use gate_file::{GateFault, GateFile};
 use view_ports::Folder;
 
+/// The place of the first data of a file, behind its slots.
+const DATA: u64 = 8192;
+
+/// The place of the next bytes that are appended: the end of the file, or behind the slots of a new one.
+pub(crate) fn next_place(file: &GateFile) -> u64
+    ensures { result ≡ start_of file.now }
+{
+    file.length().max(DATA)
+}
+
 /// Appends bytes, and makes those behind the first `skipped` of them the root record, by one commit. At each moment a crash
 /// leaves the old root with what was durable, or the new root with all of the bytes. After a fault the file is not to be
 /// used again.

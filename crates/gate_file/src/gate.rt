@@ -61,7 +61,7 @@ impl GateFile {
     }
 
     /// The place of the next bytes that are appended.
-    pub fn start(&self) -> u64
+    fn start(&self) -> u64
         ensures { result ≡ start_of self.now }
     {
         self.length.max(DATA)

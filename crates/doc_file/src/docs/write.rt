@@ -22,7 +22,7 @@ use crate::draft::{Draft, make_draft};
 use crate::fault::DocFault;
 use crate::incoming::{Incoming, read_incoming};
 use crate::last_writes::find_last;
-use crate::publish::publish;
+use crate::publish::{next_place, publish};
 use crate::rev::{Rev, is_given};
 use gate_file::GateFault;
 use json_terms::{Chars, Term};
@@ -152,7 +152,7 @@ impl Docs {
         ensures cause { HasCauseIf (λ e. e ≡ DocFault.Gate GateFault.DiskFault) (F.faults folder.old) (F.faults folder.new) result }
         ensures reads { F.reads folder.new ≡ F.reads folder.old }
     {
-        let start = self.file.start();
+        let start = next_place(&self.file);
         let Draft {
             rev,
             entries,

@@ -26,7 +26,7 @@ returns-in_err-rev-clause-stands g c = λ history at.
 
 pub returns-in_err-publish-clause-stands : goal.returns-in_err-publish-clause-stands
 returns-in_err-publish-clause-stands g c = λ history at.
-    publishes c.args.self.now c.args.id (option_map json c.args.content) c.in_ok-rev.field-0 c.start-start.result c.start-start.ensures c.as_slice.result.now c.as_slice.ensures.value c.in_ok-rev.ensures
+    publishes c.args.self.now c.args.id (option_map json c.args.content) c.in_ok-rev.field-0 c.next_place-start.result c.next_place-start.ensures c.as_slice.result.now c.as_slice.ensures.value c.in_ok-rev.ensures
     c.requires.room c.requires.storable c.as_slice-2.result.now c.as_slice-2.ensures.value c.in_ok-rev.field-0.body refl
     (g.F.Folder.disk c.args.folder.now) (g.F.Folder.disk c.publish.new.folder) history
     (λ f n. OnOk c.publish.result (IsPublished (published c.args.self.now.file (length c.as_slice-2.result.now) c.in_ok-rev.field-0.body) c.as_slice-2.result.now f n)) _
@@ -34,24 +34,24 @@ returns-in_err-publish-clause-stands g c = λ history at.
 
 pub invariant_of-self-2-clause-counted : goal.invariant_of-self-2-clause-counted
 invariant_of-self-2-clause-counted g c =
-    counted_now c.args.self.now c.args.id (option_map json c.args.content) c.in_ok-rev.field-0 c.start-start.result c.start-start.ensures c.as_slice.result.now c.as_slice.ensures.value c.in_ok-rev.ensures
+    counted_now c.args.self.now c.args.id (option_map json c.args.content) c.in_ok-rev.field-0 c.next_place-start.result c.next_place-start.ensures c.as_slice.result.now c.as_slice.ensures.value c.in_ok-rev.ensures
     c.requires.room c.requires.storable c.as_slice-2.result.now c.as_slice-2.ensures.value c.in_ok-rev.field-0.body refl c.in_ok-publish.ensures.few c.publish.new.file c.in_ok-publish.ensures.done
 
 pub invariant_of-self-2-clause-room : goal.invariant_of-self-2-clause-room
 invariant_of-self-2-clause-room g c =
-    room_now c.args.self.now c.args.id (option_map json c.args.content) c.in_ok-rev.field-0 c.start-start.result c.start-start.ensures c.as_slice.result.now c.as_slice.ensures.value c.in_ok-rev.ensures
+    room_now c.args.self.now c.args.id (option_map json c.args.content) c.in_ok-rev.field-0 c.next_place-start.result c.next_place-start.ensures c.as_slice.result.now c.as_slice.ensures.value c.in_ok-rev.ensures
     c.requires.room c.requires.storable c.as_slice-2.result.now c.as_slice-2.ensures.value c.in_ok-rev.field-0.body refl
 
 pub returns-clause-open : goal.returns-clause-open
 returns-clause-open g c =
-    told_open c.args.self.now c.args.id (option_map json c.args.content) c.in_ok-rev.field-0 c.start-start.result c.start-start.ensures c.as_slice.result.now c.as_slice.ensures.value c.in_ok-rev.ensures
+    told_open c.args.self.now c.args.id (option_map json c.args.content) c.in_ok-rev.field-0 c.next_place-start.result c.next_place-start.ensures c.as_slice.result.now c.as_slice.ensures.value c.in_ok-rev.ensures
     c.requires.room c.requires.storable c.as_slice-2.result.now c.as_slice-2.ensures.value c.in_ok-rev.field-0.body refl
     c.in_ok-publish.ensures.few _ c.in_ok-publish.ensures.done (ap (λ (r : Rev). r.seq) c.in_ok-rev.ensures.rev) refl
     c.publish.result c.in_ok-publish.field-0 c.in_ok-publish.was (g.F.Folder.disk c.args.folder.now) (g.F.Folder.disk c.publish.new.folder) c.requires.open c.publish.ensures.disk
 
 pub returns-clause-stands : goal.returns-clause-stands
 returns-clause-stands g c = λ history at.
-    told_at c.args.self.now c.args.id (option_map json c.args.content) c.in_ok-rev.field-0 c.start-start.result c.start-start.ensures c.as_slice.result.now c.as_slice.ensures.value c.in_ok-rev.ensures
+    told_at c.args.self.now c.args.id (option_map json c.args.content) c.in_ok-rev.field-0 c.next_place-start.result c.next_place-start.ensures c.as_slice.result.now c.as_slice.ensures.value c.in_ok-rev.ensures
     c.requires.room c.requires.storable c.as_slice-2.result.now c.as_slice-2.ensures.value c.in_ok-rev.field-0.body refl
     c.in_ok-publish.ensures.few _ c.in_ok-publish.ensures.done (ap (λ (r : Rev). r.seq) c.in_ok-rev.ensures.rev) refl
     c.publish.result c.in_ok-publish.field-0 c.in_ok-publish.was (g.F.Folder.disk c.args.folder.now) (g.F.Folder.disk c.publish.new.folder) history at c.publish.ensures.disk

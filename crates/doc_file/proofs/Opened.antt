@@ -1,0 +1,219 @@
+-- What the documents' files stand for while the pair is opened.
+use Rattle.std.proofs.Common.{◌≡◌, ◌≢◌, ◌⊎◌, inl, inr, ⊎_elim, ℕ, ◌+◌, ◌<◌, ◌≤◌, List, [], ◌∷◌, length, take, drop, Option, Some, None, refl, sym, ap, ◌∙◌, subst, arith}
+use Rattle.std.specs.Prelude.{Bool, true, false, is_none, if◌then◌else◌, nat_lt, All, AllPairs}
+use Rattle.std.proofs.lemmas.Bool.Decides.{nat_tests}
+use Rattle.std.proofs.lemmas.List.Elements.{All-nil, All-cons, All-head, All-tail}
+use Rattle.view_ports.specs.File.{File, IsImage, settled}
+use Rattle.view_ports.specs.declared.file_name.FileName.{FileName}
+use Rattle.view_ports.specs.declared.file_name.Stem.TheVariants.{Docs as DocsStem}
+use Rattle.view_ports.proofs.Images.{IsImage-settled}
+use Rattle.gate_file.specs.declared.root.Root.{Root}
+use Rattle.gate_file.specs.declared.gate.GateFile.{GateFile}
+use Rattle.gate_file.specs.Header.{slot_at, open_root, IsFit, newest}
+use Rattle.gate_file.specs.GateFile.{name_of, root_of, commits_of}
+use Rattle.gate_file.specs.Open.{found, opened, opened_of, side_of, slots_of, BeforeOpening, IsDropped, IsWholeOrEmpty, WhileOpening}
+use Rattle.gate_file.specs.Shown.{Shows}
+use Rattle.gate_file.proofs.Pairs.{sides, apart as sides_differ, name_is, has_root}
+use Rattle.gate_file.proofs.Looks.{newest_of}
+use Rattle.doc_file.specs.History.{Write}
+use Rattle.doc_file.specs.Held.{AreApart, Stands, StandsFor, open_roots, side_in}
+use Rattle.doc_file.proofs.Images.{image_stands, none_stands, found_is, fit_there, none_there, low_side, high_side, option_cases}
+use Rattle.doc_file.proofs.Setting.{bool_cases}
+
+-- what each side is found to be
+module _ (name : FileName) (bytes : List ℕ) where
+  found_name : (found name bytes).name ≡ name
+  found_name = name_is (found name bytes) name bytes refl
+
+  found_root : (found name bytes).root ≡ newest bytes
+  found_root = by_root (option_cases (newest bytes))
+    where
+      by_root : (newest bytes ≡ None) ⊎ ((r : Root) × (newest bytes ≡ Some r)) → (found name bytes).root ≡ newest bytes
+      by_root (inl none) = ap (λ (g : GateFile). g.root) (found_is name bytes None none) ∙ sym none
+      by_root (inr some) = ap (λ (g : GateFile). g.root) (found_is name bytes (Some some.0) some.1) ∙ sym some.1
+
+  found_commits_none : newest bytes ≡ None → (found name bytes).commits ≡ 0
+  found_commits_none none = ap (λ (g : GateFile). g.commits) (found_is name bytes None none)
+
+-- ---- which side is taken
+
+module _ (a b : List ℕ) where
+  abbrev first : GateFile
+  first = found low_side a
+
+  abbrev second : GateFile
+  second = found high_side b
+
+  abbrev gate : GateFile
+  gate = opened_of (found low_side a) (found high_side b)
+
+  -- the second is taken where its commit is later
+  takes_second : nat_lt (found low_side a).commits (found high_side b).commits ≡ true → opened_of (found low_side a) (found high_side b) ≡ found high_side b
+  takes_second later = rw later refl
+
+  pub record IsFirst : Type 0 where
+    pub root_is : (opened_of (found low_side a) (found high_side b)).root ≡ newest a
+    pub named : (opened_of (found low_side a) (found high_side b)).name ≡ low_side
+
+  takes_first : nat_lt (found low_side a).commits (found high_side b).commits ≡ false → IsFirst
+  takes_first earlier = by_root (bool_cases (is_none (found low_side a).root))
+    where
+      by_root : (is_none (found low_side a).root ≡ true) ⊎ (is_none (found low_side a).root ≡ false) → IsFirst
+      by_root (inl none) =
+          let is : opened_of (found low_side a) (found high_side b) ≡ record (found low_side a) { length = 0 } = rw (earlier, none) refl in
+          record {
+            root_is = ap (λ (g : GateFile). g.root) is ∙ found_root low_side a;
+            named = ap (λ (g : GateFile). g.name) is ∙ found_name low_side a;
+          }
+      by_root (inr some) =
+          let is : opened_of (found low_side a) (found high_side b) ≡ found low_side a = rw (earlier, some) refl in
+          record {
+            root_is = ap (λ (g : GateFile). g.root) is ∙ found_root low_side a;
+            named = ap (λ (g : GateFile). g.name) is ∙ found_name low_side a;
+          }
+
+  pub is_docs : (opened_of (found low_side a) (found high_side b)).name.stem ≡ DocsStem
+  is_docs = by_later (bool_cases (nat_lt (found low_side a).commits (found high_side b).commits))
+    where
+      by_later : (nat_lt (found low_side a).commits (found high_side b).commits ≡ true) ⊎ (nat_lt (found low_side a).commits (found high_side b).commits ≡ false) → (opened_of (found low_side a) (found high_side b)).name.stem ≡ DocsStem
+      by_later (inl later) = ap (λ (g : GateFile). g.name.stem) (takes_second later) ∙ ap (λ (n : FileName). n.stem) (found_name high_side b)
+      by_later (inr earlier) = ap (λ (n : FileName). n.stem) (takes_first earlier).named
+
+  -- where the second is dropped, the first is taken
+  pub second_dropped : IsDropped (opened_of (found low_side a) (found high_side b)) high_side → IsFirst
+  second_dropped dropped = by_later (bool_cases (nat_lt (found low_side a).commits (found high_side b).commits))
+    where
+      by_later : (nat_lt (found low_side a).commits (found high_side b).commits ≡ true) ⊎ (nat_lt (found low_side a).commits (found high_side b).commits ≡ false) → IsFirst
+      by_later (inr earlier) = takes_first earlier
+      by_later (inl later) =
+          let is = takes_second later in
+          let rises : (found low_side a).commits < (found high_side b).commits = grind (arith, nat_tests) in
+          let some = has_root (found high_side b) high_side b refl (omega (arith, rises)) in
+          let none : (opened_of (found low_side a) (found high_side b)).root ≡ None = dropped (sym (ap (λ (g : GateFile). g.name) is ∙ found_name high_side b)) in
+          let clash : ⊥ = cc (ap (λ (g : GateFile). g.root) is, some.1, none) in
+          absurd clash
+
+  pub record IsSecond : Type 0 where
+    pub root_is : (opened_of (found low_side a) (found high_side b)).root ≡ newest b
+    pub named : (r : Root) → newest b ≡ Some r → (opened_of (found low_side a) (found high_side b)).name ≡ high_side
+
+  -- where the first is dropped, the second is taken, or nothing
+  pub first_dropped : IsFit 0 b → IsFit 4096 b → IsDropped (opened_of (found low_side a) (found high_side b)) low_side → IsSecond
+  first_dropped low high dropped = by_later (bool_cases (nat_lt (found low_side a).commits (found high_side b).commits))
+    where
+      by_later : (nat_lt (found low_side a).commits (found high_side b).commits ≡ true) ⊎ (nat_lt (found low_side a).commits (found high_side b).commits ≡ false) → IsSecond
+      by_later (inl later) =
+          let is = takes_second later in
+          record {
+            root_is = ap (λ (g : GateFile). g.root) is ∙ found_root high_side b;
+            named = λ r some. ap (λ (g : GateFile). g.name) is ∙ found_name high_side b;
+          }
+      by_later (inr earlier) =
+          let taken = takes_first earlier in
+          let none : (opened_of (found low_side a) (found high_side b)).root ≡ None = dropped (sym taken.named) in
+          let none_first : newest a ≡ None = sym taken.root_is ∙ none in
+          let zero_first : (found low_side a).commits ≡ 0 = found_commits_none low_side a none_first in
+          let none_second : newest b ≡ None = ⊎_elim (λ is. is) (λ some.
+              let is : (found high_side b).commits ≡ (some.0).number = ap (λ (g : GateFile). g.commits) (found_is high_side b (Some some.0) some.1) in
+              let positive : 0 < (some.0).number = (newest_of b some.0 low high some.1).some in
+              let clash : ⊥ = grind (arith, nat_tests) in absurd clash) (option_cases (newest b)) in
+          record {
+            root_is = none ∙ sym none_second;
+            named = λ r some. absurd (let clash : ⊥ = cc (none_second, some) in clash);
+          }
+
+-- ---- images of the pair
+
+-- the four slots
+slots_of_all : (image : FileName → List ℕ) → All (λ slot. IsFit slot.1 (image slot.0)) (slots_of DocsStem)
+    → IsFit 0 (image low_side) × IsFit 4096 (image low_side) × IsFit 0 (image high_side) × IsFit 4096 (image high_side)
+slots_of_all image all =
+    let P = λ (slot : FileName × ℕ). IsFit slot.1 (image slot.0) in
+    let second = All-tail P (low_side, 0) ((low_side, 4096) ∷ (high_side, 0) ∷ (high_side, 4096) ∷ []) all in
+    let third = All-tail P (low_side, 4096) ((high_side, 0) ∷ (high_side, 4096) ∷ []) second in
+    let last = All-tail P (high_side, 0) ((high_side, 4096) ∷ []) third in (
+      All-head P (low_side, 0) ((low_side, 4096) ∷ (high_side, 0) ∷ (high_side, 4096) ∷ []) all,
+      All-head P (low_side, 4096) ((high_side, 0) ∷ (high_side, 4096) ∷ []) second,
+      All-head P (high_side, 0) ((high_side, 4096) ∷ []) third,
+      All-head P (high_side, 4096) [] last,
+    )
+
+all_of_slots : (image : FileName → List ℕ) → IsFit 0 (image low_side) → IsFit 4096 (image low_side) → IsFit 0 (image high_side) → IsFit 4096 (image high_side) → All (λ slot. IsFit slot.1 (image slot.0)) (slots_of DocsStem)
+all_of_slots image p q r s =
+    let P = λ (slot : FileName × ℕ). IsFit slot.1 (image slot.0) in
+    All-cons P (low_side, 0) ((low_side, 4096) ∷ (high_side, 0) ∷ (high_side, 4096) ∷ []) p
+    (All-cons P (low_side, 4096) ((high_side, 0) ∷ (high_side, 4096) ∷ []) q
+    (All-cons P (high_side, 0) ((high_side, 4096) ∷ []) r (All-cons P (high_side, 4096) [] s (All-nil P))))
+
+abbrev roots_of : List ℕ → List ℕ → List (Option Root)
+roots_of x y = open_root (slot_at x 0) ∷ open_root (slot_at x 4096) ∷ open_root (slot_at y 0) ∷ open_root (slot_at y 4096) ∷ []
+
+module _ (image seen : FileName → List ℕ) (history : List Write) (stands : Stands seen history) where
+  fits_seen : IsFit 0 (seen low_side) × IsFit 4096 (seen low_side) × IsFit 0 (seen high_side) × IsFit 4096 (seen high_side)
+  fits_seen = slots_of_all seen stands.fit
+
+  -- the same bytes of the pair
+  pub stands_same : ((n : FileName) → n.stem ≡ DocsStem → image n ≡ seen n) → Stands image history
+  stands_same same =
+      let p : seen low_side ≡ image low_side = sym (same low_side refl) in
+      let q : seen high_side ≡ image high_side = sym (same high_side refl) in
+      record {
+        fit = all_of_slots image (subst (IsFit 0) p fits_seen.0) (subst (IsFit 4096) p fits_seen.1) (subst (IsFit 0) q fits_seen.2) (subst (IsFit 4096) q fits_seen.3);
+        apart = subst (λ y. AllPairs AreApart (roots_of (image low_side) y)) q (subst (λ x. AllPairs AreApart (roots_of x (seen high_side))) p stands.apart);
+        stands = subst (λ y. StandsFor (root_of (opened_of (found low_side (image low_side)) (found high_side y))) (image (name_of (opened_of (found low_side (image low_side)) (found high_side y)))) history) q
+            (subst (λ x. StandsFor (root_of (opened_of (found low_side x) (found high_side (seen high_side)))) (image (name_of (opened_of (found low_side x) (found high_side (seen high_side))))) history) p
+            (subst (λ b. StandsFor (root_of (side_in seen)) b history) (sym (same (name_of (side_in seen)) (is_docs (seen low_side) (seen high_side)))) stands.stands));
+      }
+
+  shown_whole : (n : FileName) → image n ≡ seen n → IsFit 0 (seen n) → IsFit 4096 (seen n) → Shows (newest (seen n)) [] (image n)
+  shown_whole n same low high = record {
+    names = ap newest same;
+    low = subst (IsFit 0) (sym same) low;
+    high = subst (IsFit 4096) (sym same) high;
+    long = omega arith;
+    rest = λ place behind within. absurd (omega arith);
+  }
+
+  -- what a root that is named by one side stands for
+  stands_side : (n : FileName) (root : Option Root) → root_of (side_in seen) ≡ root → ((r : Root) → root ≡ Some r → name_of (side_in seen) ≡ n) → image n ≡ seen n → StandsFor root (image n) history
+  stands_side n None is named same = none_stands history (seen (name_of (side_in seen))) (image n) (subst (λ r. StandsFor r (seen (name_of (side_in seen))) history) is stands.stands)
+  stands_side n (Some r) is named same =
+      subst (λ b. StandsFor (Some r) b history) (ap seen (named r refl) ∙ sym same) (subst (λ o. StandsFor o (seen (name_of (side_in seen))) history) is stands.stands)
+
+  -- one side is dropped, the other whole
+  pub stands_low : image low_side ≡ seen low_side → image high_side ≡ [] → IsDropped (side_in seen) high_side → Stands image history
+  stands_low whole none dropped =
+      let is = second_dropped (seen low_side) (seen high_side) dropped in
+      image_stands image low_side refl (λ n of_pair differs. ⊎_elim (λ same. absurd (differs same)) (λ same. ap image same ∙ none) (sides DocsStem n of_pair))
+      (newest (seen low_side)) [] (shown_whole low_side whole fits_seen.0 fits_seen.1) history
+      (stands_side low_side (newest (seen low_side)) is.root_is (λ r some. is.named) whole)
+
+  pub stands_high : image low_side ≡ [] → image high_side ≡ seen high_side → IsDropped (side_in seen) low_side → Stands image history
+  stands_high none whole dropped =
+      let is = first_dropped (seen low_side) (seen high_side) fits_seen.2 fits_seen.3 dropped in
+      image_stands image high_side refl (λ n of_pair differs. ⊎_elim (λ same. ap image same ∙ none) (λ same. absurd (differs same)) (sides DocsStem n of_pair))
+      (newest (seen high_side)) [] (shown_whole high_side whole fits_seen.2 fits_seen.3) history
+      (stands_side high_side (newest (seen high_side)) is.root_is is.named whole)
+
+  -- both are dropped: there was no write
+  pub stands_none : image low_side ≡ [] → image high_side ≡ [] → IsDropped (side_in seen) low_side → IsDropped (side_in seen) high_side → Stands image history
+  stands_none none_low none_high low high =
+      let rootless : root_of (side_in seen) ≡ None = ⊎_elim (λ same. low (sym same)) (λ same. high (sym same)) (sides DocsStem (name_of (side_in seen)) (is_docs (seen low_side) (seen high_side))) in
+      let empty : StandsFor None (image low_side) history = none_stands history (seen (name_of (side_in seen))) (image low_side) (subst (λ r. StandsFor r (seen (name_of (side_in seen))) history) rootless stands.stands) in
+      image_stands image low_side refl (λ n of_pair differs. ⊎_elim (λ same. absurd (differs same)) (λ same. ap image same ∙ none_high) (sides DocsStem n of_pair)) None []
+      (record { names = ap newest none_low ∙ none_there; low = subst (IsFit 0) (sym none_low) (fit_there 0); high = subst (IsFit 4096) (sym none_low) (fit_there 4096); long = omega arith; rest = λ place behind within. absurd (omega arith) })
+      history empty
+
+-- while the pair is opened that has nothing pending and stands for a history, so does each image
+pub while_opening : (files : FileName → File) (history : List Write) → ((n : FileName) → n.stem ≡ DocsStem → files n ≡ settled (files n).seen) → Stands (λ n. (files n).seen) history
+    → (image : FileName → List ℕ) → WhileOpening DocsStem files image → Stands image history
+while_opening files history whole stands image (inl before) =
+    stands_same image (λ n. (files n).seen) history stands (λ n of_pair. IsImage-settled (files n).seen (image n) (subst (λ f. IsImage f (image n)) (whole n of_pair) (before n of_pair)))
+while_opening files history whole stands image (inr left) = by_sides (left low_side refl) (left high_side refl)
+  where
+    by_sides : IsWholeOrEmpty (opened DocsStem files) low_side (files low_side).seen (image low_side) → IsWholeOrEmpty (opened DocsStem files) high_side (files high_side).seen (image high_side) → Stands image history
+    by_sides (inl low) (inl high) = stands_same image (λ n. (files n).seen) history stands
+        (λ n of_pair. ⊎_elim (λ is. subst (λ k. image k ≡ (files k).seen) (sym is) low) (λ is. subst (λ k. image k ≡ (files k).seen) (sym is) high) (sides DocsStem n of_pair))
+    by_sides (inl low) (inr high) = stands_low image (λ n. (files n).seen) history stands low high.0 high.1
+    by_sides (inr low) (inl high) = stands_high image (λ n. (files n).seen) history stands low.0 high low.1
+    by_sides (inr low) (inr high) = stands_none image (λ n. (files n).seen) history stands low.0 high.0 low.1 high.1
