@@ -188,3 +188,17 @@ root_in-read bytes seq es h =
       is = one.1 ∙ ap (λ bs. whole_bytes s.0 ++ bs) (two.1 ∙ (λ i. whole_bytes (counted i) ++ (entries.3.is ∙ ap (λ bs. entries_bytes xs ++ bs) end ∙ append-nil (entries_bytes xs)) i));
     } in
     subst (λ n. RootIsRead bytes n es) same_seq (subst (λ ys. RootIsRead bytes s.0 ys) same whole)))))
+
+abbrev seq_in : Option (ℕ × List Entry) → ℕ
+seq_in None = 0
+seq_in (Some r) = r.0
+
+abbrev entries_in : Option (ℕ × List Entry) → List Entry
+entries_in None = []
+entries_in (Some r) = r.1
+
+-- no two roots have the same record
+pub record_bytes-one : (seq other : ℕ) (es fs : List Entry) → IsRoot seq es → IsRoot other fs → record_bytes seq es ≡ record_bytes other fs → (seq ≡ other) × (es ≡ fs)
+record_bytes-one seq other es fs is is' same =
+    let both = sym (root_in-spelled seq es is) ∙ ap root_in same ∙ root_in-spelled other fs is' in
+    (ap seq_in both, ap entries_in both)

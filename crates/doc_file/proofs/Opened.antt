@@ -1,9 +1,12 @@
 -- What the documents' files stand for while the pair is opened.
-use Rattle.std.proofs.Common.{◌≡◌, ◌≢◌, ◌⊎◌, inl, inr, ⊎_elim, ℕ, ◌+◌, ◌<◌, ◌≤◌, List, [], ◌∷◌, length, take, drop, Option, Some, None, refl, sym, ap, ◌∙◌, subst, arith}
-use Rattle.std.specs.Prelude.{Bool, true, false, is_none, if◌then◌else◌, nat_lt, All, AllPairs}
+use Rattle.std.proofs.Common.{◌≡◌, ◌≢◌, ◌⊎◌, inl, inr, ⊎_elim, ℕ, ◌+◌, ◌<◌, ◌≤◌, List, [], ◌∷◌, ◌++◌, length, take, drop, Option, Some, None, refl, sym, ap, ◌∙◌, subst, arith}
+use Rattle.std.specs.Prelude.{Bool, true, false, is_none, if◌then◌else◌, nat_lt, All, AllPairs, IfSome}
 use Rattle.std.proofs.lemmas.Bool.Decides.{nat_tests}
 use Rattle.std.proofs.lemmas.List.Elements.{All-nil, All-cons, All-head, All-tail}
 use Rattle.view_ports.specs.File.{File, IsImage, settled}
+use Rattle.view_ports.specs.Disk.{Disk, IfTold, Moves, Tells}
+use Rattle.view_ports.proofs.Told.{told_given}
+use Rattle.view_ports.proofs.DiskRuns.{moves_wider}
 use Rattle.view_ports.specs.declared.file_name.FileName.{FileName}
 use Rattle.view_ports.specs.declared.file_name.Stem.TheVariants.{Docs as DocsStem}
 use Rattle.view_ports.proofs.Images.{IsImage-settled}
@@ -11,12 +14,19 @@ use Rattle.gate_file.specs.declared.root.Root.{Root}
 use Rattle.gate_file.specs.declared.gate.GateFile.{GateFile}
 use Rattle.gate_file.specs.Header.{slot_at, open_root, IsFit, newest}
 use Rattle.gate_file.specs.GateFile.{name_of, root_of, commits_of}
-use Rattle.gate_file.specs.Open.{found, opened, opened_of, side_of, slots_of, BeforeOpening, IsDropped, IsWholeOrEmpty, WhileOpening}
+use Rattle.gate_file.specs.Open.{IsFirstDamage, found, opened, opened_of, side_of, slots_of, BeforeOpening, IsDropped, IsWholeOrEmpty, WhileOpening}
 use Rattle.gate_file.specs.Shown.{Shows}
 use Rattle.gate_file.proofs.Pairs.{sides, apart as sides_differ, name_is, has_root}
 use Rattle.gate_file.proofs.Looks.{newest_of}
-use Rattle.doc_file.specs.History.{Write}
-use Rattle.doc_file.specs.Held.{AreApart, Stands, StandsFor, open_roots, side_in}
+use Rattle.std.proofs.lemmas.List.{take_all}
+use Rattle.gate_file.specs.Open.{IsOpened}
+use Rattle.doc_file.specs.declared.docs.Docs.{Docs}
+use Rattle.doc_file.specs.declared.entry.Entry.{Entry}
+use Rattle.doc_file.specs.Docs.{bytes_in, entries_of, file_of, seq_of, HoldsHistory, IsAt, IsDocsFile, IsLoaded, IsOpen}
+use Rattle.doc_file.specs.Record.{record_bytes}
+use Rattle.doc_file.proofs.Entries.{record_bytes-one}
+use Rattle.doc_file.specs.History.{Write, last_write}
+use Rattle.doc_file.specs.Held.{AreApart, HoldsRoot, Keeps, KeepsEach, find_last, Stands, StandsFor, open_roots, side_in}
 use Rattle.doc_file.proofs.Images.{image_stands, none_stands, found_is, fit_there, none_there, low_side, high_side, option_cases}
 use Rattle.doc_file.proofs.Setting.{bool_cases}
 
@@ -34,6 +44,13 @@ module _ (name : FileName) (bytes : List ℕ) where
 
   found_commits_none : newest bytes ≡ None → (found name bytes).commits ≡ 0
   found_commits_none none = ap (λ (g : GateFile). g.commits) (found_is name bytes None none)
+
+  found_length : (found name bytes).length ≡ length bytes
+  found_length = by_root (option_cases (newest bytes))
+    where
+      by_root : (newest bytes ≡ None) ⊎ ((r : Root) × (newest bytes ≡ Some r)) → (found name bytes).length ≡ length bytes
+      by_root (inl none) = ap (λ (g : GateFile). g.length) (found_is name bytes None none)
+      by_root (inr some) = ap (λ (g : GateFile). g.length) (found_is name bytes (Some some.0) some.1)
 
 -- ---- which side is taken
 
@@ -92,6 +109,27 @@ module _ (a b : List ℕ) where
           let none : (opened_of (found low_side a) (found high_side b)).root ≡ None = dropped (sym (ap (λ (g : GateFile). g.name) is ∙ found_name high_side b)) in
           let clash : ⊥ = cc (ap (λ (g : GateFile). g.root) is, some.1, none) in
           absurd clash
+
+  -- the whole of the side is taken, where it has a root
+  pub whole_length : (seen : FileName → List ℕ) → seen low_side ≡ a → seen high_side ≡ b → (r : Root) → (opened_of (found low_side a) (found high_side b)).root ≡ Some r
+      → (opened_of (found low_side a) (found high_side b)).length ≡ length (seen (opened_of (found low_side a) (found high_side b)).name)
+  whole_length seen low high r some = by_later (bool_cases (nat_lt (found low_side a).commits (found high_side b).commits))
+    where
+      by_later : (nat_lt (found low_side a).commits (found high_side b).commits ≡ true) ⊎ (nat_lt (found low_side a).commits (found high_side b).commits ≡ false)
+          → (opened_of (found low_side a) (found high_side b)).length ≡ length (seen (opened_of (found low_side a) (found high_side b)).name)
+      by_later (inl later) =
+          let is = takes_second later in
+          ap (λ (g : GateFile). g.length) is ∙ found_length high_side b ∙ sym (ap length (ap (λ (g : GateFile). seen g.name) is ∙ ap seen (found_name high_side b) ∙ high))
+      by_later (inr earlier) = by_root (bool_cases (is_none (found low_side a).root))
+        where
+          by_root : (is_none (found low_side a).root ≡ true) ⊎ (is_none (found low_side a).root ≡ false) → (opened_of (found low_side a) (found high_side b)).length ≡ length (seen (opened_of (found low_side a) (found high_side b)).name)
+          by_root (inl none) =
+              let is : opened_of (found low_side a) (found high_side b) ≡ record (found low_side a) { length = 0 } = rw (earlier, none) refl in
+              let there : is_none (found low_side a).root ≡ false = ap (λ (g : GateFile). is_none g.root) (sym is) ∙ ap (λ o. is_none o) some in
+              let clash : ⊥ = cc (none, there) in absurd clash
+          by_root (inr there) =
+              let is : opened_of (found low_side a) (found high_side b) ≡ found low_side a = rw (earlier, there) refl in
+              ap (λ (g : GateFile). g.length) is ∙ found_length low_side a ∙ sym (ap length (ap (λ (g : GateFile). seen g.name) is ∙ ap seen (found_name low_side a) ∙ low))
 
   pub record IsSecond : Type 0 where
     pub root_is : (opened_of (found low_side a) (found high_side b)).root ≡ newest b
@@ -217,3 +255,97 @@ while_opening files history whole stands image (inr left) = by_sides (left low_s
     by_sides (inl low) (inr high) = stands_low image (λ n. (files n).seen) history stands low high.0 high.1
     by_sides (inr low) (inl high) = stands_high image (λ n. (files n).seen) history stands low.0 high low.1
     by_sides (inr low) (inr high) = stands_none image (λ n. (files n).seen) history stands low.0 high.0 low.1 high.1
+
+-- ---- the object that is opened
+
+module _ (docs : Docs) (old new : FileName → File) (file_is : file_of docs ≡ opened DocsStem old) (is : IsOpened (file_of docs) old new) (loaded : IsLoaded docs new) where
+  pub opened_open : IsOpen docs new
+  opened_open = record {
+    own = own_file;
+    keeps = is.keeps;
+    whole = is.whole ∙ ap settled (sym (ap (λ (f : File). f.seen) is.whole));
+    other = λ n of_pair differs. is.other n (of_pair ∙ sym own_file) differs;
+    loaded = loaded;
+  }
+    where
+      own_file : IsDocsFile (name_of (file_of docs))
+      own_file = subst (λ (g : GateFile). g.name.stem ≡ DocsStem) (sym file_is) (is_docs (old low_side).seen (old high_side).seen)
+
+  pub opened_at : (history : List Write) → HoldsHistory old history → IsAt docs new history
+  opened_at history holds = by_root (root_of (file_of docs)) refl loaded stands_old
+    where
+      stands_old : StandsFor (root_of (file_of docs)) (old (name_of (file_of docs))).seen history
+      stands_old = subst (λ (g : GateFile). StandsFor (root_of g) (old (name_of g)).seen history) (sym file_is) holds.stands.stands
+
+      by_root : (root : Option Root) → root_of (file_of docs) ≡ root → HoldsRoot root (commits_of (file_of docs)) (bytes_in docs new) (seq_of docs) (entries_of docs) → StandsFor root (old (name_of (file_of docs))).seen history → IsAt docs new history
+      by_root None none held for =
+          let here = none_stands history (old (name_of (file_of docs))).seen (bytes_in docs new) for in
+          record {
+            is_open = opened_open;
+            count = held.0 ∙ sym for.holds.0;
+            each = subst (KeepsEach history (bytes_in docs new)) (here.holds.1 ∙ sym held.1) here.each;
+          }
+      by_root (Some root) some held for =
+          let gate_some : (opened DocsStem old).root ≡ Some root = ap (λ (g : GateFile). g.root) (sym file_is) ∙ some in
+          let size : (file_of docs).length ≡ length (old (name_of (file_of docs))).seen =
+          subst (λ (g : GateFile). g.length ≡ length (old g.name).seen) (sym file_is) (whole_length (old low_side).seen (old high_side).seen (λ n. (old n).seen) refl refl root gate_some) in
+          let same : bytes_in docs new ≡ (old (name_of (file_of docs))).seen =
+          ap (λ (f : File). f.seen) is.whole ∙ take_all (file_of docs).length (old (name_of (file_of docs))).seen (omega (arith, size)) in
+          let record_same : record_bytes (seq_of docs) (entries_of docs) ≡ record_bytes (length history) for.entries =
+          held.2.same ∙ ap (λ b. take root.length (drop root.offset b)) same ∙ sym for.holds.2.same in
+          let one = record_bytes-one (seq_of docs) (length history) (entries_of docs) for.entries held.0 for.holds.0 record_same in
+          record {
+            is_open = opened_open;
+            count = one.0;
+            each = subst (KeepsEach history (bytes_in docs new)) (sym one.1) (subst (λ b. KeepsEach history b for.entries) (sym same) for.each);
+          }
+
+-- the root of the file that is opened is held in what was there
+pub opened_holds : (file : GateFile) (old new : FileName → File) (history : List Write) → file ≡ opened DocsStem old → IsOpened file old new → HoldsHistory old history
+    → (seq : ℕ) × ((entries : List Entry) × HoldsRoot (root_of file) (commits_of file) (new (name_of file)).seen seq entries)
+opened_holds file old new history file_is is holds = by_root (root_of file) refl is.keeps.counted
+    (subst (λ (g : GateFile). StandsFor (root_of g) (old (name_of g)).seen history) (sym file_is) holds.stands.stands)
+  where
+    by_root : (root : Option Root) → root_of file ≡ root → IfSome root (λ r. r.number ≡ commits_of file) → StandsFor root (old (name_of file)).seen history
+        → (seq : ℕ) × ((entries : List Entry) × HoldsRoot root (commits_of file) (new (name_of file)).seen seq entries)
+    by_root None none counted for = (length history, (for.entries, for.holds))
+    by_root (Some root) some counted for =
+        let gate_some : (opened DocsStem old).root ≡ Some root = ap (λ (g : GateFile). g.root) (sym file_is) ∙ some in
+        let size : file.length ≡ length (old (name_of file)).seen =
+        subst (λ (g : GateFile). g.length ≡ length (old g.name).seen) (sym file_is) (whole_length (old low_side).seen (old high_side).seen (λ n. (old n).seen) refl refl root gate_some) in
+        let same : (new (name_of file)).seen ≡ (old (name_of file)).seen =
+        ap (λ (f : File). f.seen) is.whole ∙ take_all file.length (old (name_of file)).seen (omega (arith, size)) in
+        (length history, (for.entries, subst (λ b. HoldsRoot (Some root) (commits_of file) b (length history) for.entries) (sym same) (subst (λ n. HoldsRoot (Some root) n (old (name_of file)).seen (length history) for.entries) counted for.holds)))
+
+-- no slot is damaged
+pub undamaged : (files : FileName → File) (history : List Write) (name : FileName) (at : ℕ) → HoldsHistory files history → IsFirstDamage DocsStem files name at → ⊥
+undamaged files history name at holds damage =
+    let P = λ (slot : FileName × ℕ). IsFit slot.1 (files slot.0).seen in
+    let all : All P (damage.before ++ (name, at) ∷ damage.after) = subst (All P) damage.split holds.stands.fit in
+    let fit : IsFit at (files name).seen = All-at P damage.before (name, at) damage.after all in
+    damage.damaged.1 (fit damage.damaged.0)
+  where
+    All-at : (P : FileName × ℕ → Type 0) (before : List (FileName × ℕ)) (slot : FileName × ℕ) (after : List (FileName × ℕ)) → All P (before ++ slot ∷ after) → P slot
+    All-at P [] slot after all = All-head P slot after all
+    All-at P (x ∷ xs) slot after all = All-at P xs slot after (All-tail P x (xs ++ slot ∷ after) all)
+
+-- ---- as a folder tells it
+
+module _ {D : Type 0} where
+  -- with what is known at the end
+  pub told_end : (old new : Option D) (R : D → D → Type 0) (Q : D → Type 0) → Tells old new R → IfTold new Q → Tells old new (λ a b. R a b × Q b)
+  told_end None None R Q told known = tt
+  told_end None (Some b) R Q told known = absurd told
+  told_end (Some a) None R Q told known = absurd told
+  told_end (Some a) (Some b) R Q told known = (told, known)
+
+pub opening_stands : (old new : Option (Disk FileName)) (history : List Write) (ends : (FileName → File) → (FileName → File) → Type 0) (ends' : (FileName → File) → Type 0)
+    → ((a b : Disk FileName) → HoldsHistory a.now history → ends a.now b.now → ends' b.now) → IfTold old (λ d. HoldsHistory d.now history)
+    → Tells old new (λ a b. Moves IsDocsFile (WhileOpening DocsStem a.now) (ends a.now) a b)
+    → Tells old new (Moves IsDocsFile (λ image. Stands image history) ends')
+opening_stands old new history ends ends' endings holds moves =
+    told_given old new (λ d. HoldsHistory d.now history) (λ a b. Moves IsDocsFile (WhileOpening DocsStem a.now) (ends a.now) a b) (Moves IsDocsFile (λ image. Stands image history) ends')
+    (λ a b is moved.
+    moves_wider IsDocsFile IsDocsFile (WhileOpening DocsStem a.now) (λ image. Stands image history) (ends a.now) ends' a b (λ n same. same)
+    (λ image framed. while_opening a.now history is.whole is.stands image framed.inside) (λ others ended. endings a b is ended) moved)
+    holds moves

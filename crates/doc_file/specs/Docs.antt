@@ -10,7 +10,7 @@ use Rattle.doc_file.specs.declared.docs.Docs.{Docs}
 use Rattle.doc_file.specs.declared.docs.Info.{Info}
 use Rattle.doc_file.specs.declared.entry.LastWrite.{LastWrite}
 use Rattle.doc_file.specs.declared.entry.Entry.{Entry}
-use Rattle.doc_file.specs.Held.{HasBody, HoldsRoot, KeepsEach, find_last}
+use Rattle.doc_file.specs.Held.{HasBody, HoldsRoot, KeepsEach, Stands, find_last}
 use Rattle.doc_file.specs.History.{Write}
 
 abbrev pub file_of : Docs → GateFile
@@ -53,6 +53,11 @@ pub record IsAt (docs : Docs) (files : FileName → File) (history : List Write)
   pub is_open : IsOpen docs files
   pub count : seq_of docs ≡ length history
   pub each : KeepsEach history (bytes_in docs files) (entries_of docs)
+
+-- nothing is pending of the documents' files, and they stand for this history
+pub record HoldsHistory (files : FileName → File) (history : List Write) : Type 0 where
+  pub whole : (name : FileName) → IsDocsFile name → files name ≡ settled (files name).seen
+  pub stands : Stands (λ name. (files name).seen) history
 
 -- nothing has changed of what is kept
 pub record IsSame (old new : Docs) : Type 0 where

@@ -1,15 +1,21 @@
 -- The root record is read once the pair is opened, and a read changes nothing.
-use Rattle.std.proofs.Common.{◌≡◌, ◌⊎◌, ℕ, inr, Err, IfOk, subst, rules}
-use Rattle.view_ports.specs.Disk.{Moves, MovesNone}
+use Rattle.std.proofs.Common.{◌≡◌, ◌⊎◌, ℕ, Option, inr, sym, Err, IfOk, subst, rules}
+use Rattle.view_ports.specs.Disk.{Disk, IfTold, Moves, MovesNone, Tells}
+use Rattle.view_ports.specs.File.{File}
+use Rattle.gate_file.specs.declared.gate.GateFile.{GateFile}
+use Rattle.gate_file.specs.GateFile.{commits_of, name_of, root_of}
 use Rattle.view_ports.specs.declared.file_name.FileName.{FileName}
 use Rattle.view_ports.specs.declared.file_name.Stem.TheVariants.{Docs as DocsStem}
-use Rattle.view_ports.proofs.Told.{told_now, told_then}
+use Rattle.view_ports.proofs.Told.{told_after, told_back, told_given, told_now, told_pair, told_then}
+use Rattle.view_ports.proofs.DiskRuns.{none_same}
 use Rattle.gate_file.specs.declared.fault.GateFault.TheVariants.{Damaged}
 use Rattle.gate_file.specs.Open.{opened, IsFirstDamage, IsOpened, WhileOpening}
 use Rattle.gate_file.proofs.Openings.{failed_open}
 use Rattle.doc_file.specs.declared.fault.DocFault.TheVariants.{Gate}
-use Rattle.doc_file.specs.Docs.{file_of}
-use Rattle.doc_file.specs.Held.{IsRootPlace}
+use Rattle.doc_file.specs.declared.record.RootRecord.{RootRecord}
+use Rattle.doc_file.specs.Docs.{file_of, HoldsHistory, IsDocsFile}
+use Rattle.doc_file.specs.Held.{HoldsRoot, IsRootPlace}
+use Rattle.doc_file.proofs.Opened.{opened_at, opened_holds, opened_open, opening_stands, told_end, undamaged}
 use Rattle.doc_file.proofs.Stretches.{moves_then_none, IsOpened-same}
 use Rattle.doc_file.proofs.docs.Docs.open.Goals as goal
 
@@ -42,3 +48,72 @@ returns-clause-disk g c =
     (λ files. IsOpened file a.now files) a b d
     (λ ended same. IsOpened-same file a.now b.now d.now (subst (λ r. IfOk r (λ gate. IsOpened gate a.now b.now)) c.in_ok-file.was ended) same) first none)
     c.open.ensures.disk c.load_root.ensures.disk
+
+abbrev Opens : GateFile → (FileName → File) → Type 0
+Opens file old = file ≡ opened DocsStem old
+
+-- what the root record holds is held in the end
+held_end : (file : GateFile) (root : RootRecord) (mid new : Option (Disk FileName)) → IfTold mid (λ d. HoldsRoot (root_of file) (commits_of file) (d.now (name_of file)).seen root.seq root.entries.items) → Tells mid new MovesNone
+    → IfTold new (λ d. HoldsRoot (root_of file) (commits_of file) (d.now (name_of file)).seen root.seq root.entries.items)
+held_end file root mid new held none =
+    told_after mid new (λ d. HoldsRoot (root_of file) (commits_of file) (d.now (name_of file)).seen root.seq root.entries.items) (λ d. HoldsRoot (root_of file) (commits_of file) (d.now (name_of file)).seen root.seq root.entries.items) MovesNone
+    (λ a b is moved. subst (λ f. HoldsRoot (root_of file) (commits_of file) f.seen root.seq root.entries.items) (sym (none_same a b moved (name_of file))) is) held none
+
+pub returns-in_err-file-clause-stands : goal.returns-in_err-file-clause-stands
+returns-in_err-file-clause-stands g c = λ history holds.
+    opening_stands (g.F.Folder.disk c.args.folder.now) (g.F.Folder.disk c.open.new.folder) history (λ old files. IfOk c.open.result (λ gate. IsOpened gate old files)) _
+    (λ a b is ended. failed_open c.from_residual.result _ c.from_residual.ensures.0) holds c.open.ensures.disk
+
+pub returns-in_err-file-clause-sound : goal.returns-in_err-file-clause-sound
+returns-in_err-file-clause-sound g c = λ history.
+    told_now (g.F.Folder.disk c.args.folder.now) _ _
+    (λ d damaged holds n at failed. let was : c.open.result ≡ Err (Damaged n at) = search rules in undamaged d.now history n at holds (damaged n at was))
+    c.open.ensures.damaged
+
+pub returns-in_err-root-clause-stands : goal.returns-in_err-root-clause-stands
+returns-in_err-root-clause-stands g c = λ history holds.
+    opening_stands (g.F.Folder.disk c.args.folder.now) (g.F.Folder.disk c.load_root.new.folder) history (λ old files. IfOk c.from_residual-in_err-root.result (λ docs. IsOpened (file_of docs) old files)) _
+    (λ a b is ended. failed_open c.from_residual-in_err-root.result _ c.from_residual-in_err-root.ensures.0) holds (returns-in_err-root-clause-disk g c)
+
+pub returns-in_err-root-clause-sound : goal.returns-in_err-root-clause-sound
+returns-in_err-root-clause-sound g c = λ history.
+    let file = c.in_ok-file.file in
+    told_pair (g.F.Folder.disk c.args.folder.now) (λ d. Opens file d.now) (λ d. Opens file d.now → HoldsHistory d.now history → (n : FileName) (at : ℕ) → c.from_residual-in_err-root.result ≡ Err (Gate (Damaged n at)) → ⊥) _
+    (λ d file_is never holds n at failed. never file_is holds n at failed)
+    c.in_ok-file.ensures.opened
+    (told_back (g.F.Folder.disk c.args.folder.now) (g.F.Folder.disk c.open.new.folder) (λ d. Opens file d.now → HoldsHistory d.now history → (n : FileName) (at : ℕ) → c.from_residual-in_err-root.result ≡ Err (Gate (Damaged n at)) → ⊥) _ _
+    (λ a b moved damaged file_is holds n at failed.
+    let was : c.load_root.result ≡ Err (Gate (Damaged n at)) = search rules in
+    let held = opened_holds file a.now b.now history file_is (subst (λ r. IfOk r (λ gate. IsOpened gate a.now b.now)) c.in_ok-file.was moved.ended) holds in
+    damaged n at was held.0 held.1.0 held.1.1)
+    c.open.ensures.disk c.load_root.ensures.damaged)
+
+pub returns-clause-open : goal.returns-clause-open
+returns-clause-open g c =
+    let file = c.in_ok-file.file in
+    told_after (g.F.Folder.disk c.args.folder.now) (g.F.Folder.disk c.load_root.new.folder) (λ d. Opens file d.now) _ (λ a b. Moves IsDocsFile (WhileOpening DocsStem a.now) (λ files. IsOpened file a.now files) a b × HoldsRoot (root_of file) (commits_of file) (b.now (name_of file)).seen c.in_ok-root.root.seq c.in_ok-root.root.entries.items)
+    (λ a b file_is told. opened_open _ a.now b.now file_is told.0.ended told.1)
+    c.in_ok-file.ensures.opened
+    (told_end (g.F.Folder.disk c.args.folder.now) (g.F.Folder.disk c.load_root.new.folder) (λ a b. Moves IsDocsFile (WhileOpening DocsStem a.now) (λ files. IsOpened file a.now files) a b) (λ d. HoldsRoot (root_of file) (commits_of file) (d.now (name_of file)).seen c.in_ok-root.root.seq c.in_ok-root.root.entries.items)
+    (returns-clause-disk g c) (held_end file c.in_ok-root.root (g.F.Folder.disk c.open.new.folder) (g.F.Folder.disk c.load_root.new.folder) c.in_ok-root.ensures.held c.load_root.ensures.disk))
+
+-- what is known of the files at the end of an opening
+abbrev Ends : GateFile → RootRecord → (FileName → File) → (FileName → File) → Type 0
+Ends file root old files = Opens file old × IsOpened file old files × HoldsRoot (root_of file) (commits_of file) (files (name_of file)).seen root.seq root.entries.items
+
+opens_with : (file : GateFile) (root : RootRecord) (old new : Option (Disk FileName)) → IfTold old (λ d. Opens file d.now)
+    → Tells old new (λ a b. Moves IsDocsFile (WhileOpening DocsStem a.now) (λ files. IsOpened file a.now files) a b × HoldsRoot (root_of file) (commits_of file) (b.now (name_of file)).seen root.seq root.entries.items)
+    → Tells old new (λ a b. Moves IsDocsFile (WhileOpening DocsStem a.now) (Ends file root a.now) a b)
+opens_with file root old new known told =
+    told_given old new (λ d. Opens file d.now) (λ a b. Moves IsDocsFile (WhileOpening DocsStem a.now) (λ files. IsOpened file a.now files) a b × HoldsRoot (root_of file) (commits_of file) (b.now (name_of file)).seen root.seq root.entries.items)
+    (λ a b. Moves IsDocsFile (WhileOpening DocsStem a.now) (Ends file root a.now) a b)
+    (λ a b is both. record { moments = both.0.moments; others = both.0.others; ended = (is, both.0.ended, both.1) }) known told
+
+pub returns-clause-stands : goal.returns-clause-stands
+returns-clause-stands g c = λ history holds.
+    let file = c.in_ok-file.file in
+    opening_stands (g.F.Folder.disk c.args.folder.now) (g.F.Folder.disk c.load_root.new.folder) history (Ends file c.in_ok-root.root) _
+    (λ a b is ended. opened_at _ a.now b.now ended.0 ended.1 ended.2 history is) holds
+    (opens_with file c.in_ok-root.root (g.F.Folder.disk c.args.folder.now) (g.F.Folder.disk c.load_root.new.folder) c.in_ok-file.ensures.opened
+    (told_end (g.F.Folder.disk c.args.folder.now) (g.F.Folder.disk c.load_root.new.folder) (λ a b. Moves IsDocsFile (WhileOpening DocsStem a.now) (λ files. IsOpened file a.now files) a b) (λ d. HoldsRoot (root_of file) (commits_of file) (d.now (name_of file)).seen c.in_ok-root.root.seq c.in_ok-root.root.entries.items)
+    (returns-clause-disk g c) (held_end file c.in_ok-root.root (g.F.Folder.disk c.open.new.folder) (g.F.Folder.disk c.load_root.new.folder) c.in_ok-root.ensures.held c.load_root.ensures.disk)))
