@@ -1,10 +1,14 @@
 -- The history after one more write.
 use Rattle.std.proofs.Common.{◌≡◌, ◌⊎◌, inl, inr, ℕ, ◌+◌, ◌<◌, ◌≤◌, List, [], ◌∷◌, length, Option, Some, None, refl, sym, ap, ◌∙◌, subst, arith}
-use Rattle.std.specs.Prelude.{Bool, true, false, bytes_eq, cond, count_by, filter}
+use Rattle.std.specs.Prelude.{Bool, true, false, bytes_eq, cond, count_by, filter, is_none}
 use Rattle.std.proofs.lemmas.List.Sums.{length-filter}
 use Rattle.doc_file.specs.declared.entry.LastWrite.{LastWrite}
 use Rattle.doc_file.specs.declared.entry.Entry.{Entry}
 use Rattle.doc_file.specs.History.{Write, generation, last_seq, last_write}
+use Rattle.json_terms.specs.Json.{Json}
+use Rattle.doc_file.specs.Accepted.{state_after, state_in, state_of}
+use Rattle.doc_file.specs.Accepted.State.{known}
+use Rattle.doc_file.specs.Revision.{revision}
 use Rattle.doc_file.specs.Held.{IsKept, Keeps, KeepsDocument, KeepsEach, find_last}
 use Rattle.doc_file.specs.Stored.{generation_in, with_last}
 use Rattle.doc_file.proofs.Setting.{bool_cases, same_id, bytes_eq-same, find_last-with_last}
@@ -102,3 +106,23 @@ module _ (history : List Write) (write : Write) where
       by_cases : (id : List ℕ) → (bytes_eq id write.id ≡ true) ⊎ (bytes_eq id write.id ≡ false) → Keeps (write ∷ history) bytes (cond (bytes_eq id write.id) (Some last) (find_last id entries)) (last_write (write ∷ history) id)
       by_cases id (inl same) = rw (same) here
       by_cases id (inr differs) = rw (differs) (keeps_there bytes id (find_last id entries) (last_write history id) differs refl (each id))
+
+-- ---- the state of an id
+
+kept_state : (history : List Write) (bytes id : List ℕ) (last : Option LastWrite) (write : Option Write) → last_write history id ≡ write → Keeps history bytes last write
+    → state_in last ≡ state_after write (revision (generation history id) (last_seq history id))
+kept_state history bytes id None None is keeps = refl
+kept_state history bytes id None (Some write) is keeps = absurd keeps
+kept_state history bytes id (Some last) None is keeps = absurd keeps
+kept_state history bytes id (Some last) (Some write) is keeps =
+    let own = last_write-id history id write is in
+    let g : last.generation ≡ generation history id = keeps.generation ∙ ap (generation history) own in
+    let s : last.seq ≡ last_seq history id = keeps.seq ∙ ap (last_seq history) own in
+    λ i. known (revision (g i) (s i)) (deleted_is last write.document keeps.document i)
+  where
+    deleted_is : (l : LastWrite) (document : Option Json) → KeepsDocument write.id bytes l document → l.deleted ≡ is_none document
+    deleted_is l None keeps = keeps
+    deleted_is l (Some d) keeps = keeps.0
+
+pub state_kept : (history : List Write) (bytes : List ℕ) (entries : List Entry) → KeepsEach history bytes entries → (id : List ℕ) → state_in (find_last id entries) ≡ state_of history id
+state_kept history bytes entries each id = kept_state history bytes id (find_last id entries) (last_write history id) refl (each id)

@@ -152,9 +152,9 @@ module _ (a b : List ℕ) where
           let none_first : newest a ≡ None = sym taken.root_is ∙ none in
           let zero_first : (found low_side a).commits ≡ 0 = found_commits_none low_side a none_first in
           let none_second : newest b ≡ None = ⊎_elim (λ is. is) (λ some.
-              let is : (found high_side b).commits ≡ (some.0).number = ap (λ (g : GateFile). g.commits) (found_is high_side b (Some some.0) some.1) in
-              let positive : 0 < (some.0).number = (newest_of b some.0 low high some.1).some in
-              let clash : ⊥ = grind (arith, nat_tests) in absurd clash) (option_cases (newest b)) in
+          let is : (found high_side b).commits ≡ (some.0).number = ap (λ (g : GateFile). g.commits) (found_is high_side b (Some some.0) some.1) in
+          let positive : 0 < (some.0).number = (newest_of b some.0 low high some.1).some in
+          let clash : ⊥ = grind (arith, nat_tests) in absurd clash) (option_cases (newest b)) in
           record {
             root_is = none ∙ sym none_second;
             named = λ r some. absurd (let clash : ⊥ = cc (none_second, some) in clash);

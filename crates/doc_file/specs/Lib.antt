@@ -13,3 +13,4 @@ pub mod Drafts
 pub mod Writes
 pub mod Faults
 pub mod Docs
+pub mod Laws

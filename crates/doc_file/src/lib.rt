@@ -14,18 +14,22 @@ mod incoming;
 #[cfg(test)]
 mod incoming_tests;
 mod last_writes;
+mod laws;
 mod load;
 mod publish;
 mod record;
 mod rev;
 #[cfg(test)]
 mod tests;
+#[cfg(test)]
+mod write_tests;
 
 pub use accept::{may_delete, may_put};
 pub use body::read_body;
 pub use docs::{Docs, Info};
 pub use entry::{Entry, LastWrite};
 pub use fault::DocFault;
+pub use laws::{images_of_open_documents_stand, states_are_told};
 pub use load::{load_body, load_root};
 pub use record::{RootRecord, read_root, write_root};
 pub use rev::{Rev, is_revision};

@@ -29,5 +29,5 @@ store-requires-clause-room g c =
 pub returns-clause-stands : goal.returns-clause-stands
 returns-clause-stands g c = λ history at.
     subst (λ i. Tells (g.F.Folder.disk c.args.folder.now) (g.F.Folder.disk c.store.new.folder)
-        (Moves IsDocsFile (λ image. Stands image history ⊎ Stands image (write_of history i None ∷ history)) (λ files. OnOk c.store.result (IsAt c.store.new.self files (write_of history i None ∷ history)))))
+    (Moves IsDocsFile (λ image. Stands image history ⊎ Stands image (write_of history i None ∷ history)) (λ files. OnOk c.store.result (IsAt c.store.new.self files (write_of history i None ∷ history)))))
     c.in_ok-id.ensures (c.store.ensures.stands history at)

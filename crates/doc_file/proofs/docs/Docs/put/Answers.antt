@@ -49,7 +49,7 @@ returns-clause-ok g c = subst (λ i. IfOk c.store.result (λ rev. rev ≡ next_r
 pub returns-clause-stands : goal.returns-clause-stands
 returns-clause-stands g c = λ history at.
     both (λ i content. Tells (g.F.Folder.disk c.args.folder.now) (g.F.Folder.disk c.store.new.folder)
-        (Moves IsDocsFile (λ image. Stands image history ⊎ Stands image (write_of history i content ∷ history)) (λ files. OnOk c.store.result (IsAt c.store.new.self files (write_of history i content ∷ history)))))
+    (Moves IsDocsFile (λ image. Stands image history ⊎ Stands image (write_of history i content ∷ history)) (λ files. OnOk c.store.result (IsAt c.store.new.self files (write_of history i content ∷ history)))))
     (c.into_stored-id.ensures.id ∙ c.in_ok-incoming.ensures.ok.id)
     (content_is (json c.args.document) c.in_ok-incoming.incoming (option_map json c.into_stored-id.result.1) c.in_ok-incoming.ensures.ok c.into_stored-id.ensures.content)
     (c.store.ensures.stands history at)
