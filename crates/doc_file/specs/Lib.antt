@@ -12,3 +12,4 @@ pub mod Places
 pub mod Drafts
 pub mod Faults
 pub mod Docs
+pub mod Changes

@@ -1,5 +1,6 @@
 //! The documents of a database, by their last writes.
 
+pub(crate) mod changes;
 mod write;
 
 ghost use Rattle.std.specs.Prelude.{◌≡◌, IsTrue};

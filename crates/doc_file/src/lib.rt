@@ -23,6 +23,7 @@ mod tests;
 
 pub use accept::{may_delete, may_put};
 pub use body::read_body;
+pub use docs::changes::{Change, Changes};
 pub use docs::{Docs, Info};
 pub use entry::{Entry, LastWrite};
 pub use fault::DocFault;
