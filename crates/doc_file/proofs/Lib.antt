@@ -17,3 +17,7 @@ mod Left
 mod Contents
 mod Stores
 mod Storing
+mod Nexts
+mod Numbers
+mod Since
+mod Progress
