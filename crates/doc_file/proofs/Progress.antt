@@ -1,6 +1,7 @@
 -- The changes that were found so far.
 use Rattle.std.proofs.Common.{◌≡◌, ◌⊎◌, inl, inr, ℕ, suc, zero, ◌+◌, ◌-◌, ◌<◌, ◌≤◌, List, [], ◌∷◌, ◌++◌, length, map, take, get_or, Option, Some, None, refl, sym, ap, ◌∙◌, subst, arith, append-nil, append_assoc, length-append}
 use Rattle.std.specs.Prelude.{false, option_map, All, AllPairs, Contains}
+use Rattle.std.proofs.lemmas.Bool.{cases_lt}
 use Rattle.std.proofs.lemmas.List.{map-append}
 use Rattle.std.proofs.lemmas.List.Elements.{All-contains, All-nil, All-push, All-weaker, Contains-append_left, Contains-push}
 use Rattle.std.proofs.lemmas.List.Quantifiers.{all_pairs_push}
@@ -50,6 +51,9 @@ so_far_none docs seq n before = record {
       (λ d at. let all : n - 0 ≡ n = omega arith in ap (λ m. take m (changes_after seq history)) all);
 }
 
+order : (a b : ℕ) → (a ≤ b) ⊎ (b < a)
+order a b = elim (cases_lt b a) [ inl less ↦ inr less | inr most ↦ inl most ]
+
 take_nil : {A : Type 0} (n : ℕ) → take n (let none : List A = [] in none) ≡ []
 take_nil zero = refl
 take_nil (suc n) = refl
@@ -94,7 +98,7 @@ module _ (docs : Docs) (seq n after index : ℕ) (before : Option (Disk FileName
 
         by_cases : (entry : Entry) → seq < (entry.last).seq → ((entry.last).seq ≤ after → Contains (map (λ (c : Change). c.seq) items) (entry.last).seq) → (after < (entry.last).seq → (e.last).seq ≤ (entry.last).seq)
             → (entry.last).seq ≤ (e.last).seq → Contains (map (λ (c : Change). c.seq) (items ++ change ∷ [])) (entry.last).seq
-        by_cases entry behind old new low = by_order (entry.last).seq old new low (omega arith)
+        by_cases entry behind old new low = by_order (entry.last).seq old new low (order (entry.last).seq after)
 
     pub so_far_more : IfTold before (λ d. IsStored e.id (bytes_in docs d.now) e.last (option_map json change.doc)) → IsSoFar docs seq n (e.last).seq (index + 1) before (items ++ change ∷ [])
     so_far_more stored = record {
@@ -155,7 +159,7 @@ module _ (docs : Docs) (seq n after index : ℕ) (before : Option (Disk FileName
 
   module _ (full : n ≤ index) where
     pub whole_full : AreWhole docs seq n items
-    whole_full = λ k d in' behind. by_order (get_or (entries_of docs) k d).last.seq (so_far.whole k d in' behind) (omega arith)
+    whole_full = λ k d in' behind. by_order (get_or (entries_of docs) k d).last.seq (so_far.whole k d in' behind) (order (get_or (entries_of docs) k d).last.seq after)
       where
         by_order : (s : ℕ) → (s ≤ after → Contains (map (λ (c : Change). c.seq) items) s) → (s ≤ after) ⊎ (after < s) → Contains (map (λ (c : Change). c.seq) items) s ⊎ ((length items ≡ n) × All (λ (c : Change). c.seq < s) items)
         by_order s old (inl first) = inl (old first)
