@@ -21,3 +21,5 @@ mod Nexts
 mod Numbers
 mod Since
 mod Progress
+mod Known
+mod Tallies
