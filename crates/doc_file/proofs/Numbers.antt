@@ -169,7 +169,7 @@ later_match seq k write older less (inl after) rest =
     let left : changes_after seq (write ∷ older) ≡ others ++ (length (write ∷ older), write) ∷ [] = with_newest seq write older first in
     let right : changes_after k (write ∷ older) ≡ of_others write.id (changes_after k older) ++ (length (write ∷ older), write) ∷ [] = with_newest k write older after in
     let kept : filter (is_after k) others ≡ of_others write.id (changes_after k older) =
-        filters_commute (is_after k) (λ c. not (bytes_eq write.id (c.1).id)) (changes_after seq older) ∙ ap (of_others write.id) rest in
+    filters_commute (is_after k) (λ c. not (bytes_eq write.id (c.1).id)) (changes_after seq older) ∙ ap (of_others write.id) rest in
     ap (filter (is_after k)) left ∙ filter-append (is_after k) others ((length (write ∷ older), write) ∷ [])
     ∙ ap (λ l. l ++ filter (is_after k) ((length (write ∷ older), write) ∷ [])) kept
     ∙ ap (λ l. of_others write.id (changes_after k older) ++ l) (filter_yes (is_after k) (length (write ∷ older), write) [] after) ∙ sym right

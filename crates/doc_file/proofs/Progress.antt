@@ -75,8 +75,8 @@ module _ (docs : Docs) (seq n after index : ℕ) (before : Option (Disk FileName
         let rest : List (ℕ × Write) = changes_after (e.last).seq history in
         let left : n - index ≡ suc (n - (index + 1)) = omega arith in
         let first : changes_after after history ≡ numbered change ∷ rest =
-            change_is history (bytes_in docs files) (entries_of docs) (loaded_entries docs files at.is_open.loaded) at.each after e (option_map json change.doc) next stored
-            ∙ ap (λ x. x ∷ rest) (sym (numbered_is (option_map json change.doc) refl)) in
+        change_is history (bytes_in docs files) (entries_of docs) (loaded_entries docs files at.is_open.loaded) at.each after e (option_map json change.doc) next stored
+        ∙ ap (λ x. x ∷ rest) (sym (numbered_is (option_map json change.doc) refl)) in
         ap (λ l. l ++ take (n - (index + 1)) rest) (map-append numbered items (change ∷ []))
         ∙ append_assoc (map numbered items) (numbered change ∷ []) (take (n - (index + 1)) rest)
         ∙ ap (λ m. map numbered items ++ take m (numbered change ∷ rest)) (sym left)

@@ -95,7 +95,7 @@ module _ (gate : GateFile) (seq : ℕ) (entries : List Entry) (id : List ℕ) (r
         let le : seq + 1 ≤ most_writes (gate.commits + 1) = omega (arith, most, few) in
         let test : nat_le (seq + 1) (most_writes (gate.commits + 1)) ≡ true = grind (arith, nat_tests) in
         let all : list_all (is_counted (seq + 1)) entries' ≡ true = list_all-with_last (is_counted (seq + 1)) id (last_of (start_of gate) rev document) entries new_counted
-            (list_all-weaker (is_counted seq) (is_counted (seq + 1)) entries (counted_more seq) each_counted) in
+        (list_all-weaker (is_counted seq) (is_counted (seq + 1)) entries (counted_more seq) each_counted) in
         rw test all
 
     pub seq_small : seq + 1 < 2 ^ 64

@@ -131,9 +131,9 @@ module _ (docs : Docs) (id : List ℕ) (content : Option Json) (draft : Draft) (
       (λ files. ends (a.now name) (files name)) ends' a b
       (λ n same. subst IsDocsFile (sym same) is_at.is_open.own)
       (λ image framed. ⊎_elim
-        (λ shows. inl (old_image docs a.now is_at.is_open history is_at image framed.outside shows))
-        (λ shows. inr (new_image a.now history is_at image framed.outside shows))
-        framed.inside)
+      (λ shows. inl (old_image docs a.now is_at.is_open history is_at image framed.outside shows))
+      (λ shows. inr (new_image a.now history is_at image framed.outside shows))
+      framed.inside)
       (λ others ended. endings a b is_at others ended)
       moved)
       at moves

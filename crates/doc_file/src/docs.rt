@@ -8,9 +8,9 @@ ghost use Rattle.std.specs.List.{list_all};
 ghost use Rattle.gate_file.specs.GateFile.{commits_of};
 ghost use Rattle.doc_file.specs.Counts.{are_counted, has_room};
 
-use crate::last_writes::find_last;
 use crate::entry::Entry;
 use crate::fault::DocFault;
+use crate::last_writes::find_last;
 use crate::load::{load_body, load_root};
 use gate_file::{GateFault, GateFile};
 use json_terms::Term;

@@ -94,12 +94,7 @@ fn place_of_body(start: u64, deleted: bool) -> u64
 }
 
 /// The body of the write of an id: the spelling of the content under this revision, or nothing for a deletion.
-fn body_bytes(
-    alloc: Global,
-    id: &str,
-    content: Option<Term>,
-    rev: Rev,
-) -> Result<Vec<u8>, NoMemory>
+fn body_bytes(alloc: Global, id: &str, content: Option<Term>, rev: Rev) -> Result<Vec<u8>, NoMemory>
     requires { IsStorable id.now (option_map json content) }
     ensures bytes { IfOk result (λ bytes. bytes.items ≡ body_of (revised (option_map json content) rev)) }
     ensures short { IfOk result (λ bytes. vec_len bytes < 2 ^ 32) }

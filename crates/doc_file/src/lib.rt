@@ -3,6 +3,8 @@
 
 mod accept;
 mod body;
+#[cfg(test)]
+mod changes_tests;
 mod content;
 mod docs;
 mod draft;

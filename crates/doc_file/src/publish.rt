@@ -37,9 +37,5 @@ pub(crate) fn publish<F: Folder>(
     ensures reads { F.reads folder.new ≡ F.reads folder.old }
 {
     let at = file.append(folder, bytes)?;
-    file.commit(
-        folder,
-        at + skipped as u64,
-        (bytes.len() - skipped) as u64,
-    )
+    file.commit(folder, at + skipped as u64, (bytes.len() - skipped) as u64)
 }

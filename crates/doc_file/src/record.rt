@@ -50,9 +50,7 @@ fn are_each_counted(entries: &[Entry], seq: u64) -> bool
 fn is_counted(entry: &Entry, seq: u64) -> bool
     ensures { result ≡ is_counted seq entry.now }
 {
-    0 < entry.last.generation
-        && entry.last.generation <= entry.last.seq
-        && entry.last.seq <= seq
+    0 < entry.last.generation && entry.last.generation <= entry.last.seq && entry.last.seq <= seq
 }
 
 /// The bytes of a root record. Each id is shorter than 2^32 - 33 bytes. The one error is want of memory.

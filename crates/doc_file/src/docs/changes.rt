@@ -147,7 +147,13 @@ impl Docs {
         if entry.last.deleted {
             return Ok(Change { seq, id, doc: None });
         }
-        let document = load_body(alloc, folder, self.file.name(), entry.id.as_str(), entry.last)?;
+        let document = load_body(
+            alloc,
+            folder,
+            self.file.name(),
+            entry.id.as_str(),
+            entry.last,
+        )?;
         Ok(Change {
             seq,
             id,

@@ -56,8 +56,8 @@ returns-clause-disk g c =
     let next = next_root gate (start_of gate + c.args.skipped) (length bytes - c.args.skipped) in
     let last = committed longer next in
     let of_gate : (G : GateFile) (at : ℕ) → Type 0 = λ G at. Tells (g.F.Folder.disk c.append.new.folder) (g.F.Folder.disk c.commit.new.folder)
-        (MovesFile G.name (λ file image. Shows G.root file.durable image ⊎ Shows (Some (next_root G (at + c.args.skipped) (length bytes - c.args.skipped))) file.seen image)
-        (λ file now. OnOk c.commit.result (IsCommitted (committed G (next_root G (at + c.args.skipped) (length bytes - c.args.skipped))) file now))) in
+    (MovesFile G.name (λ file image. Shows G.root file.durable image ⊎ Shows (Some (next_root G (at + c.args.skipped) (length bytes - c.args.skipped))) file.seen image)
+    (λ file now. OnOk c.commit.result (IsCommitted (committed G (next_root G (at + c.args.skipped) (length bytes - c.args.skipped))) file now))) in
     let late : of_gate longer (start_of gate) = subst (λ at. of_gate longer at) c.in_ok-at.ensures.place (subst (λ G. of_gate G c.in_ok-at.at) c.in_ok-at.ensures.done c.commit.ensures.disk) in
     told_file_then gate.name (Keeps gate) (g.F.Folder.disk c.args.folder.now) (g.F.Folder.disk c.append.new.folder) (g.F.Folder.disk c.commit.new.folder)
     (λ file image. Shows gate.root file.durable image)

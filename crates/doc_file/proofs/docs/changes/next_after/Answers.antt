@@ -21,10 +21,10 @@ loop-entry-preserved c =
       | else-seq-entry w ↦
           subst (λ n. IsNext c.args.seq (take i es ++ e ∷ []) (option_map (λ x. x.now) n)) (sym w.next-is)
           (next_left c.args.seq (take i es) o e c.loop-entry.invariant (λ after sooner. elim w.else-seq-entry.branch [
-              | else-seq-entry-via-then-seq-entry+else-comes_before v ↦
-                  let before : v.comes_before.result ≡ true = v.comes_before.ensures.1 (some_unmapped (λ x. x.now) (λ p. (e.last).seq < (p.last).seq) c.loop-entry.next sooner) in
-                  let not_before = v.if-comes_before.false in
-                  let clash : ⊥ = cc (before, not_before) in clash
-              | else-seq-entry-via-else-seq-entry v ↦ let low = v.if-seq-entry.false in absurd (omega arith)
-            ]))
+            | else-seq-entry-via-then-seq-entry+else-comes_before v ↦
+                let before : v.comes_before.result ≡ true = v.comes_before.ensures.1 (some_unmapped (λ x. x.now) (λ p. (e.last).seq < (p.last).seq) c.loop-entry.next sooner) in
+                let not_before = v.if-comes_before.false in
+                let clash : ⊥ = cc (before, not_before) in clash
+            | else-seq-entry-via-else-seq-entry v ↦ let low = v.if-seq-entry.false in absurd (omega arith)
+          ]))
     ])
