@@ -19,3 +19,9 @@ mod Stores
 mod Storing
 mod Storable
 mod Opened
+mod Nexts
+mod Numbers
+mod Since
+mod Progress
+mod Known
+mod Tallies

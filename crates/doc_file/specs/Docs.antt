@@ -1,5 +1,5 @@
 -- What the object keeps of the documents.
-use Rattle.std.specs.Prelude.{◌≡◌, ◌≢◌, ℕ, List, [], Bool, false, not, count_by, length, Option, Some, None}
+use Rattle.std.specs.Prelude.{◌≡◌, ◌≢◌, ℕ, List, [], Bool, false, not, count_by, is_none, length, Option, Some, None}
 use Rattle.json_terms.specs.Json.{Json}
 use Rattle.gate_file.specs.declared.gate.GateFile.{GateFile}
 use Rattle.gate_file.specs.GateFile.{name_of, root_of, commits_of, Keeps as KeepsFile}
@@ -11,7 +11,7 @@ use Rattle.doc_file.specs.declared.docs.Info.{Info}
 use Rattle.doc_file.specs.declared.entry.LastWrite.{LastWrite}
 use Rattle.doc_file.specs.declared.entry.Entry.{Entry}
 use Rattle.doc_file.specs.Held.{HasBody, HoldsRoot, KeepsEach, Stands, find_last}
-use Rattle.doc_file.specs.History.{Write}
+use Rattle.doc_file.specs.History.{Write, last_writes, live, update_seq}
 
 abbrev pub file_of : Docs → GateFile
 file_of docs = docs.file
@@ -84,4 +84,12 @@ info_of docs = record {
   doc_count = count_by (λ entry. not (entry.last).deleted) (entries_of docs);
   doc_del_count = count_by (λ entry. (entry.last).deleted) (entries_of docs);
   update_seq = seq_of docs;
+}
+
+-- the counts of a history
+abbrev pub info_in : List Write → Info
+info_in history = record {
+  doc_count = length (live history);
+  doc_del_count = count_by (λ entry. is_none (entry.1).document) (last_writes history);
+  update_seq = update_seq history;
 }

@@ -14,3 +14,4 @@ pub mod Writes
 pub mod Faults
 pub mod Docs
 pub mod Laws
+pub mod Changes

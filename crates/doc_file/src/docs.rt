@@ -1,5 +1,6 @@
 //! The documents of a database, by their last writes.
 
+pub(crate) mod changes;
 mod write;
 
 ghost use Rattle.std.specs.Prelude.{◌≡◌, IsTrue};
@@ -39,16 +40,18 @@ pub struct Info {
 }
 
 impl Docs {
-    ghost use Rattle.std.specs.Prelude.{◌≡◌, ◌↔◌, ◌⊎◌, ℕ, List, None, true, Err, IfOk, IfErr};
+    ghost use Rattle.std.specs.Prelude.{◌≡◌, ◌↔◌, ◌⊎◌, ℕ, List, Some, None, true, Err, IfOk, IfErr};
     ghost use Rattle.json_terms.specs.Seen.{json};
     ghost use Rattle.view_ports.specs.Causes.{HasCauseIf, RisesBy};
     ghost use Rattle.view_ports.specs.Disk.{IfTold, Tells, Moves, MovesNone};
     ghost use Rattle.view_ports.specs.declared.file_name.FileName.{FileName as Name};
     ghost use Rattle.gate_file.specs.GateFile.{name_of};
     ghost use Rattle.gate_file.specs.Open.{opened, IsFirstDamage, IsOpened, WhileOpening};
+    ghost use Rattle.doc_file.specs.Accepted.{is_deletion};
     ghost use Rattle.doc_file.specs.Held.{IsRootPlace, Stands};
-    ghost use Rattle.doc_file.specs.History.{Write};
-    ghost use Rattle.doc_file.specs.Docs.{bytes_in, file_of, info_of, last_of, is_deleted, HoldsHistory, IsAt, IsDocsFile, IsLoaded, IsLive, IsOpen, IsSpoiled};
+    ghost use Rattle.doc_file.specs.History.{Write, last_write, live_document};
+    ghost use Rattle.view_ports.specs.File.{File};
+    ghost use Rattle.doc_file.specs.Docs.{bytes_in, file_of, info_in, info_of, last_of, is_deleted, HoldsHistory, IsAt, IsDocsFile, IsLoaded, IsLive, IsOpen, IsSpoiled};
 
     /// Opens the documents' file. Without a commit there was no write.
     ///
@@ -85,6 +88,13 @@ impl Docs {
     /// `Missing` comes exactly where the id was never written, `Deleted` exactly where its last write was a deletion. The
     /// file is `Damaged` at the place of the body exactly where no object of depth 64 at most is spelled there.
     pub fn get<F: Folder>(&self, alloc: Global, folder: &mut F, id: &str) -> Result<Term, DocFault>
+        // Over a history: the live document, or why there is none, and never damage.
+        ensures document { (history : List Write) → IfTold (F.disk folder.old) (λ d. IsAt self.now d.now history → IfOk result (λ t. live_document history id.now ≡ Some (json t))) }
+        ensures never_written { (history : List Write) → IfTold (F.disk folder.old) (λ d. IsAt self.now d.now history → (result ≡ Err DocFault.Missing) ↔ (last_write history id.now ≡ None)) }
+        ensures deletion { (history : List Write) → IfTold (F.disk folder.old) (λ d. IsAt self.now d.now history → (result ≡ Err DocFault.Deleted) ↔ (is_deletion (last_write history id.now) ≡ true)) }
+        ensures sound { (history : List Write) → IfTold (F.disk folder.old) (λ d. IsAt self.now d.now history → (name : Name) (at : ℕ) → result ≡ Err (DocFault.Gate (GateFault.Damaged name at)) → ⊥) }
+
+        // Also where the file stands for no history.
         ensures live { IfTold (F.disk folder.old) (λ d. IfOk result (λ t. IsLive id.now (bytes_in self.now d.now) (last_of self.now id.now) (json t))) }
         ensures missing { (result ≡ Err DocFault.Missing) ↔ (last_of self.now id.now ≡ None) }
         ensures deleted { (result ≡ Err DocFault.Deleted) ↔ (is_deleted (last_of self.now id.now) ≡ true) }
@@ -108,7 +118,8 @@ impl Docs {
 
     /// How many documents are live and deleted, and how many writes were accepted. It takes no memory.
     pub fn info(&self) -> Info
-        ensures { result ≡ info_of self.now }
+        ensures kept { result ≡ info_of self.now }
+        ensures history { (files : Name → File) (history : List Write) → IsAt self.now files history → result ≡ info_in history }
     {
         Info {
             doc_count: self

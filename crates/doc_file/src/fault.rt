@@ -6,7 +6,7 @@ ghost use Rattle.doc_file.specs.Faults.{doc_fault};
 
 use gate_file::GateFault;
 use json_terms::{Chars, NoMemory};
-use std::alloc::AllocError;
+use std::alloc::{AllocError, AllocFailed};
 use thiserror::Error;
 
 /// Why a call on documents is refused.
@@ -67,6 +67,14 @@ impl From<AllocError> for DocFault {
     ghost from_gives = { λ _ e. e ≡ OutOfMemory };
 
     fn from(_fault: AllocError) -> DocFault {
+        DocFault::NoMemory
+    }
+}
+
+impl<T: Drop> From<AllocFailed<T>> for DocFault {
+    ghost from_gives = { λ _ e. e ≡ OutOfMemory };
+
+    fn from(_fault: AllocFailed<T>) -> DocFault {
         DocFault::NoMemory
     }
 }

@@ -3,6 +3,8 @@
 
 mod accept;
 mod body;
+#[cfg(test)]
+mod changes_tests;
 mod content;
 mod docs;
 mod draft;
@@ -26,6 +28,7 @@ mod write_tests;
 
 pub use accept::{may_delete, may_put};
 pub use body::read_body;
+pub use docs::changes::{Change, Changes};
 pub use docs::{Docs, Info};
 pub use entry::{Entry, LastWrite};
 pub use fault::DocFault;
