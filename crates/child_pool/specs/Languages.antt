@@ -19,7 +19,10 @@ languages_in words = filter_map language_in words
 
 -- the path of a server in the process
 abbrev pub built_in : List ℕ → Option (List ℕ)
-built_in language = if bytes_eq language (codes "field") then Some (codes "builtin:field") else None
+built_in language =
+    if bytes_eq language (codes "field") then Some (codes "builtin:field")
+    else if bytes_eq language (codes "pick") then Some (codes "builtin:pick")
+    else None
 
 abbrev pub or_built_in : List ℕ → Option (List ℕ) → Option (List ℕ)
 or_built_in language (Some path) = Some path

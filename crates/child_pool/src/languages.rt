@@ -18,9 +18,9 @@ pub fn language_word(word: &str) -> Option<(&str, &str)>
 pub fn built_in(language: &str) -> Option<&'static str>
     ensures { option_map (λ path. path.now) result ≡ spec.built_in language.now }
 {
-    if language == "field" {
-        Some("builtin:field")
-    } else {
-        None
+    match language {
+        "field" => Some("builtin:field"),
+        "pick" => Some("builtin:pick"),
+        _ => None,
     }
 }

@@ -256,7 +256,15 @@ fn documents_are_mapped_in_order_by_every_source(rt: HostRuntime) -> Result<(), 
 fn words_name_paths_of_languages(rt: HostRuntime) -> Result<(), Fail> {
     let alloc = rt.alloc();
     let mut words = Vec::new(alloc);
-    for word in ["js=node", "odd=a=b", "empty=", "=x", "none", "field=own"] {
+    for word in [
+        "js=node",
+        "odd=a=b",
+        "empty=",
+        "=x",
+        "none",
+        "field=own",
+        "pick=other",
+    ] {
         words.push(String::from_str(alloc, word)?)?;
     }
     let pool = Pool::new(alloc, words.as_slice())?;
@@ -265,6 +273,7 @@ fn words_name_paths_of_languages(rt: HostRuntime) -> Result<(), Fail> {
         ("odd", Some("a=b")),
         ("empty", Some("")),
         ("field", Some("own")),
+        ("pick", Some("other")),
         ("", None),
         ("none", None),
         ("x", None),
@@ -273,6 +282,7 @@ fn words_name_paths_of_languages(rt: HostRuntime) -> Result<(), Fail> {
     }
     let pool = Pool::new(alloc, &[])?;
     assert_eq!(rt; pool.path_of("field"), Some("builtin:field"));
+    assert_eq!(rt; pool.path_of("pick"), Some("builtin:pick"));
     assert_eq!(rt; pool.path_of("javascript"), None);
     Ok(())
 }

@@ -7,10 +7,11 @@ use Rattle.std.specs.Io.KnownBytes.{Appends}
 use Rattle.view_ports.specs.Lines.{ended}
 use Rattle.view_ports.specs.Exchanges.{IsPrefixOf}
 use Rattle.child_pool.specs.Languages.{language_in, languages_in}
+use Rattle.couchview_cli.specs.BuiltIn.{is_built_in}
 
--- a path that begins with `builtin:` is `builtin:field`
+-- a path that begins with `builtin:` is that of a server in the process
 abbrev pub is_path : List ℕ → Bool
-is_path path = not (starts_with nat_eq path (codes "builtin:")) || bytes_eq path (codes "builtin:field")
+is_path path = not (starts_with nat_eq path (codes "builtin:")) || is_built_in path
 
 abbrev pub has_path : Option (List ℕ × List ℕ) → Bool
 has_path (Some (language, path)) = is_path path

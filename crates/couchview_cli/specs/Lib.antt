@@ -1,3 +1,4 @@
+pub mod BuiltIn
 pub mod Command
 pub mod Serving
 pub mod Session

@@ -9,6 +9,7 @@ ghost use Rattle.couchview_cli.specs.Command.{AreLanguages, IsApart, IsServe, Sh
 ghost use Rattle.couchview_cli.specs.Command as spec;
 ghost use Rattle.couchview_cli.specs.Serving.{AreLeft, Serves, StopsAtLimit, IsShort};
 
+use crate::built_in::is_built_in;
 use crate::serve::serve;
 use child_pool::language_word;
 use std::alloc::Global;
@@ -30,7 +31,7 @@ fn usage() -> &'static [u8]
 fn is_path(path: &str) -> bool
     ensures { result ≡ spec.is_path path.now }
 {
-    !path.as_bytes().starts_with(b"builtin:") || path == "builtin:field"
+    !path.as_bytes().starts_with(b"builtin:") || is_built_in(path)
 }
 
 /// Whether this is a word LANG=PATH.

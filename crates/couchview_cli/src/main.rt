@@ -1,15 +1,17 @@
 //! couchview: CouchDB views over documents that request lines write.
 #![tactic(auto)]
 
+mod built_in;
 mod command;
 mod serve;
 mod session;
 #[cfg(test)]
 mod tests;
 
+use built_in::Mixed;
 pub use command::couchview;
 use json_terms::NoMemory;
-use real_ports::{Mixed, RealServers, StdSink, StdSource};
+use real_ports::{RealServers, StdSink, StdSource};
 use std::alloc::AllocError;
 use std::env;
 use std::io::ErrorKind;

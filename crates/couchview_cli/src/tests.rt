@@ -7,6 +7,7 @@ use std::test::Fail;
 use view_ports::{FieldServers, MemorySink, MemorySource};
 
 mod engine;
+mod pick;
 mod servers;
 mod watched;
 
@@ -140,7 +141,8 @@ fn languages_may_stand_behind_serve(rt: HostRuntime) -> Result<(), Fail> {
         "serve js=-node",
         "serve js=builtin",
         "serve js=builtin:field",
-        "serve field=builtin:field",
+        "serve js=builtin:pick",
+        "serve field=builtin:field pick=builtin:pick",
         "serve js=node py=node",
         "serve js=node j=node s=node",
         "serve a=1 b=2 c=3 d=4 e=5 f=6 g=7 h=8",
@@ -169,6 +171,7 @@ fn other_words_are_answered_with_the_usage_line(rt: HostRuntime) -> Result<(), F
         "serve --js=node",
         "serve js=builtin:",
         "serve js=builtin:fields",
+        "serve js=builtin:pic",
         "serve js=builtin:js",
         "serve js=node js=node",
         "serve js=node py=node js=other",

@@ -2,7 +2,6 @@
 //! and some are built in.
 #![tactic(auto)]
 
-mod built_in;
 mod child_lines;
 mod piped_child;
 mod real_servers;
@@ -11,7 +10,6 @@ mod switch;
 #[cfg(test)]
 mod tests;
 
-pub use built_in::{FieldPath, Mixed};
 pub use real_servers::RealServers;
 pub use streams::{StdSink, StdSource};
 pub use switch::{BuiltInPath, Switch};

@@ -1,9 +1,11 @@
 //! What no contract says: real children answer, and each side of a switch gets its own calls.
 
-use crate::{Mixed, RealServers};
+ghost use Rattle.std.specs.Prelude.{◌≡◌, codes};
+
+use crate::{BuiltInPath, RealServers, Switch};
 use json_terms::Chars;
 use std::test::Fail;
-use view_ports::{Answer, ScriptServers, Servers, ServersFault};
+use view_ports::{Answer, FieldServers, ScriptServers, Servers, ServersFault};
 
 const CAT: &str = "/bin/cat";
 
@@ -104,22 +106,36 @@ fn a_start_ends_the_child_that_is_there(rt: HostRuntime) -> Result<(), Fail> {
     Ok(())
 }
 
+/// The path `here`.
+#[derive(Drop)]
+struct Here;
+
+impl BuiltInPath for Here {
+    ghost bytes = { codes "here" };
+
+    fn path() -> &'static str {
+        "here"
+    }
+}
+
 #[test]
 fn the_built_in_path_stays_in_the_process(rt: HostRuntime) -> Result<(), Fail> {
     let alloc = rt.alloc();
     let mut answers = Vec::new(alloc);
     answers.push(Answer::Line(Chars::from_text(alloc, "first")?))?;
     answers.push(Answer::Fail)?;
-    let mut servers = Mixed::new(alloc, ScriptServers::new(alloc, answers)?)?;
-    servers.start(alloc, 0, "builtin:field")?;
-    servers.start(alloc, 1, "builtin:fiel")?;
+    let field = FieldServers::new(alloc, Vec::new(alloc))?;
+    let script = ScriptServers::new(alloc, answers)?;
+    let mut servers: Switch<Here, FieldServers, ScriptServers> = Switch::over(field, script);
+    servers.start(alloc, 0, "here")?;
+    servers.start(alloc, 1, "her")?;
     servers.send(alloc, 0, b"[\"reset\"]")?;
     servers.send(alloc, 1, b"[\"reset\"]")?;
     assert_eq!(rt; servers.receive(alloc, 0)?.as_slice(), b"true".as_slice());
     assert_eq!(rt; servers.receive(alloc, 1)?.as_slice(), b"first".as_slice());
     // Slot 0 goes to the other side, and slot 1 to this one.
     servers.start(alloc, 0, "else")?;
-    servers.start(alloc, 1, "builtin:field")?;
+    servers.start(alloc, 1, "here")?;
     servers.send(alloc, 1, b"[\"reset\"]")?;
     assert_eq!(rt; servers.receive(alloc, 1)?.as_slice(), b"true".as_slice());
     assert!(rt; has_failed(&servers.receive(alloc, 0)));
