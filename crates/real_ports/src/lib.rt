@@ -4,7 +4,13 @@
 
 mod built_in;
 mod child_lines;
+mod file_names;
+mod folder_files;
+#[cfg(test)]
+mod folder_tests;
+mod open_file;
 mod piped_child;
+mod real_folder;
 mod real_servers;
 mod streams;
 mod switch;
@@ -12,6 +18,8 @@ mod switch;
 mod tests;
 
 pub use built_in::{FieldPath, Mixed};
+pub use file_names::{FILE_TEXT_LIMIT, file_text, is_file_name, read_file_name};
+pub use real_folder::RealFolder;
 pub use real_servers::RealServers;
 pub use streams::{StdSink, StdSource};
 pub use switch::{BuiltInPath, Switch};
