@@ -1,5 +1,5 @@
 //! The ports over the real outside: the streams of the process, and query servers, of which some are child processes
-//! and some are built in.
+//! and some are built in. The folder of files is the one in which the program was started.
 #![tactic(auto)]
 
 mod built_in;
