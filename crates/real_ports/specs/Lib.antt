@@ -1,3 +1,4 @@
 pub mod Children
+pub mod FileNames
 pub mod Printed
 pub mod Switch
