@@ -39,80 +39,70 @@ fn get<F: Folder>(alloc: Global, folder: &mut F, id: &str) -> Result<Result<Term
     Ok(docs.get(alloc, folder, id))
 }
 
-const FIRST: &str = "1-00000000000000000000000000000001";
+/// The generation and the number of a write, or its refusal.
+fn told(alloc: Global, outcome: Result<Rev, DocFault>) -> Result<String, Fail> {
+    match outcome {
+        Ok(rev) => Ok(format!(in alloc; "{} {}", rev.generation, rev.seq)?),
+        Err(fault) => Ok(format!(in alloc; "{fault}")?),
+    }
+}
 
-/// The states of an id, one write after another.
+/// The states of an id, one write after another: what is put, or the id and the revision of a deletion.
 #[test]
 fn writes_go_through_the_states_of_an_id(rt: HostRuntime) -> Result<(), Fail> {
     let alloc = rt.alloc();
+    let first = "1-00000000000000000000000000000001";
     let mut folder = MemoryFolder::new(alloc, Vec::new(alloc), false)?;
-    let folder = &mut folder;
-    let first = put(alloc, folder, "{\"_id\":\"x\",\"n\":1}")??;
-    assert_eq!(rt;
-        first,
-        Rev {
-            generation: 1,
-            seq: 1
-        }
-    );
-    let again = put(alloc, folder, "{\"_id\":\"x\"}")?;
-    assert!(rt; matches!(again, Err(DocFault::Conflict)));
-    let badly = delete(alloc, folder, "x", Some("1-1"))?;
-    assert!(rt; matches!(badly, Err(DocFault::BadRev)));
-    let second = delete(alloc, folder, "x", Some(FIRST))??;
-    assert_eq!(rt;
-        second,
-        Rev {
-            generation: 2,
-            seq: 2
-        }
-    );
-    assert!(rt; matches!(get(alloc, folder, "x")?, Err(DocFault::Deleted)));
-    let twice = delete(alloc, folder, "x", Some(FIRST))?;
-    assert!(rt; matches!(twice, Err(DocFault::Deleted)));
-    let third = put(alloc, folder, "{\"_id\":\"x\",\"n\":2}")??;
-    assert_eq!(rt;
-        third,
-        Rev {
-            generation: 3,
-            seq: 3
-        }
-    );
-    let other = put(
-        alloc,
-        folder,
-        "{\"_id\":\"y\",\"_rev\":\"1-00000000000000000000000000000001\"}",
-    )?;
-    assert!(rt; matches!(other, Err(DocFault::Conflict)));
-    assert!(rt; matches!(delete(alloc, folder, "z", None)?, Err(DocFault::Missing)));
-    let stored = get(alloc, folder, "x")??;
+    for (text, rev, want) in [
+        ("{\"_id\":\"x\",\"n\":1}", None, "1 1"),
+        ("{\"_id\":\"x\"}", None, "conflict"),
+        ("x", None, "conflict"),
+        ("x", Some("1-1"), "bad revision"),
+        ("x", Some(first), "2 2"),
+        ("x", Some(first), "deleted"),
+        ("{\"_id\":\"x\",\"n\":2}", None, "3 3"),
+        (
+            "{\"_id\":\"y\",\"_rev\":\"1-00000000000000000000000000000001\"}",
+            None,
+            "conflict",
+        ),
+        ("z", None, "missing"),
+        (
+            "{\"_id\":\"x\",\"_rev\":\"3-00000000000000000000000000000003\",\"_deleted\":true,\"n\":3}",
+            None,
+            "4 4",
+        ),
+        ("{\"_id\":\"y\"}", None, "1 5"),
+    ] {
+        let outcome = if text.starts_with('{') {
+            put(alloc, &mut folder, text)?
+        } else {
+            delete(alloc, &mut folder, text, rev)?
+        };
+        let told = told(alloc, outcome)?;
+        assert_eq!(rt; told.as_str(), want, "{text}");
+    }
+    let info = Docs::open(alloc, &mut folder)?.info();
+    let want = Info {
+        doc_count: 1,
+        doc_del_count: 1,
+        update_seq: 5,
+    };
+    assert_eq!(rt; info, want);
+    Ok(())
+}
+
+#[test]
+fn a_document_is_stored_under_its_revision(rt: HostRuntime) -> Result<(), Fail> {
+    let alloc = rt.alloc();
+    let mut folder = MemoryFolder::new(alloc, Vec::new(alloc), false)?;
+    let text = "{\"_deleted\":false,\"_id\":\"x\",\"n\":2}";
+    put(alloc, &mut folder, text)??;
+    let stored = get(alloc, &mut folder, "x")??;
     let mut text = Vec::new(alloc);
     write_term(alloc, &stored, &mut text)?;
-    assert_eq!(rt;
-        text.as_slice(),
-        b"{\"_id\":\"x\",\"_rev\":\"3-00000000000000000000000000000003\",\"n\":2}".as_slice()
-    );
-    let dropped = put(
-        alloc,
-        folder,
-        "{\"_id\":\"x\",\"_rev\":\"3-00000000000000000000000000000003\",\"_deleted\":true}",
-    )??;
-    assert_eq!(rt;
-        dropped,
-        Rev {
-            generation: 4,
-            seq: 4
-        }
-    );
-    let counts = Docs::open(alloc, folder)?.info();
-    assert_eq!(rt;
-        counts,
-        Info {
-            doc_count: 0,
-            doc_del_count: 1,
-            update_seq: 4
-        }
-    );
+    let want = "{\"_id\":\"x\",\"_rev\":\"1-00000000000000000000000000000001\",\"n\":2}";
+    assert_eq!(rt; text.as_slice(), want.as_bytes());
     Ok(())
 }
 
