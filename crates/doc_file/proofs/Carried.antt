@@ -1,6 +1,5 @@
 -- What stands in a file behind its slots stands in each file that has the same bytes there, and perhaps more behind them.
-use Rattle.std.proofs.Common.{◌≡◌, ◌⊎◌, inl, inr, ℕ, ◌+◌, ◌-◌, ◌<◌, ◌≤◌, List, [], length, take, drop, Option, Some, None, refl, sym, ap, ◌∙◌, subst, arith, length-take, length-drop}
-use Rattle.std.specs.Prelude.{Bool, true, false}
+use Rattle.std.proofs.Common.{◌≡◌, ◌⊎◌, inl, inr, ℕ, ◌<◌, ◌≤◌, List, length, take, drop, Option, Some, None, refl, sym, ap, ◌∙◌, arith, length-take, length-drop}
 use Rattle.std.proofs.lemmas.Bool.{cases_lt}
 use Rattle.json_terms.specs.Json.{Json}
 use Rattle.term_codec.specs.Spelling.{spelling}
@@ -11,7 +10,7 @@ use Rattle.gate_file.proofs.FileFacts.{shows_part}
 use Rattle.doc_file.specs.declared.entry.LastWrite.{LastWrite}
 use Rattle.doc_file.specs.declared.entry.Entry.{Entry}
 use Rattle.doc_file.specs.History.{Write, last_write}
-use Rattle.doc_file.specs.Held.{HasBody, HoldsRoot, IsKept, Keeps, KeepsDocument, KeepsEach, StandsFor, commits_in, find_last}
+use Rattle.doc_file.specs.Held.{HoldsRoot, Keeps, KeepsDocument, KeepsEach, StandsFor, commits_in, find_last}
 
 module _ (shown : Option Root) (bytes image : List ℕ) (shows : Shows shown bytes image) where
   pub carried_part : (offset count : ℕ) (part : List ℕ) → 8192 ≤ offset → IsPart bytes offset count part → IsPart image offset count part

@@ -1,6 +1,6 @@
 -- The history after one more write.
-use Rattle.std.proofs.Common.{◌≡◌, ◌⊎◌, inl, inr, ℕ, ◌+◌, ◌<◌, ◌≤◌, List, [], ◌∷◌, length, Option, Some, None, refl, sym, ap, ◌∙◌, subst, arith}
-use Rattle.std.specs.Prelude.{Bool, true, false, bytes_eq, cond, count_by, filter, is_none}
+use Rattle.std.proofs.Common.{◌≡◌, ◌⊎◌, inl, inr, ℕ, ◌+◌, List, [], ◌∷◌, length, Option, Some, None, refl, sym, ap, ◌∙◌, subst, arith}
+use Rattle.std.specs.Prelude.{Bool, true, false, bytes_eq, cond, filter, is_none}
 use Rattle.std.proofs.lemmas.List.Sums.{length-filter}
 use Rattle.doc_file.specs.declared.entry.LastWrite.{LastWrite}
 use Rattle.doc_file.specs.declared.entry.Entry.{Entry}

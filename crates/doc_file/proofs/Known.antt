@@ -1,6 +1,6 @@
 -- What is kept of an id, and its last write in the history.
 use Rattle.std.proofs.Common.{◌≡◌, ◌⊎◌, inl, inr, ℕ, List, Option, Some, None, Result, Ok, Err, IfOk, IfErr, refl, sym, ap, ◌∙◌, subst}
-use Rattle.std.specs.Prelude.{Bool, true, false, is_none, option_map}
+use Rattle.std.specs.Prelude.{Bool, false, is_none, option_map}
 use Rattle.json_terms.specs.Json.{Json}
 use Rattle.view_ports.specs.File.{File}
 use Rattle.view_ports.specs.declared.file_name.FileName.{FileName}

@@ -1,6 +1,6 @@
 -- What the documents' files stand for while the pair is opened.
-use Rattle.std.proofs.Common.{◌≡◌, ◌≢◌, ◌⊎◌, inl, inr, ⊎_elim, ℕ, ◌+◌, ◌<◌, ◌≤◌, List, [], ◌∷◌, ◌++◌, length, take, drop, Option, Some, None, refl, sym, ap, ◌∙◌, subst, arith}
-use Rattle.std.specs.Prelude.{Bool, true, false, is_none, if◌then◌else◌, nat_lt, All, AllPairs, IfSome}
+use Rattle.std.proofs.Common.{◌≡◌, ◌⊎◌, inl, inr, ⊎_elim, ℕ, ◌<◌, List, [], ◌∷◌, ◌++◌, length, take, drop, Option, Some, None, refl, sym, ap, ◌∙◌, subst, arith}
+use Rattle.std.specs.Prelude.{true, false, is_none, nat_lt, All, AllPairs, IfSome}
 use Rattle.std.proofs.lemmas.Bool.Decides.{nat_tests}
 use Rattle.std.proofs.lemmas.List.Elements.{All-nil, All-cons, All-head, All-tail}
 use Rattle.view_ports.specs.File.{File, IsImage, settled}
@@ -14,9 +14,9 @@ use Rattle.gate_file.specs.declared.root.Root.{Root}
 use Rattle.gate_file.specs.declared.gate.GateFile.{GateFile}
 use Rattle.gate_file.specs.Header.{slot_at, open_root, IsFit, newest}
 use Rattle.gate_file.specs.GateFile.{name_of, root_of, commits_of}
-use Rattle.gate_file.specs.Open.{IsFirstDamage, found, opened, opened_of, side_of, slots_of, BeforeOpening, IsDropped, IsWholeOrEmpty, WhileOpening}
+use Rattle.gate_file.specs.Open.{IsFirstDamage, found, opened, opened_of, slots_of, IsDropped, IsWholeOrEmpty, WhileOpening}
 use Rattle.gate_file.specs.Shown.{Shows}
-use Rattle.gate_file.proofs.Pairs.{sides, apart as sides_differ, name_is, has_root}
+use Rattle.gate_file.proofs.Pairs.{sides, name_is, has_root}
 use Rattle.gate_file.proofs.Looks.{newest_of}
 use Rattle.std.proofs.lemmas.List.{take_all}
 use Rattle.gate_file.specs.Open.{IsOpened}
@@ -25,8 +25,8 @@ use Rattle.doc_file.specs.declared.entry.Entry.{Entry}
 use Rattle.doc_file.specs.Docs.{bytes_in, entries_of, file_of, seq_of, HoldsHistory, IsAt, IsDocsFile, IsLoaded, IsOpen}
 use Rattle.doc_file.specs.Record.{record_bytes}
 use Rattle.doc_file.proofs.Entries.{record_bytes-one}
-use Rattle.doc_file.specs.History.{Write, last_write}
-use Rattle.doc_file.specs.Held.{AreApart, HoldsRoot, Keeps, KeepsEach, find_last, Stands, StandsFor, open_roots, side_in}
+use Rattle.doc_file.specs.History.{Write}
+use Rattle.doc_file.specs.Held.{AreApart, HoldsRoot, KeepsEach, Stands, StandsFor, side_in}
 use Rattle.doc_file.proofs.Images.{image_stands, none_stands, found_is, fit_there, none_there, low_side, high_side, option_cases}
 use Rattle.doc_file.proofs.Setting.{bool_cases}
 

@@ -3,7 +3,7 @@ use Rattle.std.proofs.Common.{◌≡◌, ◌⊎◌, inl, inr, ℕ, suc, zero, �
 use Rattle.std.specs.Prelude.{false, option_map, All, AllPairs, Contains}
 use Rattle.std.proofs.lemmas.Bool.{cases_lt}
 use Rattle.std.proofs.lemmas.List.{map-append}
-use Rattle.std.proofs.lemmas.List.Elements.{All-contains, All-nil, All-push, All-weaker, Contains-append_left, Contains-push}
+use Rattle.std.proofs.lemmas.List.Elements.{All-contains, All-nil, All-push, Contains-append_left, Contains-push}
 use Rattle.std.proofs.lemmas.List.Quantifiers.{all_pairs_push}
 use Rattle.json_terms.specs.Json.{Json}
 use Rattle.json_terms.specs.Seen.{json}
@@ -17,9 +17,9 @@ use Rattle.doc_file.specs.declared.docs.Docs.{Docs}
 use Rattle.doc_file.specs.declared.docs.changes.Change.{Change}
 use Rattle.doc_file.specs.declared.entry.Entry.{Entry}
 use Rattle.doc_file.specs.Record.{AreEntries}
-use Rattle.doc_file.specs.Changes.{numbered, AreInOrder, AreWhole, IsChange, IsNext, IsSpoiledAfter, IsStored, IsTold}
+use Rattle.doc_file.specs.Changes.{numbered, AreInOrder, AreWhole, IsChange, IsNext, IsSpoiledAfter, IsStored}
 use Rattle.doc_file.specs.Docs.{bytes_in, entries_of, file_of, last_of, seq_of, IsAt, IsLoaded, IsSpoiled}
-use Rattle.doc_file.specs.Held.{HoldsRoot, find_last}
+use Rattle.doc_file.specs.Held.{find_last}
 use Rattle.doc_file.specs.History.{Write, changes_after}
 use Rattle.doc_file.proofs.Since.{are_entries, change_is, found_entries, none_left, not_spoiled}
 

@@ -1,6 +1,6 @@
 -- What the documents' file stands for while a write is stored, and after it.
-use Rattle.std.proofs.Common.{◌≡◌, ◌≢◌, ◌⊎◌, inl, inr, ℕ, ◌+◌, ◌-◌, ◌*◌, ◌^◌, ◌<◌, ◌≤◌, List, [], ◌∷◌, ◌++◌, length, take, drop, Option, Some, None, IsUtf8, refl, sym, ap, ◌∙◌, subst, arith, append_assoc, append-nil, length-append}
-use Rattle.std.specs.Prelude.{Bool, true, false, ◌&&◌, IsTrue, is_none, min, nat_le, nat_lt}
+use Rattle.std.proofs.Common.{◌≡◌, ℕ, ◌+◌, ◌^◌, ◌<◌, ◌≤◌, List, [], ◌∷◌, ◌++◌, length, take, Option, Some, None, IsUtf8, refl, sym, ap, ◌∙◌, subst, arith, append_assoc, append-nil, length-append}
+use Rattle.std.specs.Prelude.{true, is_none, nat_le}
 use Rattle.std.specs.List.{list_all}
 use Rattle.std.proofs.Math.Seq.{take-append_seam, drop-append_seam}
 use Rattle.std.proofs.lemmas.Bool.Decides.{nat_tests}
@@ -8,16 +8,16 @@ use Rattle.json_terms.specs.Json.{Json}
 use Rattle.term_codec.specs.Spelling.{spelling}
 use Rattle.gate_file.specs.declared.root.Root.{Root}
 use Rattle.gate_file.specs.declared.gate.GateFile.{GateFile}
-use Rattle.gate_file.specs.GateFile.{start_of, next_root}
+use Rattle.gate_file.specs.GateFile.{start_of}
 use Rattle.gate_file.specs.Open.{IsPart}
 use Rattle.gate_file.specs.Shown.{Shows}
 use Rattle.doc_file.specs.declared.entry.LastWrite.{LastWrite}
 use Rattle.doc_file.specs.declared.entry.Entry.{Entry}
 use Rattle.doc_file.specs.declared.rev.Rev.{Rev}
-use Rattle.doc_file.specs.Record.{IsEntry, IsLast, IsRoot, AreEntries, record_bytes}
-use Rattle.doc_file.specs.Counts.{is_counted, are_counted, has_room, most_writes}
-use Rattle.doc_file.specs.History.{Write, generation, last_write}
-use Rattle.doc_file.specs.Held.{HasBody, HoldsRoot, IsBodyOf, Keeps, KeepsDocument, KeepsEach, StandsFor, find_last}
+use Rattle.doc_file.specs.Record.{IsEntry, IsRoot, AreEntries, record_bytes}
+use Rattle.doc_file.specs.Counts.{is_counted, are_counted, most_writes}
+use Rattle.doc_file.specs.History.{Write, generation}
+use Rattle.doc_file.specs.Held.{HoldsRoot, IsBodyOf, KeepsDocument, KeepsEach, StandsFor, find_last}
 use Rattle.doc_file.specs.Stored.{body_of, entry_of, generation_in, last_of, next_rev, place_in, revised, with_last, write_of}
 use Rattle.std.specs.Cmp.{first_so, second_so}
 use Rattle.doc_file.proofs.Setting.{passes, list_all-with_last, list_all-weaker, AreEntries-with_last}

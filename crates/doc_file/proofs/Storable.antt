@@ -1,5 +1,5 @@
 -- What is stored of a document that may be put.
-use Rattle.std.proofs.Common.{◌≡◌, ◌⊎◌, inl, inr, ℕ, ◌+◌, ◌^◌, ◌<◌, ◌≤◌, List, length, Ordering, Less, Equal, Greater, nat_cmp, is_eq, Option, Some, None, refl, sym, ap, ◌∙◌, subst, arith}
+use Rattle.std.proofs.Common.{◌≡◌, ℕ, ◌+◌, ◌^◌, ◌<◌, List, length, Ordering, Less, Equal, Greater, nat_cmp, Option, Some, None, refl, sym, ap, ◌∙◌, subst, arith}
 use Rattle.std.specs.Prelude.{Bool, true, false, IsTrue, bytes_eq, codes, if◌then◌else◌}
 use Rattle.std.specs.Ordering.{match_ordering}
 use Rattle.std.specs.Cmp.Lexicographic.{slice_cmp}
@@ -12,14 +12,13 @@ use Rattle.std.specs.List.{list_all}
 use Rattle.std.proofs.lemmas.Bool.Decides.{nat_tests}
 use Rattle.doc_file.specs.declared.entry.LastWrite.{LastWrite}
 use Rattle.doc_file.specs.declared.entry.Entry.{Entry}
-use Rattle.doc_file.specs.declared.rev.Rev.{Rev}
 use Rattle.doc_file.specs.Accepted.{delete_refusal, state_in}
 use Rattle.doc_file.specs.Counts.{has_room}
 use Rattle.doc_file.specs.Content.{without, unrevised, content}
-use Rattle.doc_file.specs.Held.{IsObject, IsBodyOf, find_last}
+use Rattle.doc_file.specs.Held.{IsObject, find_last}
 use Rattle.doc_file.specs.Incoming.{IsWritable, deletes}
 use Rattle.doc_file.specs.Revision.{revision, stored_document}
-use Rattle.doc_file.specs.Stored.{IsShort, IsStorable, entry_of}
+use Rattle.doc_file.specs.Stored.{IsStorable, entry_of}
 use Rattle.doc_file.specs.Writes.{content_of}
 use Rattle.doc_file.proofs.Contents.{IsDocument-stored, IsObject-writable, IsUtf8-revision, id_short, length-revision, spelling_short}
 use Rattle.doc_file.proofs.Setting.{bytes_eq-same, equal_id, passes}

@@ -1,21 +1,20 @@
 -- What a crash leaves of the documents while a write is stored, and what they are after it.
-use Rattle.std.proofs.Common.{◌≡◌, ◌≢◌, ◌⊎◌, inl, inr, ⊎_elim, ℕ, ◌+◌, ◌-◌, ◌^◌, ◌<◌, ◌≤◌, List, [], ◌∷◌, ◌++◌, length, Option, Some, None, Result, Ok, Err, OnOk, IsUtf8, refl, sym, ap, ◌∙◌, subst, arith, length-append}
-use Rattle.std.specs.Prelude.{Bool, true, false, IfSome, IsTrue}
+use Rattle.std.proofs.Common.{◌≡◌, ◌≢◌, ℕ, ◌+◌, ◌-◌, ◌^◌, ◌<◌, ◌≤◌, List, [], ◌∷◌, ◌++◌, length, Option, Some, None, IsUtf8, refl, sym, ap, ◌∙◌, subst, arith, length-append}
+use Rattle.std.specs.Prelude.{IfSome}
 use Rattle.json_terms.specs.Json.{Json}
 use Rattle.view_ports.specs.File.{File, IsImage, settled}
-use Rattle.view_ports.specs.Disk.{Disk, Framed, IsImageOf, Moves, MovesFile, OthersStay}
+use Rattle.view_ports.specs.Disk.{IsImageOf}
 use Rattle.view_ports.specs.declared.file_name.FileName.{FileName}
 use Rattle.view_ports.specs.declared.file_name.Stem.TheVariants.{Docs as DocsStem}
 use Rattle.view_ports.proofs.Images.{IsImage-settled}
-use Rattle.view_ports.proofs.DiskRuns.{moves_none, moves_wider}
 use Rattle.gate_file.specs.declared.root.Root.{Root}
 use Rattle.gate_file.specs.declared.gate.GateFile.{GateFile}
-use Rattle.gate_file.specs.Header.{slot_at, place_of, IsFit}
-use Rattle.gate_file.specs.GateFile.{commits_of, name_of, root_of, start_of, appended, committed, next_root, Keeps as KeepsFile}
+use Rattle.gate_file.specs.Header.{slot_at, place_of}
+use Rattle.gate_file.specs.GateFile.{commits_of, name_of, root_of, start_of, next_root, Keeps as KeepsFile}
 use Rattle.gate_file.specs.Shown.{Shows, IsFront}
 use Rattle.gate_file.proofs.SlotFacts.{fit_at}
 use Rattle.gate_file.proofs.Looks.{opened_slot}
-use Rattle.gate_file.proofs.Appends.{still_shows, shows_then}
+use Rattle.gate_file.proofs.Appends.{still_shows}
 use Rattle.doc_file.specs.declared.docs.Docs.{Docs}
 use Rattle.doc_file.specs.declared.entry.Entry.{Entry}
 use Rattle.std.proofs.lemmas.List.{get_or_append_left}

@@ -1,9 +1,9 @@
 -- What a folder tells while a draft is stored.
-use Rattle.std.proofs.Common.{◌≡◌, ◌≢◌, ◌⊎◌, inl, inr, ⊎_elim, ℕ, ◌+◌, ◌-◌, ◌^◌, ◌<◌, ◌≤◌, List, [], ◌∷◌, ◌++◌, length, Option, Some, None, Result, Ok, Err, OnOk, IsUtf8, refl, sym, ap, ◌∙◌, subst, arith}
+use Rattle.std.proofs.Common.{◌≡◌, ◌⊎◌, inl, inr, ⊎_elim, ℕ, ◌+◌, ◌-◌, ◌^◌, ◌<◌, ◌≤◌, List, ◌∷◌, ◌++◌, length, Option, Some, None, Result, Ok, OnOk, refl, sym, ap, ◌∙◌, subst, arith}
 use Rattle.std.specs.Prelude.{true}
 use Rattle.json_terms.specs.Json.{Json}
-use Rattle.view_ports.specs.File.{File, IsImage, settled}
-use Rattle.view_ports.specs.Disk.{Disk, Framed, IfTold, Moves, MovesFile, OthersStay, Tells}
+use Rattle.view_ports.specs.File.{File, IsImage}
+use Rattle.view_ports.specs.Disk.{Disk, IfTold, Moves, MovesFile, OthersStay, Tells}
 use Rattle.view_ports.specs.declared.file_name.FileName.{FileName}
 use Rattle.view_ports.proofs.Told.{told_given, told_still, told_after}
 use Rattle.view_ports.proofs.DiskRuns.{moves_none, moves_wider, on_ok}
@@ -23,7 +23,7 @@ use Rattle.doc_file.specs.History.{Write}
 use Rattle.doc_file.specs.Held.{IsBodyOf, Stands}
 use Rattle.doc_file.specs.Docs.{entries_of, file_of, seq_of, IsAt, IsDocsFile, IsOpen}
 use Rattle.doc_file.specs.Drafts.{IsDraft}
-use Rattle.doc_file.specs.Stored.{body_of, entry_of, last_of, published, revised, write_of, IsPublished, IsShort, IsStorable, ShowsNew}
+use Rattle.doc_file.specs.Stored.{body_of, entry_of, last_of, published, revised, write_of, IsPublished, IsStorable, ShowsNew}
 use Rattle.doc_file.proofs.Images.{image_stands}
 use Rattle.std.specs.List.{list_all}
 use Rattle.doc_file.specs.Counts.{are_counted, has_room}

@@ -1,5 +1,5 @@
 -- The history of the documents: the accepted writes, the newest first.
-use Rattle.std.specs.Prelude.{ℕ, ◌+◌, List, [], ◌∷◌, ◌++◌, not, Option, Some, None, option_map, option_and_then, bytes_eq, if◌then◌else◌, count_by, filter, length, nat_lt}
+use Rattle.std.specs.Prelude.{ℕ, List, [], ◌∷◌, ◌++◌, not, Option, Some, None, option_map, option_and_then, bytes_eq, if◌then◌else◌, count_by, filter, length, nat_lt}
 use Rattle.std.specs.List.{filter_map}
 use Rattle.std.specs.Ordering.{nat_cmp}
 use Rattle.std.specs.Cmp.Lexicographic.{slice_cmp}

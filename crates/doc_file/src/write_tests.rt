@@ -183,7 +183,7 @@ fn check_image(
     let found = docs.info().update_seq;
     let before = done.iter().filter(|write| write.calls <= call).count() as u64;
     assert!(rt;
-        found == before || found - 1 == before,
+        found == before || Some(found) == before.checked_add(1),
         "call {call}: {found} for {before}"
     );
     for id in 0..IDS {

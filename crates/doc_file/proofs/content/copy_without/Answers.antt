@@ -1,5 +1,5 @@
 -- The names of what is left rise, as those of the members do.
-use Rattle.std.proofs.Common.{◌≡◌, ◌+◌, List, [], ◌∷◌, ◌++◌, map, take, get_or, Bool, true, false, not, bytes_eq, sym, ap, ◌∙◌, subst, arith}
+use Rattle.std.proofs.Common.{◌≡◌, ◌+◌, List, [], ◌∷◌, ◌++◌, map, take, Bool, true, false, not, bytes_eq, sym, ap, ◌∙◌, subst, arith}
 use Rattle.std.proofs.lemmas.List.{take_more}
 use Rattle.json_terms.specs.declared.term.Member.{Member}
 use Rattle.json_terms.specs.Json.{members_of}

@@ -1,12 +1,12 @@
 -- The bytes are appended, and then what stands behind the first of them becomes the root.
-use Rattle.std.proofs.Common.{◌≡◌, ◌⊎◌, inl, inr, ◌+◌, ◌-◌, Some, ℕ, List, refl, length, OnOk, Result, Ok, Err, subst, sym, ap, ◌∙◌}
+use Rattle.std.proofs.Common.{◌≡◌, ◌⊎◌, inl, inr, ◌+◌, ◌-◌, Some, ℕ, List, refl, length, OnOk, Result, Ok, Err, subst, ap, ◌∙◌}
 use Rattle.view_ports.specs.Disk.{MovesFile, Tells}
 use Rattle.view_ports.specs.File.{File}
 use Rattle.view_ports.proofs.DiskRuns.{on_ok}
 use Rattle.view_ports.proofs.ToldFiles.{told_file_weaker, told_file_then}
 use Rattle.gate_file.specs.declared.gate.GateFile.{GateFile}
 use Rattle.gate_file.specs.declared.root.Root.{Root}
-use Rattle.gate_file.specs.GateFile.{appended, committed, next_root, root_of, start_of, Keeps, IsAppended, IsCommitted}
+use Rattle.gate_file.specs.GateFile.{appended, committed, next_root, start_of, Keeps, IsAppended, IsCommitted}
 use Rattle.gate_file.specs.Shown.{Shows}
 use Rattle.gate_file.proofs.Appends.{shows_then}
 use Rattle.gate_file.proofs.Stepped.{ended_err}

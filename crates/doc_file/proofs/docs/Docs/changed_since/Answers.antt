@@ -1,7 +1,6 @@
 -- The calls for the changes change nothing, so what they find stood there from the first.
-use Rattle.std.proofs.Common.{◌≡◌, ◌∙◌, ◌++◌, ◌∷◌, [], ◌+◌, ◌≤◌, ℕ, List, Some, None, Err, false, option_map, subst, sym, ap, arith, rules}
+use Rattle.std.proofs.Common.{◌≡◌, ◌++◌, ◌∷◌, [], ◌+◌, ℕ, Some, None, Err, false, option_map, subst, sym, arith, rules}
 use Rattle.json_terms.specs.Seen.{json}
-use Rattle.view_ports.specs.Disk.{IfTold, Tells, MovesNone}
 use Rattle.view_ports.specs.declared.file_name.FileName.{FileName}
 use Rattle.view_ports.proofs.Told.{told_now}
 use Rattle.gate_file.specs.GateFile.{name_of}
@@ -10,7 +9,6 @@ use Rattle.gate_file.proofs.Looks.{told_none_then}
 use Rattle.doc_file.specs.declared.fault.DocFault.TheVariants.{Gate}
 use Rattle.doc_file.specs.Changes.{IsNext, IsSpoiledAfter, IsStored}
 use Rattle.doc_file.specs.Docs.{bytes_in, entries_of, file_of, IsAt, IsLoaded, IsSpoiled}
-use Rattle.doc_file.specs.History.{Write}
 use Rattle.doc_file.proofs.Progress.{bytes_back, never_spoiled, so_far_more, spoiled_after, whole_full, written_full, written_none, IsSoFar}
 use Rattle.doc_file.proofs.docs.Docs.changed_since.Goals as goal
 

@@ -1,5 +1,5 @@
 -- Nothing is called where a deletion is refused.
-use Rattle.std.proofs.Common.{◌≡◌, ◌⊎◌, ◌+◌, ◌^◌, ◌<◌, ◌∷◌, None, OnOk, length, refl, sym, ap, ◌∙◌, subst}
+use Rattle.std.proofs.Common.{◌⊎◌, ◌+◌, ◌^◌, ◌<◌, ◌∷◌, None, OnOk, length, sym, ap, ◌∙◌, subst}
 use Rattle.view_ports.specs.Disk.{Moves, Tells}
 use Rattle.gate_file.proofs.Stepped.{ended_err}
 use Rattle.doc_file.specs.Docs.{IsAt, IsDocsFile}

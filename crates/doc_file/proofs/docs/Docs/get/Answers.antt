@@ -1,14 +1,12 @@
 -- A live document of the history is spelled at its place.
-use Rattle.std.proofs.Common.{◌≡◌, ◌∙◌, ◌⊎◌, ℕ, List, Some, None, Err, IfOk, IfErr, false, subst, sym, ap}
+use Rattle.std.proofs.Common.{◌≡◌, ◌∙◌, ℕ, Some, Err, IfOk, subst, sym, ap}
 use Rattle.json_terms.specs.Json.{Json}
 use Rattle.json_terms.specs.Seen.{json}
-use Rattle.view_ports.specs.Disk.{IfTold}
 use Rattle.view_ports.specs.declared.file_name.FileName.{FileName}
 use Rattle.view_ports.proofs.Told.{told_now}
-use Rattle.gate_file.specs.GateFile.{name_of}
 use Rattle.gate_file.specs.declared.fault.GateFault.TheVariants.{Damaged}
 use Rattle.doc_file.specs.declared.fault.DocFault.TheVariants.{Gate}
-use Rattle.doc_file.specs.Docs.{bytes_in, file_of, last_of, IsAt}
+use Rattle.doc_file.specs.Docs.{last_of, IsAt}
 use Rattle.doc_file.specs.Held.{HasBody, find_last}
 use Rattle.doc_file.specs.History.{live_document}
 use Rattle.doc_file.proofs.Known.{body_is, is_spelled, ok_then, place_is}

@@ -1,12 +1,10 @@
 -- All that takes memory is done before the disk is asked, and then the draft is published.
-use Rattle.std.proofs.Common.{◌≡◌, ◌⊎◌, ◌+◌, ◌^◌, ◌<◌, ◌≤◌, ◌∷◌, IsUtf8, OnOk, length, Option, option_map, refl, sym, ap, ◌∙◌, subst, arith}
+use Rattle.std.proofs.Common.{◌≤◌, ◌∷◌, OnOk, length, option_map, refl, sym, ap, subst}
 use Rattle.json_terms.specs.Seen.{json}
-use Rattle.view_ports.specs.Disk.{MovesFile, Tells}
-use Rattle.gate_file.specs.GateFile.{commits_of, name_of, start_of}
+use Rattle.gate_file.specs.GateFile.{commits_of}
 use Rattle.gate_file.proofs.Stepped.{ended_err}
-use Rattle.doc_file.specs.Docs.{entries_of, file_of, seq_of, IsAt}
+use Rattle.doc_file.specs.Docs.{IsAt}
 use Rattle.doc_file.specs.declared.rev.Rev.{Rev}
-use Rattle.doc_file.specs.Drafts.{IsDraft}
 use Rattle.doc_file.specs.Held.{find_last}
 use Rattle.doc_file.specs.Stored.{generation_in, published, write_of, IsPublished}
 use Rattle.doc_file.proofs.Standing.{generation_room}
