@@ -173,8 +173,16 @@ def replies(step, words, text):
     return run.stdout[:-1].split(b"\n")
 
 
+def around(reply, place):
+    """The part of a reply around a place."""
+    return reply[max(place - 200, 0):place + 200].decode(errors="replace")
+
+
 def main():
     couchview, map_server = map(os.path.abspath, sys.argv[1:])
+    for program in couchview, map_server:
+        if not os.access(program, os.X_OK):
+            complain("%s isn't there, or can't be run" % program)
     lines = [line_of(number, request) for number, request in enumerate(requests())]
     text = "".join(line + "\n" for line in lines).encode()
     with tempfile.TemporaryDirectory(prefix="couchview-pick-") as folder:
@@ -192,7 +200,8 @@ def main():
             complain("%s: %d replies to %d lines" % (step, len(got), len(lines)))
     for line, one, other in zip(lines, by_child, in_process):
         if one != other:
-            complain("the replies to\n  %s\ndiffer: over a child\n  %s\nand in the process\n  %s" % (line[:1500], one[:1500], other[:1500]))
+            at = len(os.path.commonprefix([one, other]))
+            complain("the replies to\n  %s\ndiffer at byte %d: over a child\n  %s\nand in the process\n  %s" % (line[:1500], at, around(one, at), around(other, at)))
     with_rows = sum(bool(re.match(rb'{"total_rows":[1-9]', reply)) for reply in in_process)
     not_compiled = sum(reply.startswith(b'{"error":"compilation_error"') for reply in in_process)
     if with_rows == 0:

@@ -42,11 +42,14 @@ pub fn is_built_in(path: &str) -> bool
     path == FieldPath::path() || path == PickPath::path()
 }
 
+/// The servers of `builtin:pick`, those of `builtin:field`, and those of every other path.
+type ByPath<C> = Switch<PickPath, PickServers, Switch<FieldPath, FieldServers, C>>;
+
 /// Query servers of which those of the paths `builtin:field` and `builtin:pick` run in the process, and those of every
 /// other path are of another kind.
 #[derive(Drop)]
 pub struct Mixed<C> {
-    servers: Switch<PickPath, PickServers, Switch<FieldPath, FieldServers, C>>,
+    servers: ByPath<C>,
 }
 
 impl<C: Servers + Drop> Mixed<C> {
@@ -66,13 +69,13 @@ impl<C: Servers + Drop> Mixed<C> {
 }
 
 impl<C: Servers> Servers for Mixed<C> {
-    ghost may_follow = { λ m. ⟦<Switch<PickPath, PickServers, Switch<FieldPath, FieldServers, C>> as Servers>⟧.may_follow m.servers };
+    ghost may_follow = { λ m. ⟦<ByPath<C> as Servers>⟧.may_follow m.servers };
 
-    ghost faults = { λ m. ⟦<Switch<PickPath, PickServers, Switch<FieldPath, FieldServers, C>> as Servers>⟧.faults m.servers };
+    ghost faults = { λ m. ⟦<ByPath<C> as Servers>⟧.faults m.servers };
 
-    ghost functions = { ⟦<Switch<PickPath, PickServers, Switch<FieldPath, FieldServers, C>> as Servers>⟧.functions };
+    ghost functions = { ⟦<ByPath<C> as Servers>⟧.functions };
 
-    ghost honest = { ⟦<Switch<PickPath, PickServers, Switch<FieldPath, FieldServers, C>> as Servers>⟧.honest };
+    ghost honest = { ⟦<ByPath<C> as Servers>⟧.honest };
 
     fn start(&mut self, alloc: Global, slot: u32, path: &str) -> Result<(), ServersFault> {
         self.servers.start(alloc, slot, path)
