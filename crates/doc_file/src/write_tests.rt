@@ -222,9 +222,9 @@ fn write_all(alloc: Global, folder: &mut MemoryFolder, writes: u64) -> Result<Ve
 fn a_stop_at_any_call_leaves_what_was_written(rt: HostRuntime) -> Result<(), Fail> {
     let alloc = rt.alloc();
     let mut whole = MemoryFolder::new(alloc, Vec::new(alloc), true)?;
-    let done = write_all(alloc, &mut whole, 5)?;
+    let done = write_all(alloc, &mut whole, 24)?;
     for call in 0..whole.calls_noted() {
-        for choice in 0..3 {
+        for choice in 0..5 {
             check_image(&rt, alloc, &whole, call, choice, done.as_slice())?;
         }
     }
@@ -238,8 +238,8 @@ fn a_stop_among_many_writes_leaves_what_was_written(rt: HostRuntime) -> Result<(
     let mut whole = MemoryFolder::new(alloc, Vec::new(alloc), true)?;
     let done = write_all(alloc, &mut whole, 300)?;
     let noted = whole.calls_noted();
-    for (k, choice) in [(1, 0), (3, 2)] {
-        let call = (k * 1117 + 13) % noted.max(1);
+    for k in 0..200u64 {
+        let (call, choice) = ((k * 1117 + 13) % noted.max(1), k & 7);
         if call < noted {
             check_image(&rt, alloc, &whole, call, choice, done.as_slice())?;
         }
