@@ -55,6 +55,7 @@ impl Docs {
             (Moves IsDocsFile (λ image. Stands image history ⊎ Stands image (write_of history (id_of (json document)) (content_of (json document)) ∷ history))
             (λ files. OnOk result (IsAt self.new files (write_of history (id_of (json document)) (content_of (json document)) ∷ history)))) }
         ensures kept { IfErr result (λ e. IsFileFault (file_of self.old) e ⊎ (IsSame self.old self.new × (folder.new ≡ folder.old))) }
+        ensures reached { IfErr result (λ e. IsFileFault (file_of self.old) e → IsAcceptedPut (state_in (last_of self.old (id_of (json document)))) (json document)) }
 
         // `Full` comes exactly where the file would be too long, and where it has all of its commits.
         ensures long { (result ≡ Err (DocFault.Gate (GateFault.Full (name_of (file_of self.old)) (Some (length_of (file_of self.old)))))) → 2 ^ 40 < start_of (file_of self.old) + size_of (start_of (file_of self.old)) (seq_of self.old) (entries_of self.old) (id_of (json document)) (content_of (json document)) }
@@ -106,6 +107,7 @@ impl Docs {
             (Moves IsDocsFile (λ image. Stands image history ⊎ Stands image (write_of history id.now None ∷ history))
             (λ files. OnOk result (IsAt self.new files (write_of history id.now None ∷ history)))) }
         ensures kept { IfErr result (λ e. IsFileFault (file_of self.old) e ⊎ (IsSame self.old self.new × (folder.new ≡ folder.old))) }
+        ensures reached { IfErr result (λ e. IsFileFault (file_of self.old) e → IsAcceptedDelete (state_in (last_of self.old id.now)) (option_map (λ text. text.now) rev.entry)) }
 
         // `Full` comes exactly where the file would be too long, and where it has all of its commits.
         ensures long { (result ≡ Err (DocFault.Gate (GateFault.Full (name_of (file_of self.old)) (Some (length_of (file_of self.old)))))) → 2 ^ 40 < start_of (file_of self.old) + size_of (start_of (file_of self.old)) (seq_of self.old) (entries_of self.old) id.now None }
