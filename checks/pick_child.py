@@ -163,7 +163,8 @@ def line_of(number, request):
 def replies(step, words, text):
     """The lines that a run answers."""
     try:
-        run = subprocess.run(words, input=text, stdout=subprocess.PIPE, timeout=SECONDS)
+        with tempfile.TemporaryDirectory() as folder:
+            run = subprocess.run(words, cwd=folder, input=text, stdout=subprocess.PIPE, timeout=SECONDS)
     except subprocess.TimeoutExpired:
         complain("%s: the run takes more than %d seconds" % (step, SECONDS))
     if run.returncode != 0:

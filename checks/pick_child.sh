@@ -7,6 +7,8 @@ if ! command -v python3 > /dev/null 2>&1; then
     echo "pick_child: skipped, since there is no python3"
     exit 0
 fi
-"$here/couchview" serve < /dev/null || exit 1
+work=$(mktemp -d) || exit 1
+trap 'rm -rf "$work"' EXIT
+(cd "$work" && "$here/couchview" serve < /dev/null) || exit 1
 "$here/map_server" < /dev/null || exit 1
-exec python3 "$here/checks/pick_child.py" "$here/crates/couchview_cli/out/couchview_cli" "$here/crates/map_server_cli/out/map_server_cli"
+python3 "$here/checks/pick_child.py" "$here/crates/couchview_cli/out/couchview_cli" "$here/crates/map_server_cli/out/map_server_cli"

@@ -121,7 +121,10 @@ class Program:
     def __init__(self, path, languages):
         words = [path, "serve"] + ["%s=%s" % pair for pair in languages.items()]
         # The servers of a run may say on standard error what they think of their functions.
-        self.process = subprocess.Popen(words, stdin=subprocess.PIPE, stdout=subprocess.PIPE, stderr=subprocess.DEVNULL)
+        self.folder = tempfile.TemporaryDirectory()
+        self.process = subprocess.Popen(
+            words, cwd=self.folder.name, stdin=subprocess.PIPE, stdout=subprocess.PIPE, stderr=subprocess.DEVNULL
+        )
         programs.append(self.process)
 
     def ask(self, step, line):
@@ -171,6 +174,7 @@ class Program:
             complain(step, "the program didn't end within %d seconds" % SECONDS)
         if got != status:
             complain(step, "the exit status is %d" % got)
+        self.folder.cleanup()
 
 
 def rows(*all_rows):

@@ -9,5 +9,7 @@ for tool in node python3; do
         exit 0
     fi
 done
-"$here/couchview" serve < /dev/null || exit 1
-exec python3 "$here/checks/real_children.py" "$here/crates/couchview_cli/out/couchview_cli" "$here/examples/query_servers"
+work=$(mktemp -d) || exit 1
+trap 'rm -rf "$work"' EXIT
+(cd "$work" && "$here/couchview" serve < /dev/null) || exit 1
+python3 "$here/checks/real_children.py" "$here/crates/couchview_cli/out/couchview_cli" "$here/examples/query_servers"

@@ -1,6 +1,6 @@
 -- What is kept of a line.
-use Rattle.std.specs.Prelude.{◌≡◌, ◌≢◌, ◌<◌, ◌≤◌, ◌+◌, ◌-◌, ◌⊎◌, ℕ, min, zero, suc, List, [], ◌∷◌, ◌++◌, length, take}
-use Rattle.std.proofs.Common.{refl, sym, ap, ◌∙◌, subst, arith, add-one, inl, inr}
+use Rattle.std.specs.Prelude.{◌≡◌, ◌≢◌, ◌<◌, ◌≤◌, ◌+◌, ◌-◌, ◌⊎◌, ℕ, Option, min, zero, suc, List, [], ◌∷◌, ◌++◌, length, take}
+use Rattle.std.proofs.Common.{refl, sym, ap, ◌∙◌, subst, arith, add-one, inl, inr, length-take}
 use Rattle.std.proofs.lemmas.Bool.{cases_lt}
 use Rattle.std.proofs.lemmas.List.{take_all}
 use Rattle.view_ports.specs.Functions.{Functions}
@@ -9,8 +9,17 @@ use Rattle.view_engine.specs.declared.refusal.Refusal.TheVariants.{NoMemory}
 use Rattle.view_engine.specs.Refusals.{line_limit, refusal_text, request_of}
 use Rattle.view_ports.specs.Lines.{ended}
 use Rattle.view_engine.specs.Steps.{Answers, MayHaveCalled}
-use Rattle.view_engine.proofs.LineLimit.{Answers-cut, line_limit-is}
-use Rattle.couchview_cli.specs.Session.{kept, Answered}
+use Rattle.view_ports.specs.Disk.{Disk, LeavesOnly, Tells}
+use Rattle.view_ports.specs.declared.file_name.FileName.{FileName}
+use Rattle.view_ports.proofs.Told.{told_now}
+use Rattle.view_engine.specs.declared.halt.StepFault.{StepFault}
+use Rattle.view_engine.specs.declared.halt.StepFault.TheVariants.{Full}
+use Rattle.view_engine.specs.Engine.{StandsAround}
+use Rattle.view_engine.specs.Halts.{IsFullFor}
+use Rattle.view_engine.proofs.LineLimit.{Answers-cut, line_limit-is, request_of-long}
+use Rattle.couchview_cli.specs.Serving.{IsFullAt}
+use Rattle.couchview_cli.specs.Session.{kept, Answered, IsHalted}
+use Rattle.couchview_cli.proofs.Moving.{Told}
 
 take-front : (n : ℕ) (xs ys : List ℕ) → take n (take n xs ++ ys) ≡ take n (xs ++ ys)
 take-front zero xs ys = refl
@@ -73,30 +82,48 @@ module _ (functions : List ℕ → Functions) (honest : List ℕ → Type 0) (la
       ]
 
   -- where memory ran out the answer is a constant
-  pub Answered-no_memory : (Wrote : List ℕ → Type 0) (before : Moment) (line : List ℕ) (Stands : Moment → Type 0) (after : Moment) → line ≢ [] → MayHaveCalled languages before (request_of line) after
-      → Stands after → Wrote (ended (refusal_text NoMemory)) → Answered functions honest languages Wrote before line Stands
-  Answered-no_memory Wrote before line Stands after some called stands wrote = record {
-    text = ended (refusal_text NoMemory);
-    after = after;
-    answers = inr (some, refl, called);
-    stands = stands;
-    wrote = wrote;
-  }
+  pub answers_no_memory : (before : Moment) (line : List ℕ) (after : Moment) → line ≢ [] → MayHaveCalled languages before (request_of line) after
+      → Answers functions honest languages before (record { line = line; text = ended (refusal_text NoMemory) }) after
+  answers_no_memory before line after some called = inr (some, refl, called)
 
-module _ {functions : List ℕ → Functions} {honest : List ℕ → Type 0} {languages : List (List ℕ × List ℕ)} {Wrote : List ℕ → Type 0} {before : Moment} {Stands : Moment → Type 0} where
-  pub Answered-same : (line line' : List ℕ) → line ≡ line' → Answered functions honest languages Wrote before line Stands → Answered functions honest languages Wrote before line' Stands
-  Answered-same line line' same answered = subst (λ (l : List ℕ). Answered functions honest languages Wrote before l Stands) same answered
+-- a line is the request that what is kept of it is
+pub request_kept : (line : List ℕ) → request_of (kept line) ≡ request_of line
+request_kept line =
+    elim (long_or_whole line_limit line) [
+      | inl long ↦ request_of-long (kept line) (omega (arith, length-take (line_limit + 1) line, long)) ∙ sym (request_of-long line long)
+      | inr whole ↦ ap request_of whole
+    ]
+
+module _ {functions : List ℕ → Functions} {honest : List ℕ → Type 0} {languages : List (List ℕ × List ℕ)} {old new : Told} {Wrote : List ℕ → Type 0} {before : Moment} {Stands : Moment → Type 0} where
+  pub Answered-same : (line line' : List ℕ) → line ≡ line' → Answered functions honest languages old new Wrote before line Stands → Answered functions honest languages old new Wrote before line' Stands
+  Answered-same line line' same answered = subst (λ (l : List ℕ). Answered functions honest languages old new Wrote before l Stands) same answered
 
   -- the same languages, written in another way
-  pub Answered-of : (languages' : List (List ℕ × List ℕ)) (line : List ℕ) → languages ≡ languages' → Answered functions honest languages Wrote before line Stands
-      → Answered functions honest languages' Wrote before line Stands
-  Answered-of languages' line same answered = subst (λ (ls : List (List ℕ × List ℕ)). Answered functions honest ls Wrote before line Stands) same answered
+  pub Answered-of : (languages' : List (List ℕ × List ℕ)) (line : List ℕ) → languages ≡ languages' → Answered functions honest languages old new Wrote before line Stands
+      → Answered functions honest languages' old new Wrote before line Stands
+  Answered-of languages' line same answered = subst (λ (ls : List (List ℕ × List ℕ)). Answered functions honest ls old new Wrote before line Stands) same answered
 
-  pub Answered-kept : (line : List ℕ) → Answered functions honest languages Wrote before (kept line) Stands → Answered functions honest languages Wrote before line Stands
+  pub Answered-kept : (line : List ℕ) → Answered functions honest languages old new Wrote before (kept line) Stands → Answered functions honest languages old new Wrote before line Stands
   Answered-kept line answered = record {
     text = answered.text;
     after = answered.after;
-    answers = Answers-kept functions honest languages before line answered.text answered.after answered.answers;
+    answers = told_now old (λ d. Answers functions honest languages before (record { line = kept line; text = answered.text }) answered.after) (λ d. Answers functions honest languages before (record { line = line; text = answered.text }) answered.after)
+        (λ d answers. Answers-kept functions honest languages before line answered.text answered.after answers) answered.answers;
+    moments = answered.moments;
     stands = answered.stands;
     wrote = answered.wrote;
+  }
+
+module _ {fault : StepFault} {old new : Told} {held now : Option (List ℕ)} {before : Moment} {HasLeft : Moment → Type 0} where
+  pub IsHalted-same : (line line' : List ℕ) → line ≡ line' → IsHalted fault old new held now before line HasLeft → IsHalted fault old new held now before line' HasLeft
+  IsHalted-same line line' same halted = subst (λ (l : List ℕ). IsHalted fault old new held now before l HasLeft) same halted
+
+  pub IsHalted-kept : (line : List ℕ) → IsHalted fault old new held now before (kept line) HasLeft → IsHalted fault old new held now before line HasLeft
+  IsHalted-kept line halted = record {
+    moments = subst (λ r. Tells old new (LeavesOnly (StandsAround before.world r))) (request_kept line) halted.moments;
+    whole = halted.whole;
+    full = told_now old (λ d. (name : FileName) (length : Option ℕ) → fault ≡ Full name length → IsFullAt before.world (kept line) name length) (λ d. (name : FileName) (length : Option ℕ) → fault ≡ Full name length → IsFullAt before.world line name length)
+        (λ d full name length is. let found = full name length is in (found.0, ((found.1).0, (((found.1).1).0, subst (λ r. IsFullFor found.0 r name length) (request_kept line) ((found.1).1).1)))) halted.full;
+    left = halted.left;
+    silent = halted.silent;
   }

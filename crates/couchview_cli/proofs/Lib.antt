@@ -1,6 +1,10 @@
 pub mod Results
 pub mod Finding
+pub mod Moving
 pub mod Keeping
+pub mod Answering
 pub mod Progressing
 pub mod Ending
 pub mod Naming
+pub mod Served
+pub mod Statuses

@@ -4,44 +4,65 @@ use Rattle.std.proofs.Common.{sym, ap, ◌∙◌, subst}
 use Rattle.std.proofs.KnownBytes.{Appends-nil, Appends-trans}
 use Rattle.std.specs.Io.KnownBytes.{Appends}
 use Rattle.view_ports.specs.Calls.{Call}
+use Rattle.view_ports.specs.Disk.{IfTold, LeavesOnly, Tells}
 use Rattle.view_ports.specs.Functions.{Functions}
 use Rattle.view_ports.specs.Lines.{IsLine, ended}
 use Rattle.view_ports.proofs.Exchanging.{text_of-push}
 use Rattle.view_ports.proofs.Reaching.{reached_start, reached_more, reached_line}
+use Rattle.view_ports.proofs.Told.{told_now}
 use Rattle.child_pool.specs.Pools.{languages_of}
+use Rattle.doc_file.specs.Held.{Stands as StandsFor}
 use Rattle.view_engine.specs.Engine.{IsAt}
 use Rattle.view_engine.specs.Moments.{Moment}
 use Rattle.view_engine.specs.Steps.{Answers}
 use Rattle.couchview_cli.specs.declared.session.Session.{Session}
-use Rattle.couchview_cli.specs.Serving.{at_start}
-use Rattle.couchview_cli.specs.Session.{Progress, Answered, Origin, kept}
-use Rattle.couchview_cli.proofs.Keeping.{kept-nil, kept-more, kept-none, Answered-kept, Answered-of, Answered-same}
+use Rattle.couchview_cli.specs.Serving.{GoesOnFrom, at_start}
+use Rattle.couchview_cli.specs.Session.{Progress, Answered, HasMoved, IsHalted, Origin, StepsOf, kept}
+use Rattle.couchview_cli.proofs.Keeping.{kept-nil, kept-more, kept-none, Answered-kept, Answered-of, Answered-same, IsHalted-kept, IsHalted-same}
+use Rattle.couchview_cli.proofs.Moving.{answers_grow, moved_line, moved_start, told_first, Told}
 
-pub Progress-start : (functions : List ℕ → Functions) (honest : List ℕ → Type 0) (may_follow : List Call → Type 0) (origin : Origin) (session : Session)
-    → languages_of session.responder.engine.pool ≡ origin.languages → IsAt may_follow origin.faults session.responder.engine (at_start origin.faults) → session.line.items ≡ []
-    → Progress functions honest may_follow origin.faults origin origin.held [] session
-Progress-start functions honest may_follow origin session languages stands none = record {
+pub Progress-start : (functions : List ℕ → Functions) (honest : List ℕ → Type 0) (disk : Told) (may_follow : List Call → Type 0) (origin : Origin) (session : Session)
+    → languages_of session.responder.engine.pool ≡ origin.languages → IsAt disk may_follow origin.faults session.responder.engine (at_start origin.opening origin.faults)
+    → Tells origin.disk disk (LeavesOnly (λ image. StandsFor image origin.opening)) → session.line.items ≡ []
+    → Progress functions honest disk may_follow origin.faults origin origin.held [] session
+Progress-start functions honest disk may_follow origin session languages stands opened none = record {
   languages = languages;
-  reached = reached_start (Answers functions honest origin.languages) (at_start origin.faults);
+  reached = reached_start (StepsOf functions honest origin) (at_start origin.opening origin.faults);
   stands = stands;
+  moved = moved_start origin disk opened;
   pending = none ∙ sym kept-nil;
   wrote = Appends-nil origin.held;
 }
 
-module _ {functions : List ℕ → Functions} {honest : List ℕ → Type 0} {may_follow : List Call → Type 0} {faults : ℕ} {origin : Origin} {now : Option (List ℕ)} {bytes : List ℕ} {session : Session}
-    (progress : Progress functions honest may_follow faults origin now bytes session) where
-  pub Progress-same : (bytes' : List ℕ) → bytes ≡ bytes' → Progress functions honest may_follow faults origin now bytes' session
-  Progress-same bytes' same = subst (λ (bs : List ℕ). Progress functions honest may_follow faults origin now bs session) same progress
+module _ {functions : List ℕ → Functions} {honest : List ℕ → Type 0} {disk : Told} {may_follow : List Call → Type 0} {faults : ℕ} {origin : Origin} {now : Option (List ℕ)} {bytes : List ℕ} {session : Session}
+    (progress : Progress functions honest disk may_follow faults origin now bytes session) where
+  pub Progress-same : (bytes' : List ℕ) → bytes ≡ bytes' → Progress functions honest disk may_follow faults origin now bytes' session
+  Progress-same bytes' same = subst (λ (bs : List ℕ). Progress functions honest disk may_follow faults origin now bs session) same progress
+
+  -- a line that was answered is a step from the opening
+  pub step_of : {disk' : Told} {Wrote : List ℕ → Type 0} {line : List ℕ} {Stands : Moment → Type 0} (answered : Answered functions honest origin.languages disk disk' Wrote progress.reached.after line Stands)
+      → StepsOf functions honest origin progress.reached.after (record { line = line; text = answered.text }) answered.after
+  step_of {disk'} {Wrote} {line} answered =
+      told_first origin disk disk' (progress.reached.after).world progress.moved (Answers functions honest origin.languages progress.reached.after (record { line = line; text = answered.text }) answered.after) answered.answers
+
+  pub moved_of : {disk' : Told} {Wrote : List ℕ → Type 0} {line : List ℕ} {Stands : Moment → Type 0} (answered : Answered functions honest origin.languages disk disk' Wrote progress.reached.after line Stands)
+      → HasMoved origin disk' (answered.after).world.history
+  moved_of {disk'} {Wrote} {line} answered =
+      moved_line origin disk disk' (progress.reached.after).world progress.moved (answered.after).world
+      (told_now disk (λ d. Answers functions honest origin.languages progress.reached.after (record { line = line; text = answered.text }) answered.after) (λ d. GoesOnFrom (progress.reached.after).world.history (answered.after).world.history)
+      (λ d answers. answers_grow functions honest origin.languages progress.reached.after (record { line = line; text = answered.text }) answered.after answers) answered.answers)
+      answered.moments
 
   -- a line ended and was answered
-  pub Progress-line : (end : List ℕ) → IsLine end → (may_follow' : List Call → Type 0) (faults' : ℕ) (now' : Option (List ℕ)) (session' : Session)
+  pub Progress-line : (end : List ℕ) → IsLine end → (disk' : Told) (may_follow' : List Call → Type 0) (faults' : ℕ) (now' : Option (List ℕ)) (session' : Session)
       → languages_of session'.responder.engine.pool ≡ languages_of session.responder.engine.pool
-      → Answered functions honest origin.languages (Appends now now') progress.reached.after (progress.reached.rest ++ end) (IsAt may_follow' faults' session'.responder.engine)
-      → session'.line.items ≡ [] → Progress functions honest may_follow' faults' origin now' (bytes ++ ended end) session'
-  Progress-line end plain may_follow' faults' now' session' languages answered none = record {
+      → Answered functions honest origin.languages disk disk' (Appends now now') progress.reached.after (progress.reached.rest ++ end) (IsAt disk' may_follow' faults' session'.responder.engine)
+      → session'.line.items ≡ [] → Progress functions honest disk' may_follow' faults' origin now' (bytes ++ ended end) session'
+  Progress-line end plain disk' may_follow' faults' now' session' languages answered none = record {
     languages = languages ∙ progress.languages;
-    reached = reached_line progress.reached end plain answered.text answered.after answered.answers;
+    reached = reached_line progress.reached end plain answered.text answered.after (step_of answered);
     stands = answered.stands;
+    moved = moved_of answered;
     pending = none ∙ sym kept-nil;
     wrote =
         subst (Appends origin.held now') (sym (text_of-push progress.reached.exchanges (record { line = progress.reached.rest ++ end; text = answered.text }))) (Appends-trans _ _ _ _ _ progress.wrote answered.wrote);
@@ -49,30 +70,43 @@ module _ {functions : List ℕ → Functions} {honest : List ℕ → Type 0} {ma
 
   -- bytes without a newline were kept
   pub Progress-kept : (more : List ℕ) → IsLine more → (session' : Session) → session'.responder ≡ session.responder → session'.line.items ≡ kept (session.line.items ++ more)
-      → Progress functions honest may_follow faults origin now (bytes ++ more) session'
+      → Progress functions honest disk may_follow faults origin now (bytes ++ more) session'
   Progress-kept more plain session' same is = record {
     languages = ap (λ (r : _). languages_of r.engine.pool) same ∙ progress.languages;
     reached = reached_more progress.reached more plain;
-    stands = subst (λ (r : _). IsAt may_follow faults r.engine progress.reached.after) (sym same) progress.stands;
+    stands = subst (λ (r : _). IsAt disk may_follow faults r.engine progress.reached.after) (sym same) progress.stands;
+    moved = progress.moved;
     pending = is ∙ ap (λ (line : List ℕ). kept (line ++ more)) progress.pending ∙ kept-more progress.reached.rest more;
     wrote = progress.wrote;
   }
 
-  -- the line that a newline ended was answered by what is kept of it
-  pub Answered-pending : (languages : List (List ℕ × List ℕ)) (Wrote : List ℕ → Type 0) (end line : List ℕ) (Stands : Moment → Type 0)
-      → languages ≡ languages_of session.responder.engine.pool → line ≡ kept (session.line.items ++ end) → Answered functions honest languages Wrote progress.reached.after line Stands
-      → Answered functions honest origin.languages Wrote progress.reached.after (progress.reached.rest ++ end) Stands
-  Answered-pending languages Wrote end line Stands same is answered =
-      Answered-kept (progress.reached.rest ++ end)
-      (Answered-same line (kept (progress.reached.rest ++ end))
-      (is ∙ ap (λ (front : List ℕ). kept (front ++ end)) progress.pending ∙ kept-more progress.reached.rest end)
-      (Answered-of origin.languages line (same ∙ progress.languages) answered))
+  module _ (disk' : Told) (Wrote : List ℕ → Type 0) (Stands : Moment → Type 0) (languages : List (List ℕ × List ℕ)) (same : languages ≡ languages_of session.responder.engine.pool) where
+    -- the line that a newline ended was answered by what is kept of it
+    pub Answered-pending : (end line : List ℕ) → line ≡ kept (session.line.items ++ end) → Answered functions honest languages disk disk' Wrote progress.reached.after line Stands
+        → Answered functions honest origin.languages disk disk' Wrote progress.reached.after (progress.reached.rest ++ end) Stands
+    Answered-pending end line is answered =
+        Answered-kept (progress.reached.rest ++ end)
+        (Answered-same line (kept (progress.reached.rest ++ end))
+        (is ∙ ap (λ (front : List ℕ). kept (front ++ end)) progress.pending ∙ kept-more progress.reached.rest end)
+        (Answered-of origin.languages line (same ∙ progress.languages) answered))
 
-  -- no line is pending
-  pub Answered-alone : (languages : List (List ℕ × List ℕ)) (Wrote : List ℕ → Type 0) (line : List ℕ) (Stands : Moment → Type 0)
-      → languages ≡ languages_of session.responder.engine.pool → session.line.items ≡ [] → Answered functions honest languages Wrote progress.reached.after line Stands
-      → Answered functions honest origin.languages Wrote progress.reached.after (progress.reached.rest ++ line) Stands
-  Answered-alone languages Wrote line Stands same none answered =
+    -- no line is pending
+    pub Answered-alone : (line : List ℕ) → session.line.items ≡ [] → Answered functions honest languages disk disk' Wrote progress.reached.after line Stands
+        → Answered functions honest origin.languages disk disk' Wrote progress.reached.after (progress.reached.rest ++ line) Stands
+    Answered-alone line none answered =
+        let start : progress.reached.rest ≡ [] = kept-none progress.reached.rest (sym progress.pending ∙ none) in
+        Answered-same line (progress.reached.rest ++ line) (sym (ap (λ (front : List ℕ). front ++ line) start))
+        (Answered-of origin.languages line (same ∙ progress.languages) answered)
+
+  -- the same of lines that were not answered
+  pub IsHalted-pending : {fault : _} {disk' : Told} {held now' : Option (List ℕ)} {HasLeft : Moment → Type 0} (end line : List ℕ) → line ≡ kept (session.line.items ++ end)
+      → IsHalted fault disk disk' held now' progress.reached.after line HasLeft → IsHalted fault disk disk' held now' progress.reached.after (progress.reached.rest ++ end) HasLeft
+  IsHalted-pending end line is halted =
+      IsHalted-kept (progress.reached.rest ++ end)
+      (IsHalted-same line (kept (progress.reached.rest ++ end)) (is ∙ ap (λ (front : List ℕ). kept (front ++ end)) progress.pending ∙ kept-more progress.reached.rest end) halted)
+
+  pub IsHalted-alone : {fault : _} {disk' : Told} {held now' : Option (List ℕ)} {HasLeft : Moment → Type 0} (line : List ℕ) → session.line.items ≡ []
+      → IsHalted fault disk disk' held now' progress.reached.after line HasLeft → IsHalted fault disk disk' held now' progress.reached.after (progress.reached.rest ++ line) HasLeft
+  IsHalted-alone line none halted =
       let start : progress.reached.rest ≡ [] = kept-none progress.reached.rest (sym progress.pending ∙ none) in
-      Answered-same line (progress.reached.rest ++ line) (sym (ap (λ (front : List ℕ). front ++ line) start))
-      (Answered-of origin.languages line (same ∙ progress.languages) answered)
+      IsHalted-same line (progress.reached.rest ++ line) (sym (ap (λ (front : List ℕ). front ++ line) start)) halted

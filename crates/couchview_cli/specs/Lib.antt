@@ -1,4 +1,6 @@
 pub mod BuiltIn
 pub mod Command
+pub mod Closing
 pub mod Serving
 pub mod Session
+pub mod Ends

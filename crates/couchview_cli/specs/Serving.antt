@@ -1,36 +1,77 @@
 -- What serving does, in terms of what the ports tell.
-use Rattle.std.specs.Prelude.{◌≡◌, ◌<◌, ◌⊎◌, ℕ, List, [], ◌++◌, Option, Some, None, length}
+use Rattle.std.specs.Prelude.{◌≡◌, ◌<◌, ◌≤◌, ◌⊎◌, ℕ, List, [], ◌∷◌, ◌++◌, Option, Some, None, length}
 use Rattle.std.specs.Io.KnownBytes.{Consumes, Appends}
 use Rattle.view_ports.specs.declared.run_end.RunEnd.{RunEnd}
+use Rattle.view_ports.specs.declared.file_name.FileName.{FileName}
 use Rattle.view_ports.specs.Calls.{Call, child}
+use Rattle.view_ports.specs.Disk.{Disk, IfTold, IsImageOf, LeavesOnly, Tells}
+use Rattle.view_ports.specs.Exchanges.{Exchange, LeadsTo, IsPrefixOf, lines_of, text_of}
 use Rattle.view_ports.specs.Functions.{Functions}
+use Rattle.view_ports.specs.Lines.{IsCut, last_line}
 use Rattle.view_ports.specs.Runs.{Run, HasRead, status_of, input_limit}
-use Rattle.view_engine.specs.World.{empty_world}
+use Rattle.view_ports.specs.File.{File}
+use Rattle.doc_file.specs.declared.docs.Docs.{Docs}
+use Rattle.doc_file.specs.Docs.{IsAt as AreAt}
+use Rattle.doc_file.specs.Held.{Stands}
+use Rattle.doc_file.specs.History.{Write}
+use Rattle.view_engine.specs.declared.halt.StepFault.{StepFault}
+use Rattle.view_engine.specs.declared.halt.StepFault.TheVariants.{Damaged, Full}
+use Rattle.view_engine.specs.Halts.{IsFullFor}
+use Rattle.view_engine.specs.World.{World}
 use Rattle.view_engine.specs.Moments.{Moment}
-use Rattle.view_engine.specs.Steps.{Answers}
+use Rattle.view_engine.specs.Engine.{StandsAround}
+use Rattle.view_engine.specs.Refusals.{request_of}
+use Rattle.view_engine.specs.Steps.{Answers, IsWrite}
 use Rattle.view_engine.specs.Accepted.{accepted}
+use Rattle.couchview_cli.specs.Closing.{Closes}
 
--- what the ports tell at one moment: the bytes that the source has left, those that the sink holds, and how many faults
--- the query servers had
+-- what the ports tell at one moment: the bytes that the source has left, those that the sink holds, the disk, and how many
+-- faults the query servers had
 pub record Outside : Type 0 where
   pub left : Option (List ℕ)
   pub held : Option (List ℕ)
+  pub disk : Option (Disk FileName)
   pub faults : ℕ
 
--- the empty world, and query servers that had so many faults, before any call
-abbrev pub at_start : ℕ → Moment
-at_start faults = record { world = empty_world; calls = []; faults = faults }
+abbrev pub world_of : List Write → World
+world_of history = record { history = history }
+
+-- the end of a history, and query servers that had so many faults, before any call
+abbrev pub at_start : List Write → ℕ → Moment
+at_start history faults = record { world = world_of history; calls = []; faults = faults }
 
 -- more calls may have been made on the query servers, which left no child in slot 0, the one slot that is used
-pub record AreLeft (may_follow : List Call → Type 0) (moment : Moment) : Type 0 where
+pub record AreLeft (may_follow : List Call → Type 0) (calls : List Call) : Type 0 where
   pub added : List Call
-  pub follows : may_follow (added ++ moment.calls)
-  pub stopped : child 0 (added ++ moment.calls) ≡ None
+  pub follows : may_follow (added ++ calls)
+  pub stopped : child 0 (added ++ calls) ≡ None
 
-module _ (functions : List ℕ → Functions) (honest : List ℕ → Type 0) (languages : List (List ℕ × List ℕ)) where
-  -- a run from the empty world that reads the bytes that the source lost, that writes what the sink gained, and that ends
-  -- with this status at a moment of which `AtEnd` holds. The world at the end has exactly the writes that were answered `ok`.
-  pub record Serves (before after : Outside) (AtEnd : Moment → Type 0) (status : ℕ) : Type 0 where
+-- one history goes on from another
+abbrev pub GoesOnFrom : List Write → List Write → Type 0
+GoesOnFrom before after = (newer : List Write) × (after ≡ newer ++ before)
+
+-- an image stands for some first part of the history, at least as long as at the opening
+abbrev pub StandsSince : List Write → List Write → (FileName → List ℕ) → Type 0
+StandsSince opening history image = (first : List Write) × (GoesOnFrom opening first × GoesOnFrom first history × Stands image first)
+
+-- the same, or the image stands for the history with the write of the request in hand
+abbrev pub StandsSinceWith : List Write → World → List ℕ → (FileName → List ℕ) → Type 0
+StandsSinceWith opening world line image = StandsSince opening world.history image
+    ⊎ ((write : Write) × IsWrite world (request_of line) write × Stands image (write ∷ world.history))
+
+-- the request of a line would make a file of the documents too long, or is one commit too many, at the end of this history
+abbrev pub IsFullAt : World → List ℕ → FileName → Option ℕ → Type 0
+IsFullAt world line name length = (docs : Docs) × ((files : FileName → File) × (AreAt docs files world.history × IsFullFor docs (request_of line) name length))
+
+-- a step of a run, where the disk is told
+abbrev pub Steps : (List ℕ → Functions) → (List ℕ → Type 0) → List (List ℕ × List ℕ) → Option (Disk FileName) → Moment → Exchange → Moment → Type 0
+Steps functions honest languages disk before exchange after = IfTold disk (λ d. Answers functions honest languages before exchange after)
+
+module _ (functions : List ℕ → Functions) (honest : List ℕ → Type 0) (languages : List (List ℕ × List ℕ)) (opening : List Write) where
+  -- A run that read the bytes that the source lost, that wrote what the sink gained, and that ended with this status. The
+  -- history at its end has the writes of the opening and exactly those that were answered `ok`. Each image since the start
+  -- stands for a first part of it, and each image now for the whole of it.
+  pub record Finishes (before after : Outside) (AtEnd : List Call → Type 0) (status : ℕ) : Type 0 where
     pub bytes : List ℕ
     pub gained : List ℕ
     pub end : RunEnd
@@ -39,18 +80,59 @@ module _ (functions : List ℕ → Functions) (honest : List ℕ → Type 0) (la
     pub reads : Consumes before.left after.left bytes
     pub counts : HasRead end (length bytes)
     pub writes : Appends before.held after.held gained
-    pub runs : Run (Answers functions honest languages) (at_start before.faults) bytes gained end moment
-    pub keeps : moment.world ≡ accepted empty_world runs.exchanges
+    pub runs : Run (Steps functions honest languages before.disk) (at_start opening before.faults) bytes gained end moment
+    pub keeps : IfTold before.disk (λ d. moment.world ≡ accepted (world_of opening) runs.exchanges)
+    pub moments : Tells before.disk after.disk (LeavesOnly (StandsSince opening moment.world.history))
+    pub images : IfTold after.disk (λ d. (image : FileName → List ℕ) → IsImageOf d.now image → Stands image moment.world.history)
     pub faulted : after.faults ≡ moment.faults
-    pub at_end : AtEnd moment
+    pub at_end : AtEnd moment.calls
 
--- the status is 8 exactly where as many bytes were read as a run reads at most, unless the sink failed or memory ran out
--- in a line of them
+  -- A run that a fault of the folder cut short: some first lines were answered, each wholly, and then the line in hand was
+  -- not. Its request took effect wholly or not at all. The last line that is written names the fault, unless the sink fails.
+  pub record IsCutShort (before after : Outside) (AtEnd : List Call → Type 0) (status : ℕ) : Type 0 where
+    pub bytes : List ℕ
+    pub exchanges : List Exchange
+    pub lines : List (List ℕ)
+    pub rest : List ℕ
+    pub line : List ℕ
+    pub more : List (List ℕ)
+    pub moment : Moment
+    pub fault : StepFault
+    pub reads : Consumes before.left after.left bytes
+    pub counts : length bytes ≤ input_limit
+    pub cut : IsCut bytes lines rest
+    pub answered : lines ++ last_line rest ≡ lines_of exchanges ++ line ∷ more
+    pub leads : LeadsTo (Steps functions honest languages before.disk) (at_start opening before.faults) exchanges moment
+    pub keeps : IfTold before.disk (λ d. moment.world ≡ accepted (world_of opening) exchanges)
+    pub closes : Closes before.held after.held (text_of exchanges) fault status
+    pub whole : IfTold before.disk (λ d. (name : FileName) (at : ℕ) → fault ≡ Damaged name at → ⊥)
+    pub full : IfTold before.disk (λ d. (name : FileName) (length : Option ℕ) → fault ≡ Full name length → IsFullAt moment.world line name length)
+    pub moments : Tells before.disk after.disk (LeavesOnly (StandsSinceWith opening moment.world line))
+    pub images : IfTold after.disk (λ d. (image : FileName → List ℕ) → IsImageOf d.now image → StandsAround moment.world (request_of line) image)
+    pub faulted : after.faults ≡ moment.faults
+    pub at_end : AtEnd moment.calls
+
+  -- the folder could not be opened: nothing was read, and each image stands for the opening
+  pub record IsUnopened (before after : Outside) (AtEnd : List Call → Type 0) (status : ℕ) : Type 0 where
+    pub fault : StepFault
+    pub unread : after.left ≡ before.left
+    pub closes : Closes before.held after.held [] fault status
+    pub whole : IfTold before.disk (λ d. (name : FileName) (at : ℕ) → fault ≡ Damaged name at → ⊥)
+    pub room : (name : FileName) (length : Option ℕ) → fault ≡ Full name length → ⊥
+    pub moments : Tells before.disk after.disk (LeavesOnly (λ image. Stands image opening))
+    pub faulted : after.faults ≡ before.faults
+    pub at_end : AtEnd []
+
+  abbrev pub Serves : Outside → Outside → (List Call → Type 0) → ℕ → Type 0
+  Serves before after AtEnd status = Finishes before after AtEnd status ⊎ (IsCutShort before after AtEnd status ⊎ IsUnopened before after AtEnd status)
+
+-- the status is 8 exactly where as many bytes were read as a run reads at most, unless the run ended in a line of them:
+-- since the folder or the sink failed, a file is damaged or full, or memory ran out
 pub record StopsAtLimit (before after : Option (List ℕ)) (status : ℕ) : Type 0 where
   pub bytes : List ℕ
   pub reads : Consumes before after bytes
   pub limited : status ≡ 8 → length bytes ≡ input_limit
-  pub stopped : length bytes ≡ input_limit → (status ≡ 8) ⊎ ((status ≡ 4) ⊎ (status ≡ 6))
+  pub stopped : length bytes ≡ input_limit → (status ≡ 8) ⊎ ((status ≡ 3) ⊎ ((status ≡ 4) ⊎ ((status ≡ 6) ⊎ ((status ≡ 7) ⊎ (status ≡ 9)))))
 
 -- the source tells its bytes, and they are fewer than a run reads at most
 abbrev pub IsShort : Option (List ℕ) → Type 0

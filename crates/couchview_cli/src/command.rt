@@ -1,9 +1,12 @@
 //! The commands.
-ghost use Rattle.std.specs.Prelude.{◌≡◌, ◌≤◌, ◌⊎◌, ◌↔◌, [], IsTrue, bytes_eq, map, string_bytes};
+ghost use Rattle.std.specs.Prelude.{◌≡◌, ◌≤◌, ◌⊎◌, ◌↔◌, List, [], IsTrue, bytes_eq, map, string_bytes};
 ghost use Rattle.std.specs.Io.KnownBytes.{IsAtEnd};
 ghost use Rattle.std.specs.List.{IsDistinct, list_all, list_any};
 ghost use Rattle.std.specs.Map.{keys_of};
+ghost use Rattle.view_ports.specs.Disk.{IfTold};
 ghost use Rattle.view_ports.specs.Faults.{Rose};
+ghost use Rattle.doc_file.specs.Docs.{HoldsHistory};
+ghost use Rattle.doc_file.specs.History.{Write};
 ghost use Rattle.child_pool.specs.Languages.{language_in, languages_in};
 ghost use Rattle.couchview_cli.specs.Command.{AreLanguages, IsApart, IsServe, ShowsUsage, languages_named, usage_line};
 ghost use Rattle.couchview_cli.specs.Command as spec;
@@ -13,7 +16,7 @@ use crate::built_in::is_built_in;
 use crate::serve::serve;
 use child_pool::language_word;
 use std::alloc::Global;
-use view_ports::{PortFault, RunEnd, Servers, Sink, Source, write_all};
+use view_ports::{Folder, PortFault, RunEnd, Servers, Sink, Source, write_all};
 
 /// The exit status for words that are no command.
 const USAGE_STATUS: u8 = 2;
@@ -108,42 +111,47 @@ fn is_serve(words: &[String]) -> bool
 /// program's name.
 ///
 /// `serve` reads request lines from the source, and writes a reply line to the sink for each that isn't
-/// empty, in order. The words LANG=PATH behind it name the query servers of languages; at the end no
-/// child is left. Other words are answered with the usage line.
-pub fn couchview<S: Source, K: Sink, C: Servers>(
+/// empty, in order. The documents stand in the folder. The words LANG=PATH behind it name the query servers of languages;
+/// at the end no child is left. Other words are answered with the usage line.
+pub fn couchview<S: Source, K: Sink, F: Folder, C: Servers>(
     alloc: Global,
     words: &[String],
     source: &mut S,
     sink: &mut K,
+    folder: &mut F,
     servers: &mut C,
 ) -> u8
     requires { C.may_follow servers.old [] }
 
-    // What is read, written, asked and kept.
-    ensures serves { IsServe words.now → Serves C.functions C.honest (languages_named words.now)
-        (record { left = S.left source.old; held = K.held sink.old; faults = C.faults servers.old })
-        (record { left = S.left source.new; held = K.held sink.new; faults = C.faults servers.new })
+    // What is read, written, asked and kept, over a folder that tells its disk, where nothing is pending and a history stands.
+    ensures serves { IsServe words.now → (opening : List Write) → IfTold (F.disk folder.old) (λ d. HoldsHistory d.now opening) → Serves C.functions C.honest (languages_named words.now) opening
+        (record { left = S.left source.old; held = K.held sink.old; disk = F.disk folder.old; faults = C.faults servers.old })
+        (record { left = S.left source.new; held = K.held sink.new; disk = F.disk folder.new; faults = C.faults servers.new })
         (AreLeft (C.may_follow servers.new)) result }
     ensures refuses { ¬ IsServe words.now → ShowsUsage (K.held sink.old) (K.held sink.new) result }
     ensures unread { ¬ IsServe words.now → source.new ≡ source.old }
+    ensures unopened { ¬ IsServe words.now → folder.new ≡ folder.old }
     ensures unasked { ¬ IsServe words.now → servers.new ≡ servers.old }
 
     // The cause of each status.
     ensures ended { result ≡ 0 → IsServe words.now × IsAtEnd (S.left source.new) }
     ensures no_command { result ≡ 2 → ¬ IsServe words.now }
     ensures told { ¬ IsServe words.now → ¬ Rose (K.faults sink.old) (K.faults sink.new) → result ≡ 2 }
+    ensures disk_failed { result ≡ 3 → IsServe words.now × Rose (F.faults folder.old) (F.faults folder.new) }
     ensures sink_failed { result ≡ 4 → Rose (K.faults sink.old) (K.faults sink.new) }
     ensures source_failed { result ≡ 5 → IsServe words.now × Rose (S.faults source.old) (S.faults source.new) }
-    ensures limit { IsServe words.now → StopsAtLimit (S.left source.old) (S.left source.new) result }
+    ensures limit { IsServe words.now → (opening : List Write) → IfTold (F.disk folder.old) (λ d. HoldsHistory d.now opening) → StopsAtLimit (S.left source.old) (S.left source.new) result }
     ensures source_count { S.faults source.old ≤ S.faults source.new }
     ensures sink_count { K.faults sink.old ≤ K.faults sink.new }
+    ensures disk_count { F.faults folder.old ≤ F.faults folder.new }
     ensures server_count { C.faults servers.old ≤ C.faults servers.new }
 
-    // Where no port fails, input that is short enough is read to its end.
-    ensures complete { IsServe words.now → IsShort (S.left source.old) → ¬ Rose (S.faults source.old) (S.faults source.new) → ¬ Rose (K.faults sink.old) (K.faults sink.new) → (result ≡ 0) ⊎ (result ≡ 6) }
+    // Where no port fails, input that is short enough is read to its end, unless a file is full.
+    ensures complete { IsServe words.now → (opening : List Write) → IfTold (F.disk folder.old) (λ d. HoldsHistory d.now opening) → IsShort (S.left source.old) → ¬ Rose (S.faults source.old) (S.faults source.new) → ¬ Rose (K.faults sink.old) (K.faults sink.new)
+        → ¬ Rose (F.faults folder.old) (F.faults folder.new) → IfTold (F.disk folder.old) (λ d. (result ≡ 0) ⊎ ((result ≡ 6) ⊎ (result ≡ 9))) }
 {
     if is_serve(words) {
-        return serve(alloc, &words[1..], source, sink, servers).status();
+        return serve(alloc, &words[1..], source, sink, folder, servers);
     }
     match write_all(sink, usage()) {
         Ok(()) => USAGE_STATUS,

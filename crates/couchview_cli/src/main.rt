@@ -2,6 +2,7 @@
 #![tactic(auto)]
 
 mod built_in;
+mod closing;
 mod command;
 mod serve;
 mod session;
@@ -11,7 +12,7 @@ mod tests;
 use built_in::Mixed;
 pub use command::couchview;
 use json_terms::NoMemory;
-use real_ports::{RealServers, StdSink, StdSource};
+use real_ports::{RealFolder, RealServers, StdSink, StdSource};
 use std::alloc::AllocError;
 use std::env;
 use std::io::ErrorKind;
@@ -28,12 +29,21 @@ fn words(rt: HostRuntime) -> Result<Vec<String>, AllocError> {
     }
 }
 
-/// Does the command that the words name over the streams of the process, and answers its exit status.
+/// Does the command that the words name over the streams of the process and the folder in which it was started, and answers
+/// its exit status.
 fn run(rt: HostRuntime, words: &[String]) -> Result<u8, NoMemory> {
     let mut source = StdSource::new(rt.stdin());
     let mut sink = StdSink::new(rt.stdout());
+    let mut folder = RealFolder::new(rt);
     let mut servers = Mixed::new(rt.alloc(), RealServers::new(rt)?)?;
-    Ok(couchview(rt.alloc(), words, &mut source, &mut sink, &mut servers))
+    Ok(couchview(
+        rt.alloc(),
+        words,
+        &mut source,
+        &mut sink,
+        &mut folder,
+        &mut servers,
+    ))
 }
 
 fn main(rt: HostRuntime) -> ExitCode {

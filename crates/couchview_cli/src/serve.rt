@@ -1,51 +1,70 @@
 //! Serving a source's request lines.
-ghost use Rattle.std.specs.Prelude.{◌≡◌, ◌≤◌, ◌<◌, [], IfOk, length, map, string_bytes, vec_len};
-ghost use Rattle.std.specs.Io.KnownBytes.{IsAtEnd};
+ghost use Rattle.std.specs.Prelude.{◌≡◌, ◌≤◌, ◌<◌, ℕ, List, [], IfOk, length, map, string_bytes, vec_len};
+ghost use Rattle.std.specs.Io.KnownBytes.{Consumes, IsAtEnd};
+ghost use Rattle.view_ports.specs.Disk.{IfTold};
 ghost use Rattle.view_ports.specs.Faults.{Rose};
-ghost use Rattle.view_ports.specs.Runs.{status_of};
 ghost use Rattle.child_pool.specs.Languages.{languages_in};
-ghost use Rattle.child_pool.specs.Pools.{languages_of};
-ghost use Rattle.view_engine.specs.Engine.{IsAt};
+ghost use Rattle.doc_file.specs.Docs.{HoldsHistory, IsOpen};
+ghost use Rattle.doc_file.specs.History.{Write};
 ghost use Rattle.couchview_cli.specs.Serving.{AreLeft, Serves};
-ghost use Rattle.couchview_cli.specs.Session.{Progress};
+ghost use Rattle.couchview_cli.specs.Ends.{ComesTo, end_of};
+ghost use Rattle.couchview_cli.specs.Session.{Origin, Progress};
 
-use crate::session::Session;
+use crate::closing::close;
+use crate::session::{Session, SessionError};
 use std::alloc::{AllocError, Global};
-use view_ports::{INPUT_LIMIT, PortFault, RunEnd, Servers, Sink, Source};
+use view_engine::StepFault;
+use view_ports::{Folder, INPUT_LIMIT, PortFault, RunEnd, Servers, Sink, Source};
 
 /// How many bytes are asked for at a time.
 const PIECE: usize = 65_536;
 
+/// How a session's run ended.
+#[derive(Clone, Copy, Debug, PartialEq, Eq)]
+pub enum ServeEnd {
+    /// As a run over lines ends.
+    Run(RunEnd),
+    /// The engine met this fault in a line.
+    Stopped(StepFault),
+}
+
 /// Reads request lines and answers them, until the input ends or the run can't go on, and then ends the
-/// children. The words LANG=PATH name the query servers of languages.
-pub fn serve<S: Source, K: Sink, C: Servers>(
+/// children and answers the exit status. The words LANG=PATH name the query servers of languages.
+pub fn serve<S: Source, K: Sink, F: Folder, C: Servers>(
     alloc: Global,
     words: &[String],
     source: &mut S,
     sink: &mut K,
+    folder: &mut F,
     servers: &mut C,
-) -> RunEnd
+) -> u8
     requires { C.may_follow servers.old [] }
-    ensures serves { Serves C.functions C.honest (languages_in (map string_bytes words.now))
-        (record { left = S.left source.old; held = K.held sink.old; faults = C.faults servers.old })
-        (record { left = S.left source.new; held = K.held sink.new; faults = C.faults servers.new })
-        (AreLeft (C.may_follow servers.new)) (status_of result) }
-    ensures ended { result ≡ RunEnd.InputEnded → IsAtEnd (S.left source.new) }
-    ensures sink_failed { result ≡ RunEnd.SinkFailed → Rose (K.faults sink.old) (K.faults sink.new) }
-    ensures source_failed { result ≡ RunEnd.SourceFailed → Rose (S.faults source.old) (S.faults source.new) }
+    ensures serves { (opening : List Write) → IfTold (F.disk folder.old) (λ d. HoldsHistory d.now opening) → Serves C.functions C.honest (languages_in (map string_bytes words.now)) opening
+        (record { left = S.left source.old; held = K.held sink.old; disk = F.disk folder.old; faults = C.faults servers.old })
+        (record { left = S.left source.new; held = K.held sink.new; disk = F.disk folder.new; faults = C.faults servers.new })
+        (AreLeft (C.may_follow servers.new)) result }
+    ensures ended { result ≡ 0 → IsAtEnd (S.left source.new) }
+    ensures disk_failed { result ≡ 3 → Rose (F.faults folder.old) (F.faults folder.new) }
+    ensures sink_failed { result ≡ 4 → Rose (K.faults sink.old) (K.faults sink.new) }
+    ensures source_failed { result ≡ 5 → Rose (S.faults source.old) (S.faults source.new) }
     ensures source_count { S.faults source.old ≤ S.faults source.new }
     ensures sink_count { K.faults sink.old ≤ K.faults sink.new }
+    ensures disk_count { F.faults folder.old ≤ F.faults folder.new }
     ensures server_count { C.faults servers.old ≤ C.faults servers.new }
 {
-    let Ok(mut session) = Session::open(alloc, words) else {
-        return RunEnd::OutOfMemory;
+    let mut session = match Session::open(alloc, folder, words) {
+        Ok(session) => session,
+        Err(fault) => return close(sink, fault),
     };
     let Ok(mut piece) = new_piece(alloc) else {
-        return RunEnd::OutOfMemory;
+        return RunEnd::OutOfMemory.status();
     };
-    let end = run(&mut session, &mut piece, source, sink, servers);
+    let end = run(&mut session, &mut piece, source, folder, sink, servers);
     session.stop(servers);
-    end
+    match end {
+        ServeEnd::Run(end) => end.status(),
+        ServeEnd::Stopped(fault) => close(sink, fault),
+    }
 }
 
 /// Room for the bytes that one read takes.
@@ -55,26 +74,38 @@ fn new_piece(alloc: Global) -> Result<Vec<u8>, AllocError>
     vec![in alloc; 0; PIECE]
 }
 
+/// The end of a run whose session can't go on.
+fn end_by(error: SessionError) -> ServeEnd
+    ensures { result ≡ end_of error }
+{
+    match error {
+        SessionError::SinkFailed => ServeEnd::Run(RunEnd::SinkFailed),
+        SessionError::OutOfMemory => ServeEnd::Run(RunEnd::OutOfMemory),
+        SessionError::Stopped(fault) => ServeEnd::Stopped(fault),
+    }
+}
+
 /// Goes on with a session that has read nothing. Bytes are read into the piece.
-fn run<S: Source, K: Sink, C: Servers>(
+fn run<S: Source, K: Sink, F: Folder, C: Servers>(
     session: &mut Session,
     piece: &mut [u8],
     source: &mut S,
+    folder: &mut F,
     sink: &mut K,
     servers: &mut C,
-) -> RunEnd
+) -> ServeEnd
     requires room { 0 < length piece.old }
-    requires start { Progress C.functions C.honest (C.may_follow servers.old) (C.faults servers.old)
-        (record { languages = languages_of session.old.responder.engine.pool; held = K.held sink.old; faults = C.faults servers.old }) (K.held sink.old) [] session.old }
-    ensures serves { Serves C.functions C.honest (languages_of session.old.responder.engine.pool)
-        (record { left = S.left source.old; held = K.held sink.old; faults = C.faults servers.old })
-        (record { left = S.left source.new; held = K.held sink.new; faults = C.faults servers.new })
-        (IsAt (C.may_follow servers.new) (C.faults servers.new) session.new.responder.engine) (status_of result) }
-    ensures ended { result ≡ RunEnd.InputEnded → IsAtEnd (S.left source.new) }
-    ensures sink_failed { result ≡ RunEnd.SinkFailed → Rose (K.faults sink.old) (K.faults sink.new) }
-    ensures source_failed { result ≡ RunEnd.SourceFailed → Rose (S.faults source.old) (S.faults source.new) }
+    requires open { IfTold (F.disk folder.old) (λ d. IsOpen session.old.responder.engine.docs d.now) }
+    ensures comes { (bytes : List ℕ) × Consumes (S.left source.old) (S.left source.new) bytes × ((origin : Origin)
+        → Progress C.functions C.honest (F.disk folder.old) (C.may_follow servers.old) (C.faults servers.old) origin (K.held sink.old) [] session.old
+        → ComesTo C.functions C.honest origin (K.held sink.new) (F.disk folder.new) (C.may_follow servers.new) (C.faults servers.new) bytes session.new.responder.engine result) }
+    ensures ended { result ≡ ServeEnd.Run RunEnd.InputEnded → IsAtEnd (S.left source.new) }
+    ensures disk_failed { result ≡ ServeEnd.Stopped StepFault.DiskFault → Rose (F.faults folder.old) (F.faults folder.new) }
+    ensures sink_failed { result ≡ ServeEnd.Run RunEnd.SinkFailed → Rose (K.faults sink.old) (K.faults sink.new) }
+    ensures source_failed { result ≡ ServeEnd.Run RunEnd.SourceFailed → Rose (S.faults source.old) (S.faults source.new) }
     ensures source_count { S.faults source.old ≤ S.faults source.new }
     ensures sink_count { K.faults sink.old ≤ K.faults sink.new }
+    ensures disk_count { F.faults folder.old ≤ F.faults folder.new }
     ensures server_count { C.faults servers.old ≤ C.faults servers.new }
 {
     let mut taken = 0;
@@ -82,19 +113,19 @@ fn run<S: Source, K: Sink, C: Servers>(
         let most = (INPUT_LIMIT - taken).min(piece.len() as u64) as usize;
         let count = match source.read(&mut piece[..most]) {
             Ok(0) => {
-                return match session.finish(sink, servers) {
-                    Ok(()) => RunEnd::InputEnded,
-                    Err(PortFault) => RunEnd::SinkFailed,
+                return match session.finish(folder, sink, servers) {
+                    Ok(()) => ServeEnd::Run(RunEnd::InputEnded),
+                    Err(error) => end_by(error),
                 };
             }
             Ok(count) => count,
-            Err(PortFault) => return RunEnd::SourceFailed,
+            Err(PortFault) => return ServeEnd::Run(RunEnd::SourceFailed),
         };
-        match session.feed(&piece[..count], sink, servers) {
+        match session.feed(&piece[..count], folder, sink, servers) {
             Ok(()) => {}
-            Err(error) => return error.end(),
+            Err(error) => return end_by(error),
         }
         taken += count as u64;
     }
-    RunEnd::InputTooLong
+    ServeEnd::Run(RunEnd::InputTooLong)
 }

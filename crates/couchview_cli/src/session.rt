@@ -1,19 +1,23 @@
 //! Request lines cut from the input, answered one after another.
-ghost use Rattle.std.specs.Prelude.{◌≡◌, ◌≤◌, ◌++◌, ℕ, List, [], Option, IfOk, IfErr, OnOk, OnErr, map, string_bytes, vec_len};
+ghost use Rattle.std.specs.Prelude.{◌≡◌, ◌≢◌, ◌≤◌, ◌++◌, ℕ, List, [], Option, Err, IfOk, IfErr, OnOk, map, string_bytes, vec_len};
 ghost use Rattle.std.specs.Io.KnownBytes.{Appends};
 ghost use Rattle.view_ports.specs.Calls.{Call};
-ghost use Rattle.view_ports.specs.Faults.{Rose, HasCause};
+ghost use Rattle.view_ports.specs.Causes.{HasCauseIf};
+ghost use Rattle.view_ports.specs.Disk.{IfTold, LeavesOnly, Tells};
 ghost use Rattle.view_ports.specs.Lines.{IsLine, ended};
 ghost use Rattle.child_pool.specs.Languages.{languages_in};
 ghost use Rattle.child_pool.specs.Pools.{languages_of};
-ghost use Rattle.view_engine.specs.Engine.{HasStopped, IsAt};
+ghost use Rattle.view_ports.specs.declared.file_name.FileName.{FileName};
+ghost use Rattle.doc_file.specs.Docs.{IsOpen};
+ghost use Rattle.doc_file.specs.History.{Write};
+ghost use Rattle.view_engine.specs.Engine.{HasChild, HasStopped, IsAt};
 ghost use Rattle.view_engine.specs.Moments.{Moment};
 ghost use Rattle.couchview_cli.specs.declared.session.TheConstants.{LINE_KEPT};
 
 use memchr::memchr;
 use std::alloc::Global;
 use view_engine::{Engine, StepFault, no_memory_line};
-use view_ports::{PortFault, RunEnd, Servers, Sink, write_all};
+use view_ports::{Folder, PortFault, Servers, Sink, write_all};
 
 /// How many bytes of a line are kept: one more than the longest request line has, which is enough to
 /// refuse a longer one.
@@ -26,20 +30,8 @@ pub enum SessionError {
     SinkFailed,
     /// There was no memory to keep a line in.
     OutOfMemory,
-}
-
-impl SessionError {
-    ghost use Rattle.couchview_cli.specs.Session.{end_of};
-
-    /// The end of the run.
-    pub fn end(self) -> RunEnd
-        ensures { result ≡ end_of self }
-    {
-        match self {
-            SessionError::SinkFailed => RunEnd::SinkFailed,
-            SessionError::OutOfMemory => RunEnd::OutOfMemory,
-        }
-    }
+    /// The engine met this fault, and isn't to be used again.
+    Stopped(StepFault),
 }
 
 /// The engine, and the reply to one line.
@@ -51,27 +43,52 @@ struct Responder {
 }
 
 impl Responder {
-    ghost use Rattle.couchview_cli.specs.Session.{Answered, Stopped};
+    ghost use Rattle.couchview_cli.specs.Session.{Answered, IsHalted, Stopped};
+    ghost use Rattle.couchview_cli.specs.declared.session.SessionError.TheVariants as error;
 
-    /// Answers a line. Where the engine has no memory for it, the answer is a constant.
-    fn answer<K: Sink, C: Servers>(
+    /// Answers a line. Where the engine has no memory for it, the answer is a constant. After each other fault of the engine
+    /// nothing is written.
+    fn answer<F: Folder, K: Sink, C: Servers>(
         &mut self,
         line: &[u8],
+        folder: &mut F,
         sink: &mut K,
         servers: &mut C,
-    ) -> Result<(), PortFault>
-        ensures ok { OnOk result ((before : Moment) → IsAt (C.may_follow servers.old) (C.faults servers.old) self.old.engine before
-            → Answered C.functions C.honest (languages_of self.old.engine.pool) (Appends (K.held sink.old) (K.held sink.new)) before line.now (IsAt (C.may_follow servers.new) (C.faults servers.new) self.new.engine)) }
-        ensures err { OnErr result ((before : Moment) → IsAt (C.may_follow servers.old) (C.faults servers.old) self.old.engine before
-            → Answered C.functions C.honest (languages_of self.old.engine.pool) (Stopped (K.held sink.old) (K.held sink.new)) before line.now (IsAt (C.may_follow servers.new) (C.faults servers.new) self.new.engine)) }
+    ) -> Result<(), SessionError>
+        requires open { IfTold (F.disk folder.old) (λ d. IsOpen self.old.engine.docs d.now) }
+        ensures ok { OnOk result ((before : Moment) → IsAt (F.disk folder.old) (C.may_follow servers.old) (C.faults servers.old) self.old.engine before
+            → Answered C.functions C.honest (languages_of self.old.engine.pool) (F.disk folder.old) (F.disk folder.new) (Appends (K.held sink.old) (K.held sink.new)) before line.now
+            (IsAt (F.disk folder.new) (C.may_follow servers.new) (C.faults servers.new) self.new.engine)) }
+        ensures failed { result ≡ Err SessionError.SinkFailed → (before : Moment) → IsAt (F.disk folder.old) (C.may_follow servers.old) (C.faults servers.old) self.old.engine before
+            → Answered C.functions C.honest (languages_of self.old.engine.pool) (F.disk folder.old) (F.disk folder.new) (Stopped (K.held sink.old) (K.held sink.new)) before line.now
+            (IsAt (F.disk folder.new) (C.may_follow servers.new) (C.faults servers.new) self.new.engine) }
+        ensures stopped { (fault : StepFault) → result ≡ Err (SessionError.Stopped fault) → (before : Moment) → IsAt (F.disk folder.old) (C.may_follow servers.old) (C.faults servers.old) self.old.engine before
+            → IsHalted fault (F.disk folder.old) (F.disk folder.new) (K.held sink.old) (K.held sink.new) before line.now (HasChild (C.may_follow servers.new) (C.faults servers.new) self.new.engine.pool) }
+        ensures memory { result ≢ Err SessionError.OutOfMemory }
+        ensures open { OnOk result (IfTold (F.disk folder.new) (λ d. IsOpen self.new.engine.docs d.now)) }
         ensures languages { languages_of self.new.engine.pool ≡ languages_of self.old.engine.pool }
-        ensures cause { HasCause (K.faults sink.old) (K.faults sink.new) result }
+        ensures sink_cause { HasCauseIf (λ e. e ≡ SessionError.SinkFailed) (K.faults sink.old) (K.faults sink.new) result }
+        ensures disk_cause { HasCauseIf (λ e. e ≡ SessionError.Stopped StepFault.DiskFault) (F.faults folder.old) (F.faults folder.new) result }
         ensures server_count { C.faults servers.old ≤ C.faults servers.new }
     {
         self.reply.clear();
-        match self.engine.step(self.alloc, servers, line, &mut self.reply) {
-            Ok(()) => write_all(sink, &self.reply),
-            Err(StepFault::NoMemory) => write_all(sink, no_memory_line()),
+        match self
+            .engine
+            .step(self.alloc, folder, servers, line, &mut self.reply)
+        {
+            Ok(()) => match write_all(sink, &self.reply) {
+                Ok(()) => Ok(()),
+                Err(PortFault) => Err(SessionError::SinkFailed),
+            },
+            Err(fault) => {
+                let StepFault::NoMemory = fault else {
+                    return Err(SessionError::Stopped(fault));
+                };
+                match write_all(sink, no_memory_line()) {
+                    Ok(()) => Ok(()),
+                    Err(PortFault) => Err(SessionError::SinkFailed),
+                }
+            }
         }
     }
 }
@@ -86,48 +103,64 @@ pub struct Session {
 }
 
 impl Session {
-    ghost use Rattle.couchview_cli.specs.Session.{Progress, Ended, Origin, end_of, kept};
+    ghost use Rattle.couchview_cli.specs.Session.{Progress, Ended, EndedBy, Origin, kept};
     ghost use Rattle.couchview_cli.specs.declared.session.SessionError.TheVariants as error;
     ghost use Rattle.view_ports.specs.declared.run_end.RunEnd.TheVariants as run_end;
     ghost use Rattle.child_pool.specs.Pools.{Stands};
-    ghost use Rattle.view_engine.specs.Documents.{AreOf};
-    ghost use Rattle.view_engine.specs.World.{empty_world};
+    ghost use Rattle.doc_file.specs.Docs.{HoldsHistory, IsAt as AreAt};
+    ghost use Rattle.doc_file.specs.Held.{Stands as StandsFor};
 
-    /// A session that has read nothing. The words LANG=PATH name the query servers of languages.
-    pub fn open(alloc: Global, words: &[String]) -> Result<Session, StepFault>
-        ensures documents { IfOk result (λ session. AreOf session.responder.engine.documents empty_world) }
+    /// A session that has read nothing, over the documents of the folder. The words LANG=PATH name the query servers of
+    /// languages.
+    pub fn open<F: Folder>(
+        alloc: Global,
+        folder: &mut F,
+        words: &[String],
+    ) -> Result<Session, StepFault>
+        ensures documents { (history : List Write) → IfTold (F.disk folder.old) (λ d. HoldsHistory d.now history) → IfTold (F.disk folder.new) (λ d. IfOk result (λ session. AreAt session.responder.engine.docs d.now history)) }
+        ensures moments { (history : List Write) → IfTold (F.disk folder.old) (λ d. HoldsHistory d.now history) → Tells (F.disk folder.old) (F.disk folder.new) (LeavesOnly (λ image. StandsFor image history)) }
+        ensures open { IfTold (F.disk folder.new) (λ d. IfOk result (λ session. IsOpen session.responder.engine.docs d.now)) }
         ensures childless { IfOk result (λ session. (calls : List Call) → Stands session.responder.engine.pool calls) }
         ensures languages { IfOk result (λ session. languages_of session.responder.engine.pool ≡ languages_in (map string_bytes words.now)) }
         ensures pending { IfOk result (λ session. session.line.items ≡ []) }
+        ensures sound { (history : List Write) → IfTold (F.disk folder.old) (λ d. HoldsHistory d.now history → (name : FileName) (at : ℕ) → result ≡ Err (StepFault.Damaged name at) → ⊥) }
+        ensures room { (name : FileName) (length : Option ℕ) → result ≡ Err (StepFault.Full name length) → ⊥ }
+        ensures cause { HasCauseIf (λ fault. fault ≡ StepFault.DiskFault) (F.faults folder.old) (F.faults folder.new) result }
     {
-        Ok(Session {
-            responder: Responder {
-                alloc,
-                engine: Engine::open(alloc, words)?,
-                reply: Vec::new(alloc),
-            },
-            line: Vec::new(alloc),
-        })
+        match Engine::open(alloc, folder, words) {
+            Ok(engine) => Ok(Session {
+                responder: Responder {
+                    alloc,
+                    engine,
+                    reply: Vec::new(alloc),
+                },
+                line: Vec::new(alloc),
+            }),
+            Err(fault) => Err(fault),
+        }
     }
 
     /// Goes on with these bytes: answers each line that ends in them, and keeps what stands behind.
-    pub fn feed<K: Sink, C: Servers>(
+    pub fn feed<F: Folder, K: Sink, C: Servers>(
         &mut self,
         piece: &[u8],
+        folder: &mut F,
         sink: &mut K,
         servers: &mut C,
     ) -> Result<(), SessionError>
-        ensures ok { OnOk result ((origin : Origin) (bytes : List ℕ) → Progress C.functions C.honest (C.may_follow servers.old) (C.faults servers.old) origin (K.held sink.old) bytes self.old
-            → Progress C.functions C.honest (C.may_follow servers.new) (C.faults servers.new) origin (K.held sink.new) (bytes ++ piece.now) self.new) }
-        ensures err { IfErr result (λ e. (origin : Origin) (bytes : List ℕ) → Progress C.functions C.honest (C.may_follow servers.old) (C.faults servers.old) origin (K.held sink.old) bytes self.old
-            → Ended C.functions C.honest origin (K.held sink.new) (bytes ++ piece.now) (IsAt (C.may_follow servers.new) (C.faults servers.new) self.new.responder.engine) (end_of e)) }
-        ensures count { K.faults sink.old ≤ K.faults sink.new }
-        ensures cause { IfErr result (λ e. e ≡ error.SinkFailed → Rose (K.faults sink.old) (K.faults sink.new)) }
+        requires open { IfTold (F.disk folder.old) (λ d. IsOpen self.old.responder.engine.docs d.now) }
+        ensures ok { OnOk result ((origin : Origin) (bytes : List ℕ) → Progress C.functions C.honest (F.disk folder.old) (C.may_follow servers.old) (C.faults servers.old) origin (K.held sink.old) bytes self.old
+            → Progress C.functions C.honest (F.disk folder.new) (C.may_follow servers.new) (C.faults servers.new) origin (K.held sink.new) (bytes ++ piece.now) self.new) }
+        ensures err { IfErr result (λ e. (origin : Origin) (bytes : List ℕ) → Progress C.functions C.honest (F.disk folder.old) (C.may_follow servers.old) (C.faults servers.old) origin (K.held sink.old) bytes self.old
+            → EndedBy C.functions C.honest origin (K.held sink.new) (F.disk folder.new) (C.may_follow servers.new) (C.faults servers.new) (bytes ++ piece.now) self.new.responder.engine e) }
+        ensures open { OnOk result (IfTold (F.disk folder.new) (λ d. IsOpen self.new.responder.engine.docs d.now)) }
+        ensures sink_cause { HasCauseIf (λ e. e ≡ SessionError.SinkFailed) (K.faults sink.old) (K.faults sink.new) result }
+        ensures disk_cause { HasCauseIf (λ e. e ≡ SessionError.Stopped StepFault.DiskFault) (F.faults folder.old) (F.faults folder.new) result }
         ensures server_count { C.faults servers.old ≤ C.faults servers.new }
     {
         let mut rest = piece;
         while let Some(length) = memchr(b'\n', rest) {
-            match self.end_line(&rest[..length], sink, servers) {
+            match self.end_line(&rest[..length], folder, sink, servers) {
                 Ok(()) => {}
                 Err(error) => return Err(error),
             }
@@ -137,34 +170,34 @@ impl Session {
     }
 
     /// Answers the line that ends with these bytes. A line that wholly stands in them is not copied.
-    fn end_line<K: Sink, C: Servers>(
+    fn end_line<F: Folder, K: Sink, C: Servers>(
         &mut self,
         end: &[u8],
+        folder: &mut F,
         sink: &mut K,
         servers: &mut C,
     ) -> Result<(), SessionError>
-        requires { IsLine end.now }
-        ensures ok { OnOk result ((origin : Origin) (bytes : List ℕ) → Progress C.functions C.honest (C.may_follow servers.old) (C.faults servers.old) origin (K.held sink.old) bytes self.old
-            → Progress C.functions C.honest (C.may_follow servers.new) (C.faults servers.new) origin (K.held sink.new) (bytes ++ ended end.now) self.new) }
-        ensures err { IfErr result (λ e. (origin : Origin) (bytes more : List ℕ) → Progress C.functions C.honest (C.may_follow servers.old) (C.faults servers.old) origin (K.held sink.old) bytes self.old
-            → Ended C.functions C.honest origin (K.held sink.new) (bytes ++ ended end.now ++ more) (IsAt (C.may_follow servers.new) (C.faults servers.new) self.new.responder.engine) (end_of e)) }
-        ensures count { K.faults sink.old ≤ K.faults sink.new }
-        ensures cause { IfErr result (λ e. e ≡ error.SinkFailed → Rose (K.faults sink.old) (K.faults sink.new)) }
+        requires line { IsLine end.now }
+        requires open { IfTold (F.disk folder.old) (λ d. IsOpen self.old.responder.engine.docs d.now) }
+        ensures ok { OnOk result ((origin : Origin) (bytes : List ℕ) → Progress C.functions C.honest (F.disk folder.old) (C.may_follow servers.old) (C.faults servers.old) origin (K.held sink.old) bytes self.old
+            → Progress C.functions C.honest (F.disk folder.new) (C.may_follow servers.new) (C.faults servers.new) origin (K.held sink.new) (bytes ++ ended end.now) self.new) }
+        ensures err { IfErr result (λ e. (origin : Origin) (bytes more : List ℕ) → Progress C.functions C.honest (F.disk folder.old) (C.may_follow servers.old) (C.faults servers.old) origin (K.held sink.old) bytes self.old
+            → EndedBy C.functions C.honest origin (K.held sink.new) (F.disk folder.new) (C.may_follow servers.new) (C.faults servers.new) (bytes ++ ended end.now ++ more) self.new.responder.engine e) }
+        ensures open { OnOk result (IfTold (F.disk folder.new) (λ d. IsOpen self.new.responder.engine.docs d.now)) }
+        ensures sink_cause { HasCauseIf (λ e. e ≡ SessionError.SinkFailed) (K.faults sink.old) (K.faults sink.new) result }
+        ensures disk_cause { HasCauseIf (λ e. e ≡ SessionError.Stopped StepFault.DiskFault) (F.faults folder.old) (F.faults folder.new) result }
         ensures server_count { C.faults servers.old ≤ C.faults servers.new }
     {
         if self.line.is_empty() {
-            return match self.responder.answer(end, sink, servers) {
-                Ok(()) => Ok(()),
-                Err(PortFault) => Err(SessionError::SinkFailed),
-            };
+            return self.responder.answer(end, folder, sink, servers);
         }
         match self.keep(end) {
             Ok(()) => {}
             Err(error) => return Err(error),
         }
-        match self.responder.answer(&self.line, sink, servers) {
+        match self.responder.answer(&self.line, folder, sink, servers) {
             Ok(()) => {}
-            Err(PortFault) => return Err(SessionError::SinkFailed),
+            Err(error) => return Err(error),
         }
         self.line.clear();
         Ok(())
@@ -185,22 +218,25 @@ impl Session {
     }
 
     /// Answers the last line, where the input ended without a newline.
-    pub fn finish<K: Sink, C: Servers>(
+    pub fn finish<F: Folder, K: Sink, C: Servers>(
         &mut self,
+        folder: &mut F,
         sink: &mut K,
         servers: &mut C,
-    ) -> Result<(), PortFault>
-        ensures ok { OnOk result ((origin : Origin) (bytes : List ℕ) → Progress C.functions C.honest (C.may_follow servers.old) (C.faults servers.old) origin (K.held sink.old) bytes self.old
-            → Ended C.functions C.honest origin (K.held sink.new) bytes (IsAt (C.may_follow servers.new) (C.faults servers.new) self.new.responder.engine) run_end.InputEnded) }
-        ensures err { OnErr result ((origin : Origin) (bytes : List ℕ) → Progress C.functions C.honest (C.may_follow servers.old) (C.faults servers.old) origin (K.held sink.old) bytes self.old
-            → Ended C.functions C.honest origin (K.held sink.new) bytes (IsAt (C.may_follow servers.new) (C.faults servers.new) self.new.responder.engine) run_end.SinkFailed) }
-        ensures cause { HasCause (K.faults sink.old) (K.faults sink.new) result }
+    ) -> Result<(), SessionError>
+        requires open { IfTold (F.disk folder.old) (λ d. IsOpen self.old.responder.engine.docs d.now) }
+        ensures ok { OnOk result ((origin : Origin) (bytes : List ℕ) → Progress C.functions C.honest (F.disk folder.old) (C.may_follow servers.old) (C.faults servers.old) origin (K.held sink.old) bytes self.old
+            → Ended C.functions C.honest origin (K.held sink.new) (F.disk folder.new) bytes (IsAt (F.disk folder.new) (C.may_follow servers.new) (C.faults servers.new) self.new.responder.engine) run_end.InputEnded) }
+        ensures err { IfErr result (λ e. (origin : Origin) (bytes : List ℕ) → Progress C.functions C.honest (F.disk folder.old) (C.may_follow servers.old) (C.faults servers.old) origin (K.held sink.old) bytes self.old
+            → EndedBy C.functions C.honest origin (K.held sink.new) (F.disk folder.new) (C.may_follow servers.new) (C.faults servers.new) bytes self.new.responder.engine e) }
+        ensures sink_cause { HasCauseIf (λ e. e ≡ SessionError.SinkFailed) (K.faults sink.old) (K.faults sink.new) result }
+        ensures disk_cause { HasCauseIf (λ e. e ≡ SessionError.Stopped StepFault.DiskFault) (F.faults folder.old) (F.faults folder.new) result }
         ensures server_count { C.faults servers.old ≤ C.faults servers.new }
     {
         if self.line.is_empty() {
             return Ok(());
         }
-        self.responder.answer(&self.line, sink, servers)
+        self.responder.answer(&self.line, folder, sink, servers)
     }
 
     /// Ends the children.

@@ -2,11 +2,13 @@
 ghost use Rattle.std.specs.Prelude.{◌≢◌};
 
 use crate::command::couchview;
+use crash_disk::MemoryFolder;
 use std::alloc::Global;
 use std::test::Fail;
 use view_ports::{FieldServers, MemorySink, MemorySource};
 
 mod engine;
+mod folder;
 mod pick;
 mod servers;
 mod watched;
@@ -47,7 +49,15 @@ fn run(
     let mut source = MemorySource::new(alloc, input, piece, failing_reads.to_vec(alloc)?)?;
     let mut sink = MemorySink::new(alloc, piece, failing_writes.to_vec(alloc)?)?;
     let mut servers = FieldServers::new(alloc, Vec::new(alloc))?;
-    let status = couchview(alloc, &owned, &mut source, &mut sink, &mut servers);
+    let mut folder = MemoryFolder::new(alloc, Vec::new(alloc), false)?;
+    let status = couchview(
+        alloc,
+        &owned,
+        &mut source,
+        &mut sink,
+        &mut folder,
+        &mut servers,
+    );
     Ok((status, sink.held().to_vec(alloc)?))
 }
 

@@ -9,13 +9,13 @@ mod CountsKept
 mod Images
 mod Carried
 mod Setting
-mod Histories
+pub mod Histories
 mod Standing
 mod Sizes
 mod Changed
 mod Left
 mod Contents
-mod Stores
+pub mod Stores
 mod Storing
 mod Storable
 mod Opened

@@ -17,7 +17,7 @@ use Rattle.doc_file.specs.declared.docs.Docs.{Docs}
 use Rattle.doc_file.specs.declared.docs.changes.Change.{Change}
 use Rattle.doc_file.specs.declared.entry.Entry.{Entry}
 use Rattle.doc_file.specs.Record.{AreEntries}
-use Rattle.doc_file.specs.Changes.{numbered, AreInOrder, AreWhole, IsChange, IsNext, IsSpoiledAfter, IsStored}
+use Rattle.doc_file.specs.Changes.{numbered, AreInOrder, AreWhole, HasDocument, IsChange, IsNext, IsSpoiledAfter, IsStored}
 use Rattle.doc_file.specs.Docs.{bytes_in, entries_of, file_of, last_of, seq_of, IsAt, IsLoaded, IsSpoiled}
 use Rattle.doc_file.specs.Held.{find_last}
 use Rattle.doc_file.specs.History.{Write, changes_after}
@@ -31,6 +31,7 @@ pub record IsSoFar (docs : Docs) (seq n after index : ℕ) (before : Option (Dis
   pub below : All (λ change. change.seq ≤ after) items
   pub rise : AllPairs (λ change later. change.seq < later.seq) items
   pub whole : All (λ entry. seq < (entry.last).seq → (entry.last).seq ≤ after → Contains (map (λ change. change.seq) items) (entry.last).seq) (entries_of docs)
+  pub bodies : All HasDocument items
   pub each : IfTold before (λ d. IsLoaded docs d.now → All (IsChange docs (bytes_in docs d.now)) items)
   pub written : (history : List Write) → IfTold before (λ d. IsAt docs d.now history → map numbered items ++ take (n - index) (changes_after after history) ≡ take n (changes_after seq history))
 
@@ -46,6 +47,7 @@ so_far_none docs seq n before = record {
   below = All-nil (λ (change : Change). change.seq ≤ seq);
   rise = λ i j d before' in'. absurd (omega arith);
   whole = λ k d in' behind low. absurd (omega arith);
+  bodies = All-nil HasDocument;
   each = told_all before (λ d. IsLoaded docs d.now → All (IsChange docs (bytes_in docs d.now)) []) (λ d loaded. All-nil (IsChange docs (bytes_in docs d.now)));
   written = λ history. told_all before (λ d. IsAt docs d.now history → take (n - 0) (changes_after seq history) ≡ take n (changes_after seq history))
       (λ d at. let all : n - 0 ≡ n = omega arith in ap (λ m. take m (changes_after seq history)) all);
@@ -100,8 +102,8 @@ module _ (docs : Docs) (seq n after index : ℕ) (before : Option (Disk FileName
             → (entry.last).seq ≤ (e.last).seq → Contains (map (λ (c : Change). c.seq) (items ++ change ∷ [])) (entry.last).seq
         by_cases entry behind old new low = by_order (entry.last).seq old new low (order (entry.last).seq after)
 
-    pub so_far_more : IfTold before (λ d. IsStored e.id (bytes_in docs d.now) e.last (option_map json change.doc)) → IsSoFar docs seq n (e.last).seq (index + 1) before (items ++ change ∷ [])
-    so_far_more stored = record {
+    pub so_far_more : HasDocument change → IfTold before (λ d. IsStored e.id (bytes_in docs d.now) e.last (option_map json change.doc)) → IsSoFar docs seq n (e.last).seq (index + 1) before (items ++ change ∷ [])
+    so_far_more body stored = record {
       count = let long = length-append items (change ∷ []) in omega (arith, so_far.count);
       within = omega arith;
       low = omega (arith, so_far.low, next.1);
@@ -109,6 +111,7 @@ module _ (docs : Docs) (seq n after index : ℕ) (before : Option (Disk FileName
       below = All-push (λ (c : Change). c.seq ≤ (e.last).seq) items change (λ k d in'. let low = so_far.below k d in' in omega (arith, next.1)) (omega arith);
       rise = all_pairs_push (λ (c : Change) (later : Change). c.seq < later.seq) items change so_far.rise (λ k d in'. let low = so_far.below k d in' in omega (arith, next.1));
       whole = whole_more;
+      bodies = All-push HasDocument items change so_far.bodies body;
       each = told_pair before (λ d. IsLoaded docs d.now → All (IsChange docs (bytes_in docs d.now)) items) (λ d. IsStored e.id (bytes_in docs d.now) e.last (option_map json change.doc))
           (λ d. IsLoaded docs d.now → All (IsChange docs (bytes_in docs d.now)) (items ++ change ∷ []))
           (λ d old new loaded. All-push (IsChange docs (bytes_in docs d.now)) items change (old loaded) (record {

@@ -1,13 +1,17 @@
 -- What is stored of a document that may be put.
 use Rattle.std.proofs.Common.{◌≡◌, ℕ, ◌+◌, ◌^◌, ◌<◌, List, length, Ordering, Less, Equal, Greater, nat_cmp, Option, Some, None, refl, sym, ap, ◌∙◌, subst, arith}
-use Rattle.std.specs.Prelude.{Bool, true, false, IsTrue, bytes_eq, codes, if◌then◌else◌}
+use Rattle.std.specs.Prelude.{Bool, true, false, IsTrue, bytes_eq, codes, if◌then◌else◌, [], option_and_then, unwrap_or}
 use Rattle.std.specs.Ordering.{match_ordering}
 use Rattle.std.specs.Cmp.Lexicographic.{slice_cmp}
 use Rattle.json_terms.specs.Json.{Json, object, number, is_false, is_null, is_true, array, string, Members, no_members, member}
-use Rattle.json_terms.specs.Find.{with_member}
+use Rattle.json_terms.specs.Find.{find, with_member}
+use Rattle.json_terms.specs.Kinds.{text_in}
 use Rattle.json_terms.specs.Terms.{IsTerm}
 use Rattle.design_docs.specs.Documents.{id_of, is_design_id}
+use Rattle.design_docs.specs.PlainDesign.{is_plain_design}
 use Rattle.design_docs.specs.PlainDocument.{is_plain}
+use Rattle.design_docs.proofs.PlainDesigns.{has_plain_design}
+use Rattle.design_docs.proofs.Revised.{revision_leaves_design}
 use Rattle.std.specs.List.{list_all}
 use Rattle.std.proofs.lemmas.Bool.Decides.{nat_tests}
 use Rattle.doc_file.specs.declared.entry.LastWrite.{LastWrite}
@@ -21,7 +25,7 @@ use Rattle.doc_file.specs.Revision.{revision, stored_document}
 use Rattle.doc_file.specs.Stored.{IsStorable, entry_of}
 use Rattle.doc_file.specs.Writes.{content_of}
 use Rattle.doc_file.proofs.Contents.{IsDocument-stored, IsObject-writable, IsUtf8-revision, id_short, length-revision, spelling_short}
-use Rattle.doc_file.proofs.Setting.{bytes_eq-same, equal_id, passes}
+use Rattle.doc_file.proofs.Setting.{bytes_eq-same, equal_id, passes, same_id}
 
 -- ---- leaving members out
 
@@ -70,6 +74,39 @@ unrevised-stored is_true rev is = absurd is
 unrevised-stored (array ts) rev is = absurd is
 unrevised-stored (string s) rev is = absurd is
 
+-- leaving out a member leaves what another name finds
+found_without : (name other : List ℕ) (ms : Members) → bytes_eq other name ≡ false → find name (without other ms) ≡ find name ms
+found_without name other no_members apart = refl
+found_without name other (member n t ms) apart = by_test (bytes_eq n other) refl (found_without name other ms apart)
+  where
+    by_test : (b : Bool) → bytes_eq n other ≡ b → find name (without other ms) ≡ find name ms
+        → find name (if bytes_eq n other then without other ms else member n t (without other ms)) ≡ find name (member n t ms)
+    by_test true is rest =
+        let different : bytes_eq n name ≡ false = ap (λ m. bytes_eq m name) (same_id n other is) ∙ apart in
+        ap (λ b. find name (if b then without other ms else member n t (without other ms))) is ∙ rest ∙ sym (ap (λ b. if b then Some t else find name ms) different)
+    by_test false is rest =
+        ap (λ b. find name (if b then without other ms else member n t (without other ms))) is ∙ ap (λ (found : Option Json). if bytes_eq n name then Some t else found) rest
+
+-- the content of a document has its id
+content_id : (ms : Members) → id_of (content (object ms)) ≡ id_of (object ms)
+content_id ms =
+    let r = codes "_rev" in
+    let d = codes "_deleted" in
+    ap (λ (found : Option Json). unwrap_or (option_and_then text_in found) [])
+    (found_without (codes "_id") d (without r ms) refl ∙ found_without (codes "_id") r ms refl)
+
+-- a plain design stays one under a revision
+stored_design : (document : Json) (rev : List ℕ) → IsObject document → IsTrue (is_plain (content document)) → IsTrue (is_design_id (id_of document)) → IsTrue (is_plain_design (stored_document (content document) rev))
+stored_design (object ms) rev is plain design =
+    (revision_leaves_design (without (codes "_deleted") (without (codes "_rev") ms)) (string rev)).0
+    ∙ has_plain_design (content (object ms)) plain (ap is_design_id (content_id ms) ∙ design)
+stored_design (number n) rev is plain design = absurd is
+stored_design is_false rev is plain design = absurd is
+stored_design is_null rev is plain design = absurd is
+stored_design is_true rev is plain design = absurd is
+stored_design (array ts) rev is plain design = absurd is
+stored_design (string s) rev is plain design = absurd is
+
 -- what is put is stored as a document of its id
 pub storable : (document : Json) → IsTerm document → IsWritable document → (IsTrue (is_design_id (id_of document)) → deletes document ≡ false → IsTrue (is_plain (content document))) → IsStorable (id_of document) (content_of document)
 storable document term writable plain = by_kind (deletes document) refl
@@ -85,6 +122,7 @@ storable document term writable plain = by_kind (deletes document) refl
           body = record {
             document_is = IsDocument-stored document text term an_object writable utf8 short;
             plain = λ design. subst (λ d. IsTrue (is_plain d)) (sym (unrevised-stored document text an_object)) (plain design is);
+            design = λ design. stored_design document text an_object (plain design is) design;
           };
           short = spelling_short document text term an_object writable utf8 short;
         }

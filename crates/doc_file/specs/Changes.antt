@@ -1,5 +1,5 @@
 -- What has changed since a write: the last writes with greater numbers.
-use Rattle.std.specs.Prelude.{◌≡◌, ◌⊎◌, ℕ, ◌<◌, ◌≤◌, List, length, map, true, false, Option, Some, None, option_map, All, AllPairs, Contains}
+use Rattle.std.specs.Prelude.{◌≡◌, ◌⊎◌, ℕ, ◌<◌, ◌≤◌, List, length, map, true, false, Option, Some, None, option_map, IfSome, All, AllPairs, Contains}
 use Rattle.json_terms.specs.Json.{Json}
 use Rattle.json_terms.specs.Seen.{json}
 use Rattle.doc_file.specs.declared.docs.Docs.{Docs}
@@ -7,7 +7,7 @@ use Rattle.doc_file.specs.declared.docs.changes.Change.{Change}
 use Rattle.doc_file.specs.declared.entry.LastWrite.{LastWrite}
 use Rattle.doc_file.specs.declared.entry.Entry.{Entry}
 use Rattle.doc_file.specs.Docs.{entries_of, last_of, IsSpoiled}
-use Rattle.doc_file.specs.Held.{HasBody}
+use Rattle.doc_file.specs.Held.{HasBody, IsBodyOf}
 use Rattle.doc_file.specs.History.{Write}
 
 -- a change as its number and its write
@@ -18,6 +18,10 @@ numbered change = (change.seq, record { id = change.id; document = option_map js
 abbrev pub IsStored : List ℕ → List ℕ → LastWrite → Option Json → Type 0
 IsStored id bytes last None = last.deleted ≡ true
 IsStored id bytes last (Some document) = (last.deleted ≡ false) × HasBody id bytes last document
+
+-- what is stored is a document of the change's id
+abbrev pub HasDocument : Change → Type 0
+HasDocument change = IfSome (option_map json change.doc) (IsBodyOf change.id)
 
 -- the change is the last write of its id
 pub record IsChange (docs : Docs) (bytes : List ℕ) (change : Change) : Type 0 where

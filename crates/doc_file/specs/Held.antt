@@ -12,6 +12,7 @@ use Rattle.gate_file.specs.GateFile.{name_of, root_of}
 use Rattle.view_ports.specs.declared.file_name.FileName.{FileName}
 use Rattle.view_ports.specs.declared.file_name.Stem.TheVariants.{Docs as DocsStem}
 use Rattle.design_docs.specs.Documents.{is_design_id}
+use Rattle.design_docs.specs.PlainDesign.{is_plain_design}
 use Rattle.design_docs.specs.PlainDocument.{is_plain}
 use Rattle.doc_file.specs.declared.entry.LastWrite.{LastWrite}
 use Rattle.doc_file.specs.declared.entry.Entry.{Entry}
@@ -40,6 +41,7 @@ pub record IsDocument (t : Json) : Type 0 where
 pub record IsBodyOf (id : List ℕ) (document : Json) : Type 0 where
   pub document_is : IsDocument document
   pub plain : IsTrue (is_design_id id) → IsTrue (is_plain (unrevised document))
+  pub design : IsTrue (is_design_id id) → IsTrue (is_plain_design document)
 
 -- the body of an id's last write is the spelling of this document
 pub record HasBody (id bytes : List ℕ) (last : LastWrite) (document : Json) : Type 0 where

@@ -9,7 +9,7 @@ ghost use Rattle.doc_file.specs.Content.{unrevised};
 ghost use Rattle.doc_file.specs.Held.{IsBodyOf, IsDocument, IsObject};
 
 use crate::content::unrevised;
-use design_docs::{is_design_id, is_plain};
+use design_docs::{is_design_id, is_plain, is_plain_design};
 use json_terms::{NoMemory, Term, depth_within};
 use std::alloc::Global;
 use term_codec::{CodecFault, decode_term};
@@ -18,14 +18,20 @@ use term_codec::{CodecFault, decode_term};
 const DEPTH_LIMIT: u32 = 64;
 
 /// The document of an id that these bytes spell, whole, or none where they spell no object of depth 64 at most, or, under the
-/// id of a design document, one that but for its `_rev` isn't plain. The one error is want of memory.
+/// id of a design document, one that but for its `_rev` isn't plain or has no plain design. The one error is want of memory.
 pub fn read_body(alloc: Global, id: &str, bytes: &[u8]) -> Result<Option<Term>, NoMemory>
     ensures some { IfOk result (λ found. IfSome found (λ t. IsBodyOf id.now (json t) × (bytes.now ≡ spelling (json t)))) }
     ensures none { result ≡ Ok None → (t : Json) → IsBodyOf id.now t → bytes.now ≡ spelling t → ⊥ }
 {
     match read_document(alloc, bytes)? {
         Some(document) => {
-            if is_design_id(id) && !is_plain_design(alloc, &document)? {
+            if !is_design_id(id) {
+                return Ok(Some(document));
+            }
+            if !is_plain_design(&document) {
+                return Ok(None);
+            }
+            if !is_plain_unrevised(alloc, &document)? {
                 return Ok(None);
             }
             Ok(Some(document))
@@ -67,8 +73,8 @@ fn is_object(term: &Term) -> bool
     }
 }
 
-/// Whether a design document is plain but for its revision.
-fn is_plain_design(alloc: Global, document: &Term) -> Result<bool, NoMemory>
+/// Whether a document is plain but for its revision.
+fn is_plain_unrevised(alloc: Global, document: &Term) -> Result<bool, NoMemory>
     ensures { IfOk result (λ plain. plain ≡ is_plain (unrevised (json document.now))) }
 {
     let document = unrevised(alloc, document)?;

@@ -48,7 +48,7 @@ impl Docs {
     ghost use Rattle.gate_file.specs.GateFile.{name_of};
     ghost use Rattle.gate_file.specs.Open.{opened, IsFirstDamage, IsOpened, WhileOpening};
     ghost use Rattle.doc_file.specs.Accepted.{is_deletion};
-    ghost use Rattle.doc_file.specs.Held.{IsRootPlace, Stands};
+    ghost use Rattle.doc_file.specs.Held.{IsBodyOf, IsRootPlace, Stands};
     ghost use Rattle.doc_file.specs.History.{Write, last_write, live_document};
     ghost use Rattle.view_ports.specs.File.{File};
     ghost use Rattle.doc_file.specs.Docs.{bytes_in, file_of, info_in, info_of, last_of, is_deleted, HoldsHistory, IsAt, IsDocsFile, IsLoaded, IsLive, IsOpen, IsSpoiled};
@@ -95,6 +95,7 @@ impl Docs {
         ensures sound { (history : List Write) → IfTold (F.disk folder.old) (λ d. IsAt self.now d.now history → (name : Name) (at : ℕ) → result ≡ Err (DocFault.Gate (GateFault.Damaged name at)) → ⊥) }
 
         // Also where the file stands for no history.
+        ensures body { IfOk result (λ t. IsBodyOf id.now (json t)) }
         ensures live { IfTold (F.disk folder.old) (λ d. IfOk result (λ t. IsLive id.now (bytes_in self.now d.now) (last_of self.now id.now) (json t))) }
         ensures missing { (result ≡ Err DocFault.Missing) ↔ (last_of self.now id.now ≡ None) }
         ensures deleted { (result ≡ Err DocFault.Deleted) ↔ (is_deleted (last_of self.now id.now) ≡ true) }

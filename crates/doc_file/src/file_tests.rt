@@ -110,3 +110,25 @@ fn damage_is_named_at_its_place(rt: HostRuntime) -> Result<(), Fail> {
     assert!(rt; is_damage(fault, 8210));
     Ok(())
 }
+
+/// The spelling of `{"_id":"a","views":1}`, which has no plain design.
+const NO_DESIGN: &[u8] =
+    b"\x05\x02\0\0\0\x03\0\0\0_id\x07\x01\0\0\0a\x05\0\0\0views\x01\x01\0\0\0\0\0\0\0";
+
+#[test]
+fn a_design_document_has_a_plain_design(rt: HostRuntime) -> Result<(), Fail> {
+    let alloc = rt.alloc();
+    for (body, damaged) in [(BODY, false), (NO_DESIGN, true)] {
+        let mut root = Vec::new(alloc);
+        root.extend_from_slice(b"\x01\0\0\0\0\0\0\0\x01\0\0\0\0\0\0\0")?;
+        root.extend_from_slice(b"\x2a\0\0\0\x09\0\0\0_design/d")?;
+        root.extend_from_slice(b"\x01\0\0\0\0\0\0\0\x01\0\0\0\0\0\0\0\0")?;
+        root.extend_from_slice(&8192_u64.to_le_bytes())?;
+        root.extend_from_slice(&(body.len() as u32).to_le_bytes())?;
+        let mut folder = folder_of(alloc, body, root.as_slice())?;
+        let docs = Docs::open(alloc, &mut folder)?;
+        let fault = docs.get(alloc, &mut folder, "_design/d").err();
+        assert_eq!(rt; is_damage(fault, 8192), damaged);
+    }
+    Ok(())
+}

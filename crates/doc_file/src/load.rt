@@ -10,7 +10,7 @@ ghost use Rattle.view_ports.specs.declared.file_name.FileName.{FileName as Name}
 ghost use Rattle.gate_file.specs.GateFile.{commits_of, name_of, root_of};
 ghost use Rattle.doc_file.specs.declared.entry.Entry.{Entry as EntryValue};
 ghost use Rattle.doc_file.specs.Counts.{are_counted, has_room};
-ghost use Rattle.doc_file.specs.Held.{HasBody, HoldsRoot, IsRootPlace};
+ghost use Rattle.doc_file.specs.Held.{HasBody, HoldsRoot, IsBodyOf, IsRootPlace};
 
 use crate::body::read_body;
 use crate::entry::LastWrite;
@@ -63,6 +63,7 @@ pub fn load_body<F: Folder>(
     id: &str,
     last: LastWrite,
 ) -> Result<Term, DocFault>
+    ensures body { IfOk result (λ t. IsBodyOf id.now (json t)) }
     ensures held { IfTold (F.disk folder.old) (λ d. IfOk result (λ t. HasBody id.now (d.now name).seen last (json t))) }
     ensures damaged { IfTold (F.disk folder.old) (λ d. result ≡ Err (DocFault.Gate (GateFault.Damaged name last.offset)) → (t : Json) → HasBody id.now (d.now name).seen last t → ⊥) }
     ensures faults { IfErr result (λ e. (e ≡ DocFault.Gate GateFault.DiskFault) ⊎ (e ≡ DocFault.NoMemory) ⊎ (e ≡ DocFault.Gate (GateFault.Damaged name last.offset))) }

@@ -1,17 +1,17 @@
 -- A run's last world has exactly the writes that were answered `ok`.
-use Rattle.std.specs.Prelude.{◌≡◌, ℕ, List, [], ◌∷◌, Bool, true, false, if◌then◌else◌, Option, Some, None, Result, Ok, Err, MatchOption}
+use Rattle.std.specs.Prelude.{◌≡◌, ℕ, List, [], ◌∷◌, Bool, true, false, if◌then◌else◌, None, Result, Ok, Err}
 use Rattle.std.proofs.Common.{refl, ap, ◌∙◌, inl, inr}
 use Rattle.view_ports.specs.Lines.{ended}
 use Rattle.view_ports.specs.Exchanges.{Exchange, LeadsTo}
 use Rattle.view_engine.specs.declared.request.Request.{Request}
-use Rattle.view_engine.specs.declared.request.Request.TheVariants.{Put, View}
+use Rattle.view_engine.specs.declared.request.Request.TheVariants.{Put, Delete, Get, View, Info}
 use Rattle.view_engine.specs.declared.refusal.Refusal.{Refusal}
 use Rattle.view_engine.specs.declared.refusal.Refusal.TheVariants.{NoMemory}
 use Rattle.view_ports.specs.Functions.{Functions}
 use Rattle.view_engine.specs.Moments.{Moment}
 use Rattle.view_engine.specs.World.{World}
 use Rattle.view_engine.specs.Refusals.{request_of, refusal_text}
-use Rattle.view_engine.specs.Steps.{Answers, Does, DoesRequest, MayHaveCalled, Performs, Refuses, refusal_of}
+use Rattle.view_engine.specs.Steps.{Answers, Does, DoesRequest, MayHaveCalled, Performs, Refuses}
 use Rattle.view_engine.specs.Accepted.{is_ok, after_exchange, accepted}
 
 module _ (functions : List ℕ → Functions) (honest : List ℕ → Type 0) (languages : List (List ℕ × List ℕ)) where
@@ -29,23 +29,24 @@ module _ (functions : List ℕ → Functions) (honest : List ℕ → Type 0) (la
       let text : e.text ≡ ended (refusal_text refusal) = is ∙ ap ended done.0 in
       rw text (ap (λ (m : Moment). m.world) done.1)
 
-  -- a request that is done adds its write, if it is a put
+  -- a request that is done adds its write, if it is a put or a deletion
   performs-accepted : (before : Moment) (request : Request) (e : Exchange) (reply : List ℕ) (after : Moment) → request_of e.line ≡ Ok request
       → Performs functions honest languages before request reply after → e.text ≡ ended reply → after.world ≡ after_exchange before.world e
   performs-accepted before (Put document) e reply after is done text =
       let acted : after.world ≡ done.0 = ap (λ (m : Moment). m.world) done.2 in
-      rw (is, text, (done.1).0) (acted ∙ (done.1).1)
+      rw (is, text, (done.1).prints) (acted ∙ (done.1).wrote)
+  performs-accepted before (Delete id given) e reply after is done text =
+      let acted : after.world ≡ done.0 = ap (λ (m : Moment). m.world) done.2 in
+      rw (is, text, (done.1).prints) (acted ∙ (done.1).wrote)
+  performs-accepted before (Get id) e reply after is done text = rw is (ap (λ (m : Moment). m.world) done.1 ∙ either_way (is_ok e.text) before.world)
+  performs-accepted before Info e reply after is done text = rw is (ap (λ (m : Moment). m.world) done.1 ∙ either_way (is_ok e.text) before.world)
   performs-accepted before (View name None) e reply after is done text = rw (is, done.same) (either_way (is_ok e.text) before.world)
   performs-accepted before other e reply after is done text = absurd done
 
-  accepts-accepted : (before : Moment) (request : Request) (e : Exchange) (reply : List ℕ) (after : Moment) (refusal : Option Refusal) → request_of e.line ≡ Ok request
-      → MatchOption refusal (Performs functions honest languages before request reply after) (λ r. Refuses before r reply after) → e.text ≡ ended reply → after.world ≡ after_exchange before.world e
-  accepts-accepted before request e reply after None is done text = performs-accepted before request e reply after is done text
-  accepts-accepted before request e reply after (Some refusal) is done text = refuses-accepted before refusal e reply after done text
-
   request-accepted : (before : Moment) (request : Result Request Refusal) (e : Exchange) (reply : List ℕ) (after : Moment) → request_of e.line ≡ request
       → DoesRequest functions honest languages before request reply after → e.text ≡ ended reply → after.world ≡ after_exchange before.world e
-  request-accepted before (Ok request) e reply after is done text = accepts-accepted before request e reply after (refusal_of functions honest languages before.world request) is done text
+  request-accepted before (Ok request) e reply after is (inl done) text = performs-accepted before request e reply after is done text
+  request-accepted before (Ok request) e reply after is (inr refused) text = refuses-accepted before refused.0 e reply after refused.2 text
   request-accepted before (Err refusal) e reply after is done text = refuses-accepted before refusal e reply after done text
 
   does-accepted : (before : Moment) (line : List ℕ) (e : Exchange) (after : Moment) → e.line ≡ line → Does functions honest languages before line e.text after → after.world ≡ after_exchange before.world e

@@ -7,7 +7,6 @@ use Rattle.json_terms.specs.Seen.{json, term}
 use Rattle.json_terms.specs.declared.rows.Emission.{Emission}
 use Rattle.json_terms.specs.declared.term.Row.{Row}
 use Rattle.json_terms.proofs.Sames.{term-json}
-use Rattle.view_engine.specs.Documents.{entry_of}
 use Rattle.view_engine.specs.Rows.{emitted_by, emitted_rows, rows_from}
 
 -- the row of an emission
@@ -24,28 +23,28 @@ rows_step place id (x ∷ emissions) zero e within is =
     ap (λ (row : Row). row ∷ rows_from (suc place) id (map key_value emissions)) (same_row place id x ∙ ap (row_of place id) (sym is))
 rows_step place id (x ∷ emissions) (suc at) e within is = rows_step place id emissions at e (omega arith) is
 
-pub documents_step : (function : ℕ) (documents : List (List (List ℕ × Json))) (lists : List (List (List (Json × Json)))) (at : ℕ) (document : List (List ℕ × Json)) (emitted : List (List (Json × Json)))
-    → at < length documents → at < length lists → document ≡ get_or documents at document → emitted ≡ get_or lists at emitted
-    → emitted_rows (map entry_of (drop at documents)) (emitted_by function (drop at lists))
-    ≡ rows_from 0 (entry_of document).0 (slice_index_or emitted function []) ++ emitted_rows (map entry_of (drop (suc at) documents)) (emitted_by function (drop (suc at) lists))
-documents_step function [] lists at document emitted within also is are = absurd (omega arith)
-documents_step function (d ∷ documents) [] at document emitted within also is are = absurd (omega arith)
-documents_step function (d ∷ documents) (l ∷ lists) zero document emitted within also is are =
-    ap (λ (x : List (List ℕ × Json)). rows_from 0 (entry_of x).0 (slice_index_or l function []) ++ emitted_rows (map entry_of documents) (emitted_by function lists)) (sym is)
-    ∙ ap (λ (x : List (List (Json × Json))). rows_from 0 (entry_of document).0 (slice_index_or x function []) ++ emitted_rows (map entry_of documents) (emitted_by function lists)) (sym are)
-documents_step function (d ∷ documents) (l ∷ lists) (suc at) document emitted within also is are =
-    documents_step function documents lists at document emitted (omega arith) (omega arith) is are
+pub documents_step : (function : ℕ) (ids : List (List ℕ)) (lists : List (List (List (Json × Json)))) (at : ℕ) (id : List ℕ) (emitted : List (List (Json × Json)))
+    → at < length ids → at < length lists → id ≡ get_or ids at id → emitted ≡ get_or lists at emitted
+    → emitted_rows (drop at ids) (emitted_by function (drop at lists))
+    ≡ rows_from 0 id (slice_index_or emitted function []) ++ emitted_rows (drop (suc at) ids) (emitted_by function (drop (suc at) lists))
+documents_step function [] lists at id emitted within also is are = absurd (omega arith)
+documents_step function (d ∷ ids) [] at id emitted within also is are = absurd (omega arith)
+documents_step function (d ∷ ids) (l ∷ lists) zero id emitted within also is are =
+    ap (λ (x : List ℕ). rows_from 0 x (slice_index_or l function []) ++ emitted_rows ids (emitted_by function lists)) (sym is)
+    ∙ ap (λ (x : List (List (Json × Json))). rows_from 0 id (slice_index_or x function []) ++ emitted_rows ids (emitted_by function lists)) (sym are)
+documents_step function (d ∷ ids) (l ∷ lists) (suc at) id emitted within also is are =
+    documents_step function ids lists at id emitted (omega arith) (omega arith) is are
 
 -- behind the shorter of both lists there are none
-pub no_rows_left : (function : ℕ) (documents : List (List (List ℕ × Json))) (lists : List (List (List (Json × Json)))) (at : ℕ) → (length documents ≤ at) ⊎ (length lists ≤ at)
-    → emitted_rows (map entry_of (drop at documents)) (emitted_by function (drop at lists)) ≡ []
+pub no_rows_left : (function : ℕ) (ids : List (List ℕ)) (lists : List (List (List (Json × Json)))) (at : ℕ) → (length ids ≤ at) ⊎ (length lists ≤ at)
+    → emitted_rows (drop at ids) (emitted_by function (drop at lists)) ≡ []
 no_rows_left function [] lists zero h = refl
 no_rows_left function [] lists (suc at) h = refl
-no_rows_left function (d ∷ documents) [] zero h = refl
-no_rows_left function (d ∷ documents) (l ∷ lists) zero h = elim h [ inl few ↦ absurd (omega arith) | inr few ↦ absurd (omega arith) ]
-no_rows_left function (d ∷ documents) [] (suc at) h = none (drop at documents)
+no_rows_left function (d ∷ ids) [] zero h = refl
+no_rows_left function (d ∷ ids) (l ∷ lists) zero h = elim h [ inl few ↦ absurd (omega arith) | inr few ↦ absurd (omega arith) ]
+no_rows_left function (d ∷ ids) [] (suc at) h = none (drop at ids)
   where
-    none : (ds : List (List (List ℕ × Json))) → emitted_rows (map entry_of ds) [] ≡ []
+    none : (ds : List (List ℕ)) → emitted_rows ds [] ≡ []
     none [] = refl
     none (x ∷ ds) = refl
-no_rows_left function (d ∷ documents) (l ∷ lists) (suc at) h = no_rows_left function documents lists at (elim h [ inl few ↦ inl (omega arith) | inr few ↦ inr (omega arith) ])
+no_rows_left function (d ∷ ids) (l ∷ lists) (suc at) h = no_rows_left function ids lists at (elim h [ inl few ↦ inl (omega arith) | inr few ↦ inr (omega arith) ])

@@ -1,4 +1,4 @@
--- The last write of each id, and what maps of ids have.
+-- The last write of each id.
 use Rattle.std.specs.Prelude.{◌≡◌, ℕ, List, [], ◌∷◌, Bool, true, false, Option, Some, bytes_eq, String, string_bytes, if◌then◌else◌}
 use Rattle.std.proofs.Common.{refl, sym, ap, ◌∙◌, subst, inl, inr}
 use Rattle.std.proofs.lemmas.Bool.{cases_Bool}
@@ -13,8 +13,7 @@ use Rattle.std.specs.Map.{lookup}
 use Rattle.std.specs.BTreeMap.{insert_entry}
 use Rattle.std.proofs.lemmas.Slice.Eq.{bytes_eq-Decides}
 use Rattle.std.proofs.lemmas.Map.Text.{is_eq-slice_cmp}
-use Rattle.view_engine.specs.World.{Write, last_write, last_writes}
-use Rattle.view_engine.specs.Documents.{at}
+use Rattle.doc_file.specs.History.{Write, last_write, last_writes}
 
 abbrev bytes_cmp : List ℕ → List ℕ → Ordering
 bytes_cmp = slice_cmp nat_cmp
@@ -74,22 +73,3 @@ last_write-lookup (write ∷ older) id =
     ap (λ (r : Option Write). if bytes_eq id write.id then Some write else r) (last_write-lookup older id)
     ∙ ap (λ (b : Bool). if b then Some write else lookup (is_id id) (last_writes older)) (sym (is_eq-slice_cmp id write.id))
     ∙ sym (lookup-insert_entry id write.id write (last_writes older))
-
--- what a map has after one entry more
-at-insert : {V : Type 0} (id : List ℕ) (key : String Global) (v : V) (es : List (String Global × V)) → at id (insert_entry string_cmp es key v) ≡ (if is_id id (string_bytes key) then Some v else at id es)
-at-insert id key v [] = refl
-at-insert id key v (e ∷ es) =
-    elim (bytes_cmp (string_bytes key) (string_bytes e.0)) as (λ o. bytes_cmp (string_bytes key) (string_bytes e.0) ≡ o
-    → at id (match_ordering o ((key, v) ∷ e ∷ es) ((e.0, v) ∷ es) (e ∷ insert_entry string_cmp es key v))
-    ≡ (if is_id id (string_bytes key) then Some v else (if is_id id (string_bytes e.0) then Some e.1 else at id es))) [
-      | Less ↦ λ is. refl
-      | Equal ↦ λ is.
-          let same : is_id id (string_bytes key) ≡ is_id id (string_bytes e.0) = ties id (string_bytes key) (string_bytes e.0) is in
-          rw same (drop_test (is_id id (string_bytes e.0)) (Some v) (Some e.1) (at id es))
-      | Greater ↦ λ is.
-          ap (λ r. if is_id id (string_bytes e.0) then Some e.1 else r) (at-insert id key v es)
-          ∙ swap_tests (is_id id (string_bytes key)) (is_id id (string_bytes e.0)) (Some v) (Some e.1) (at id es) (untied id (string_bytes key) (string_bytes e.0) is)
-    ] refl
-
-pub at-inserted : {V : Type 0} (id : List ℕ) (key : String Global) (v : V) (es : List (String Global × V)) → at id (insert_entry string_cmp es key v) ≡ (if bytes_eq id (string_bytes key) then Some v else at id es)
-at-inserted id key v es = at-insert id key v es ∙ ap (λ (b : Bool). if b then Some v else at id es) (is_eq-slice_cmp id (string_bytes key))

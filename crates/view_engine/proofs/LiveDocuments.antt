@@ -12,7 +12,7 @@ use Rattle.std.specs.BTreeMap.{insert_entry}
 use Rattle.std.proofs.lemmas.Slice.Eq.{bytes_eq-Decides}
 use Rattle.std.proofs.lemmas.Map.Text.{is_eq-slice_cmp}
 use Rattle.json_terms.specs.Json.{Json}
-use Rattle.view_engine.specs.World.{World, Write, last_writes, stored, live}
+use Rattle.doc_file.specs.History.{Write, last_writes, stored, live}
 use Rattle.view_engine.specs.Laws.{HasLastWrites, HasLiveDocuments, IsInOrderOfId}
 use Rattle.view_engine.proofs.LastWrites.{last_write-lookup}
 
@@ -113,12 +113,12 @@ lookup-stored id (w ∷ ws) rises =
 
 -- ---- the laws
 
-pub has_last_writes : (world : World) → HasLastWrites world
-has_last_writes world id =
-    sym (last_write-lookup world.history id ∙ (λ i. lookup (λ key. is_eq-slice_cmp id key i) (last_writes world.history)))
+pub has_last_writes : (history : List Write) → HasLastWrites history
+has_last_writes history id =
+    sym (last_write-lookup history id ∙ (λ i. lookup (λ key. is_eq-slice_cmp id key i) (last_writes history)))
 
-pub has_live_documents : (world : World) → HasLiveDocuments world
-has_live_documents world id = lookup-stored id (last_writes world.history) (last_writes_rise world.history) ∙ ap document_of (has_last_writes world id)
+pub has_live_documents : (history : List Write) → HasLiveDocuments history
+has_live_documents history id = lookup-stored id (last_writes history) (last_writes_rise history) ∙ ap document_of (has_last_writes history id)
 
 below_sorted : (id : List ℕ) (es : List (List ℕ × Json)) → IsBelow id es → AllByRecursion (λ key. order id key ≡ Less) (keys_of es)
 below_sorted id [] below = tt
@@ -129,5 +129,5 @@ unfolding IsStrictlySortedBy
 sorted [] rises = tt
 sorted (e ∷ es) rises = (below_sorted e.0 es rises.0, sorted es rises.1)
 
-pub is_in_order_of_id : (world : World) → IsInOrderOfId world
-is_in_order_of_id world = sorted (live world) (Rises-stored (last_writes world.history) (last_writes_rise world.history))
+pub is_in_order_of_id : (history : List Write) → IsInOrderOfId history
+is_in_order_of_id history = sorted (live history) (Rises-stored (last_writes history) (last_writes_rise history))

@@ -1,66 +1,85 @@
 -- A step does what its line asks for, and appends what it answers.
-use Rattle.std.specs.Result.{OnOk, OnErr}
-use Rattle.std.proofs.Common.{◌≡◌, ◌≢◌, ◌∙◌, ◌++◌, ℕ, List, [], ◌∷◌, Result, Ok, Err, refl, sym, ap, subst, append-nil}
+use Rattle.std.specs.Prelude.{OnOk}
+use Rattle.std.proofs.Common.{◌≡◌, ◌≢◌, ◌∙◌, ◌++◌, ℕ, List, [], ◌∷◌, Result, Ok, Err, Option, refl, sym, ap, append-nil}
 use Rattle.view_ports.specs.Calls.{Call}
+use Rattle.view_ports.specs.Disk.{Disk, IfTold}
 use Rattle.view_ports.specs.Functions.{Functions}
 use Rattle.view_ports.specs.Lines.{ended}
-use Rattle.child_pool.specs.declared.pool.Pool.{Pool}
-use Rattle.child_pool.specs.Pools.{Stands}
+use Rattle.view_ports.specs.declared.file_name.FileName.{FileName}
+use Rattle.view_ports.proofs.Told.{told_all, told_now}
 use Rattle.view_engine.specs.declared.engine.Engine.{Engine}
-use Rattle.view_engine.specs.declared.engine.StepFault.{StepFault}
-use Rattle.view_engine.specs.declared.outcome.Outcome.{Outcome}
-use Rattle.view_engine.specs.World.{World}
-use Rattle.view_engine.specs.Documents.{AreOf}
+use Rattle.view_engine.specs.declared.halt.Halt.{Halt}
+use Rattle.view_engine.specs.declared.halt.Halt.TheVariants.{Refused}
+use Rattle.view_engine.specs.declared.halt.StepFault.{StepFault}
+use Rattle.view_engine.specs.declared.refusal.Refusal.{Refusal}
 use Rattle.view_engine.specs.Engine.{Appends, IsAt, Leaves}
-use Rattle.view_engine.specs.Moments.{Moment, with_world}
-use Rattle.view_engine.specs.Outcome.{Yields, after_write}
-use Rattle.view_engine.specs.Refusals.{request_of}
-use Rattle.view_engine.specs.Steps.{Does, DoesRequest, MayHaveCalled}
+use Rattle.view_engine.specs.Moments.{Moment}
+use Rattle.view_engine.specs.Refusals.{request_of, refusal_text}
+use Rattle.view_engine.specs.Steps.{Does, DoesRequest, DoesRequestText, MayHaveCalled}
 
-module _ (functions : List ℕ → Functions) (honest : List ℕ → Type 0) (languages : List (List ℕ × List ℕ)) (before : Moment) where
+module _ (functions : List ℕ → Functions) (honest : List ℕ → Type 0) (languages : List (List ℕ × List ℕ)) where
   -- an empty line is answered with nothing
-  does_nothing : (line : List ℕ) → line ≡ [] → Does functions honest languages before line [] before
-  does_nothing [] is = (refl, refl)
-  does_nothing (byte ∷ bytes) is = absurd (cc)
+  does_nothing : (before : Moment) (line : List ℕ) → line ≡ [] → Does functions honest languages before line [] before
+  does_nothing before [] is = (refl, refl)
+  does_nothing before (byte ∷ bytes) is = absurd (cc)
 
-  pub nothing_appended : (may_follow : List Call → Type 0) (faults : ℕ) (engine : Engine) (line out : List ℕ) → line ≡ [] → IsAt may_follow faults engine before
-      → Appends may_follow faults engine (Does functions honest languages before line) out out
-  nothing_appended may_follow faults engine line out is at = record { text = []; after = before; is_at = at; allowed = does_nothing line is; appended = sym (append-nil out) }
+  pub nothing_appended : (before : Moment) (may_follow : List Call → Type 0) (faults : ℕ) (disk : Option (Disk FileName)) (engine : Engine) (line out : List ℕ) → line ≡ []
+      → IsAt disk may_follow faults engine before → Appends disk may_follow faults engine (λ text after. IfTold disk (λ d. Does functions honest languages before line text after)) out out
+  nothing_appended before may_follow faults disk engine line out is at = record {
+    text = [];
+    after = before;
+    is_at = at;
+    allowed = told_all disk (λ d. Does functions honest languages before line [] before) (λ d. does_nothing before line is);
+    appended = sym (append-nil out);
+  }
 
-  does_line : (line reply : List ℕ) (after : Moment) → line ≢ [] → DoesRequest functions honest languages before (request_of line) reply after → Does functions honest languages before line (ended reply) after
-  does_line [] reply after some does = absurd (some refl)
-  does_line (byte ∷ bytes) reply after some does = (reply, does, refl)
+  does_text : (before : Moment) (line text : List ℕ) (after : Moment) → line ≢ [] → DoesRequestText functions honest languages before (request_of line) text after
+      → Does functions honest languages before line text after
+  does_text before [] text after some does = absurd (some refl)
+  does_text before (byte ∷ bytes) text after some does = does
 
-  module _ (may_follow : List Call → Type 0) (faults : ℕ) (engine new : Engine) (line : List ℕ) (outcome : Outcome) (some : line ≢ []) (same_pool : new.pool ≡ engine.pool)
-      (left : Leaves may_follow faults engine (λ after. Yields (DoesRequest functions honest languages before (request_of line)) after outcome × MayHaveCalled languages before (request_of line) after)) where
-    child_stands : Stands new.pool left.after.calls
-    child_stands = subst (λ (pool : Pool). Stands pool left.after.calls) (sym same_pool) left.is_at.child
+  module _ (may_follow : List Call → Type 0) (faults : ℕ) (old disk : Option (Disk FileName)) (engine : Engine) (line : List ℕ) where
+    -- what a request leaves that is refused, or for which memory ran out
+    abbrev pub Leaves-halted : Halt → Moment → Type 0
+    Leaves-halted halt before = Leaves disk may_follow faults engine (λ after. IfTold old (λ d.
+        ((refusal : Refusal) → halt ≡ Refused refusal → DoesRequest functions honest languages before (request_of line) (refusal_text refusal) after)
+        × MayHaveCalled languages before (request_of line) after))
 
-    pub applied : (result : Result (Unit {0}) StepFault) (old now : List ℕ) → OnOk result (now ≡ old ++ outcome.reply.items) → OnOk result ((world : World) → AreOf engine.documents world → AreOf new.documents (after_write world outcome.write))
-        → OnOk result (Appends may_follow faults new (Does functions honest languages before line) old now)
-    applied (Ok done) old now appended stands = record {
-      text = ended left.allowed.0.reply;
-      after = with_world left.after (after_write left.after.world outcome.write);
-      is_at = record { documents = stands left.after.world left.is_at.documents; child = child_stands; follows = left.is_at.follows; counts = left.is_at.counts };
-      allowed = does_line line left.allowed.0.reply (with_world left.after (after_write left.after.world outcome.write)) some left.allowed.0.allowed;
-      appended = appended ∙ ap (λ (text : List ℕ). old ++ text) left.allowed.0.text;
-    }
-    applied (Err fault) old now appended stands = tt
-
-    pub given_up : (result : Result (Unit {0}) StepFault) → OnErr result ((world : World) → AreOf engine.documents world → AreOf new.documents world)
-        → OnErr result (Leaves may_follow faults new (MayHaveCalled languages before (request_of line)))
-    given_up (Ok done) same = tt
-    given_up (Err fault) same = record {
+    pub leaves_called : (halt : Halt) (before : Moment) → Leaves-halted halt before → Leaves disk may_follow faults engine (λ after. IfTold old (λ d. MayHaveCalled languages before (request_of line) after))
+    leaves_called halt before left = record {
       after = left.after;
-      is_at = record { documents = same left.after.world left.is_at.documents; child = child_stands; follows = left.is_at.follows; counts = left.is_at.counts };
-      allowed = left.allowed.1;
+      is_at = left.is_at;
+      allowed = told_now old (λ d. ((refusal : Refusal) → halt ≡ Refused refusal → DoesRequest functions honest languages before (request_of line) (refusal_text refusal) left.after)
+          × MayHaveCalled languages before (request_of line) left.after) (λ d. MayHaveCalled languages before (request_of line) left.after) (λ d both. both.1) left.allowed;
     }
 
--- under what is known of the moment before
-pub OnOk-under : {T E : Type 0} (A : Type 0) (B C : A → Type 0) (result : Result T E) → ((a : A) → B a → OnOk result (C a)) → OnOk result ((a : A) → B a → C a)
-OnOk-under A B C (Ok value) f = f
-OnOk-under A B C (Err fault) f = tt
+    module _ (some : line ≢ []) where
+      -- the reply line of a request that was done
+      pub line_appended : (before : Moment) (out out' : List ℕ)
+          → Appends disk may_follow faults engine (λ text after. IfTold old (λ d. DoesRequestText functions honest languages before (request_of line) text after)) out out'
+          → Appends disk may_follow faults engine (λ text after. IfTold old (λ d. Does functions honest languages before line text after)) out out'
+      line_appended before out out' done = record {
+        text = done.text;
+        after = done.after;
+        is_at = done.is_at;
+        allowed = told_now old (λ d. DoesRequestText functions honest languages before (request_of line) done.text done.after) (λ d. Does functions honest languages before line done.text done.after)
+            (λ d does. does_text before line done.text done.after some does) done.allowed;
+        appended = done.appended;
+      }
 
-pub OnErr-under : {T E : Type 0} (A : Type 0) (B C : A → Type 0) (result : Result T E) → ((a : A) → B a → OnErr result (C a)) → OnErr result ((a : A) → B a → C a)
-OnErr-under A B C (Ok value) f = tt
-OnErr-under A B C (Err fault) f = f
+      -- the reply line of a refusal
+      pub refusal_appended : (result : Result (Unit {0}) StepFault) (refusal : Refusal) (Before : Moment → Type 0) (out out' out'' : List ℕ) → out' ≡ out
+          → OnOk result (out'' ≡ out' ++ ended (refusal_text refusal)) → ((before : Moment) → Before before → Leaves-halted (Refused refusal) before)
+          → OnOk result ((before : Moment) → Before before → Appends disk may_follow faults engine (λ text after. IfTold old (λ d. Does functions honest languages before line text after)) out out'')
+      refusal_appended (Err fault) refusal Before out out' out'' silent appended leaves = tt
+      refusal_appended (Ok done) refusal Before out out' out'' silent appended leaves = λ before at.
+          let left : Leaves-halted (Refused refusal) before = leaves before at in
+          record {
+            text = ended (refusal_text refusal);
+            after = left.after;
+            is_at = left.is_at;
+            allowed = told_now old (λ d. ((r : Refusal) → Refused refusal ≡ Refused r → DoesRequest functions honest languages before (request_of line) (refusal_text r) left.after)
+                × MayHaveCalled languages before (request_of line) left.after) (λ d. Does functions honest languages before line (ended (refusal_text refusal)) left.after)
+                (λ d both. does_text before line (ended (refusal_text refusal)) left.after some (refusal_text refusal, both.0 refusal refl, refl)) left.allowed;
+            appended = appended ∙ ap (λ (o : List ℕ). o ++ ended (refusal_text refusal)) silent;
+          }

@@ -1,13 +1,16 @@
 -- A view, as its servers answered it.
-use Rattle.std.specs.Prelude.{slice_index_or, MatchOption}
-use Rattle.std.proofs.Common.{◌≡◌, ◌≢◌, ◌⊎◌, ◌<◌, ◌≤◌, ◌∙◌, ℕ, zero, suc, List, [], ◌∷◌, length, map, None, Ok, Err, refl, sym, ap, subst, inl, inr, arith}
+use Rattle.std.specs.Prelude.{slice_index_or}
+use Rattle.std.proofs.Common.{◌≡◌, ◌⊎◌, ◌<◌, ◌≤◌, ◌∙◌, ◌++◌, ℕ, zero, suc, List, [], ◌∷◌, length, map, Option, None, Some, Ok, Err, refl, sym, ap, subst, inl, inr, arith}
 use Rattle.std.proofs.lemmas.List.{length-map}
-use Rattle.json_terms.specs.Json.{Json, members_of, list_of_members}
+use Rattle.json_terms.specs.Json.{Json}
 use Rattle.view_ports.specs.Calls.{Call}
+use Rattle.view_ports.specs.Disk.{Disk, IfTold, MovesNone, Tells}
 use Rattle.view_ports.specs.Faults.{Rose, RoseBy}
 use Rattle.view_ports.specs.Functions.{Functions}
 use Rattle.view_ports.specs.Honest.{rows_of}
 use Rattle.view_ports.specs.Lines.{ended}
+use Rattle.view_ports.specs.declared.file_name.FileName.{FileName}
+use Rattle.view_ports.proofs.Told.{told_now}
 use Rattle.raw_collation.specs.Sorting.{sorted_rows}
 use Rattle.design_docs.specs.declared.design.Design.{Design}
 use Rattle.design_docs.specs.declared.design.View.{View}
@@ -18,38 +21,34 @@ use Rattle.child_pool.specs.declared.pool_fault.PoolFault.{PoolFault}
 use Rattle.child_pool.specs.declared.pool_fault.PoolFault.TheVariants as fault
 use Rattle.child_pool.specs.Histories.{Went, talk}
 use Rattle.child_pool.specs.Jobs.{Job, job_of}
+use Rattle.child_pool.specs.Languages.{path_in}
 use Rattle.child_pool.specs.Pools.{Stands}
 use Rattle.child_pool.specs.Talk.{AreCutShort, AreTurns, talk_of}
 use Rattle.child_pool.specs.Outcomes.{IsCaused}
 use Rattle.child_pool.specs.Updates.{AfterUpdate, HasUpdated}
 use Rattle.child_pool.proofs.Honesty.{complains_rightly, no_bad_reply}
 use Rattle.child_pool.proofs.Updated.{stands_stopped}
-use Rattle.view_engine.specs.declared.documents.Documents.{Documents}
-use Rattle.view_engine.specs.declared.outcome.Outcome.{Outcome}
+use Rattle.doc_file.specs.declared.docs.Docs.{Docs}
+use Rattle.doc_file.specs.Docs.{IsAt as AreAt}
+use Rattle.view_engine.specs.declared.halt.Halt.{Halt}
+use Rattle.view_engine.specs.declared.halt.Halt.TheVariants.{Refused, Stopped}
+use Rattle.view_engine.specs.declared.halt.StepFault.TheVariants.{NoMemory}
+use Rattle.view_engine.specs.declared.mapped.Mapped.{Mapped}
 use Rattle.view_engine.specs.declared.request.Request.TheVariants.{View as ViewRequest}
 use Rattle.view_engine.specs.declared.request.ViewName.{ViewName}
+use Rattle.view_engine.specs.declared.refusal.Refusal.{Refusal}
 use Rattle.view_engine.specs.declared.refusal.Refusal.TheVariants as refusal
 use Rattle.view_engine.specs.World.{mapped}
 use Rattle.view_engine.specs.Answer.{answer}
-use Rattle.view_engine.specs.Documents.{AreOf, entry_of}
-use Rattle.view_engine.specs.Engine.{IsAt, Leaves}
-use Rattle.view_engine.specs.Moments.{Moment, with_world}
-use Rattle.view_engine.specs.Outcome.{Yields, after_write}
+use Rattle.view_engine.specs.Engine.{Appends, IsAt, Leaves}
+use Rattle.view_engine.specs.Mapped.{AreMapped}
+use Rattle.view_engine.specs.Moments.{Moment}
 use Rattle.view_engine.specs.Refusals.{refusal_text}
 use Rattle.view_engine.specs.Rows.{emitted_by, emitted_rows}
-use Rattle.view_engine.specs.Steps.{DoesRequest, MayHaveCalled, Refuses}
+use Rattle.view_engine.specs.Steps.{DoesRequest, DoesRequestText, MayHaveCalled}
 use Rattle.view_engine.specs.View.{DoesView, IsJobOf, IsMet, PrintsRows}
 use Rattle.view_engine.specs.ViewPlan.{IsPlan, met_by, source_at}
-
--- ---- the documents of the job
-
-members_again : (members : List (List ℕ × Json)) → list_of_members (members_of members) ≡ members
-members_again [] = refl
-members_again (m ∷ members) = ap (λ (ms : List (List ℕ × Json)). m ∷ ms) (members_again members)
-
-pub job_documents : (documents : List (List (List ℕ × Json))) → map (λ (entry : List ℕ × Json). document_of entry.1) (map entry_of documents) ≡ documents
-job_documents [] = refl
-job_documents (d ∷ documents) = λ i. members_again d i ∷ job_documents documents i
+use Rattle.view_engine.proofs.SameFiles.{told_known}
 
 -- ---- the emissions of the view's own source
 
@@ -59,143 +58,174 @@ emitted_of_source functions [] place document within = absurd (omega arith)
 emitted_of_source functions (s ∷ sources) zero document within = refl
 emitted_of_source functions (s ∷ sources) (suc place) document within = emitted_of_source functions sources place document (omega arith)
 
-pub emitted_are : (functions : Functions) (sources : List (List ℕ)) (place : ℕ) (documents : List (List (List ℕ × Json))) → place < length sources
+emitted_are : (functions : Functions) (sources : List (List ℕ)) (place : ℕ) (documents : List (List (List ℕ × Json))) → place < length sources
     → emitted_by place (map (rows_of functions sources) documents) ≡ map (functions.map_of (slice_index_or sources place [])) documents
 emitted_are functions sources place [] within = refl
 emitted_are functions sources place (d ∷ documents) within = λ i. emitted_of_source functions sources place d within i ∷ emitted_are functions sources place documents within i
 
-module _ (functions : List ℕ → Functions) (honest : List ℕ → Type 0) (languages : List (List ℕ × List ℕ)) (before : Moment) (name : ViewName) (id : List ℕ) (design : Design) (place : ℕ)
-    (plan : IsPlan languages before.world name id design place) (within : place < length design.views) (documents : List (List (List ℕ × Json))) (are : map entry_of documents ≡ mapped before.world) where
+-- ---- what is known once the request is planned and the documents are read, where the folder tells its disk
+
+pub record IsKnown (languages : List (List ℕ × List ℕ)) (before : Moment) (name : ViewName) (id : List ℕ) (design : Design) (place : ℕ) (path : List ℕ) (ids : List (List ℕ)) (documents : List (List (List ℕ × Json))) : Type 0 where
+  pub plan : IsPlan languages before.world name id design place path
+  pub ids_are : ids ≡ map (λ entry. entry.0) (mapped before.world)
+  pub documents_are : documents ≡ map (λ entry. document_of entry.1) (mapped before.world)
+
+-- what planning and reading say of the disk, that neither changed
+pub known_at : (languages : List (List ℕ × List ℕ)) (before : Moment) (name : ViewName) (id : List ℕ) (design : Design) (place : ℕ) (path : List ℕ) (documents : List (List (List ℕ × Json))) (m : Mapped) (x y : Option (Disk FileName)) (docs : Docs)
+    → documents ≡ m.documents.items → IfTold x (λ d. AreAt docs d.now before.world.history) → Tells x y MovesNone → path_in languages design.language ≡ Some path
+    → IfTold x (λ d. AreAt docs d.now before.world.history → (p : List ℕ) → path_in languages design.language ≡ Some p → IsPlan languages before.world name id design place p)
+    → IfTold y (λ d. AreAt docs d.now before.world.history → AreMapped before.world.history m) → IfTold x (λ d. IsKnown languages before name id design place path m.ids.items documents)
+known_at languages before name id design place path documents m x y docs documents_are at moves path_is plans maps =
+    let history = before.world.history in
+    let planned : IfTold x (λ d. AreAt docs d.now history → IsPlan languages before.world name id design place path) =
+    told_now x (λ d. AreAt docs d.now history → (p : List ℕ) → path_in languages design.language ≡ Some p → IsPlan languages before.world name id design place p)
+    (λ d. AreAt docs d.now history → IsPlan languages before.world name id design place path) (λ d is there. is there path path_is) plans in
+    told_now x (λ d. IsPlan languages before.world name id design place path × AreMapped history m) (λ d. IsKnown languages before name id design place path m.ids.items documents)
+    (λ d both. record { plan = both.0; ids_are = both.1.ids; documents_are = documents_are ∙ both.1.documents })
+    (told_known x y docs history (IsPlan languages before.world name id design place path) (AreMapped history m) at moves planned maps)
+
+module _ (functions : List ℕ → Functions) (honest : List ℕ → Type 0) (languages : List (List ℕ × List ℕ)) (before : Moment) (name : ViewName) (id : List ℕ) (design : Design) (place : ℕ) (path : List ℕ)
+    (within : place < length design.views) (ids : List (List ℕ)) (documents : List (List (List ℕ × Json))) where
   abbrev source : List ℕ
   source = source_at design.views place
 
   abbrev job : Job
-  job = job_of plan.path (map_sources design.views) documents
+  job = job_of path (map_sources design.views) documents
 
-  is_job : IsJobOf languages before.world name job source
-  is_job = record {
-    design = plan.document;
-    live = plan.live;
-    source_is = plan.source_is;
-    path_is = plan.path_is;
-    sources = ap map_sources plan.views;
-    documents = sym (job_documents documents) ∙ ap (map (λ (entry : List ℕ × Json). document_of entry.1)) are;
+  abbrev Known : Type 0
+  Known = IsKnown languages before name id design place path ids documents
+
+  is_job : Known → IsJobOf languages before.world name job source
+  is_job known = record {
+    design = known.plan.document;
+    live = known.plan.live;
+    source_is = known.plan.source_is;
+    path_is = known.plan.path_is;
+    sources = ap map_sources known.plan.views;
+    documents = known.documents_are;
   }
 
-  few : length (map_sources design.views) ≤ 32
-  few = subst (λ (n : ℕ). n ≤ 32) (sym (length-map design.views (λ (v : View). v.map))) plan.few
+  few : Known → length (map_sources design.views) ≤ 32
+  few known = subst (λ (n : ℕ). n ≤ 32) (sym (length-map design.views (λ (v : View). v.map))) known.plan.few
 
   there : place < length (map_sources design.views)
   there = subst (λ (n : ℕ). place < n) (sym (length-map design.views (λ (v : View). v.map))) within
 
-  prints : (lists : List (List (List (Json × Json)))) (rose : Type 0) (added : List Call) → HasUpdated functions honest job rose lists added
-      → PrintsRows functions honest job source before.world (answer (sorted_rows (emitted_rows (map entry_of documents) (emitted_by place lists))))
-  prints lists rose added has = record {
+  abbrev printed : List (List (List (Json × Json))) → List ℕ
+  printed lists = answer (sorted_rows (emitted_rows ids (emitted_by place lists)))
+
+  prints : (lists : List (List (List (Json × Json)))) (rose : Type 0) (added : List Call) → Known → HasUpdated functions honest job rose lists added → PrintsRows functions honest job source before.world (printed lists)
+  prints lists rose added known has = record {
     emitted = emitted_by place lists;
-    each = length-map lists (λ (emitted : List (List (Json × Json))). slice_index_or emitted place []) ∙ has.rows.each ∙ sym (length-map documents entry_of) ∙ ap length are;
-    right = λ h. ap (emitted_by place) (has.rows.right h few) ∙ emitted_are (functions job.path) job.sources place documents there;
+    each = length-map lists (λ (emitted : List (List (Json × Json))). slice_index_or emitted place []) ∙ has.rows.each ∙ ap length known.documents_are
+        ∙ length-map (mapped before.world) (λ (entry : List ℕ × Json). document_of entry.1);
+    right = λ h. ap (emitted_by place) (has.rows.right h (few known)) ∙ emitted_are (functions job.path) job.sources place documents there;
     compile = has.compile;
-    prints = ap (λ entries. answer (sorted_rows (emitted_rows entries (emitted_by place lists)))) are;
+    prints = ap (λ is. answer (sorted_rows (emitted_rows is (emitted_by place lists)))) known.ids_are;
   }
 
-  module _ (may_follow : List Call → Type 0) (old new : ℕ) (kept : Documents) (pool : Pool) (counts : old ≡ before.faults) (keeps : AreOf kept before.world) (later : old ≤ new) where
+  module _ (may_follow : List Call → Type 0) (old new : ℕ) (pool : Pool) (counts : old ≡ before.faults) (later : old ≤ new) where
     later_there : before.faults ≤ new
     later_there = subst (λ (n : ℕ). n ≤ new) counts later
 
     abbrev after : List Call → Moment
     after now = record { world = before.world; calls = now; faults = new }
 
-    stays_at : (now : List Call) → may_follow now → Stands pool now → IsAt may_follow new (record { documents = kept; pool = pool }) (after now)
-    stays_at now follows stands = record { documents = keeps; child = stands; follows = follows; counts = refl }
+    asked : (P : List Call → List Call → Type 0) (w : Went may_follow job 0 before.calls P) → Known → MayHaveCalled languages before (Ok (ViewRequest name None)) (after w.now)
+    asked P w known = inr (known.plan.accepted, (job, (source, is_job known, refl, record { added = w.added; is = w.is_now; lawful = w.lawful; later = later_there; holds = tt })))
 
-    asked : (P : List Call → List Call → Type 0) (w : Went may_follow job 0 before.calls P) → MayHaveCalled languages before (Ok (ViewRequest name None)) (after w.now)
-    asked P w = inr (plan.accepted, (job, (source, is_job, refl, record { added = w.added; is = w.is_now; lawful = w.lawful; later = later_there; holds = tt })))
-
-    viewed : (reply : List ℕ) (calls : List Call) → DoesView functions honest languages before name reply (after calls) → DoesRequest functions honest languages before (Ok (ViewRequest name None)) reply (after calls)
-    viewed reply calls does = subst (λ r. MatchOption r (DoesView functions honest languages before name reply (after calls)) (λ refusal. Refuses before refusal reply (after calls))) (sym plan.accepted) does
-
-    pub done : (lists : List (List (List (Json × Json)))) (outcome : Outcome)
-        → Went may_follow job 0 before.calls (AfterUpdate functions honest job (Rose old new) pool (Ok lists) before.calls)
-        → outcome.reply.items ≡ ended (answer (sorted_rows (emitted_rows (map entry_of documents) (emitted_by place lists)))) → outcome.write ≡ None
-        → Leaves may_follow new (record { documents = kept; pool = pool })
-        (λ after. Yields (DoesRequest functions honest languages before (Ok (ViewRequest name None))) after outcome × MayHaveCalled languages before (Ok (ViewRequest name None)) after)
-    done lists outcome w text none =
-        let does : DoesView functions honest languages before name (answer (sorted_rows (emitted_rows (map entry_of documents) (emitted_by place lists)))) (after w.now) = record {
-          job = job;
-          source = source;
-          is_job = is_job;
-          same = refl;
-          called = record {
-            added = w.added;
-            is = w.is_now;
-            lawful = w.lawful;
-            later = later_there;
-            holds = inl (record {
-              rows = prints lists (Rose old new) w.added w.holds.1;
-              talked = subst (λ (n : ℕ). AreTurns (talk_of job.sources job.documents 1) (talk w.added) ⊎ Rose n new) counts w.holds.1.talked;
-            });
-          };
-        } in
-        record {
-          after = after w.now;
-          is_at = stays_at w.now w.follows w.holds.0;
-          allowed = (
-            record {
-              reply = answer (sorted_rows (emitted_rows (map entry_of documents) (emitted_by place lists)));
-              allowed = subst (λ write. DoesRequest functions honest languages before (Ok (ViewRequest name None)) (answer (sorted_rows (emitted_rows (map entry_of documents) (emitted_by place lists)))) (with_world (after w.now) (after_write before.world write))) (sym none) (viewed (answer (sorted_rows (emitted_rows (map entry_of documents) (emitted_by place lists)))) w.now does);
-              text = text;
-            },
-            asked (AfterUpdate functions honest job (Rose old new) pool (Ok lists) before.calls) w,
-          );
-        }
-
-    pub ran_out : (lists : List (List (List (Json × Json))))
-        → Went may_follow job 0 before.calls (AfterUpdate functions honest job (Rose old new) pool (Ok lists) before.calls)
-        → Leaves may_follow new (record { documents = kept; pool = pool })
-        (λ after. (refusal.NoMemory ≢ refusal.NoMemory → DoesRequest functions honest languages before (Ok (ViewRequest name None)) (refusal_text refusal.NoMemory) after) × MayHaveCalled languages before (Ok (ViewRequest name None)) after)
-    ran_out lists w = record {
-      after = after w.now;
-      is_at = stays_at w.now w.follows w.holds.0;
-      allowed = (λ not. absurd (not refl), asked (AfterUpdate functions honest job (Rose old new) pool (Ok lists) before.calls) w);
+    answered : (lists : List (List (List (Json × Json)))) (w : Went may_follow job 0 before.calls (AfterUpdate functions honest job (Rose old new) pool (Ok lists) before.calls)) → Known
+        → DoesView functions honest languages before name (printed lists) (after w.now)
+    answered lists w known = record {
+      accepted = known.plan.accepted;
+      job = job;
+      source = source;
+      is_job = is_job known;
+      same = refl;
+      called = record {
+        added = w.added;
+        is = w.is_now;
+        lawful = w.lawful;
+        later = later_there;
+        holds = inl (record {
+          rows = prints lists (Rose old new) w.added known w.holds.1;
+          talked = subst (λ (n : ℕ). AreTurns (talk_of job.sources job.documents 1) (talk w.added) ⊎ Rose n new) counts w.holds.1.talked;
+        });
+      };
     }
 
-    met : (f : PoolFault) (added now : List Call) → IsCaused functions honest job added before.calls f → (f ≡ fault.ServerFault → RoseBy 2 old new) → met_by id f ≢ refusal.NoMemory
-        → IsMet functions honest name job before (after now) added (met_by id f)
-    met fault.ServerFault added now caused twice not = subst (λ (n : ℕ). RoseBy 2 n new) counts (twice refl)
-    met (fault.BadReply line) added now caused twice not =
-        (caused, λ h. no_bad_reply functions honest job added before.calls line (record { path = h; few = few }) caused)
-    met fault.Compile added now caused twice not = (plan.id_is, caused, λ h. complains_rightly functions honest job added before.calls h caused)
-    met fault.NoMemory added now caused twice not = absurd (not refl)
-    met fault.UnknownLanguage added now caused twice not = absurd caused
+    met : (f : PoolFault) (added now : List Call) (r : Refusal) → Known → IsCaused functions honest job added before.calls f → (f ≡ fault.ServerFault → RoseBy 2 old new) → met_by id f ≡ Refused r
+        → IsMet functions honest name job before (after now) added r
+    met fault.ServerFault added now r known caused twice is =
+        let same : refusal.ServerFault ≡ r = cc in
+        subst (IsMet functions honest name job before (after now) added) same (subst (λ (n : ℕ). RoseBy 2 n new) counts (twice refl))
+    met (fault.BadReply line) added now r known caused twice is =
+        let same : refusal.ServerReply line ≡ r = cc in
+        subst (IsMet functions honest name job before (after now) added) same (caused, λ h. no_bad_reply functions honest job added before.calls line (record { path = h; few = few known }) caused)
+    met fault.Compile added now r known caused twice is =
+        let same : refusal.CompilationError id ≡ r = cc in
+        subst (IsMet functions honest name job before (after now) added) same (known.plan.id_is, caused, λ h. complains_rightly functions honest job added before.calls h caused)
+    met fault.NoMemory added now r known caused twice is = absurd (let clash : ⊥ = cc in clash)
+    met fault.UnknownLanguage added now r known caused twice is = absurd caused
 
-    pub refused : (f : PoolFault)
-        → Went may_follow job 0 before.calls (AfterUpdate functions honest job (Rose old new) pool (Err f) before.calls)
-        → (f ≡ fault.ServerFault → RoseBy 2 old new)
-        → Leaves may_follow new (record { documents = kept; pool = pool })
-        (λ after. (met_by id f ≢ refusal.NoMemory → DoesRequest functions honest languages before (Ok (ViewRequest name None)) (refusal_text (met_by id f)) after) × MayHaveCalled languages before (Ok (ViewRequest name None)) after)
-    refused f w twice = record {
-      after = after w.now;
-      is_at = stays_at w.now w.follows (stands_stopped pool w.now w.holds.0);
-      allowed = (
-        λ not. viewed (refusal_text (met_by id f)) w.now (record {
-          job = job;
-          source = source;
-          is_job = is_job;
-          same = refl;
-          called = record {
-            added = w.added;
-            is = w.is_now;
-            lawful = w.lawful;
-            later = later_there;
-            holds = inr (record {
-              refusal = met_by id f;
-              met = met f w.added w.now w.holds.1.caused twice not;
-              prints = refl;
-              stopped = w.holds.0.stopped;
-              talked = subst (λ (n : ℕ). AreCutShort 0 (talk_of job.sources job.documents 1) (talk w.added) ⊎ Rose n new) counts w.holds.1.talked;
-            });
-          };
-        }),
-        asked (AfterUpdate functions honest job (Rose old new) pool (Err f) before.calls) w,
-      );
+    refuses : (f : PoolFault) (r : Refusal) (w : Went may_follow job 0 before.calls (AfterUpdate functions honest job (Rose old new) pool (Err f) before.calls)) → Known → (f ≡ fault.ServerFault → RoseBy 2 old new)
+        → met_by id f ≡ Refused r → DoesView functions honest languages before name (refusal_text r) (after w.now)
+    refuses f r w known twice is = record {
+      accepted = known.plan.accepted;
+      job = job;
+      source = source;
+      is_job = is_job known;
+      same = refl;
+      called = record {
+        added = w.added;
+        is = w.is_now;
+        lawful = w.lawful;
+        later = later_there;
+        holds = inr (record {
+          refusal = r;
+          met = met f w.added w.now r known w.holds.1.caused twice is;
+          prints = refl;
+          stopped = w.holds.0.stopped;
+          talked = subst (λ (n : ℕ). AreCutShort 0 (talk_of job.sources job.documents 1) (talk w.added) ⊎ Rose n new) counts w.holds.1.talked;
+        });
+      };
     }
+
+    -- ---- with the folder, of which no file has changed
+
+    module _ (x z : Option (Disk FileName)) (docs : Docs) (documents_at : IfTold z (λ d. AreAt docs d.now before.world.history)) (known : IfTold x (λ d. Known)) where
+      stays_at : (now : List Call) → may_follow now → Stands pool now → IsAt z may_follow new (record { docs = docs; pool = pool }) (after now)
+      stays_at now follows stands = record { documents = documents_at; child = record { child = stands; follows = follows; counts = refl } }
+
+      abbrev Halts : Halt → Moment → Type 0
+      Halts halt left = ((r : Refusal) → halt ≡ Refused r → DoesRequest functions honest languages before (Ok (ViewRequest name None)) (refusal_text r) left) × MayHaveCalled languages before (Ok (ViewRequest name None)) left
+
+      pub done : (lists : List (List (List (Json × Json)))) (was now : List ℕ) → Went may_follow job 0 before.calls (AfterUpdate functions honest job (Rose old new) pool (Ok lists) before.calls)
+          → now ≡ was ++ ended (printed lists)
+          → Appends z may_follow new (record { docs = docs; pool = pool }) (λ text left. IfTold x (λ d. DoesRequestText functions honest languages before (Ok (ViewRequest name None)) text left)) was now
+      done lists was now w appended = record {
+        text = ended (printed lists);
+        after = after w.now;
+        is_at = stays_at w.now w.follows w.holds.0;
+        allowed = told_now x (λ d. Known) (λ d. DoesRequestText functions honest languages before (Ok (ViewRequest name None)) (ended (printed lists)) (after w.now))
+            (λ d k. (printed lists, inl (answered lists w k), refl)) known;
+        appended = appended;
+      }
+
+      pub ran_out : (lists : List (List (List (Json × Json)))) (halt : Halt) → Went may_follow job 0 before.calls (AfterUpdate functions honest job (Rose old new) pool (Ok lists) before.calls) → halt ≡ Stopped NoMemory
+          → Leaves z may_follow new (record { docs = docs; pool = pool }) (λ left. IfTold x (λ d. Halts halt left))
+      ran_out lists halt w memory = record {
+        after = after w.now;
+        is_at = stays_at w.now w.follows w.holds.0;
+        allowed = told_now x (λ d. Known) (λ d. Halts halt (after w.now))
+            (λ d k. (λ r is. absurd (let clash : ⊥ = cc in clash), asked (AfterUpdate functions honest job (Rose old new) pool (Ok lists) before.calls) w k)) known;
+      }
+
+      pub refused : (f : PoolFault) (halt : Halt) → Went may_follow job 0 before.calls (AfterUpdate functions honest job (Rose old new) pool (Err f) before.calls) → (f ≡ fault.ServerFault → RoseBy 2 old new) → halt ≡ met_by id f
+          → Leaves z may_follow new (record { docs = docs; pool = pool }) (λ left. IfTold x (λ d. Halts halt left))
+      refused f halt w twice met_as = record {
+        after = after w.now;
+        is_at = stays_at w.now w.follows (stands_stopped pool w.now w.holds.0);
+        allowed = told_now x (λ d. Known) (λ d. Halts halt (after w.now))
+            (λ d k. (λ r is. inl (refuses f r w k twice (sym met_as ∙ is)), asked (AfterUpdate functions honest job (Rose old new) pool (Err f) before.calls) w k)) known;
+      }

@@ -4,11 +4,12 @@ use Rattle.std.specs.List.{starts_with}
 use Rattle.json_terms.specs.Json.{object, members_of}
 use Rattle.view_ports.specs.Exchanges.{Exchange}
 use Rattle.view_engine.specs.declared.request.Request.{Request}
-use Rattle.view_engine.specs.declared.request.Request.TheVariants.{Put}
+use Rattle.view_engine.specs.declared.request.Request.TheVariants.{Put, Delete}
 use Rattle.view_engine.specs.declared.refusal.Refusal.{Refusal}
 use Rattle.view_engine.specs.World.{World, written}
 use Rattle.view_engine.specs.Refusals.{request_of}
 use Rattle.view_engine.specs.Put.{put_write}
+use Rattle.view_engine.specs.Delete.{delete_write}
 
 abbrev pub is_ok : List ℕ → Bool
 is_ok text = starts_with nat_eq text (codes "{\"ok\":true,\"id\":")
@@ -16,6 +17,7 @@ is_ok text = starts_with nat_eq text (codes "{\"ok\":true,\"id\":")
 -- the world after a request that was answered `ok`, if it is a write
 abbrev pub after_request : World → Result Request Refusal → World
 after_request world (Ok (Put document)) = written world (put_write world (object (members_of document)))
+after_request world (Ok (Delete id given)) = written world (delete_write world id)
 after_request world other = world
 
 abbrev pub after_exchange : World → Exchange → World

@@ -5,6 +5,7 @@ use Rattle.json_terms.specs.Json.{string}
 use Rattle.json_terms.specs.Text.{text_of}
 use Rattle.json_terms.specs.Seen.{json}
 use Rattle.json_terms.specs.declared.term.Row.{Row}
+use Rattle.doc_file.specs.declared.docs.Info.{Info}
 
 abbrev pub comma : ℕ
 comma = 44
@@ -24,6 +25,11 @@ rows_text (row ∷ rows) = row_text row ++ more_rows rows
 -- all rows of a view
 abbrev pub answer : List Row → List ℕ
 answer rows = codes "{\"total_rows\":" ++ decimal (length rows) ++ codes ",\"offset\":0,\"rows\":[" ++ rows_text rows ++ codes "]}"
+
+-- the counts of the documents
+abbrev pub info_text : Info → List ℕ
+info_text info =
+    codes "{\"doc_count\":" ++ decimal info.doc_count ++ codes ",\"doc_del_count\":" ++ decimal info.doc_del_count ++ codes ",\"update_seq\":" ++ decimal info.update_seq ++ codes "}"
 
 -- an accepted write
 abbrev pub write_text : List ℕ → List ℕ → List ℕ

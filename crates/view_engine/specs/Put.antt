@@ -1,30 +1,37 @@
 -- What a put does.
-use Rattle.std.specs.Prelude.{◌≡◌, ◌+◌, ℕ, List, [], ◌∷◌, Option, Some, None}
+use Rattle.std.specs.Prelude.{◌≡◌, ◌⊎◌, ℕ, List, Bool, false, not, ◌&&◌, nat_lt, length, codes, IsTrue}
 use Rattle.json_terms.specs.Json.{Json}
-use Rattle.view_engine.specs.declared.refusal.Refusal.{Refusal}
-use Rattle.view_engine.specs.declared.refusal.Refusal.TheVariants.{NotBuiltYet, Conflict}
-use Rattle.view_engine.specs.World.{World, Write, written, generation, update_seq, live_document}
-use Rattle.view_engine.specs.Revision.{revision, stored_document}
-use Rattle.design_docs.specs.Documents.{id_of}
+use Rattle.design_docs.specs.Documents.{id_of, is_design_id}
 use Rattle.design_docs.specs.PlainDocument.{is_plain}
+use Rattle.doc_file.specs.declared.fault.DocFault.{DocFault}
+use Rattle.doc_file.specs.Accepted.{state_of}
+use Rattle.doc_file.specs.History.{Write}
+use Rattle.doc_file.specs.Incoming.{deletes}
+use Rattle.doc_file.specs.Stored.{next_revision, write_of}
+use Rattle.doc_file.specs.Writes.{IsAcceptedPut, IsRefusedPut, content_of}
+use Rattle.view_engine.specs.declared.refusal.Refusal.{Refusal}
+use Rattle.view_engine.specs.declared.refusal.Refusal.TheVariants.{NotBuiltYet}
+use Rattle.view_engine.specs.World.{World, written}
 use Rattle.view_engine.specs.Answer.{write_text}
-use Rattle.view_engine.specs.Refusals.{first_of, refused_unless}
+use Rattle.view_engine.specs.Refusals.{refused_as}
 
--- a document that is live can't be put without its revision
-abbrev pub conflict : Option Json → Option Refusal
-conflict (Some document) = Some Conflict
-conflict None = None
+-- the document is put as a design document, and it isn't one that is taken so far
+abbrev pub is_unbuilt : Json → Bool
+is_unbuilt document =
+    (is_design_id (id_of document) && nat_lt (length (codes "_design/")) (length (id_of document))) && (not (deletes document) && not (is_plain document))
 
-abbrev pub put_refusal : World → Json → Option Refusal
-put_refusal world document = first_of (refused_unless NotBuiltYet (is_plain document) ∷ conflict (live_document world (id_of document)) ∷ [])
+-- a put is refused where its design isn't built yet, and else where the documents refuse it
+abbrev pub IsPutRefused : World → Json → Refusal → Type 0
+IsPutRefused world document refusal = (IsTrue (is_unbuilt document) × (refusal ≡ NotBuiltYet))
+    ⊎ ((is_unbuilt document ≡ false) × ((fault : DocFault) × IsRefusedPut (state_of world.history (id_of document)) document fault × (refusal ≡ refused_as fault)))
 
--- the revision of the next write of the id
-abbrev pub next_revision : World → List ℕ → List ℕ
-next_revision world id = revision (generation world.history id + 1) (update_seq world + 1)
-
+-- the next write of the document's id: the document under its revision, or a deletion
 abbrev pub put_write : World → Json → Write
-put_write world document = record { id = id_of document; document = Some (stored_document document (next_revision world (id_of document))) }
+put_write world document = write_of world.history (id_of document) (content_of document)
 
--- the document is stored under the next revision of its id
-abbrev pub DoesPut : World → Json → List ℕ → World → Type 0
-DoesPut world document reply new = (reply ≡ write_text (id_of document) (next_revision world (id_of document))) × (new ≡ written world (put_write world document))
+-- an accepted put is the next write of its id
+pub record DoesPut (world : World) (document : Json) (reply : List ℕ) (new : World) : Type 0 where
+  pub built : is_unbuilt document ≡ false
+  pub accepted : IsAcceptedPut (state_of world.history (id_of document)) document
+  pub prints : reply ≡ write_text (id_of document) (next_revision world.history (id_of document))
+  pub wrote : new ≡ written world (put_write world document)

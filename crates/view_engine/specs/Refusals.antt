@@ -5,9 +5,11 @@ use Rattle.json_terms.specs.Reading.{reading}
 use Rattle.json_terms.specs.Text.{text_of}
 use Rattle.json_terms.specs.declared.fault.TermFault.{TermFault}
 use Rattle.json_terms.specs.declared.fault.TermFault.TheVariants as fault
+use Rattle.doc_file.specs.declared.fault.DocFault.{DocFault}
+use Rattle.doc_file.specs.declared.fault.DocFault.TheVariants as doc
 use Rattle.view_engine.specs.declared.request.Request.{Request}
 use Rattle.view_engine.specs.declared.refusal.Refusal.{Refusal}
-use Rattle.view_engine.specs.declared.refusal.Refusal.TheVariants.{LineTooLong, NotJson, NotWhole, TooDeep, UnknownRequest, NotBuiltYet, Missing, Deleted, MissingNamedView, Conflict, UnknownLanguage, CompilationError, ServerFault, ServerReply, NoMemory}
+use Rattle.view_engine.specs.declared.refusal.Refusal.TheVariants.{LineTooLong, NotJson, NotWhole, TooDeep, UnknownRequest, NotBuiltYet, BadId, BadMember, BadRev, DocumentTooLarge, DocumentTooDeep, Missing, Deleted, MissingNamedView, Conflict, UnknownLanguage, CompilationError, ServerFault, ServerReply, NoMemory}
 use Rattle.view_engine.specs.Requests.{form_of}
 
 -- the longest request line, in bytes
@@ -21,6 +23,11 @@ error_name NotWhole = codes "bad_request"
 error_name TooDeep = codes "bad_request"
 error_name UnknownRequest = codes "bad_request"
 error_name NotBuiltYet = codes "bad_request"
+error_name BadId = codes "bad_id"
+error_name (BadMember name) = codes "bad_member"
+error_name BadRev = codes "bad_rev"
+error_name DocumentTooLarge = codes "too_large"
+error_name DocumentTooDeep = codes "too_deep"
 error_name Missing = codes "not_found"
 error_name Deleted = codes "not_found"
 error_name MissingNamedView = codes "not_found"
@@ -43,6 +50,11 @@ error_reason NotWhole = in_quotes (codes "number is not whole")
 error_reason TooDeep = in_quotes (codes "line is too deep")
 error_reason UnknownRequest = in_quotes (codes "unknown request")
 error_reason NotBuiltYet = in_quotes (codes "not built yet")
+error_reason BadId = in_quotes (codes "document id is not allowed")
+error_reason (BadMember name) = text_of (string name)
+error_reason BadRev = in_quotes (codes "revision is not well formed")
+error_reason DocumentTooLarge = in_quotes (codes "document passes 524288 bytes")
+error_reason DocumentTooDeep = in_quotes (codes "document passes depth 64")
 error_reason Missing = in_quotes (codes "missing")
 error_reason Deleted = in_quotes (codes "deleted")
 error_reason MissingNamedView = in_quotes (codes "missing_named_view")
@@ -62,8 +74,18 @@ first_of [] = None
 first_of (None ∷ others) = first_of others
 first_of (Some refusal ∷ others) = Some refusal
 
-abbrev pub refused_unless : Refusal → Bool → Option Refusal
-refused_unless refusal holds = if holds then None else Some refusal
+-- a refusal of the documents, as a reply names it; faults of the file are no refusals
+abbrev pub refused_as : DocFault → Refusal
+refused_as doc.BadId = BadId
+refused_as (doc.BadMember name) = BadMember name
+refused_as doc.BadRev = BadRev
+refused_as doc.TooLarge = DocumentTooLarge
+refused_as doc.TooDeep = DocumentTooDeep
+refused_as doc.Conflict = Conflict
+refused_as doc.Missing = Missing
+refused_as doc.Deleted = Deleted
+refused_as (doc.Gate fault) = NoMemory
+refused_as doc.NoMemory = NoMemory
 
 abbrev pub unread : TermFault → Refusal
 unread fault.NotJson = NotJson

@@ -10,11 +10,11 @@ rows_from place id [] = []
 rows_from place id (emission ∷ emissions) =
     record { key = term emission.0; id = id; place = place; value = term emission.1 } ∷ rows_from (suc place) id emissions
 
--- the rows of documents, where these are the emissions of each
-abbrev pub emitted_rows : List (List ℕ × Json) → List (List (Json × Json)) → List Row
+-- the rows of documents with these ids, where these are the emissions of each
+abbrev pub emitted_rows : List (List ℕ) → List (List (Json × Json)) → List Row
 emitted_rows [] emitted = []
-emitted_rows (entry ∷ entries) [] = []
-emitted_rows (entry ∷ entries) (emissions ∷ emitted) = rows_from 0 entry.0 emissions ++ emitted_rows entries emitted
+emitted_rows (id ∷ ids) [] = []
+emitted_rows (id ∷ ids) (emissions ∷ emitted) = rows_from 0 id emissions ++ emitted_rows ids emitted
 
 -- what one function emitted for each document
 abbrev pub emitted_by : ℕ → List (List (List (Json × Json))) → List (List (Json × Json))

@@ -1,24 +1,31 @@
 -- What a request line does, and what is answered.
-use Rattle.std.specs.Prelude.{◌≡◌, ◌≢◌, ◌⊎◌, ℕ, List, [], ◌∷◌, Option, Some, None, Result, Ok, Err, MatchOption}
+use Rattle.std.specs.Prelude.{◌≡◌, ◌≢◌, ◌⊎◌, ℕ, List, [], ◌∷◌, Option, Some, None, Result, Ok, Err}
 use Rattle.json_terms.specs.Json.{object, members_of}
 use Rattle.view_ports.specs.Functions.{Functions}
 use Rattle.view_ports.specs.Lines.{ended}
 use Rattle.view_ports.specs.Exchanges.{Exchange}
 use Rattle.child_pool.specs.Jobs.{Job}
+use Rattle.doc_file.specs.History.{Write}
 use Rattle.view_engine.specs.declared.request.Request.{Request}
-use Rattle.view_engine.specs.declared.request.Request.TheVariants.{Put, View}
+use Rattle.view_engine.specs.declared.request.Request.TheVariants.{Put, Delete, Get, View, Info}
 use Rattle.view_engine.specs.declared.request.ViewName.{ViewName}
 use Rattle.view_engine.specs.declared.refusal.Refusal.{Refusal}
 use Rattle.view_engine.specs.declared.refusal.Refusal.TheVariants.{NotBuiltYet, NoMemory}
 use Rattle.view_engine.specs.World.{World}
 use Rattle.view_engine.specs.Moments.{Called, Moment, with_world}
 use Rattle.view_engine.specs.Refusals.{request_of, refusal_text}
-use Rattle.view_engine.specs.Put.{put_refusal, DoesPut}
+use Rattle.view_engine.specs.Put.{DoesPut, IsPutRefused, put_write}
+use Rattle.view_engine.specs.Delete.{DoesDelete, IsDeleteRefused, delete_write}
+use Rattle.view_engine.specs.Get.{DoesGet, DoesInfo, get_refusal}
 use Rattle.view_engine.specs.View.{view_refusal, DoesView, IsJobOf}
 
 -- no server was called
 abbrev pub Acts : (World → World → Type 0) → Moment → Moment → Type 0
 Acts Does before after = (world : World) × Does before.world world × (after ≡ with_world before world)
+
+-- nothing has changed
+abbrev pub Tells : Type 0 → Moment → Moment → Type 0
+Tells Does before after = Does × (after ≡ before)
 
 -- a refusal leaves everything as it was
 abbrev pub Refuses : Moment → Refusal → List ℕ → Moment → Type 0
@@ -34,27 +41,45 @@ abbrev pub MayHaveCalled : List (List ℕ × List ℕ) → Moment → Result Req
 MayHaveCalled languages before (Ok (View name None)) after = (after ≡ before) ⊎ ((view_refusal languages before.world name ≡ None) × AskedFor languages before name after)
 MayHaveCalled languages before other after = after ≡ before
 
+-- what a request writes where it is accepted
+abbrev pub IsWrite : World → Result Request Refusal → Write → Type 0
+IsWrite world (Ok (Put document)) write =
+    let json = object (members_of document) in
+    (reply : List ℕ) × ((new : World) × DoesPut world json reply new × (write ≡ put_write world json))
+IsWrite world (Ok (Delete id given)) write = (reply : List ℕ) × ((new : World) × DoesDelete world id given reply new × (write ≡ delete_write world id))
+IsWrite world other write = ⊥
+
 module _ (functions : List ℕ → Functions) (honest : List ℕ → Type 0) (languages : List (List ℕ × List ℕ)) where
-  -- the refusal of a request before it is begun, if there is one: the first of its list
-  abbrev pub refusal_of : World → Request → Option Refusal
-  refusal_of world (Put document) = put_refusal world (object (members_of document))
-  refusal_of world (View name None) = view_refusal languages world name
-  refusal_of world other = Some NotBuiltYet
+  -- the refusal of a request before any server is asked
+  abbrev pub IsRefusedAs : World → Request → Refusal → Type 0
+  IsRefusedAs world (Put document) refusal = IsPutRefused world (object (members_of document)) refusal
+  IsRefusedAs world (Delete id given) refusal = IsDeleteRefused world id given refusal
+  IsRefusedAs world (Get id) refusal = get_refusal world id ≡ Some refusal
+  IsRefusedAs world Info refusal = ⊥
+  IsRefusedAs world (View name None) refusal = view_refusal languages world name ≡ Some refusal
+  IsRefusedAs world other refusal = refusal ≡ NotBuiltYet
 
   -- what a request that isn't refused answers, and what is after it
   abbrev pub Performs : Moment → Request → List ℕ → Moment → Type 0
   Performs before (Put document) reply after = Acts (λ world new. DoesPut world (object (members_of document)) reply new) before after
+  Performs before (Delete id given) reply after = Acts (λ world new. DoesDelete world id given reply new) before after
+  Performs before (Get id) reply after = Tells (DoesGet before.world id reply) before after
+  Performs before Info reply after = Tells (DoesInfo before.world reply) before after
   Performs before (View name None) reply after = DoesView functions honest languages before name reply after
   Performs before other reply after = ⊥
 
   abbrev pub DoesRequest : Moment → Result Request Refusal → List ℕ → Moment → Type 0
-  DoesRequest before (Ok request) reply after = MatchOption (refusal_of before.world request) (Performs before request reply after) (λ refusal. Refuses before refusal reply after)
+  DoesRequest before (Ok request) reply after = Performs before request reply after ⊎ ((refusal : Refusal) × IsRefusedAs before.world request refusal × Refuses before refusal reply after)
   DoesRequest before (Err refusal) reply after = Refuses before refusal reply after
+
+  -- the same with the newline of the reply line
+  abbrev pub DoesRequestText : Moment → Result Request Refusal → List ℕ → Moment → Type 0
+  DoesRequestText before request text after = (reply : List ℕ) × DoesRequest before request reply after × (text ≡ ended reply)
 
   -- the text that a line is answered with: a reply line, or nothing for an empty line
   abbrev pub Does : Moment → List ℕ → List ℕ → Moment → Type 0
   Does before [] text after = (text ≡ []) × (after ≡ before)
-  Does before (byte ∷ bytes) text after = (reply : List ℕ) × DoesRequest before (request_of (byte ∷ bytes)) reply after × (text ≡ ended reply)
+  Does before (byte ∷ bytes) text after = DoesRequestText before (request_of (byte ∷ bytes)) text after
 
   -- memory may run out at any line that isn't empty
   abbrev pub GivesUp : Moment → List ℕ → List ℕ → Moment → Type 0

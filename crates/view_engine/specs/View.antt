@@ -17,8 +17,10 @@ use Rattle.child_pool.specs.Talk.{AreCutShort, AreTurns, talk_of}
 use Rattle.raw_collation.specs.Sorting.{sorted_rows}
 use Rattle.view_engine.specs.declared.request.ViewName.{ViewName}
 use Rattle.view_engine.specs.declared.refusal.Refusal.{Refusal}
-use Rattle.view_engine.specs.declared.refusal.Refusal.TheVariants.{LineTooLong, NotJson, NotWhole, TooDeep, UnknownRequest, NotBuiltYet, Missing, Deleted, MissingNamedView, Conflict, UnknownLanguage, CompilationError, ServerFault, ServerReply, NoMemory}
-use Rattle.view_engine.specs.World.{World, Write, last_write, live_document, mapped}
+use Rattle.view_engine.specs.declared.refusal.Refusal.TheVariants.{MissingNamedView, UnknownLanguage, CompilationError, ServerFault, ServerReply}
+use Rattle.doc_file.specs.History.{live_document}
+use Rattle.view_engine.specs.World.{World, mapped}
+use Rattle.view_engine.specs.Get.{get_refusal}
 use Rattle.view_engine.specs.Moments.{Called, Moment}
 use Rattle.view_engine.specs.Rows.{emitted_rows}
 use Rattle.view_engine.specs.Answer.{answer}
@@ -29,13 +31,6 @@ abbrev pub design_id : List ℕ → List ℕ
 design_id name = codes "_design/" ++ name
 
 -- ---- refusals that come before any server is asked
-
-abbrev pub not_live : Option Write → Option Refusal
-not_live None = Some Missing
-not_live (Some write) = if_deleted write.document where
-  if_deleted : Option Json → Option Refusal
-  if_deleted None = Some Deleted
-  if_deleted (Some document) = None
 
 abbrev pub no_view : Option (List ℕ) → Option Refusal
 no_view None = Some MissingNamedView
@@ -52,15 +47,15 @@ no_language languages (Some design) = no_path (language_of design) (path_in lang
 
 abbrev pub view_refusal : List (List ℕ × List ℕ) → World → ViewName → Option Refusal
 view_refusal languages world name =
-    let design = live_document world (design_id name.design) in
-    first_of (not_live (last_write world.history (design_id name.design)) ∷ no_view (option_and_then (source_of name.view) design) ∷ no_language languages design ∷ [])
+    let design = live_document world.history (design_id name.design) in
+    first_of (get_refusal world (design_id name.design) ∷ no_view (option_and_then (source_of name.view) design) ∷ no_language languages design ∷ [])
 
 -- ---- what the query servers are asked for
 
 -- the job of a view's design: its path, the sources of all its views, and the documents that are mapped; and the view's own source
 pub record IsJobOf (languages : List (List ℕ × List ℕ)) (world : World) (name : ViewName) (job : Job) (source : List ℕ) : Type 0 where
   pub design : Json
-  pub live : live_document world (design_id name.design) ≡ Some design
+  pub live : live_document world.history (design_id name.design) ≡ Some design
   pub source_is : source_of name.view design ≡ Some source
   pub path_is : path_in languages (language_of design) ≡ Some job.path
   pub sources : job.sources ≡ map_sources (views_of design)
@@ -74,7 +69,7 @@ module _ (functions : List ℕ → Functions) (honest : List ℕ → Type 0) whe
     pub each : length emitted ≡ length (mapped world)
     pub right : honest job.path → emitted ≡ map ((functions job.path).map_of source) job.documents
     pub compile : honest job.path → job.documents ≢ [] → AllCompile (functions job.path) job.sources
-    pub prints : reply ≡ answer (sorted_rows (emitted_rows (mapped world) emitted))
+    pub prints : reply ≡ answer (sorted_rows (emitted_rows (map (λ entry. entry.0) (mapped world)) emitted))
 
   -- a refusal that is met while documents are mapped, and its cause: on an honest path a source that doesn't compile, and
   -- elsewhere a complaint; two failed attempts; or a bad reply, which is none on an honest path
@@ -83,18 +78,7 @@ module _ (functions : List ℕ → Functions) (honest : List ℕ → Type 0) whe
       (id ≡ design_id name.design) × IsCaused functions honest job added before.calls fault.Compile × (honest job.path → SomeSourceFails (functions job.path) job.sources)
   IsMet name job before after added ServerFault = RoseBy 2 before.faults after.faults
   IsMet name job before after added (ServerReply line) = IsCaused functions honest job added before.calls (fault.BadReply line) × (honest job.path → ⊥)
-  IsMet name job before after added LineTooLong = ⊥
-  IsMet name job before after added NotJson = ⊥
-  IsMet name job before after added NotWhole = ⊥
-  IsMet name job before after added TooDeep = ⊥
-  IsMet name job before after added UnknownRequest = ⊥
-  IsMet name job before after added NotBuiltYet = ⊥
-  IsMet name job before after added Missing = ⊥
-  IsMet name job before after added Deleted = ⊥
-  IsMet name job before after added MissingNamedView = ⊥
-  IsMet name job before after added Conflict = ⊥
-  IsMet name job before after added (UnknownLanguage language) = ⊥
-  IsMet name job before after added NoMemory = ⊥
+  IsMet name job before after added other = ⊥
 
   -- a refusal that was met: no child is left, and the talk is the first turns of the update's, and one more line at most, where
   -- no fault was counted
@@ -110,8 +94,9 @@ module _ (functions : List ℕ → Functions) (honest : List ℕ → Type 0) whe
     pub rows : PrintsRows job source before.world reply
     pub talked : AreTurns (talk_of job.sources job.documents 1) (talk added) ⊎ Rose before.faults after.faults
 
-  -- the world stays
+  -- a view that isn't refused before any server is asked: the world stays
   pub record DoesView (languages : List (List ℕ × List ℕ)) (before : Moment) (name : ViewName) (reply : List ℕ) (after : Moment) : Type 0 where
+    pub accepted : view_refusal languages before.world name ≡ None
     pub job : Job
     pub source : List ℕ
     pub is_job : IsJobOf languages before.world name job source

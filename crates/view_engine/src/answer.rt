@@ -2,6 +2,7 @@
 ghost use Rattle.std.specs.Prelude.{◌≡◌, ◌++◌, OnOk, map, length};
 ghost use Rattle.view_engine.specs.Answer as print;
 
+use doc_file::Info;
 use itoa::Buffer;
 use json_terms::{NoMemory, Row, write_term, write_text};
 use std::alloc::Global;
@@ -15,6 +16,21 @@ pub fn write_accepted(alloc: Global, id: &str, rev: &str, out: &mut Vec<u8>) -> 
     out.extend_from_slice(b",\"rev\":\"")?;
     out.extend_from_slice(rev.as_bytes())?;
     out.extend_from_slice(b"\"}")?;
+    Ok(())
+}
+
+/// Appends the reply with the counts of documents.
+pub fn write_info(info: Info, out: &mut Vec<u8>) -> Result<(), NoMemory>
+    ensures { OnOk result (out.new.items ≡ out.old.items ++ print.info_text info) }
+{
+    let mut digits = Buffer::new();
+    out.extend_from_slice(b"{\"doc_count\":")?;
+    out.extend_from_slice(digits.format(info.doc_count).as_bytes())?;
+    out.extend_from_slice(b",\"doc_del_count\":")?;
+    out.extend_from_slice(digits.format(info.doc_del_count).as_bytes())?;
+    out.extend_from_slice(b",\"update_seq\":")?;
+    out.extend_from_slice(digits.format(info.update_seq).as_bytes())?;
+    out.extend_from_slice(b"}")?;
     Ok(())
 }
 

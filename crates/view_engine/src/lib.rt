@@ -2,24 +2,28 @@
 #![tactic(auto)]
 
 mod answer;
-mod design;
-mod documents;
 mod engine;
 mod fault_line;
 mod forms;
+mod halt;
 mod laws;
 mod line;
-mod outcome;
-mod put;
+mod mapped;
+mod reads;
 mod refusal;
 mod request;
-mod revision;
 mod rows;
 #[cfg(test)]
+mod test_database;
+#[cfg(test)]
 mod tests;
+#[cfg(test)]
+mod write_tests;
+mod writes;
 
-pub use engine::{Engine, StepFault};
+pub use engine::Engine;
 pub use fault_line::no_memory_line;
+pub use halt::StepFault;
 pub use laws::live_documents_have_their_last_write;
 pub use line::{LINE_LIMIT, read_request};
 pub use refusal::Refusal;

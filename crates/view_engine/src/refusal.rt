@@ -20,13 +20,23 @@ pub enum Refusal {
     UnknownRequest,
     /// The line is a request of a form, or with a part, that isn't built yet.
     NotBuiltYet,
+    /// The `_id` of the document is no text, is empty, or begins with an underscore and is no design document's.
+    BadId,
+    /// The member with this name is one that no document may have, and the first such.
+    BadMember(Chars),
+    /// The revision that is given has not the form of one.
+    BadRev,
+    /// The document's text has more than 524,288 bytes, its `_rev` and `_deleted` left out.
+    DocumentTooLarge,
+    /// Objects and arrays of the document nest more than 64 deep.
+    DocumentTooDeep,
     /// The document was never written.
     Missing,
     /// The document is deleted.
     Deleted,
     /// The design document has no view of this name.
     MissingNamedView,
-    /// The document is live, and its present revision was not given.
+    /// The present revision of the document was not given.
     Conflict,
     /// No query server is known for this language.
     UnknownLanguage(Chars),
@@ -103,6 +113,11 @@ impl Refusal {
             | Refusal::TooDeep
             | Refusal::UnknownRequest
             | Refusal::NotBuiltYet => "bad_request",
+            Refusal::BadId => "bad_id",
+            Refusal::BadMember(_name) => "bad_member",
+            Refusal::BadRev => "bad_rev",
+            Refusal::DocumentTooLarge => "too_large",
+            Refusal::DocumentTooDeep => "too_deep",
             Refusal::Missing | Refusal::Deleted | Refusal::MissingNamedView => "not_found",
             Refusal::Conflict => "conflict",
             Refusal::UnknownLanguage(_language) => "unknown_language",
@@ -124,13 +139,20 @@ impl Refusal {
             Refusal::TooDeep => out.extend_from_slice(b"\"line is too deep\"")?,
             Refusal::UnknownRequest => out.extend_from_slice(b"\"unknown request\"")?,
             Refusal::NotBuiltYet => out.extend_from_slice(b"\"not built yet\"")?,
+            Refusal::BadId => out.extend_from_slice(b"\"document id is not allowed\"")?,
+            Refusal::BadRev => out.extend_from_slice(b"\"revision is not well formed\"")?,
+            Refusal::DocumentTooLarge => {
+                out.extend_from_slice(b"\"document passes 524288 bytes\"")?
+            }
+            Refusal::DocumentTooDeep => out.extend_from_slice(b"\"document passes depth 64\"")?,
             Refusal::Missing => out.extend_from_slice(b"\"missing\"")?,
             Refusal::Deleted => out.extend_from_slice(b"\"deleted\"")?,
             Refusal::MissingNamedView => out.extend_from_slice(b"\"missing_named_view\"")?,
             Refusal::Conflict => out.extend_from_slice(b"\"Document update conflict.\"")?,
             Refusal::ServerFault => out.extend_from_slice(b"\"query server failed twice\"")?,
             Refusal::NoMemory => out.extend_from_slice(b"\"out of memory\"")?,
-            Refusal::UnknownLanguage(text)
+            Refusal::BadMember(text)
+            | Refusal::UnknownLanguage(text)
             | Refusal::CompilationError(text)
             | Refusal::ServerReply(text) => write_text(alloc, text.as_str(), out)?,
         }

@@ -1,4 +1,6 @@
 use super::*;
+use crate::test_database::Database;
+use crash_disk::MemoryFolder;
 use json_terms::Chars;
 use std::alloc::Global;
 use std::process::Abort;
@@ -19,20 +21,13 @@ fn replies_over<C: Servers>(
     for word in words {
         languages.push(String::from_str(alloc, word)?)?;
     }
-    let mut engine = match Engine::open(alloc, &languages) {
-        Ok(engine) => engine,
-        Err(_) => return Err(Fail::from("no memory")),
-    };
+    let folder = MemoryFolder::new(alloc, Vec::new(alloc), false)?;
+    let mut database = Database::open(alloc, folder, &languages)?;
     let mut out = Vec::new(alloc);
     for line in lines {
-        if engine
-            .step(alloc, servers, line.as_bytes(), &mut out)
-            .is_err()
-        {
-            out.extend_from_slice(no_memory_line())?;
-        }
+        database = database.step(alloc, servers, line, &mut out)?;
     }
-    engine.finish(servers);
+    let _folder = database.close(servers);
     Ok(out)
 }
 
@@ -199,13 +194,13 @@ fn lines_are_refused(rt: HostRuntime) -> Result<(), Fail> {
         ("{\"compact_docs\":1}", "bad_request", "unknown request"),
         ("{\"all_docs\":true}", "bad_request", "unknown request"),
         ("{\"bulk\":[{}]}", "bad_request", "unknown request"),
-        ("{\"delete\":\"a\"}", "bad_request", "not built yet"),
+        ("{\"delete\":\"a\"}", "not_found", "missing"),
         (
             "{\"delete\":\"a\",\"rev\":\"x\"}",
-            "bad_request",
-            "not built yet",
+            "bad_rev",
+            "revision is not well formed",
         ),
-        ("{\"get\":\"a\"}", "bad_request", "not built yet"),
+        ("{\"get\":\"a\"}", "not_found", "missing"),
         (
             "{\"view\":[\"a\",\"b\"],\"query\":{}}",
             "bad_request",
@@ -235,28 +230,74 @@ fn lines_are_refused(rt: HostRuntime) -> Result<(), Fail> {
         ),
         ("{\"compact_docs\":true}", "bad_request", "not built yet"),
         ("{\"cleanup\":true}", "bad_request", "not built yet"),
-        ("{\"info\":true}", "bad_request", "not built yet"),
         (
             "{\"all_docs\":{\"reduce\":false}}",
             "bad_request",
             "not built yet",
         ),
-        ("{\"put\":{}}", "bad_request", "not built yet"),
-        ("{\"put\":{\"_id\":1}}", "bad_request", "not built yet"),
-        ("{\"put\":{\"_id\":\"\"}}", "bad_request", "not built yet"),
-        ("{\"put\":{\"_id\":\"_x\"}}", "bad_request", "not built yet"),
+        ("{\"put\":{}}", "bad_id", "document id is not allowed"),
+        (
+            "{\"put\":{\"_id\":1}}",
+            "bad_id",
+            "document id is not allowed",
+        ),
+        (
+            "{\"put\":{\"_id\":\"\"}}",
+            "bad_id",
+            "document id is not allowed",
+        ),
+        (
+            "{\"put\":{\"_id\":\"_x\"}}",
+            "bad_id",
+            "document id is not allowed",
+        ),
         (
             "{\"put\":{\"_id\":\"_design/\"}}",
-            "bad_request",
-            "not built yet",
+            "bad_id",
+            "document id is not allowed",
+        ),
+        (
+            "{\"put\":{\"_id\":\"_x\",\"_y\":1,\"_rev\":2}}",
+            "bad_id",
+            "document id is not allowed",
         ),
         (
             "{\"put\":{\"_id\":\"a\",\"_rev\":\"1-0\"}}",
-            "bad_request",
-            "not built yet",
+            "bad_rev",
+            "revision is not well formed",
         ),
         (
-            "{\"put\":{\"_id\":\"a\",\"_\":1}}",
+            "{\"put\":{\"_id\":\"a\",\"_rev\":1}}",
+            "bad_rev",
+            "revision is not well formed",
+        ),
+        (
+            "{\"put\":{\"_id\":\"a\",\"_\":1,\"_rev\":1}}",
+            "bad_member",
+            "_",
+        ),
+        (
+            "{\"put\":{\"_id\":\"a\",\"_z\":1,\"_deleted\":1}}",
+            "bad_member",
+            "_deleted",
+        ),
+        (
+            "{\"put\":{\"_id\":\"a\",\"_rev\":\"1-00000000000000000000000000000001\"}}",
+            "conflict",
+            "Document update conflict.",
+        ),
+        (
+            "{\"put\":{\"_id\":\"a\",\"_deleted\":true}}",
+            "not_found",
+            "missing",
+        ),
+        (
+            "{\"put\":{\"_id\":\"_design/d\",\"language\":\"field\",\"options\":{},\"_deleted\":true}}",
+            "not_found",
+            "missing",
+        ),
+        (
+            "{\"put\":{\"_id\":\"_design/d\",\"_rev\":1}}",
             "bad_request",
             "not built yet",
         ),
@@ -322,13 +363,13 @@ fn put_of(alloc: Global, size: usize) -> Result<String, Fail> {
 #[test]
 fn sizes_have_limits(rt: HostRuntime) -> Result<(), Fail> {
     let accepted = "{\"ok\":true,\"id\":\"x\",\"rev\":\"1-00000000000000000000000000000001\"}\n";
-    let unbuilt = "{\"error\":\"bad_request\",\"reason\":\"not built yet\"}\n";
+    let too_large = "{\"error\":\"too_large\",\"reason\":\"document passes 524288 bytes\"}\n";
     let too_long = "{\"error\":\"line_too_long\",\"reason\":\"line passes 2097152 bytes\"}\n";
     let outside = "{\"put\":{\"_id\":\"x\",\"t\":\"\"}}".len();
     for (size, want) in [
         (524_270, accepted),
-        (524_271, unbuilt),
-        (2_097_152 - outside, unbuilt),
+        (524_271, too_large),
+        (2_097_152 - outside, too_large),
         (2_097_153 - outside, too_long),
     ] {
         let line = put_of(rt.alloc(), size)?;
@@ -340,13 +381,13 @@ fn sizes_have_limits(rt: HostRuntime) -> Result<(), Fail> {
 #[test]
 fn depths_have_limits(rt: HostRuntime) -> Result<(), Fail> {
     let accepted = "{\"ok\":true,\"id\":\"x\",\"rev\":\"1-00000000000000000000000000000001\"}\n";
-    let unbuilt = "{\"error\":\"bad_request\",\"reason\":\"not built yet\"}\n";
+    let document = "{\"error\":\"too_deep\",\"reason\":\"document passes depth 64\"}\n";
     let too_deep = "{\"error\":\"bad_request\",\"reason\":\"line is too deep\"}\n";
     let not_json = "{\"error\":\"bad_request\",\"reason\":\"line is not JSON\"}\n";
     for (depth, want) in [
         (63, accepted),
-        (64, unbuilt),
-        (98, unbuilt),
+        (64, document),
+        (98, document),
         (99, too_deep),
         (125, too_deep),
         (126, not_json),

@@ -22,7 +22,7 @@ const A_DESIGN_AND_A_VIEW_REPLIES: &str =
 "#;
 
 const INFO_REPLIES: &str = r#"{"error":"bad_request","reason":"unknown request"}
-{"error":"bad_request","reason":"not built yet"}
+{"doc_count":0,"doc_del_count":0,"update_seq":0}
 "#;
 
 const UNFINISHED_REPLY: &str = r#"{"error":"bad_request","reason":"line is not JSON"}

@@ -2,6 +2,7 @@
 use super::words_of;
 use crate::built_in::Mixed;
 use crate::command::couchview;
+use crash_disk::MemoryFolder;
 use json_terms::Chars;
 use map_server::PickServers;
 use std::alloc::Global;
@@ -77,7 +78,15 @@ fn run(alloc: Global, words: &str, input: &[u8]) -> Result<(u8, Vec<u8>), Fail> 
     let mut source = MemorySource::new(alloc, input, 1000, Vec::new(alloc))?;
     let mut sink = MemorySink::new(alloc, 1000, Vec::new(alloc))?;
     let mut servers = Mixed::new(alloc, ScriptServers::new(alloc, script)?)?;
-    let status = couchview(alloc, &words, &mut source, &mut sink, &mut servers);
+    let mut folder = MemoryFolder::new(alloc, Vec::new(alloc), false)?;
+    let status = couchview(
+        alloc,
+        &words,
+        &mut source,
+        &mut sink,
+        &mut folder,
+        &mut servers,
+    );
     Ok((status, sink.held().to_vec(alloc)?))
 }
 
@@ -127,7 +136,15 @@ fn a_failed_call_is_made_good_and_a_second_one_is_a_fault(rt: HostRuntime) -> Re
         let mut source = MemorySource::new(alloc, A_DOCUMENT_AND_TWO_VIEWS, 1000, Vec::new(alloc))?;
         let mut sink = MemorySink::new(alloc, 1000, Vec::new(alloc))?;
         let mut servers = PickServers::new(alloc, fail.to_vec(alloc)?)?;
-        let status = couchview(alloc, &words, &mut source, &mut sink, &mut servers);
+        let mut folder = MemoryFolder::new(alloc, Vec::new(alloc), false)?;
+        let status = couchview(
+            alloc,
+            &words,
+            &mut source,
+            &mut sink,
+            &mut folder,
+            &mut servers,
+        );
         let want = format!(in alloc; "{PUT_REPLIES}{first}\n{ROWS}\n")?;
         assert_eq!(rt; status, 0);
         assert_eq!(rt; from_utf8(sink.held()), Ok(want.as_str()), "{first}");

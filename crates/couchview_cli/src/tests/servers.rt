@@ -2,6 +2,7 @@
 use super::watched::Watched;
 use super::words_of;
 use crate::command::couchview;
+use crash_disk::MemoryFolder;
 use json_terms::Chars;
 use std::alloc::Global;
 use std::str::from_utf8;
@@ -30,7 +31,15 @@ fn answered(alloc: Global, lines: &[&str]) -> Result<(String, bool, bool), Fail>
     let words = words_of(alloc, "serve field=own")?;
     let mut source = MemorySource::new(alloc, A_DOCUMENT_AND_A_VIEW, 1000, Vec::new(alloc))?;
     let mut sink = MemorySink::new(alloc, 1000, Vec::new(alloc))?;
-    let status = couchview(alloc, &words, &mut source, &mut sink, &mut servers);
+    let mut folder = MemoryFolder::new(alloc, Vec::new(alloc), false)?;
+    let status = couchview(
+        alloc,
+        &words,
+        &mut source,
+        &mut sink,
+        &mut folder,
+        &mut servers,
+    );
     let held = from_utf8(sink.held())?;
     match held.strip_prefix(PUT_REPLIES) {
         Some(reply) if status == 0 => Ok((
@@ -82,7 +91,15 @@ fn a_child_is_stopped_where_the_sink_fails(rt: HostRuntime) -> Result<(), Fail> 
         let mut servers = Watched::new(FieldServers::new(alloc, Vec::new(alloc))?);
         let mut source = MemorySource::new(alloc, A_DOCUMENT_AND_A_VIEW, 1000, Vec::new(alloc))?;
         let mut sink = MemorySink::new(alloc, 1000, [failing].to_vec(alloc)?)?;
-        let got = couchview(alloc, &words, &mut source, &mut sink, &mut servers);
+        let mut folder = MemoryFolder::new(alloc, Vec::new(alloc), false)?;
+        let got = couchview(
+            alloc,
+            &words,
+            &mut source,
+            &mut sink,
+            &mut folder,
+            &mut servers,
+        );
         assert_eq!(rt; got, status);
         assert!(rt; servers.starts() == 1);
         assert!(rt; !servers.has_child());

@@ -6,7 +6,7 @@ ghost use Rattle.view_ports.specs.Causes.{HasCauseIf, RisesBy};
 ghost use Rattle.view_ports.specs.Disk.{IfTold, Tells, MovesNone};
 ghost use Rattle.view_ports.specs.declared.file_name.FileName.{FileName as Name};
 ghost use Rattle.gate_file.specs.GateFile.{name_of};
-ghost use Rattle.doc_file.specs.Changes.{numbered, AreInOrder, AreWhole, IsChange, IsNext, IsSpoiledAfter, IsStored};
+ghost use Rattle.doc_file.specs.Changes.{numbered, AreInOrder, AreWhole, HasDocument, IsChange, IsNext, IsSpoiledAfter, IsStored};
 ghost use Rattle.doc_file.specs.Docs.{bytes_in, file_of, IsAt, IsLoaded, IsSpoiled};
 ghost use Rattle.doc_file.specs.History.{Write, changes_after};
 
@@ -101,6 +101,7 @@ impl Docs {
         // Also where the file stands for no history.
         ensures order { IfOk result (λ changes. AreInOrder seq changes) }
         ensures few { IfOk result (λ changes. length changes ≤ n) }
+        ensures bodies { IfOk result (λ changes. All HasDocument changes) }
         ensures whole { IfOk result (λ changes. AreWhole self.now seq n changes) }
         ensures each { IfTold (F.disk folder.old) (λ d. IsLoaded self.now d.now → IfOk result (λ changes. All (IsChange self.now (bytes_in self.now d.now)) changes)) }
         ensures damaged { IfTold (F.disk folder.old) (λ d. IsLoaded self.now d.now → (name : Name) (at : ℕ) → result ≡ Err (DocFault.Gate (GateFault.Damaged name at)) →
@@ -134,6 +135,7 @@ impl Docs {
     ) -> Result<Change, DocFault>
         ensures seq { IfOk result (λ change. change.seq ≡ (entry.now.last).seq) }
         ensures id { IfOk result (λ change. change.id ≡ entry.now.id) }
+        ensures body { IfOk result HasDocument }
         ensures held { IfTold (F.disk folder.old) (λ d. IfOk result (λ change. IsStored entry.now.id (bytes_in self.now d.now) entry.now.last (option_map json change.doc))) }
         ensures damaged { IfTold (F.disk folder.old) (λ d. (name : Name) (at : ℕ) → result ≡ Err (DocFault.Gate (GateFault.Damaged name at)) →
             (name ≡ name_of (file_of self.now)) × ((entry.now.last).deleted ≡ false) × IsSpoiled entry.now.id (bytes_in self.now d.now) (Some entry.now.last) at) }

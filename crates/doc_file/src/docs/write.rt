@@ -12,13 +12,16 @@ ghost use Rattle.doc_file.specs.Content.{content};
 ghost use Rattle.doc_file.specs.Docs.{entries_of, file_of, last_of, seq_of, IsAt, IsDocsFile, IsOpen, IsSame};
 ghost use Rattle.doc_file.specs.Held.{Stands};
 ghost use Rattle.doc_file.specs.History.{Write};
-ghost use Rattle.doc_file.specs.Incoming.{deletes};
+ghost use Rattle.doc_file.specs.Incoming.{deletes, HasId};
+ghost use Rattle.doc_file.specs.Revision.{revision};
+ghost use Rattle.view_ports.specs.File.{File};
+ghost use Rattle.view_ports.specs.declared.file_name.FileName.{FileName as Name};
 ghost use Rattle.doc_file.specs.Writes.{content_of, write_refusal, IsAcceptedDelete, IsAcceptedPut, IsFileFault, IsRefusedDelete, IsRefusedPut};
-ghost use Rattle.doc_file.specs.Stored.{next_rev, size_of, write_of, IsStorable};
+ghost use Rattle.doc_file.specs.Stored.{next_rev, next_rev as next_rev_of, next_revision, size_of, write_of, IsStorable};
 
 use super::Docs;
 use crate::accept::{may_delete, may_put};
-use crate::draft::{Draft, make_draft};
+use crate::draft::{Draft, make_draft, next_rev};
 use crate::fault::DocFault;
 use crate::incoming::{Incoming, read_incoming};
 use crate::last_writes::find_last;
@@ -30,6 +33,14 @@ use std::alloc::Global;
 use view_ports::Folder;
 
 impl Docs {
+    /// The revision that the next write of an id will have. It takes no memory.
+    pub fn next_rev(&self, id: &str) -> Rev
+        ensures kept { result ≡ next_rev_of (seq_of self.now) (entries_of self.now) id.now }
+        ensures history { (files : Name → File) (history : List Write) → IsAt self.now files history → revision result.generation result.seq ≡ next_revision history id.now }
+    {
+        next_rev(self.seq, self.entries.as_slice(), id)
+    }
+
     /// Puts a document: stores it under the next revision of its id, or deletes the id where its `_deleted` is true.
     ///
     /// It is refused, in this order, as `BadId` (no text, empty, or with an underscore and not that of a named design
@@ -46,7 +57,7 @@ impl Docs {
         document: Term,
     ) -> Result<Rev, DocFault>
         requires open { IfTold (F.disk folder.old) (λ d. IsOpen self.old d.now) }
-        requires plain { IsTrue (is_design_id (id_of (json document))) → deletes (json document) ≡ false → IsTrue (is_plain (content (json document))) }
+        requires plain { HasId (json document) → IsTrue (is_design_id (id_of (json document))) → deletes (json document) ≡ false → IsTrue (is_plain (content (json document))) }
         ensures ok { IfOk result (λ rev. rev ≡ next_rev (seq_of self.old) (entries_of self.old) (id_of (json document))) }
         ensures accepted { OnOk result (IsAcceptedPut (state_in (last_of self.old (id_of (json document)))) (json document)) }
         ensures refused { IfErr result (λ e. IsRefusedPut (state_in (last_of self.old (id_of (json document)))) (json document) e ⊎ IsFileFault (file_of self.old) e ⊎ (e ≡ DocFault.NoMemory)) }

@@ -61,7 +61,7 @@ loop-index-preserved g c =
     let next : IsNext c.loop-index.after (entries_of docs) (Some e) = subst (λ es. IsNext c.loop-index.after es (Some e)) c.as_slice.ensures.value c.in-Some.ensures in
     let so_far : IsSoFar docs c.args.seq c.args.n (e.last).seq (c.loop-index._index + 1) before (c.loop-index.items.items ++ change ∷ []) =
     so_far_more docs c.args.seq c.args.n c.loop-index.after c.loop-index._index before c.loop-index.items.items c.loop-index.invariant.so_far e next change c.loop-index-test.true
-    c.in_ok-load_change-in-Some.ensures.seq c.in_ok-load_change-in-Some.ensures.id
+    c.in_ok-load_change-in-Some.ensures.seq c.in_ok-load_change-in-Some.ensures.id c.in_ok-load_change-in-Some.ensures.body
     (bytes_back docs before (g.F.Folder.disk c.loop-index.folder) c.loop-index.invariant.disk (λ bytes. IsStored e.id bytes e.last (option_map json change.doc)) c.in_ok-load_change-in-Some.ensures.held) in
     let later = c.load_change.ensures.cause.later in
     let first = c.loop-index.invariant.reads in

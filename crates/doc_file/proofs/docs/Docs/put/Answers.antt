@@ -41,7 +41,7 @@ pub store-requires-clause-storable : goal.store-requires-clause-storable
 store-requires-clause-storable g c =
     both (λ i content. IsStorable i content) (sym (c.into_stored-id.ensures.id ∙ c.in_ok-incoming.ensures.ok.id))
     (sym (content_is (json c.args.document) c.in_ok-incoming.incoming (option_map json c.into_stored-id.result.1) c.in_ok-incoming.ensures.ok c.into_stored-id.ensures.content))
-    (storable (json c.args.document) c.validity.ensures c.in_ok-incoming.ensures.ok.writable c.requires.plain)
+    (storable (json c.args.document) c.validity.ensures c.in_ok-incoming.ensures.ok.writable (c.requires.plain c.in_ok-incoming.ensures.ok.writable.id))
 
 pub returns-clause-ok : goal.returns-clause-ok
 returns-clause-ok g c = subst (λ i. IfOk c.store.result (λ rev. rev ≡ next_rev c.args.self.now.seq c.args.self.now.entries.items i)) (c.into_stored-id.ensures.id ∙ c.in_ok-incoming.ensures.ok.id) c.store.ensures.ok

@@ -1,71 +1,120 @@
--- The design that is kept is that of the live document.
-use Rattle.std.proofs.Common.{◌≡◌, ◌∙◌, ◌≤◌, List, length, map, bytes_eq, Some, None, sym, ap, subst, arith}
+-- The design that is read is that of the live document.
+use Rattle.std.proofs.Common.{◌≡◌, ◌∙◌, ◌≤◌, ℕ, List, length, map, bytes_eq, Some, None, Err, sym, ap, subst, arith}
 use Rattle.std.specs.Map.{lookup}
 use Rattle.json_terms.specs.Seen.{json}
+use Rattle.view_ports.specs.declared.file_name.FileName.{FileName}
+use Rattle.view_ports.proofs.Told.{told_now}
+use Rattle.gate_file.specs.GateFile.{name_of}
+use Rattle.gate_file.specs.declared.fault.GateFault.TheVariants.{Damaged as GateDamaged}
 use Rattle.design_docs.specs.declared.design.View.{View}
 use Rattle.design_docs.specs.Laws.{entry_of as named}
 use Rattle.design_docs.proofs.ViewOrder.{views_are_few}
 use Rattle.child_pool.specs.Languages.{path_in}
 use Rattle.child_pool.specs.Pools.{languages_of}
-use Rattle.view_engine.specs.Documents.{design_at}
-use Rattle.view_engine.specs.View.{design_id}
-use Rattle.view_engine.specs.ViewPlan.{source_at}
-use Rattle.view_engine.proofs.Plans.{planned, refused_language, refused_view}
+use Rattle.doc_file.specs.declared.fault.DocFault.TheVariants.{Gate}
+use Rattle.doc_file.specs.Docs.{bytes_in, file_of, last_of, IsAt, IsSpoiled}
+use Rattle.doc_file.specs.History.{live_document}
+use Rattle.view_engine.specs.declared.halt.Halt.TheVariants.{Stopped}
+use Rattle.view_engine.specs.declared.halt.StepFault.TheVariants.{Damaged}
+use Rattle.view_engine.specs.declared.refusal.Refusal.TheVariants.{MissingNamedView, UnknownLanguage}
+use Rattle.view_engine.specs.Halts.{IsDamage}
+use Rattle.view_engine.specs.View.{design_id, view_refusal}
+use Rattle.view_engine.specs.ViewPlan.{source_at, IsPlan}
+use Rattle.view_engine.proofs.HaltedAs.{damaged_from, spoiled_damage}
+use Rattle.view_engine.proofs.Plans.{plain_design, planned, refused_language, refused_same, refused_view}
 use Rattle.view_engine.proofs.engine.Engine.plan.Goals as goal
 
-pub returns-in_default-place_of-clause-refused : goal.returns-in_default-place_of-clause-refused
-returns-in_default-place_of-clause-refused c = λ real world are.
+pub returns-in-Err-clause-damaged : goal.returns-in-Err-clause-damaged
+returns-in-Err-clause-damaged g c =
+    let docs = c.args.self.now.docs in
+    let id = c.as_str-2.result.now in
+    told_now (g.F.Folder.disk c.args.folder.now)
+    (λ d. (n : FileName) (at : ℕ) → c.get.result ≡ Err (Gate (GateDamaged n at)) → (n ≡ name_of (file_of docs)) × IsSpoiled id (bytes_in docs d.now) (last_of docs id) at)
+    (λ d. (n : FileName) (at : ℕ) → c.from.result ≡ Stopped (Damaged n at) → IsDamage docs d.now n at)
+    (λ d is n at damaged. spoiled_damage docs d.now n id at (is n at (damaged_from c.get.result c.in-Err.fault c.from.result n at c.in-Err.is c.from.ensures damaged)))
+    c.get.ensures.damaged
+
+pub returns-in-Err-clause-sound : goal.returns-in-Err-clause-sound
+returns-in-Err-clause-sound g c = λ history.
+    let docs = c.args.self.now.docs in
+    told_now (g.F.Folder.disk c.args.folder.now)
+    (λ d. IsAt docs d.now history → (n : FileName) (at : ℕ) → c.get.result ≡ Err (Gate (GateDamaged n at)) → ⊥)
+    (λ d. IsAt docs d.now history → (n : FileName) (at : ℕ) → c.from.result ≡ Stopped (Damaged n at) → ⊥)
+    (λ d is stands n at damaged. is stands n at (damaged_from c.get.result c.in-Err.fault c.from.result n at c.in-Err.is c.from.ensures damaged))
+    (c.get.ensures.sound history)
+
+pub returns-in_default-clause-refused : goal.returns-in_default-clause-refused
+returns-in_default-clause-refused g c = λ refusal is_refusal history.
+    let docs = c.args.self.now.docs in
     let languages = languages_of c.args.self.now.pool in
-    let documents = c.args.self.now.documents in
     let name = c.args.name.now in
-    let id = c.in_ok-id.id in
-    let d = c.in-Some.design.now in
+    let id = c.as_str-2.result.now in
+    let document = json c.in-Ok.document in
     let design = c.in_ok-design.design in
-    let is : id ≡ design_id name.design = c.in_ok-id.ensures ∙ ap design_id c.as_str.ensures in
-    let found : design_at id documents ≡ Some d = ap (λ i. design_at i documents) (sym c.as_str-2.ensures) ∙ sym c.in-Some.ensures in
+    let same : MissingNamedView ≡ refusal = cc in
+    let is : id ≡ design_id name.design = c.as_str-2.ensures ∙ c.in_ok-id.ensures ∙ ap design_id c.as_str.ensures in
     let none : None ≡ lookup (λ key. bytes_eq key name.view) (map named design.views) =
-    c.in_default-place_of.ensures.named ∙ (λ i. lookup (λ key. bytes_eq key (c.as_str-3.ensures i)) (map named (c.as_slice.ensures i))) in
-    refused_view languages documents world name are id d design is found d.is_plain c.in_ok-design.ensures none
+    c.in_default.ensures.named ∙ (λ i. lookup (λ key. bytes_eq key (c.as_str-3.ensures i)) (map named (c.as_slice.ensures i))) in
+    told_now (g.F.Folder.disk c.args.folder.now)
+    (λ d. IsAt docs d.now history → live_document history id ≡ Some document)
+    (λ d. IsAt docs d.now history → view_refusal languages (record { history = history }) name ≡ Some refusal)
+    (λ d live at. refused_same languages (record { history = history }) name MissingNamedView refusal same
+    (refused_view languages history name id document design is (live at) (plain_design name id document is c.in-Ok.ensures.body) c.in_ok-design.ensures none))
+    (c.in-Ok.ensures.document history)
 
 pub returns-in-Some-path_of-clause-plan : goal.returns-in-Some-path_of-clause-plan
-returns-in-Some-path_of-clause-plan c = λ world are.
+returns-in-Some-path_of-clause-plan g c = λ history.
+    let docs = c.args.self.now.docs in
     let languages = languages_of c.args.self.now.pool in
-    let documents = c.args.self.now.documents in
     let name = c.args.name.now in
-    let id = c.in_ok-id.id in
-    let d = c.in-Some.design.now in
+    let id = c.as_str-2.result.now in
+    let document = json c.in-Ok.document in
     let design = c.in_ok-design.design in
-    let place = c.in-Some-place_of.place in
-    let is : id ≡ design_id name.design = c.in_ok-id.ensures ∙ ap design_id c.as_str.ensures in
-    let found : design_at id documents ≡ Some d = ap (λ i. design_at i documents) (sym c.as_str-2.ensures) ∙ sym c.in-Some.ensures in
+    let place = c.in-Some.place in
+    let is : id ≡ design_id name.design = c.as_str-2.ensures ∙ c.in_ok-id.ensures ∙ ap design_id c.as_str.ensures in
     let there : Some (source_at design.views place) ≡ lookup (λ key. bytes_eq key name.view) (map named design.views) =
     ap (λ (views : List View). Some (source_at views place)) (sym c.as_slice.ensures)
-    ∙ c.in-Some-place_of.ensures.named
+    ∙ c.in-Some.ensures.named
     ∙ (λ i. lookup (λ key. bytes_eq key (c.as_str-3.ensures i)) (map named (c.as_slice.ensures i))) in
-    let known : Some c.in-Some-path_of._path.now ≡ path_in languages design.language = c.in-Some-path_of.ensures ∙ ap (path_in languages) c.as_str-4.ensures in
-    planned languages documents world name are id d design is found d.is_plain c.in_ok-design.ensures place there c.in-Some-path_of._path.now known
+    told_now (g.F.Folder.disk c.args.folder.now)
+    (λ d. IsAt docs d.now history → live_document history id ≡ Some document)
+    (λ d. IsAt docs d.now history → (path : List ℕ) → path_in languages design.language ≡ Some path → IsPlan languages (record { history = history }) name c.in_ok-id.id design place path)
+    (λ d live at path known. subst (λ i. IsPlan languages (record { history = history }) name i design place path) c.as_str-2.ensures
+    (planned languages history name id document design is (live at) (plain_design name id document is c.in-Ok.ensures.body) c.in_ok-design.ensures place there path known))
+    (c.in-Ok.ensures.document history)
 
 pub returns-in-Some-path_of-clause-few : goal.returns-in-Some-path_of-clause-few
-returns-in-Some-path_of-clause-few c =
-    let d = c.in-Some.design.now in
+returns-in-Some-path_of-clause-few g c =
+    let id = c.as_str-2.result.now in
+    let document = json c.in-Ok.document in
     let views = c.in_ok-design.design.views in
-    let few : length views ≤ 32 = subst (λ (vs : List View). length vs ≤ 32) (sym c.in_ok-design.ensures.1) (views_are_few (json d.document) d.is_plain) in
+    let is : id ≡ design_id c.args.name.now.design = c.as_str-2.ensures ∙ c.in_ok-id.ensures ∙ ap design_id c.as_str.ensures in
+    let plain = plain_design c.args.name.now id document is c.in-Ok.ensures.body in
+    let few : length views ≤ 32 = subst (λ (vs : List View). length vs ≤ 32) (sym c.in_ok-design.ensures.1) (views_are_few document plain) in
     omega (arith, few)
 
+pub returns-in-Some-path_of-clause-known : goal.returns-in-Some-path_of-clause-known
+returns-in-Some-path_of-clause-known g c = (c.in-Some-path_of._path.now, ap (path_in (languages_of c.args.self.now.pool)) (sym c.as_str-4.ensures) ∙ sym c.in-Some-path_of.ensures)
+
 pub returns-in-None-clause-refused : goal.returns-in-None-clause-refused
-returns-in-None-clause-refused c = λ real world are.
+returns-in-None-clause-refused g c = λ refusal is_refusal history.
+    let docs = c.args.self.now.docs in
     let languages = languages_of c.args.self.now.pool in
-    let documents = c.args.self.now.documents in
     let name = c.args.name.now in
-    let id = c.in_ok-id.id in
-    let d = c.in-Some.design.now in
+    let id = c.as_str-2.result.now in
+    let document = json c.in-Ok.document in
     let design = c.in_ok-design.design in
-    let place = c.in-Some-place_of.place in
-    let is : id ≡ design_id name.design = c.in_ok-id.ensures ∙ ap design_id c.as_str.ensures in
-    let found : design_at id documents ≡ Some d = ap (λ i. design_at i documents) (sym c.as_str-2.ensures) ∙ sym c.in-Some.ensures in
+    let place = c.in-Some.place in
+    let same : UnknownLanguage design.language ≡ refusal = cc in
+    let is : id ≡ design_id name.design = c.as_str-2.ensures ∙ c.in_ok-id.ensures ∙ ap design_id c.as_str.ensures in
     let there : Some (source_at design.views place) ≡ lookup (λ key. bytes_eq key name.view) (map named design.views) =
     ap (λ (views : List View). Some (source_at views place)) (sym c.as_slice.ensures)
-    ∙ c.in-Some-place_of.ensures.named
+    ∙ c.in-Some.ensures.named
     ∙ (λ i. lookup (λ key. bytes_eq key (c.as_str-3.ensures i)) (map named (c.as_slice.ensures i))) in
     let none : None ≡ path_in languages design.language = c.in-None.ensures ∙ ap (path_in languages) c.as_str-4.ensures in
-    refused_language languages documents world name are id d design is found d.is_plain c.in_ok-design.ensures place there none
+    told_now (g.F.Folder.disk c.args.folder.now)
+    (λ d. IsAt docs d.now history → live_document history id ≡ Some document)
+    (λ d. IsAt docs d.now history → view_refusal languages (record { history = history }) name ≡ Some refusal)
+    (λ d live at. refused_same languages (record { history = history }) name (UnknownLanguage design.language) refusal same
+    (refused_language languages history name id document design is (live at) (plain_design name id document is c.in-Ok.ensures.body) c.in_ok-design.ensures place there none))
+    (c.in-Ok.ensures.document history)

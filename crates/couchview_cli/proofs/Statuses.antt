@@ -1,0 +1,114 @@
+-- What the status of a run says.
+use Rattle.std.specs.Prelude.{◌≡◌, ◌<◌, ◌≤◌, ◌⊎◌, ℕ, List, [], ◌++◌, Option, Some, None, length}
+use Rattle.std.proofs.Common.{refl, sym, ap, ◌∙◌, subst, arith, inl, inr, length-append}
+use Rattle.std.proofs.KnownBytes.{Consumes-nil}
+use Rattle.std.specs.Io.KnownBytes.{Consumes}
+use Rattle.view_ports.specs.declared.file_name.FileName.{FileName}
+use Rattle.view_ports.specs.declared.run_end.RunEnd.{RunEnd}
+use Rattle.view_ports.specs.declared.run_end.RunEnd.TheVariants.{InputEnded, SinkFailed, SourceFailed, OutOfMemory, InputTooLong}
+use Rattle.view_ports.specs.Calls.{Call}
+use Rattle.view_ports.specs.Disk.{IfTold}
+use Rattle.view_ports.specs.Functions.{Functions}
+use Rattle.view_ports.specs.Runs.{HasRead, status_of, input_limit}
+use Rattle.view_ports.proofs.Told.{told_all, told_now}
+use Rattle.doc_file.specs.History.{Write}
+use Rattle.view_engine.specs.declared.halt.StepFault.{StepFault}
+use Rattle.view_engine.specs.declared.halt.StepFault.TheVariants.{DiskFault, Damaged, Full, NoMemory}
+use Rattle.couchview_cli.specs.Closing.{Closes, fault_status}
+use Rattle.couchview_cli.specs.Serving.{Finishes, IsCutShort, IsUnopened, Outside, Serves, StopsAtLimit, IsShort}
+use Rattle.couchview_cli.proofs.Moving.{Told}
+
+-- what is consumed is no longer than what was left
+consumed_short : (before after : Option (List ℕ)) (bytes : List ℕ) → Consumes before after bytes → IsShort before → length bytes < input_limit
+consumed_short None after bytes reads short = absurd short
+consumed_short (Some left) None bytes reads short = absurd reads
+consumed_short (Some left) (Some rest) bytes reads short = omega (arith, ap length reads, length-append bytes rest, short)
+
+complete : (end : RunEnd) (status count : ℕ) → status ≡ status_of end → HasRead end count → count < input_limit → (status ≡ 4 → ⊥) → (status ≡ 5 → ⊥) → (status ≡ 0) ⊎ ((status ≡ 6) ⊎ (status ≡ 9))
+complete InputEnded status count is counts short sink source = inl is
+complete SinkFailed status count is counts short sink source = absurd (sink is)
+complete SourceFailed status count is counts short sink source = absurd (source is)
+complete OutOfMemory status count is counts short sink source = inr (inl is)
+complete InputTooLong status count is counts short sink source = absurd (omega arith)
+
+at_limit : (end : RunEnd) (count : ℕ) → HasRead end count → status_of end ≡ 8 → count ≡ input_limit
+at_limit InputEnded count counts is = absurd (omega arith)
+at_limit SinkFailed count counts is = absurd (omega arith)
+at_limit SourceFailed count counts is = absurd (omega arith)
+at_limit OutOfMemory count counts is = absurd (omega arith)
+at_limit InputTooLong count counts is = counts
+
+abbrev Stops : ℕ → Type 0
+Stops s = (s ≡ 8) ⊎ ((s ≡ 3) ⊎ ((s ≡ 4) ⊎ ((s ≡ 6) ⊎ ((s ≡ 7) ⊎ (s ≡ 9)))))
+
+stops : (end : RunEnd) (count : ℕ) → HasRead end count → count ≡ input_limit → Stops (status_of end)
+stops InputEnded count counts is = absurd (omega arith)
+stops SinkFailed count counts is = inr (inr (inl refl))
+stops SourceFailed count counts is = absurd (omega arith)
+stops OutOfMemory count counts is = inr (inr (inr (inl refl)))
+stops InputTooLong count counts is = inl refl
+
+fault_stops : (fault : StepFault) → Stops (fault_status fault)
+fault_stops DiskFault = inr (inl refl)
+fault_stops (Damaged name at) = inr (inr (inr (inr (inl refl))))
+fault_stops (Full name size) = inr (inr (inr (inr (inr refl))))
+fault_stops NoMemory = inr (inr (inr (inl refl)))
+
+-- the status of a last line
+closed_stops : (before after : Option (List ℕ)) (text : List ℕ) (fault : StepFault) (status : ℕ) → Closes before after text fault status → Stops status
+closed_stops before after text fault status (inl whole) = subst Stops (sym whole.0) (fault_stops fault)
+closed_stops before after text fault status (inr failed) = inr (inr (inl failed.0))
+
+fault_not_8 : (fault : StepFault) → fault_status fault ≡ 8 → ⊥
+fault_not_8 DiskFault is = omega arith
+fault_not_8 (Damaged name at) is = omega arith
+fault_not_8 (Full name size) is = omega arith
+fault_not_8 NoMemory is = omega arith
+
+not_8 : (before after : Option (List ℕ)) (text : List ℕ) (fault : StepFault) (status : ℕ) → Closes before after text fault status → status ≡ 8 → ⊥
+not_8 before after text fault status (inl whole) is = fault_not_8 fault (sym whole.0 ∙ is)
+not_8 before after text fault status (inr failed) is = omega (arith, failed.0)
+
+-- without damage, a fault is one of the disk, of memory, or a full file
+faulted : (fault : StepFault) (status : ℕ) → status ≡ fault_status fault → ((name : FileName) (at : ℕ) → fault ≡ Damaged name at → ⊥) → (status ≡ 3 → ⊥) → (status ≡ 0) ⊎ ((status ≡ 6) ⊎ (status ≡ 9))
+faulted DiskFault status is whole disk = absurd (disk is)
+faulted (Damaged name at) status is whole disk = absurd (whole name at refl)
+faulted (Full name size) status is whole disk = inr (inr is)
+faulted NoMemory status is whole disk = inr (inl is)
+
+closed : (before after : Option (List ℕ)) (text : List ℕ) (fault : StepFault) (status : ℕ) → Closes before after text fault status → ((name : FileName) (at : ℕ) → fault ≡ Damaged name at → ⊥)
+    → (status ≡ 3 → ⊥) → (status ≡ 4 → ⊥) → (status ≡ 0) ⊎ ((status ≡ 6) ⊎ (status ≡ 9))
+closed before after text fault status (inl written) whole disk sink = faulted fault status written.0 whole disk
+closed before after text fault status (inr failed) whole disk sink = absurd (sink failed.0)
+
+module _ {functions : List ℕ → Functions} {honest : List ℕ → Type 0} {languages : List (List ℕ × List ℕ)} {opening : List Write} {AtEnd : List Call → Type 0} (before after : Outside) (status : ℕ) where
+  -- input that is short enough is read to its end, unless a port fails, memory runs out or a file is full
+  pub Serves-complete : Serves functions honest languages opening before after AtEnd status → IsShort before.left → (status ≡ 3 → ⊥) → (status ≡ 4 → ⊥) → (status ≡ 5 → ⊥)
+      → IfTold before.disk (λ d. (status ≡ 0) ⊎ ((status ≡ 6) ⊎ (status ≡ 9)))
+  Serves-complete (inl finishes) short disk sink source =
+      told_all before.disk _ (λ d. complete finishes.end status (length finishes.bytes) finishes.ends finishes.counts (consumed_short before.left after.left finishes.bytes finishes.reads short) sink source)
+  Serves-complete (inr (inl cut)) short disk sink source =
+      told_now before.disk (λ d. (name : FileName) (at : ℕ) → cut.fault ≡ Damaged name at → ⊥) _ (λ d whole. closed _ _ _ cut.fault status cut.closes whole disk sink) cut.whole
+  Serves-complete (inr (inr unopened)) short disk sink source =
+      told_now before.disk (λ d. (name : FileName) (at : ℕ) → unopened.fault ≡ Damaged name at → ⊥) _ (λ d whole. closed _ _ _ unopened.fault status unopened.closes whole disk sink) unopened.whole
+
+  -- a run that read as many bytes as a run reads at most ends there
+  pub Serves-limit : Serves functions honest languages opening before after AtEnd status → StopsAtLimit before.left after.left status
+  Serves-limit (inl finishes) = record {
+    bytes = finishes.bytes;
+    reads = finishes.reads;
+    limited = λ eight. at_limit finishes.end (length finishes.bytes) finishes.counts (sym finishes.ends ∙ eight);
+    stopped = λ full. subst Stops (sym finishes.ends) (stops finishes.end (length finishes.bytes) finishes.counts full);
+  }
+  Serves-limit (inr (inl cut)) = record {
+    bytes = cut.bytes;
+    reads = cut.reads;
+    limited = λ eight. absurd (not_8 _ _ _ cut.fault status cut.closes eight);
+    stopped = λ full. closed_stops _ _ _ cut.fault status cut.closes;
+  }
+  Serves-limit (inr (inr unopened)) = record {
+    bytes = [];
+    reads = subst (λ (left : Option (List ℕ)). Consumes before.left left []) (sym unopened.unread) (Consumes-nil before.left);
+    limited = λ eight. absurd (not_8 _ _ _ unopened.fault status unopened.closes eight);
+    stopped = λ full. closed_stops _ _ _ unopened.fault status unopened.closes;
+  }

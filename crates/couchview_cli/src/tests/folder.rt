@@ -1,0 +1,157 @@
+//! Runs over a folder that a run before left, that fails, or whose files are damaged.
+use super::words_of;
+use crate::command::couchview;
+use crash_disk::MemoryFolder;
+use std::alloc::Global;
+use std::str::from_utf8;
+use std::test::Fail;
+use view_ports::{FieldServers, FileName, Folder, MemorySink, MemorySource, Stem};
+
+const PUTS: &[u8] =
+    br#"{"put":{"_id":"_design/people","language":"field","views":{"by_name":{"map":"name"}}}}
+{"put":{"_id":"b","name":"Ida"}}
+{"put":{"_id":"a","name":"Ole"}}
+{"put":{"_id":"c","name":"Ida","age":41}}
+"#;
+
+const DISK_FAULT: &str = "{\"error\":\"disk_fault\",\"reason\":\"the run ends\"}\n";
+
+const DOCS: FileName = FileName {
+    stem: Stem::Docs,
+    side: false,
+};
+
+/// The status of a run over this folder, and what it wrote to a sink whose calls of these numbers fail.
+fn serve_in(
+    alloc: Global,
+    folder: &mut MemoryFolder,
+    input: &[u8],
+    failing_writes: &[u64],
+) -> Result<(u8, Vec<u8>), Fail> {
+    let words = words_of(alloc, "serve")?;
+    let mut source = MemorySource::new(alloc, input, 1000, Vec::new(alloc))?;
+    let mut sink = MemorySink::new(alloc, 1000, failing_writes.to_vec(alloc)?)?;
+    let mut servers = FieldServers::new(alloc, Vec::new(alloc))?;
+    let status = couchview(alloc, &words, &mut source, &mut sink, folder, &mut servers);
+    Ok((status, sink.held().to_vec(alloc)?))
+}
+
+#[test]
+fn a_run_goes_on_from_the_last(rt: HostRuntime) -> Result<(), Fail> {
+    let alloc = rt.alloc();
+    let mut folder = MemoryFolder::new(alloc, Vec::new(alloc), false)?;
+    let (status, _replies) = serve_in(alloc, &mut folder, PUTS, &[])?;
+    assert_eq!(rt; status, 0);
+    let input = br#"{"info":true}
+{"delete":"b","rev":"1-00000000000000000000000000000002"}
+{"get":"c"}
+{"view":["people","by_name"]}
+"#;
+    let want = r#"{"doc_count":4,"doc_del_count":0,"update_seq":4}
+{"ok":true,"id":"b","rev":"2-00000000000000000000000000000005"}
+{"_id":"c","_rev":"1-00000000000000000000000000000004","age":41,"name":"Ida"}
+{"total_rows":2,"offset":0,"rows":[{"id":"c","key":"Ida","value":null},{"id":"a","key":"Ole","value":null}]}
+"#;
+    let (status, replies) = serve_in(alloc, &mut folder, input, &[])?;
+    assert_eq!(rt; status, 0);
+    assert_eq!(rt; from_utf8(&replies), Ok(want));
+    Ok(())
+}
+
+/// Each call on the folder that fails ends the run: the lines before are answered, and the last line says so.
+#[test]
+fn a_failed_call_on_the_folder_ends_the_run(rt: HostRuntime) -> Result<(), Fail> {
+    let alloc = rt.alloc();
+    let mut folder = MemoryFolder::new(alloc, Vec::new(alloc), false)?;
+    let (_status, whole) = serve_in(alloc, &mut folder, PUTS, &[])?;
+    for call in 0..u64::MAX {
+        let mut folder = MemoryFolder::new(alloc, Vec::from_slice(alloc, &[call])?, false)?;
+        let (status, replies) = serve_in(alloc, &mut folder, PUTS, &[])?;
+        if status == 0 {
+            assert!(rt; call > 20);
+            break;
+        }
+        assert_eq!(rt; status, 3, "call {call}");
+        let Some(answered) = replies.strip_suffix(DISK_FAULT.as_bytes()) else {
+            return Err(Fail::from("no last line"));
+        };
+        assert!(rt; whole.starts_with(answered), "call {call}");
+        assert!(rt; answered.is_empty() || answered.ends_with(b"\n"), "call {call}");
+    }
+    Ok(())
+}
+
+#[test]
+fn a_failing_last_line_is_the_sinks_fault(rt: HostRuntime) -> Result<(), Fail> {
+    let alloc = rt.alloc();
+    let mut folder = MemoryFolder::new(alloc, Vec::from_slice(alloc, &[0])?, false)?;
+    let (status, replies) = serve_in(alloc, &mut folder, PUTS, &[0])?;
+    assert_eq!(rt; status, 4);
+    assert!(rt; replies.is_empty());
+    Ok(())
+}
+
+/// The root's place in the slot at 0 is overwritten.
+#[test]
+fn damage_ends_the_run_with_its_place(rt: HostRuntime) -> Result<(), Fail> {
+    let alloc = rt.alloc();
+    for (failing_writes, want_status, want) in [
+        (
+            [].as_slice(),
+            7,
+            "{\"error\":\"damaged\",\"reason\":\"docs.0 0\"}\n",
+        ),
+        ([3].as_slice(), 4, "{\"error\":\"damaged\",\"reason\":\""),
+    ] {
+        let mut folder = MemoryFolder::new(alloc, Vec::new(alloc), false)?;
+        let (_status, _replies) = serve_in(alloc, &mut folder, PUTS, &[])?;
+        if folder.len(DOCS)? < 24 {
+            return Err(Fail::from("no slot"));
+        }
+        folder.write_at(DOCS, 16, &(1_u64 << 41).to_le_bytes())?;
+        let (status, replies) = serve_in(alloc, &mut folder, PUTS, failing_writes)?;
+        assert_eq!(rt; status, want_status);
+        assert_eq!(rt; from_utf8(&replies), Ok(want));
+    }
+    Ok(())
+}
+
+/// The documents of an image that a stop left: how many writes there are.
+fn sequence_of(alloc: Global, folder: &mut MemoryFolder) -> Result<u64, Fail> {
+    let (status, replies) = serve_in(alloc, folder, b"{\"info\":true}\n", &[])?;
+    if status != 0 {
+        return Err(Fail::from("not opened"));
+    }
+    for sequence in 0..9 {
+        let end = format!(in alloc; "\"update_seq\":{sequence}}}\n")?;
+        if replies.ends_with(end.as_bytes()) {
+            return Ok(sequence);
+        }
+    }
+    Err(Fail::from("no sequence"))
+}
+
+/// A stop within each call of a run, with several choices of what survives, leaves the documents of some first writes.
+#[test]
+fn a_stop_within_any_call_leaves_first_writes(rt: HostRuntime) -> Result<(), Fail> {
+    let alloc = rt.alloc();
+    let mut folder = MemoryFolder::new(alloc, Vec::new(alloc), true)?;
+    let (status, _replies) = serve_in(alloc, &mut folder, PUTS, &[])?;
+    assert_eq!(rt; status, 0);
+    let mut last = 0;
+    let mut seen = 0;
+    for call in 0..folder.calls_noted() {
+        for choice in 0..4 {
+            let mut image = folder.image_at(alloc, call, choice)?;
+            let sequence = sequence_of(alloc, &mut image)?;
+            assert!(rt; sequence <= 4, "call {call}");
+            if sequence != last {
+                seen += 1;
+                last = sequence;
+            }
+        }
+    }
+    assert_eq!(rt; last, 4);
+    assert!(rt; seen >= 4);
+    Ok(())
+}

@@ -1,0 +1,44 @@
+-- What a crash leaves around a write: the history before it, or with it.
+use Rattle.std.proofs.Common.{◌≡◌, ◌⊎◌, ℕ, List, ◌∷◌, Option, Result, inl, inr}
+use Rattle.view_ports.specs.Disk.{Disk, Framed, IfTold, LeavesOnly, Moves, Tells}
+use Rattle.view_ports.specs.File.{File}
+use Rattle.view_ports.specs.declared.file_name.FileName.{FileName}
+use Rattle.view_ports.proofs.Moments.{started, weaker}
+use Rattle.view_ports.proofs.Told.{told_given, told_map, told_still}
+use Rattle.doc_file.specs.declared.docs.Docs.{Docs}
+use Rattle.doc_file.specs.Docs.{IsAt as AreAt, IsDocsFile}
+use Rattle.doc_file.specs.Held.{Stands}
+use Rattle.doc_file.specs.History.{Write}
+use Rattle.doc_file.proofs.Stores.{image_now}
+use Rattle.view_engine.specs.declared.request.Request.{Request}
+use Rattle.view_engine.specs.declared.refusal.Refusal.{Refusal}
+use Rattle.view_engine.specs.Engine.{StandsAround}
+use Rattle.view_engine.specs.Steps.{IsWrite}
+
+abbrev Told : Type 0
+Told = Option (Disk FileName)
+
+-- nothing was called
+pub stays_around : (docs : Docs) (disk : Told) (history : List Write) (request : Result Request Refusal) → IfTold disk (λ d. AreAt docs d.now history)
+    → Tells disk disk (LeavesOnly (StandsAround (record { history = history }) request))
+stays_around docs disk history request at =
+    told_still disk (λ d. AreAt docs d.now history) (LeavesOnly (StandsAround (record { history = history }) request))
+    (λ d is. started (StandsAround (record { history = history }) request) d (λ image here. inl (image_now docs d.now is.is_open history is image here))) at
+
+-- what the documents leave is what a crash leaves
+pub inside : (old new : Told) (P : (FileName → List ℕ) → Type 0) (ends : (FileName → File) → Type 0) → Tells old new (Moves IsDocsFile P ends) → Tells old new (LeavesOnly P)
+inside old new P ends = told_map old new (Moves IsDocsFile P ends) (LeavesOnly P) (λ a b moves. weaker (Framed IsDocsFile a.now P) P a b (λ image framed. framed.inside) moves.moments)
+
+module _ (history : List Write) (request : Result Request Refusal) (write : Write) (ends : (FileName → File) → Type 0) where
+  abbrev Either : (FileName → List ℕ) → Type 0
+  Either image = Stands image history ⊎ Stands image (write ∷ history)
+
+  by_side : IsWrite (record { history = history }) request write → (image : FileName → List ℕ) → Either image → StandsAround (record { history = history }) request image
+  by_side is image (inl before) = inl before
+  by_side is image (inr after) = inr (write, is, after)
+
+  -- an accepted write was made, or its making failed
+  pub moves_around : (old new : Told) → IfTold old (λ d. IsWrite (record { history = history }) request write) → Tells old new (Moves IsDocsFile Either ends)
+      → Tells old new (LeavesOnly (StandsAround (record { history = history }) request))
+  moves_around old new = told_given old new (λ d. IsWrite (record { history = history }) request write) (Moves IsDocsFile Either ends) (LeavesOnly (StandsAround (record { history = history }) request))
+      (λ a b is moves. weaker (Framed IsDocsFile a.now Either) (StandsAround (record { history = history }) request) a b (λ image framed. by_side is image framed.inside) moves.moments)

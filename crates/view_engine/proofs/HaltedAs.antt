@@ -1,0 +1,45 @@
+-- The halts of calls on documents, and the faults that they come from.
+use Rattle.std.proofs.Common.{◌≡◌, ℕ, List, Result, Err, sym, ap, ◌∙◌, subst}
+use Rattle.view_ports.specs.File.{File}
+use Rattle.view_ports.specs.declared.file_name.FileName.{FileName}
+use Rattle.gate_file.specs.declared.fault.GateFault.TheVariants as gate
+use Rattle.gate_file.specs.GateFile.{name_of}
+use Rattle.doc_file.specs.declared.docs.Docs.{Docs}
+use Rattle.doc_file.specs.declared.fault.DocFault.{DocFault}
+use Rattle.doc_file.specs.declared.fault.DocFault.TheVariants as doc
+use Rattle.doc_file.specs.Changes.{IsSpoiledAfter}
+use Rattle.doc_file.specs.Docs.{bytes_in, file_of, last_of, IsSpoiled}
+use Rattle.view_engine.specs.declared.halt.Halt.{Halt}
+use Rattle.view_engine.specs.declared.halt.Halt.TheVariants.{Stopped}
+use Rattle.view_engine.specs.declared.halt.StepFault.TheVariants.{Damaged}
+use Rattle.view_engine.specs.Halts.{halted_as, IsDamage}
+
+-- a damaged file comes of a damaged file
+damaged_back : (fault : DocFault) (name : FileName) (at : ℕ) → halted_as fault ≡ Stopped (Damaged name at) → fault ≡ doc.Gate (gate.Damaged name at)
+damaged_back doc.BadId name at is = absurd (let clash : ⊥ = cc in clash)
+damaged_back (doc.BadMember n) name at is = absurd (let clash : ⊥ = cc in clash)
+damaged_back doc.BadRev name at is = absurd (let clash : ⊥ = cc in clash)
+damaged_back doc.TooLarge name at is = absurd (let clash : ⊥ = cc in clash)
+damaged_back doc.TooDeep name at is = absurd (let clash : ⊥ = cc in clash)
+damaged_back doc.Conflict name at is = absurd (let clash : ⊥ = cc in clash)
+damaged_back doc.Missing name at is = absurd (let clash : ⊥ = cc in clash)
+damaged_back doc.Deleted name at is = absurd (let clash : ⊥ = cc in clash)
+damaged_back (doc.Gate gate.DiskFault) name at is = absurd (let clash : ⊥ = cc in clash)
+damaged_back (doc.Gate (gate.Damaged n o)) name at is = cc
+damaged_back (doc.Gate (gate.Full n l)) name at is = absurd (let clash : ⊥ = cc in clash)
+damaged_back (doc.Gate gate.NoMemory) name at is = absurd (let clash : ⊥ = cc in clash)
+damaged_back doc.NoMemory name at is = absurd (let clash : ⊥ = cc in clash)
+
+-- the same of a call's result and what it is taken for
+pub damaged_from : {T : Type 0} (result : Result T DocFault) (fault : DocFault) (halt : Halt) (name : FileName) (at : ℕ) → result ≡ Err fault → halt ≡ halted_as fault → halt ≡ Stopped (Damaged name at)
+    → result ≡ Err (doc.Gate (gate.Damaged name at))
+damaged_from result fault halt name at was is damaged = was ∙ ap Err (damaged_back fault name at (sym is ∙ damaged))
+
+-- ---- where the damage is
+
+pub spoiled_damage : (docs : Docs) (files : FileName → File) (name : FileName) (id : List ℕ) (at : ℕ) → (name ≡ name_of (file_of docs)) × IsSpoiled id (bytes_in docs files) (last_of docs id) at → IsDamage docs files name at
+spoiled_damage docs files name id at spoiled = record { own = spoiled.0; id = id; spoiled = spoiled.1 }
+
+pub after_damage : (docs : Docs) (files : FileName → File) (name : FileName) (seq at : ℕ) → (name ≡ name_of (file_of docs)) × IsSpoiledAfter docs (bytes_in docs files) seq at → IsDamage docs files name at
+after_damage docs files name seq at spoiled =
+    spoiled_damage docs files name spoiled.1.id at (spoiled.0, subst (λ found. IsSpoiled spoiled.1.id (bytes_in docs files) found at) (sym spoiled.1.found) spoiled.1.spoiled)

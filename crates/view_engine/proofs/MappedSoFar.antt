@@ -1,0 +1,101 @@
+-- The documents to be mapped, of the last writes so far.
+use Rattle.std.proofs.Common.{◌≡◌, ℕ, List, [], ◌∷◌, ◌++◌, map, Option, None, Some, refl, sym, ap, ◌∙◌, subst, append-nil, inl, inr, arith}
+use Rattle.std.specs.Prelude.{Bool, true, false, All, IfSome, if◌then◌else◌, option_map, length, get_or, take, ◌<◌, ◌≤◌}
+use Rattle.std.specs.List.{filter_map}
+use Rattle.std.proofs.lemmas.Bool.{cases_lt}
+use Rattle.std.proofs.lemmas.List.{length-take-le, map-append, take_all}
+use Rattle.std.proofs.lemmas.List.Elements.{All-get_or, filter_map-append}
+use Rattle.json_terms.specs.Json.{Json, members_of, object, number, is_false, is_null, is_true, array, string}
+use Rattle.json_terms.specs.Seen.{json}
+use Rattle.json_terms.proofs.Sames.{members_of-list_of_members}
+use Rattle.design_docs.specs.Documents.{is_design_id}
+use Rattle.query_protocol.specs.CommandLines.{document_of, IsDocument}
+use Rattle.doc_file.specs.declared.docs.changes.Change.{Change}
+use Rattle.doc_file.specs.Changes.{numbered, HasDocument}
+use Rattle.doc_file.specs.Held.{IsBodyOf, IsObject}
+use Rattle.view_engine.specs.declared.mapped.Mapped.{Mapped}
+use Rattle.view_engine.specs.Mapped.{AreMappedOf}
+use Rattle.view_engine.specs.World.{mapped_by}
+
+abbrev left : List Change → List (List ℕ × Json)
+left changes = filter_map (λ change. mapped_by change.1) (map numbered changes)
+
+left-push : (changes : List Change) (change : Change) → left (changes ++ change ∷ []) ≡ left changes ++ left (change ∷ [])
+left-push changes change =
+    ap (filter_map (λ c. mapped_by c.1)) (map-append numbered changes (change ∷ []))
+    ∙ filter_map-append (λ c. mapped_by c.1) (map numbered changes) (numbered change ∷ [])
+
+left_none : (change : Change) → mapped_by (numbered change).1 ≡ None → left (change ∷ []) ≡ []
+left_none change is = rw is refl
+
+left_one : (change : Change) (entry : List ℕ × Json) → mapped_by (numbered change).1 ≡ Some entry → left (change ∷ []) ≡ entry ∷ []
+left_one change entry is = rw is refl
+
+none_left : (b : Bool) (e : Option (List ℕ × Json)) → e ≡ None → (if b then None else e) ≡ None
+none_left true e is = refl
+none_left false e is = is
+
+-- what is no document to be mapped
+pub deletion_left : (change : Change) → change.doc ≡ None → mapped_by (numbered change).1 ≡ None
+deletion_left change is =
+    none_left (is_design_id change.id) (option_map (λ document. (change.id, document)) (option_map json change.doc))
+    (ap (λ d. option_map (λ document. (change.id, document)) (option_map json d)) is)
+
+pub design_left : (change : Change) → is_design_id change.id ≡ true → mapped_by (numbered change).1 ≡ None
+design_left change is = ap (λ b. if b then None else option_map (λ document. (change.id, document)) (option_map json change.doc)) is
+
+-- another change that leaves nothing
+pub mapped_less : (changes : List Change) (change : Change) (m : Mapped) → AreMappedOf (map numbered changes) m → mapped_by (numbered change).1 ≡ None → AreMappedOf (map numbered (changes ++ change ∷ [])) m
+mapped_less changes change m are none =
+    let same : left (changes ++ change ∷ []) ≡ left changes = left-push changes change ∙ ap (λ es. left changes ++ es) (left_none change none) ∙ append-nil (left changes) in
+    record {
+      ids = are.ids ∙ ap (map (λ (entry : List ℕ × Json). entry.0)) (sym same);
+      documents = are.documents ∙ ap (map (λ (entry : List ℕ × Json). document_of entry.1)) (sym same);
+    }
+
+-- another change that leaves a document
+pub mapped_more : (changes : List Change) (change : Change) (m new : Mapped) (document : Json) → AreMappedOf (map numbered changes) m
+    → is_design_id change.id ≡ false → option_map json change.doc ≡ Some document → new.ids.items ≡ m.ids.items ++ change.id ∷ [] → new.documents.items ≡ m.documents.items ++ document_of document ∷ []
+    → AreMappedOf (map numbered (changes ++ change ∷ [])) new
+mapped_more changes change m new document are other live ids documents =
+    let is : mapped_by (numbered change).1 ≡ Some (change.id, document) =
+    ap (λ b. if b then None else option_map (λ d. (change.id, d)) (option_map json change.doc)) other ∙ ap (option_map (λ d. (change.id, d))) live in
+    let same : left (changes ++ change ∷ []) ≡ left changes ++ (change.id, document) ∷ [] = left-push changes change ∙ ap (λ es. left changes ++ es) (left_one change (change.id, document) is) in
+    record {
+      ids = ids ∙ ap (λ is. is ++ change.id ∷ []) are.ids ∙ sym (map-append (λ (entry : List ℕ × Json). entry.0) (left changes) ((change.id, document) ∷ [])) ∙ ap (map (λ (entry : List ℕ × Json). entry.0)) (sym same);
+      documents = documents ∙ ap (λ ds. ds ++ document_of document ∷ []) are.documents
+          ∙ sym (map-append (λ (entry : List ℕ × Json). document_of entry.1) (left changes) ((change.id, document) ∷ [])) ∙ ap (map (λ (entry : List ℕ × Json). document_of entry.1)) (sym same);
+    }
+
+-- ---- a stored document may be mapped
+
+object_is : (document : Json) → IsObject document → document ≡ object (members_of (document_of document))
+object_is (object ms) is = ap object (sym (members_of-list_of_members ms))
+object_is (number n) is = absurd is
+object_is is_false is = absurd is
+object_is is_null is = absurd is
+object_is is_true is = absurd is
+object_is (array ts) is = absurd is
+object_is (string s) is = absurd is
+
+pub may_be_mapped : (id : List ℕ) (document : Json) → IsBodyOf id document → IsDocument document
+may_be_mapped id document body = record { members = document_of document; is = object_is document body.document_is.object; shallow = body.document_is.shallow }
+
+pub change_may_be_mapped : (changes : List Change) (place : ℕ) (change : Change) (document : Json) → All HasDocument changes → place < length changes → change ≡ get_or changes place change
+    → option_map json change.doc ≡ Some document → IsDocument document
+change_may_be_mapped changes place change document all within is live =
+    let has : HasDocument change = subst HasDocument (sym is) (All-get_or HasDocument changes place change within all) in
+    may_be_mapped change.id document (subst (λ d. IfSome d (IsBodyOf change.id)) live has)
+
+-- fewer than were asked for are all that there are
+pub taken_all : {X : Type 0} (n : ℕ) (some all : List X) → length some < n → some ≡ take n all → some ≡ all
+taken_all n some all few is =
+    let short : length all ≤ n = elim (cases_lt n (length all)) [
+      | inl long ↦ (let full : length some ≡ n = ap length is ∙ length-take-le n all (omega (arith, long)) in omega (arith, few, full))
+      | inr within ↦ omega (arith, within)
+    ] in
+    is ∙ take_all n all short
+
+pub itself : (changes : List Change) → map (λ change. change) changes ≡ changes
+itself [] = refl
+itself (change ∷ changes) = ap (λ rest. change ∷ rest) (itself changes)

@@ -1,0 +1,35 @@
+-- Documents that are kept as they were stand where they stood.
+use Rattle.std.proofs.Common.{◌≡◌, ◌≢◌, ℕ, List, [], sym, subst, ◌∙◌}
+use Rattle.view_ports.specs.File.{File, settled}
+use Rattle.view_ports.specs.declared.file_name.FileName.{FileName}
+use Rattle.gate_file.specs.declared.gate.GateFile.{GateFile}
+use Rattle.gate_file.specs.GateFile.{commits_of, name_of, root_of, Keeps as KeepsFile}
+use Rattle.doc_file.specs.declared.docs.Docs.{Docs}
+use Rattle.doc_file.specs.declared.entry.Entry.{Entry}
+use Rattle.doc_file.specs.Docs.{bytes_in, entries_of, file_of, seq_of, IsAt, IsDocsFile, IsLoaded, IsOpen, IsSame}
+use Rattle.doc_file.specs.Held.{HoldsRoot, KeepsEach}
+use Rattle.doc_file.specs.History.{Write}
+
+module _ (old new : Docs) (files : FileName → File) (same : IsSame old new) where
+  loaded : IsOpen old files → IsLoaded new files
+  loaded is_open =
+      subst (λ (g : GateFile). HoldsRoot (root_of g) (commits_of g) (files (name_of g)).seen (seq_of new) (entries_of new)) (sym same.file)
+      (subst (λ n. HoldsRoot (root_of (file_of old)) (commits_of (file_of old)) (bytes_in old files) n (entries_of new)) (sym same.seq)
+      (subst (λ (entries : List Entry). HoldsRoot (root_of (file_of old)) (commits_of (file_of old)) (bytes_in old files) (seq_of old) entries) (sym same.entries) is_open.loaded))
+
+  pub IsOpen-same : IsOpen old files → IsOpen new files
+  IsOpen-same is_open = record {
+    own = subst (λ (g : GateFile). IsDocsFile (name_of g)) (sym same.file) is_open.own;
+    keeps = subst (λ (g : GateFile). KeepsFile g (files (name_of g))) (sym same.file) is_open.keeps;
+    whole = subst (λ (g : GateFile). files (name_of g) ≡ settled (files (name_of g)).seen) (sym same.file) is_open.whole;
+    other = subst (λ (g : GateFile). (name : FileName) → IsDocsFile name → name ≢ name_of g → files name ≡ settled []) (sym same.file) is_open.other;
+    loaded = loaded is_open;
+  }
+
+  pub IsAt-same : (history : List Write) → IsAt old files history → IsAt new files history
+  IsAt-same history at = record {
+    is_open = IsOpen-same at.is_open;
+    count = same.seq ∙ at.count;
+    each = subst (λ (g : GateFile). KeepsEach history (files (name_of g)).seen (entries_of new)) (sym same.file)
+        (subst (λ (entries : List Entry). KeepsEach history (bytes_in old files) entries) (sym same.entries) at.each);
+  }

@@ -1,0 +1,48 @@
+-- A view request that is halted before any server is asked.
+use Rattle.std.proofs.Common.{◌≡◌, ℕ, List, Option, None, Some, Ok, refl, inl, inr}
+use Rattle.view_ports.specs.Calls.{Call}
+use Rattle.view_ports.specs.Disk.{Disk, IfTold, MovesNone, Tells}
+use Rattle.view_ports.specs.Functions.{Functions}
+use Rattle.view_ports.specs.declared.file_name.FileName.{FileName}
+use Rattle.doc_file.specs.History.{Write}
+use Rattle.view_engine.specs.declared.engine.Engine.{Engine}
+use Rattle.view_engine.specs.declared.halt.Halt.{Halt}
+use Rattle.view_engine.specs.declared.halt.Halt.TheVariants.{Refused}
+use Rattle.view_engine.specs.declared.request.Request.TheVariants.{View as ViewRequest}
+use Rattle.view_engine.specs.declared.request.ViewName.{ViewName}
+use Rattle.view_engine.specs.declared.refusal.Refusal.{Refusal}
+use Rattle.view_engine.specs.Engine.{IsAt, Leaves}
+use Rattle.view_engine.specs.Moments.{Moment}
+use Rattle.view_engine.specs.Refusals.{refusal_text}
+use Rattle.view_engine.specs.Steps.{DoesRequest, MayHaveCalled}
+use Rattle.view_engine.specs.View.{view_refusal}
+use Rattle.view_engine.proofs.Keeping.{at_none}
+
+-- the refusal is that of the definition
+abbrev pub IsRefusedThere : List (List ℕ × List ℕ) → List Write → ViewName → Halt → Type 0
+IsRefusedThere languages history name halt = (r : Refusal) → halt ≡ Refused r → view_refusal languages (record { history = history }) name ≡ Some r
+
+-- each refusal is said of the same disk
+pub told_refused : (x : Option (Disk FileName)) (docs_at : Disk FileName → Type 0) (languages : List (List ℕ × List ℕ)) (history : List Write) (name : ViewName) (halt : Halt) → IfTold x docs_at
+    → ((r : Refusal) → halt ≡ Refused r → IfTold x (λ d. docs_at d → view_refusal languages (record { history = history }) name ≡ Some r)) → IfTold x (λ d. IsRefusedThere languages history name halt)
+told_refused None docs_at languages history name halt at refused = tt
+told_refused (Some a) docs_at languages history name halt at refused = λ r is. refused r is at
+
+module _ (functions : List ℕ → Functions) (honest : List ℕ → Type 0) (languages : List (List ℕ × List ℕ)) (before : Moment) (name : ViewName) (halt : Halt)
+    (x y : Option (Disk FileName)) (may_follow : List Call → Type 0) (faults : ℕ) (engine : Engine) (at : IsAt x may_follow faults engine before) (moves : Tells x y MovesNone) where
+  abbrev Halts : Moment → Type 0
+  Halts left = ((r : Refusal) → halt ≡ Refused r → DoesRequest functions honest languages before (Ok (ViewRequest name None)) (refusal_text r) left) × MayHaveCalled languages before (Ok (ViewRequest name None)) left
+
+  halts : IsRefusedThere languages before.world.history name halt → Halts before
+  halts refused = (λ r is. inr (r, refused r is, (refl, refl)), inl refl)
+
+  pub unasked : IfTold x (λ d. IsRefusedThere languages before.world.history name halt) → Leaves y may_follow faults engine (λ left. IfTold x (λ d. Halts left))
+  unasked refused = record {
+    after = before;
+    is_at = record { documents = at_none engine.docs x y moves before.world.history at.documents; child = at.child };
+    allowed = told_halts x refused;
+  }
+    where
+      told_halts : (w : Option (Disk FileName)) → IfTold w (λ d. IsRefusedThere languages before.world.history name halt) → IfTold w (λ d. Halts before)
+      told_halts None is = tt
+      told_halts (Some a) is = halts is

@@ -1,0 +1,118 @@
+-- Writes that are accepted or refused, as the documents answer them.
+use Rattle.std.proofs.Common.{◌≡◌, ◌⊎◌, ℕ, List, Bool, false, Option, None, Some, Ok, inl, inr, refl, sym, ap, ◌∙◌, subst}
+use Rattle.json_terms.specs.Json.{Json, members_of, object}
+use Rattle.view_ports.specs.File.{File}
+use Rattle.view_ports.specs.declared.file_name.FileName.{FileName}
+use Rattle.design_docs.specs.Documents.{id_of}
+use Rattle.gate_file.specs.declared.gate.GateFile.{GateFile}
+use Rattle.gate_file.specs.declared.fault.GateFault.TheVariants as gate
+use Rattle.doc_file.specs.declared.docs.Docs.{Docs}
+use Rattle.doc_file.specs.declared.fault.DocFault.{DocFault}
+use Rattle.doc_file.specs.declared.fault.DocFault.TheVariants as doc
+use Rattle.doc_file.specs.Accepted.{State, state_in, state_of}
+use Rattle.doc_file.specs.Docs.{bytes_in, entries_of, last_of, IsAt}
+use Rattle.doc_file.specs.History.{Write}
+use Rattle.doc_file.specs.Stored.{next_revision}
+use Rattle.doc_file.specs.Writes.{IsAcceptedDelete, IsAcceptedPut, IsFileFault, IsRefusedDelete, IsRefusedPut}
+use Rattle.doc_file.proofs.Histories.{state_kept}
+use Rattle.view_engine.specs.declared.halt.Halt.{Halt}
+use Rattle.view_engine.specs.declared.halt.Halt.TheVariants.{Refused, Stopped}
+use Rattle.view_engine.specs.declared.request.Request.TheVariants.{Delete, Put}
+use Rattle.view_engine.specs.declared.refusal.Refusal.{Refusal}
+use Rattle.view_engine.specs.Answer.{write_text}
+use Rattle.view_engine.specs.Delete.{delete_write, DoesDelete, IsDeleteRefused}
+use Rattle.view_engine.specs.Halts.{halted_as}
+use Rattle.view_engine.specs.Put.{is_unbuilt, put_write, DoesPut, IsPutRefused}
+use Rattle.view_engine.specs.Refusals.{refused_as}
+use Rattle.view_engine.specs.Replies.{accepted_reply}
+use Rattle.view_engine.specs.Steps.{IsWrite}
+use Rattle.view_engine.specs.World.{World, written}
+
+-- a refusal is met as what the documents refuse
+refusal_is : (fault : DocFault) (refusal : Refusal) → halted_as fault ≡ Refused refusal → refusal ≡ refused_as fault
+refusal_is doc.BadId refusal is = cc
+refusal_is (doc.BadMember name) refusal is = cc
+refusal_is doc.BadRev refusal is = cc
+refusal_is doc.TooLarge refusal is = cc
+refusal_is doc.TooDeep refusal is = cc
+refusal_is doc.Conflict refusal is = cc
+refusal_is doc.Missing refusal is = cc
+refusal_is doc.Deleted refusal is = cc
+refusal_is (doc.Gate gate.DiskFault) refusal is = absurd (cc)
+refusal_is (doc.Gate (gate.Damaged name at)) refusal is = absurd (cc)
+refusal_is (doc.Gate (gate.Full name length)) refusal is = absurd (cc)
+refusal_is (doc.Gate gate.NoMemory) refusal is = absurd (cc)
+refusal_is doc.NoMemory refusal is = absurd (cc)
+
+-- a fault of the file is no refusal
+file_fault : (file : GateFile) (fault : DocFault) (refusal : Refusal) → IsFileFault file fault → halted_as fault ≡ Refused refusal → ⊥
+file_fault file fault refusal (inl is) met = let never : halted_as (doc.Gate gate.DiskFault) ≡ Refused refusal = ap halted_as (sym is) ∙ met in cc
+file_fault file fault refusal (inr (inl is)) met = let never : halted_as (doc.Gate (gate.Full file.name (Some file.length))) ≡ Refused refusal = ap halted_as (sym is) ∙ met in cc
+file_fault file fault refusal (inr (inr is)) met = let never : halted_as (doc.Gate (gate.Full file.name None)) ≡ Refused refusal = ap halted_as (sym is) ∙ met in cc
+
+no_memory : (fault : DocFault) (refusal : Refusal) → fault ≡ doc.NoMemory → halted_as fault ≡ Refused refusal → ⊥
+no_memory fault refusal is met = let never : halted_as doc.NoMemory ≡ Refused refusal = ap halted_as (sym is) ∙ met in cc
+
+-- what is met of a fault is what the documents refuse
+met : (file : GateFile) (fault : DocFault) (refusal : Refusal) (P : DocFault → Type 0) → P fault ⊎ IsFileFault file fault ⊎ (fault ≡ doc.NoMemory) → halted_as fault ≡ Refused refusal → (f : DocFault) × P f × (refusal ≡ refused_as f)
+met file fault refusal P (inl is) same = (fault, is, refusal_is fault refusal same)
+met file fault refusal P (inr (inl of_file)) same = absurd (file_fault file fault refusal of_file same)
+met file fault refusal P (inr (inr spent)) same = absurd (no_memory fault refusal spent same)
+
+module _ (docs : Docs) (files : FileName → File) (history : List Write) (at : IsAt docs files history) where
+  put_accepted : (document : Json) → IsAcceptedPut (state_in (last_of docs (id_of document))) document → IsAcceptedPut (state_of history (id_of document)) document
+  put_accepted document accepted = subst (λ (s : State). IsAcceptedPut s document) (state_kept history (bytes_in docs files) (entries_of docs) at.each (id_of document)) accepted
+
+  -- an accepted put
+  pub put_does : (document : Json) → is_unbuilt document ≡ false → IsAcceptedPut (state_in (last_of docs (id_of document))) document
+      → accepted_reply docs (id_of document) ≡ write_text (id_of document) (next_revision history (id_of document))
+      → DoesPut (record { history = history }) document (accepted_reply docs (id_of document)) (written (record { history = history }) (put_write (record { history = history }) document))
+  put_does document built accepted reply = record { built = built; accepted = put_accepted document accepted; prints = reply; wrote = refl }
+
+  -- it is the request's write
+  pub put_is_write : (members : List (List ℕ × Json)) → is_unbuilt (object (members_of members)) ≡ false
+      → IsAcceptedPut (state_in (last_of docs (id_of (object (members_of members))))) (object (members_of members))
+      → accepted_reply docs (id_of (object (members_of members))) ≡ write_text (id_of (object (members_of members))) (next_revision history (id_of (object (members_of members))))
+      → IsWrite (record { history = history }) (Ok (Put members)) (put_write (record { history = history }) (object (members_of members)))
+  put_is_write members built accepted reply =
+      let document : Json = object (members_of members) in
+      let world : World = record { history = history } in
+      (accepted_reply docs (id_of document), (written world (put_write world document), put_does document built accepted reply, refl))
+
+  -- a reply to the write of an id
+  pub reply_to : (i j : List ℕ) → i ≡ j → accepted_reply docs i ≡ write_text i (next_revision history i) → accepted_reply docs j ≡ write_text j (next_revision history j)
+  reply_to i j same = subst (λ k. accepted_reply docs k ≡ write_text k (next_revision history k)) same
+
+  -- an accepted deletion
+  pub delete_does : (id : List ℕ) (given : Option (List ℕ)) → IsAcceptedDelete (state_in (last_of docs id)) given
+      → accepted_reply docs id ≡ write_text id (next_revision history id)
+      → DoesDelete (record { history = history }) id given (accepted_reply docs id) (written (record { history = history }) (delete_write (record { history = history }) id))
+  delete_does id given accepted reply = record {
+    accepted = subst (λ (s : State). IsAcceptedDelete s given) (state_kept history (bytes_in docs files) (entries_of docs) at.each id) accepted;
+    prints = reply;
+    wrote = refl;
+  }
+
+  pub delete_is_write : (id : List ℕ) (given : Option (List ℕ)) → IsAcceptedDelete (state_in (last_of docs id)) given
+      → accepted_reply docs id ≡ write_text id (next_revision history id)
+      → IsWrite (record { history = history }) (Ok (Delete id given)) (delete_write (record { history = history }) id)
+  delete_is_write id given accepted reply =
+      let world : World = record { history = history } in
+      (accepted_reply docs id, (written world (delete_write world id), delete_does id given accepted reply, refl))
+
+  pub put_refused : (file : GateFile) (document : Json) (fault : DocFault) (refusal : Refusal) → is_unbuilt document ≡ false
+      → IsRefusedPut (state_in (last_of docs (id_of document))) document fault ⊎ IsFileFault file fault ⊎ (fault ≡ doc.NoMemory) → halted_as fault ≡ Refused refusal
+      → IsPutRefused (record { history = history }) document refusal
+  put_refused file document fault refusal built is same =
+      inr (
+        built,
+        subst (λ (s : State). (f : DocFault) × IsRefusedPut s document f × (refusal ≡ refused_as f)) (state_kept history (bytes_in docs files) (entries_of docs) at.each (id_of document))
+            (met file fault refusal (IsRefusedPut (state_in (last_of docs (id_of document))) document) is same),
+      )
+
+  pub delete_refused : (file : GateFile) (id : List ℕ) (given : Option (List ℕ)) (fault : DocFault) (refusal : Refusal)
+      → IsRefusedDelete (state_in (last_of docs id)) given fault ⊎ IsFileFault file fault ⊎ (fault ≡ doc.NoMemory) → halted_as fault ≡ Refused refusal
+      → IsDeleteRefused (record { history = history }) id given refusal
+  delete_refused file id given fault refusal is same =
+      subst (λ (s : State). (f : DocFault) × IsRefusedDelete s given f × (refusal ≡ refused_as f)) (state_kept history (bytes_in docs files) (entries_of docs) at.each id)
+      (met file fault refusal (IsRefusedDelete (state_in (last_of docs id)) given) is same)

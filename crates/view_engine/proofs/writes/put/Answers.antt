@@ -1,0 +1,90 @@
+-- A put is what the documents make of it.
+use Rattle.std.proofs.Common.{◌≡◌, ◌⊎◌, ◌∷◌, ℕ, List, Ok, OnOk, inl, inr, refl, sym, ap, ◌∙◌, subst, false}
+use Rattle.json_terms.specs.Json.{object, members_of}
+use Rattle.view_ports.specs.Disk.{IfTold, LeavesOnly, Moves, Tells}
+use Rattle.view_ports.proofs.Told.{told_after, told_all, told_now}
+use Rattle.design_docs.specs.Documents.{id_of}
+use Rattle.doc_file.specs.Docs.{IsAt, IsDocsFile, IsSame}
+use Rattle.doc_file.specs.Held.{Stands}
+use Rattle.doc_file.specs.Writes.{IsFileFault}
+use Rattle.view_engine.specs.declared.request.Request.TheVariants.{Put}
+use Rattle.view_engine.specs.Engine.{StandsAround}
+use Rattle.view_engine.specs.Put.{is_unbuilt, put_write, IsPutRefused}
+use Rattle.view_engine.specs.Steps.{IsWrite}
+use Rattle.view_engine.specs.World.{World}
+use Rattle.view_engine.proofs.Around.{moves_around, stays_around}
+use Rattle.view_engine.proofs.PlainPuts.{plain_where_built}
+use Rattle.view_engine.proofs.Writing.{put_does, put_is_write, put_refused, reply_to}
+use Rattle.view_engine.proofs.writes.put.Goals as goal
+
+pub returns-in_err-is_unbuilt-clause-moments : goal.returns-in_err-is_unbuilt-clause-moments
+returns-in_err-is_unbuilt-clause-moments g c = λ history at. stays_around c.args.docs.now (g.F.Folder.disk c.args.folder.now) history (Ok (Put c.args.document)) at
+
+pub returns-then-branch-clause-moments : goal.returns-then-branch-clause-moments
+returns-then-branch-clause-moments g c = λ history at. stays_around c.args.docs.now (g.F.Folder.disk c.args.folder.now) history (Ok (Put c.args.document)) at
+
+pub returns-in_err-reply-clause-moments : goal.returns-in_err-reply-clause-moments
+returns-in_err-reply-clause-moments g c = λ history at. stays_around c.args.docs.now (g.F.Folder.disk c.args.folder.now) history (Ok (Put c.args.document)) at
+
+pub returns-in_err-extend_from_slice-clause-moments : goal.returns-in_err-extend_from_slice-clause-moments
+returns-in_err-extend_from_slice-clause-moments g c = λ history at. stays_around c.args.docs.now (g.F.Folder.disk c.args.folder.now) history (Ok (Put c.args.document)) at
+
+pub put-requires-clause-plain : goal.put-requires-clause-plain
+put-requires-clause-plain g c = plain_where_built (members_of c.args.document) (sym c.in_ok-is_unbuilt.ensures ∙ c.if-branch.false)
+
+pub returns-in-Ok-clause-done : goal.returns-in-Ok-clause-done
+returns-in-Ok-clause-done g c = λ history.
+    let docs = c.args.docs.now in
+    let document = object (members_of c.args.document) in
+    told_all (g.F.Folder.disk c.args.folder.now) _
+    (λ d at. put_does docs d.now history at document (sym c.in_ok-is_unbuilt.ensures ∙ c.if-branch.false) c.in-Ok.ensures.accepted
+    (reply_to docs d.now history at c.id_of.result.now (id_of document) c.id_of.ensures (c.in_ok-reply.ensures.history d.now history at)))
+
+pub returns-in-Ok-clause-stored : goal.returns-in-Ok-clause-stored
+returns-in-Ok-clause-stored g c = λ history at.
+    let world : World = record { history = history } in
+    let write = put_write world (object (members_of c.args.document)) in
+    told_after (g.F.Folder.disk c.args.folder.now) (g.F.Folder.disk c.put.new.folder) (λ d. IsAt c.args.docs.now d.now history) (λ d. IsAt c.put.new.self d.now (write ∷ history))
+    (Moves IsDocsFile (λ image. Stands image history ⊎ Stands image (write ∷ history)) (λ files. OnOk c.put.result (IsAt c.put.new.self files (write ∷ history))))
+    (λ a b is moves. subst (λ r. OnOk r (IsAt c.put.new.self b.now (write ∷ history))) c.in-Ok.is moves.ended)
+    at (c.put.ensures.stands history at)
+
+pub returns-in-Ok-clause-moments : goal.returns-in-Ok-clause-moments
+returns-in-Ok-clause-moments g c = λ history at.
+    let docs = c.args.docs.now in
+    let document = object (members_of c.args.document) in
+    let world : World = record { history = history } in
+    let write = put_write world document in
+    moves_around history (Ok (Put c.args.document)) write (λ files. OnOk c.put.result (IsAt c.put.new.self files (write ∷ history)))
+    (g.F.Folder.disk c.args.folder.now) (g.F.Folder.disk c.put.new.folder)
+    (told_now (g.F.Folder.disk c.args.folder.now) (λ d. IsAt docs d.now history) (λ d. IsWrite world (Ok (Put c.args.document)) write)
+    (λ d is. put_is_write docs d.now history is c.args.document (sym c.in_ok-is_unbuilt.ensures ∙ c.if-branch.false) c.in-Ok.ensures.accepted
+    (reply_to docs d.now history is c.id_of.result.now (id_of document) c.id_of.ensures (c.in_ok-reply.ensures.history d.now history is)))
+    at)
+    (c.put.ensures.stands history at)
+
+pub returns-clause-refused : goal.returns-clause-refused
+returns-clause-refused g c = λ refusal met history.
+    told_all (g.F.Folder.disk c.args.folder.now) _
+    (λ d at. put_refused c.args.docs.now d.now history at c.args.docs.now.file (object (members_of c.args.document)) c.in-Err.fault refusal (sym c.in_ok-is_unbuilt.ensures ∙ c.if-branch.false)
+    c.in-Err.ensures.refused (sym c.from.ensures ∙ met))
+
+pub returns-clause-moments : goal.returns-clause-moments
+returns-clause-moments g c = λ history at.
+    let docs = c.args.docs.now in
+    let before = g.F.Folder.disk c.args.folder.now in
+    let document = object (members_of c.args.document) in
+    let world : World = record { history = history } in
+    let write = put_write world document in
+    let around = LeavesOnly (StandsAround world (Ok (Put c.args.document))) in
+    elim c.in-Err.ensures.kept [
+      | inl of_file ↦
+          moves_around history (Ok (Put c.args.document)) write (λ files. OnOk c.put.result (IsAt c.put.new.self files (write ∷ history)))
+          before (g.F.Folder.disk c.put.new.folder)
+          (told_now before (λ d. IsAt docs d.now history) (λ d. IsWrite world (Ok (Put c.args.document)) write)
+          (λ d is. put_is_write docs d.now history is c.args.document (sym c.in_ok-is_unbuilt.ensures ∙ c.if-branch.false) (c.in-Err.ensures.reached of_file)
+          (reply_to docs d.now history is c.id_of.result.now (id_of document) c.id_of.ensures (c.in_ok-reply.ensures.history d.now history is)))
+          at)
+          (c.put.ensures.stands history at)
+      | inr same ↦ subst (λ folder. Tells before (g.F.Folder.disk folder) around) (sym same.1) (stays_around docs before history (Ok (Put c.args.document)) at)
+    ]

@@ -1,0 +1,78 @@
+-- What a refusal or a fault of the documents is to a request, and what faults leave.
+use Rattle.std.specs.Prelude.{◌≡◌, ℕ, ◌+◌, ◌^◌, ◌<◌, ◌≤◌, List, Option, Some, None, Result, Ok, Err}
+use Rattle.json_terms.specs.Json.{Json, object, members_of}
+use Rattle.design_docs.specs.Documents.{id_of}
+use Rattle.view_ports.specs.File.{File}
+use Rattle.view_ports.specs.declared.file_name.FileName.{FileName}
+use Rattle.gate_file.specs.declared.fault.GateFault.TheVariants as gate
+use Rattle.gate_file.specs.GateFile.{commits_of, length_of, name_of, start_of}
+use Rattle.doc_file.specs.declared.docs.Docs.{Docs}
+use Rattle.doc_file.specs.declared.fault.DocFault.{DocFault}
+use Rattle.doc_file.specs.declared.fault.DocFault.TheVariants as doc
+use Rattle.doc_file.specs.Docs.{bytes_in, entries_of, file_of, last_of, seq_of, IsSpoiled}
+use Rattle.doc_file.specs.Stored.{size_of}
+use Rattle.doc_file.specs.Writes.{content_of}
+use Rattle.view_engine.specs.declared.halt.Halt.{Halt}
+use Rattle.view_engine.specs.declared.halt.Halt.TheVariants.{Refused, Stopped}
+use Rattle.view_engine.specs.declared.halt.StepFault.{StepFault}
+use Rattle.view_engine.specs.declared.halt.StepFault.TheVariants.{DiskFault, Damaged, Full, NoMemory}
+use Rattle.view_engine.specs.declared.refusal.Refusal.{Refusal}
+use Rattle.view_engine.specs.declared.refusal.Refusal.TheVariants as refusal
+use Rattle.view_engine.specs.declared.request.Request.{Request}
+use Rattle.view_engine.specs.declared.request.Request.TheVariants.{Put, Delete}
+
+abbrev pub halted_as : DocFault → Halt
+halted_as doc.BadId = Refused refusal.BadId
+halted_as (doc.BadMember name) = Refused (refusal.BadMember name)
+halted_as doc.BadRev = Refused refusal.BadRev
+halted_as doc.TooLarge = Refused refusal.DocumentTooLarge
+halted_as doc.TooDeep = Refused refusal.DocumentTooDeep
+halted_as doc.Conflict = Refused refusal.Conflict
+halted_as doc.Missing = Refused refusal.Missing
+halted_as doc.Deleted = Refused refusal.Deleted
+halted_as (doc.Gate gate.DiskFault) = Stopped DiskFault
+halted_as (doc.Gate (gate.Damaged name offset)) = Stopped (Damaged name offset)
+halted_as (doc.Gate (gate.Full name length)) = Stopped (Full name length)
+halted_as (doc.Gate gate.NoMemory) = Stopped NoMemory
+halted_as doc.NoMemory = Stopped NoMemory
+
+-- want of memory has one name
+abbrev pub halted_by : Refusal → Halt
+halted_by refusal.NoMemory = Stopped NoMemory
+halted_by other = Refused other
+
+-- what is no refusal
+abbrev pub fault_of : Halt → StepFault
+fault_of (Stopped fault) = fault
+fault_of (Refused refusal) = NoMemory
+
+-- the engine may go on after it
+abbrev pub GoesOn : Halt → Type 0
+GoesOn (Refused refusal) = Unit {0}
+GoesOn (Stopped NoMemory) = Unit {0}
+GoesOn (Stopped DiskFault) = ⊥
+GoesOn (Stopped (Damaged name offset)) = ⊥
+GoesOn (Stopped (Full name length)) = ⊥
+
+-- the same of a step
+abbrev pub HasGoneOn : Result (Unit {0}) StepFault → Type 0
+HasGoneOn (Ok done) = Unit {0}
+HasGoneOn (Err fault) = GoesOn (Stopped fault)
+
+-- at this place of the documents' file the last write of some id has no body
+pub record IsDamage (docs : Docs) (files : FileName → File) (name : FileName) (at : ℕ) : Type 0 where
+  pub own : name ≡ name_of (file_of docs)
+  pub id : List ℕ
+  pub spoiled : IsSpoiled id (bytes_in docs files) (last_of docs id) at
+
+-- the next write of an id with this content would make the file of the documents too long, or is one commit too many
+abbrev pub IsFull : Docs → List ℕ → Option Json → FileName → Option ℕ → Type 0
+IsFull docs id content name None = (name ≡ name_of (file_of docs)) × (2 ^ 50 ≤ commits_of (file_of docs))
+IsFull docs id content name (Some length) = (name ≡ name_of (file_of docs)) × (length ≡ length_of (file_of docs))
+    × (2 ^ 40 < start_of (file_of docs) + size_of (start_of (file_of docs)) (seq_of docs) (entries_of docs) id content)
+
+-- what a request would write
+abbrev pub IsFullFor : Docs → Result Request Refusal → FileName → Option ℕ → Type 0
+IsFullFor docs (Ok (Put document)) name length = IsFull docs (id_of (object (members_of document))) (content_of (object (members_of document))) name length
+IsFullFor docs (Ok (Delete id given)) name length = IsFull docs id None name length
+IsFullFor docs other name length = ⊥

@@ -1,0 +1,156 @@
+// The requests that write a document: `put` and `delete`. The reply is made first, so that want of memory writes nothing.
+ghost use Rattle.std.specs.Prelude.{◌≡◌, ◌++◌, ◌∷◌, ℕ, List, IfErr, IfOk, IsTrue, None, Ok, OnErr, OnOk, Option, option_map};
+ghost use Rattle.json_terms.specs.Json.{object, members_of};
+ghost use Rattle.json_terms.specs.Seen.{json};
+ghost use Rattle.design_docs.specs.Documents.{id_of as id_in};
+ghost use Rattle.view_ports.specs.Causes.{HasCauseIf};
+ghost use Rattle.view_ports.specs.Disk.{IfTold, LeavesOnly, Tells};
+ghost use Rattle.view_ports.specs.File.{File};
+ghost use Rattle.view_ports.specs.Lines.{ended};
+ghost use Rattle.view_ports.specs.declared.file_name.FileName.{FileName};
+ghost use Rattle.doc_file.specs.Docs.{IsAt, IsOpen, IsSame};
+ghost use Rattle.doc_file.specs.History.{Write};
+ghost use Rattle.doc_file.specs.Incoming.{deletes as deletes_json};
+ghost use Rattle.doc_file.specs.Stored.{next_revision};
+ghost use Rattle.view_engine.specs.Answer.{write_text};
+ghost use Rattle.view_engine.specs.Delete.{delete_write, DoesDelete, IsDeleteRefused};
+ghost use Rattle.view_engine.specs.Engine.{StandsAround};
+ghost use Rattle.view_engine.specs.Halts.{GoesOn, IsFullFor};
+ghost use Rattle.view_engine.specs.Put as spec;
+ghost use Rattle.view_engine.specs.Replies.{accepted_reply};
+ghost use Rattle.view_engine.specs.World.{written};
+
+use crate::answer::write_accepted;
+use crate::halt::{Halt, StepFault};
+use crate::refusal::Refusal;
+use crate::request::Request;
+use design_docs::{DESIGN_PREFIX, id_of, is_design_id, is_plain};
+use doc_file::{DocFault, Docs};
+use json_terms::{Chars, Members, NoMemory, Term, member};
+use std::alloc::Global;
+use view_ports::Folder;
+
+/// Room for the reply to most writes, in bytes.
+const USUAL_REPLY: usize = 128;
+
+/// Puts a document and appends the reply line.
+pub(crate) fn put<F: Folder>(
+    alloc: Global,
+    docs: &mut Docs,
+    folder: &mut F,
+    document: Members,
+    out: &mut Vec<u8>,
+) -> Result<(), Halt>
+    requires open { IfTold (F.disk folder.old) (λ d. IsOpen docs.old d.now) }
+    ensures appended { OnOk result (out.new.items ≡ out.old.items ++ ended (accepted_reply docs.old (id_in (object (members_of document))))) }
+    ensures done { OnOk result ((history : List Write) → IfTold (F.disk folder.old) (λ d. IsAt docs.old d.now history
+        → spec.DoesPut (record { history = history }) (object (members_of document)) (accepted_reply docs.old (id_in (object (members_of document)))) (written (record { history = history }) (spec.put_write (record { history = history }) (object (members_of document)))))) }
+    ensures stored { OnOk result ((history : List Write) → IfTold (F.disk folder.old) (λ d. IsAt docs.old d.now history)
+        → IfTold (F.disk folder.new) (λ d. IsAt docs.new d.now (spec.put_write (record { history = history }) (object (members_of document)) ∷ history))) }
+    ensures refused { IfErr result (λ halt. (refusal : Refusal) → halt ≡ Halt.Refused refusal → (history : List Write) → IfTold (F.disk folder.old) (λ d. IsAt docs.old d.now history
+        → spec.IsPutRefused (record { history = history }) (object (members_of document)) refusal)) }
+    ensures kept { IfErr result (λ halt. GoesOn halt → IsSame docs.old docs.new × (folder.new ≡ folder.old)) }
+    ensures silent { OnErr result (out.new.items ≡ out.old.items) }
+    ensures open { IfTold (F.disk folder.new) (λ d. OnOk result (IsOpen docs.new d.now)) }
+    ensures moments { (history : List Write) → IfTold (F.disk folder.old) (λ d. IsAt docs.old d.now history) → Tells (F.disk folder.old) (F.disk folder.new)
+        (LeavesOnly (StandsAround (record { history = history }) (Ok (Request.Put document)))) }
+    ensures whole { IfErr result (λ halt. (name : FileName) (at : ℕ) → halt ≡ Halt.Stopped (StepFault.Damaged name at) → ⊥) }
+    ensures full { IfErr result (λ halt. (name : FileName) (length : Option ℕ) → halt ≡ Halt.Stopped (StepFault.Full name length) → IsFullFor docs.old (Ok (Request.Put document)) name length) }
+    ensures cause { HasCauseIf (λ halt. halt ≡ Halt.Stopped StepFault.DiskFault) (F.faults folder.old) (F.faults folder.new) result }
+{
+    let document = Term::Object(document);
+    if is_unbuilt(alloc, &document)? {
+        return Err(Halt::Refused(Refusal::NotBuiltYet));
+    }
+    let reply = accepted_line(alloc, docs, id_of(&document))?;
+    let start = out.len();
+    out.extend_from_slice(reply.as_slice())?;
+    match docs.put(alloc, folder, document) {
+        Ok(_rev) => Ok(()),
+        Err(fault) => {
+            out.truncate(start);
+            Err(Halt::from(fault))
+        }
+    }
+}
+
+/// Deletes a document and appends the reply line.
+pub(crate) fn delete<F: Folder>(
+    alloc: Global,
+    docs: &mut Docs,
+    folder: &mut F,
+    id: Chars,
+    rev: Option<Chars>,
+    out: &mut Vec<u8>,
+) -> Result<(), Halt>
+    requires open { IfTold (F.disk folder.old) (λ d. IsOpen docs.old d.now) }
+    ensures appended { OnOk result (out.new.items ≡ out.old.items ++ ended (accepted_reply docs.old id)) }
+    ensures done { OnOk result ((history : List Write) → IfTold (F.disk folder.old) (λ d. IsAt docs.old d.now history
+        → DoesDelete (record { history = history }) id rev (accepted_reply docs.old id) (written (record { history = history }) (delete_write (record { history = history }) id)))) }
+    ensures stored { OnOk result ((history : List Write) → IfTold (F.disk folder.old) (λ d. IsAt docs.old d.now history)
+        → IfTold (F.disk folder.new) (λ d. IsAt docs.new d.now (delete_write (record { history = history }) id ∷ history))) }
+    ensures refused { IfErr result (λ halt. (refusal : Refusal) → halt ≡ Halt.Refused refusal → (history : List Write) → IfTold (F.disk folder.old) (λ d. IsAt docs.old d.now history
+        → IsDeleteRefused (record { history = history }) id rev refusal)) }
+    ensures kept { IfErr result (λ halt. GoesOn halt → IsSame docs.old docs.new × (folder.new ≡ folder.old)) }
+    ensures silent { OnErr result (out.new.items ≡ out.old.items) }
+    ensures open { IfTold (F.disk folder.new) (λ d. OnOk result (IsOpen docs.new d.now)) }
+    ensures moments { (history : List Write) → IfTold (F.disk folder.old) (λ d. IsAt docs.old d.now history) → Tells (F.disk folder.old) (F.disk folder.new)
+        (LeavesOnly (StandsAround (record { history = history }) (Ok (Request.Delete id rev)))) }
+    ensures whole { IfErr result (λ halt. (name : FileName) (at : ℕ) → halt ≡ Halt.Stopped (StepFault.Damaged name at) → ⊥) }
+    ensures full { IfErr result (λ halt. (name : FileName) (length : Option ℕ) → halt ≡ Halt.Stopped (StepFault.Full name length) → IsFullFor docs.old (Ok (Request.Delete id rev)) name length) }
+    ensures cause { HasCauseIf (λ halt. halt ≡ Halt.Stopped StepFault.DiskFault) (F.faults folder.old) (F.faults folder.new) result }
+{
+    let reply = accepted_line(alloc, docs, id.as_str())?;
+    let start = out.len();
+    out.extend_from_slice(reply.as_slice())?;
+    match docs.delete(alloc, folder, id.as_str(), text_of(&rev)) {
+        Ok(_rev) => Ok(()),
+        Err(fault) => {
+            out.truncate(start);
+            Err(Halt::from(fault))
+        }
+    }
+}
+
+/// The text of a revision that may be given.
+fn text_of(rev: &Option<Chars>) -> Option<&str>
+    ensures { option_map (λ text. text.now) result ≡ rev.now }
+{
+    match rev {
+        Some(text) => Some(text.as_str()),
+        None => None,
+    }
+}
+
+/// The reply line to the next write of an id, as it will be where it is accepted.
+fn accepted_line(alloc: Global, docs: &Docs, id: &str) -> Result<Vec<u8>, NoMemory>
+    ensures line { IfOk result (λ line. line.items ≡ ended (accepted_reply docs.now id.now)) }
+    ensures history { OnOk result ((files : FileName → File) (history : List Write) → IsAt docs.now files history → accepted_reply docs.now id.now ≡ write_text id.now (next_revision history id.now)) }
+{
+    let rev = docs.next_rev(id).text(alloc)?;
+    let mut line = Vec::with_capacity(alloc, USUAL_REPLY)?;
+    write_accepted(alloc, id, rev.as_str(), &mut line)?;
+    line.push(b'\n')?;
+    Ok(line)
+}
+
+/// Whether a document is put as a design document and isn't one that is taken so far.
+fn is_unbuilt(alloc: Global, document: &Term) -> Result<bool, NoMemory>
+    ensures { IfOk result (λ unbuilt. unbuilt ≡ spec.is_unbuilt (json document.now)) }
+{
+    let id = id_of(document);
+    if !is_design_id(id) || id.len() <= DESIGN_PREFIX.len() {
+        return Ok(false);
+    }
+    if deletes(document) {
+        return Ok(false);
+    }
+    Ok(!is_plain(alloc, document)?)
+}
+
+/// Whether a put of the document is a deletion.
+fn deletes(document: &Term) -> bool
+    ensures { result ≡ deletes_json (json document.now) }
+{
+    matches!(member(document, "_deleted"), Some(Term::True))
+}
