@@ -41,7 +41,7 @@ module _ (functions : List ℕ → Functions) (honest : List ℕ → Type 0) (la
       (λ a b done leaves. weaker (StandsAround before.world (request_of line)) (StandsEither before.world after.world) a b (λ image stands. around_either functions honest languages before byte bytes text after image done stands) leaves)
       does moments
 
-  pub answered_done : (docs : Docs) (line start out : List ℕ) → start ≡ [] →  (Wrote : List ℕ → Type 0) → IfTold old (λ d. AreAt docs d.now before.world.history)
+  pub answered_done : (docs : Docs) (line start out : List ℕ) → start ≡ [] → (Wrote : List ℕ → Type 0) → IfTold old (λ d. AreAt docs d.now before.world.history)
       → StepAppends new may_follow faults engine (λ text after. IfTold old (λ d. Does functions honest languages before line text after)) start out
       → (line ≡ [] → new ≡ old) → Tells old new (LeavesOnly (StandsAround before.world (request_of line))) → Wrote out
       → Answered functions honest languages old new Wrote before line (IsAt new may_follow faults engine)

@@ -8,3 +8,5 @@ pub mod Ending
 pub mod Naming
 pub mod Served
 pub mod Statuses
+pub mod Pieces
+pub mod Coming

@@ -1,5 +1,5 @@
 -- What the status of a run says.
-use Rattle.std.specs.Prelude.{◌≡◌, ◌<◌, ◌≤◌, ◌⊎◌, ℕ, List, [], ◌++◌, Option, Some, None, length}
+use Rattle.std.specs.Prelude.{◌≡◌, ◌≢◌, ◌<◌, ◌≤◌, ◌⊎◌, ℕ, List, [], ◌++◌, Option, Some, None, length}
 use Rattle.std.proofs.Common.{refl, sym, ap, ◌∙◌, subst, arith, inl, inr, length-append}
 use Rattle.std.proofs.KnownBytes.{Consumes-nil}
 use Rattle.std.specs.Io.KnownBytes.{Consumes}
@@ -8,6 +8,7 @@ use Rattle.view_ports.specs.declared.run_end.RunEnd.{RunEnd}
 use Rattle.view_ports.specs.declared.run_end.RunEnd.TheVariants.{InputEnded, SinkFailed, SourceFailed, OutOfMemory, InputTooLong}
 use Rattle.view_ports.specs.Calls.{Call}
 use Rattle.view_ports.specs.Disk.{IfTold}
+use Rattle.view_ports.specs.Exchanges.{text_of}
 use Rattle.view_ports.specs.Functions.{Functions}
 use Rattle.view_ports.specs.Runs.{HasRead, status_of, input_limit}
 use Rattle.view_ports.proofs.Told.{told_all, told_now}
@@ -17,6 +18,20 @@ use Rattle.view_engine.specs.declared.halt.StepFault.TheVariants.{DiskFault, Dam
 use Rattle.couchview_cli.specs.Closing.{Closes, fault_status}
 use Rattle.couchview_cli.specs.Serving.{Finishes, IsCutShort, IsUnopened, Outside, Serves, StopsAtLimit, IsShort}
 use Rattle.couchview_cli.proofs.Moving.{Told}
+
+-- no run ends with the status of words that are no command
+pub fault_no_usage : (fault : StepFault) → fault_status fault ≢ 2
+fault_no_usage DiskFault is = omega (arith, is)
+fault_no_usage (Damaged name at) is = omega (arith, is)
+fault_no_usage (Full name size) is = omega (arith, is)
+fault_no_usage NoMemory is = omega (arith, is)
+
+pub end_no_usage : (end : RunEnd) → status_of end ≢ 2
+end_no_usage InputEnded is = omega (arith, is)
+end_no_usage SinkFailed is = omega (arith, is)
+end_no_usage SourceFailed is = omega (arith, is)
+end_no_usage OutOfMemory is = omega (arith, is)
+end_no_usage InputTooLong is = omega (arith, is)
 
 -- what is consumed is no longer than what was left
 consumed_short : (before after : Option (List ℕ)) (bytes : List ℕ) → Consumes before after bytes → IsShort before → length bytes < input_limit
@@ -88,9 +103,9 @@ module _ {functions : List ℕ → Functions} {honest : List ℕ → Type 0} {la
   Serves-complete (inl finishes) short disk sink source =
       told_all before.disk _ (λ d. complete finishes.end status (length finishes.bytes) finishes.ends finishes.counts (consumed_short before.left after.left finishes.bytes finishes.reads short) sink source)
   Serves-complete (inr (inl cut)) short disk sink source =
-      told_now before.disk (λ d. (name : FileName) (at : ℕ) → cut.fault ≡ Damaged name at → ⊥) _ (λ d whole. closed _ _ _ cut.fault status cut.closes whole disk sink) cut.whole
+      told_now before.disk (λ d. (name : FileName) (at : ℕ) → cut.fault ≡ Damaged name at → ⊥) _ (λ d whole. closed before.held after.held (text_of cut.exchanges) cut.fault status cut.closes whole disk sink) cut.whole
   Serves-complete (inr (inr unopened)) short disk sink source =
-      told_now before.disk (λ d. (name : FileName) (at : ℕ) → unopened.fault ≡ Damaged name at → ⊥) _ (λ d whole. closed _ _ _ unopened.fault status unopened.closes whole disk sink) unopened.whole
+      told_now before.disk (λ d. (name : FileName) (at : ℕ) → unopened.fault ≡ Damaged name at → ⊥) _ (λ d whole. closed before.held after.held [] unopened.fault status unopened.closes whole disk sink) unopened.whole
 
   -- a run that read as many bytes as a run reads at most ends there
   pub Serves-limit : Serves functions honest languages opening before after AtEnd status → StopsAtLimit before.left after.left status
@@ -103,12 +118,12 @@ module _ {functions : List ℕ → Functions} {honest : List ℕ → Type 0} {la
   Serves-limit (inr (inl cut)) = record {
     bytes = cut.bytes;
     reads = cut.reads;
-    limited = λ eight. absurd (not_8 _ _ _ cut.fault status cut.closes eight);
-    stopped = λ full. closed_stops _ _ _ cut.fault status cut.closes;
+    limited = λ eight. absurd (not_8 before.held after.held (text_of cut.exchanges) cut.fault status cut.closes eight);
+    stopped = λ full. closed_stops before.held after.held (text_of cut.exchanges) cut.fault status cut.closes;
   }
   Serves-limit (inr (inr unopened)) = record {
     bytes = [];
     reads = subst (λ (left : Option (List ℕ)). Consumes before.left left []) (sym unopened.unread) (Consumes-nil before.left);
-    limited = λ eight. absurd (not_8 _ _ _ unopened.fault status unopened.closes eight);
-    stopped = λ full. closed_stops _ _ _ unopened.fault status unopened.closes;
+    limited = λ eight. absurd (not_8 before.held after.held [] unopened.fault status unopened.closes eight);
+    stopped = λ full. closed_stops before.held after.held [] unopened.fault status unopened.closes;
   }

@@ -22,10 +22,10 @@ limit_text None = codes "commits"
 
 -- the name of an error, and a file with what there is to say of it
 abbrev pub about_file : List ℕ → FileName → List ℕ → List ℕ
-about_file error name what = codes "{\"error\":\"" ++ error ++ codes "\",\"reason\":\"" ++ file_text name ++ codes " " ++ what ++ codes "\"}\n"
+about_file error name what = codes "{\"error\":\"" ++ (error ++ (codes "\",\"reason\":\"" ++ (file_text name ++ (codes " " ++ (what ++ codes "\"}\n")))))
 
 -- the last line, with its newline; for want of memory there is none
-unfoldable pub closing_of : StepFault → List ℕ
+abbrev pub closing_of : StepFault → List ℕ
 closing_of DiskFault = codes "{\"error\":\"disk_fault\",\"reason\":\"the run ends\"}\n"
 closing_of (Damaged name offset) = about_file (codes "damaged") name (decimal offset)
 closing_of (Full name length) = about_file (codes "full") name (limit_text length)

@@ -22,7 +22,7 @@ const FULL: u8 = 9;
 /// Writes the last line of a run that this fault ended, and answers the exit status.
 pub fn close<K: Sink>(sink: &mut K, fault: StepFault) -> u8
     ensures closes { Closes (K.held sink.old) (K.held sink.new) [] fault result }
-    ensures failed { result ≢ fault_status fault → result ≡ 4 }
+    ensures no_usage { result ≢ 2 }
     ensures sink_failed { result ≡ 4 → Rose (K.faults sink.old) (K.faults sink.new) }
     ensures sink_count { K.faults sink.old ≤ K.faults sink.new }
 {
@@ -53,7 +53,10 @@ fn write_last<K: Sink>(sink: &mut K, fault: StepFault) -> Result<(), PortFault>
     let mut digits = Buffer::new();
     match fault {
         StepFault::DiskFault => {
-            write_all(sink, b"{\"error\":\"disk_fault\",\"reason\":\"the run ends\"}\n")
+            write_all(
+                sink,
+                b"{\"error\":\"disk_fault\",\"reason\":\"the run ends\"}\n",
+            )
         }
         StepFault::Damaged { name, offset } => {
             let offset = digits.format(offset);

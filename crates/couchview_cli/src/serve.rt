@@ -1,5 +1,5 @@
 //! Serving a source's request lines.
-ghost use Rattle.std.specs.Prelude.{◌≡◌, ◌≤◌, ◌<◌, ℕ, List, [], IfOk, length, map, string_bytes, vec_len};
+ghost use Rattle.std.specs.Prelude.{◌≡◌, ◌≢◌, ◌≤◌, ◌<◌, ℕ, List, [], IfOk, length, map, string_bytes, vec_len};
 ghost use Rattle.std.specs.Io.KnownBytes.{Consumes, IsAtEnd};
 ghost use Rattle.view_ports.specs.Disk.{IfTold};
 ghost use Rattle.view_ports.specs.Faults.{Rose};
@@ -43,6 +43,7 @@ pub fn serve<S: Source, K: Sink, F: Folder, C: Servers>(
         (record { left = S.left source.old; held = K.held sink.old; disk = F.disk folder.old; faults = C.faults servers.old })
         (record { left = S.left source.new; held = K.held sink.new; disk = F.disk folder.new; faults = C.faults servers.new })
         (AreLeft (C.may_follow servers.new)) result }
+    ensures no_usage { result ≢ 2 }
     ensures ended { result ≡ 0 → IsAtEnd (S.left source.new) }
     ensures disk_failed { result ≡ 3 → Rose (F.faults folder.old) (F.faults folder.new) }
     ensures sink_failed { result ≡ 4 → Rose (K.faults sink.old) (K.faults sink.new) }

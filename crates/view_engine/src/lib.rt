@@ -14,8 +14,6 @@ mod refusal;
 mod request;
 mod rows;
 #[cfg(test)]
-mod test_database;
-#[cfg(test)]
 mod tests;
 #[cfg(test)]
 mod write_tests;

@@ -1,5 +1,4 @@
 use super::*;
-use crate::test_database::Database;
 use crash_disk::MemoryFolder;
 use json_terms::Chars;
 use std::alloc::Global;
@@ -10,9 +9,10 @@ use view_ports::{Answer, FieldServers, ScriptServers, Servers};
 const PEOPLE: &str =
     "{\"put\":{\"_id\":\"_design/people\",\"language\":\"field\",\"views\":{\"by_name\":{\"map\":\"name\"}}}}";
 
-/// The reply lines to some request lines, over these query servers.
-fn replies_over<C: Servers>(
+/// The reply lines to some request lines over a folder and these query servers. The documents are opened anew for each line.
+pub fn replies_in<C: Servers>(
     alloc: Global,
+    folder: &mut MemoryFolder,
     servers: &mut C,
     words: &[&str],
     lines: &[&str],
@@ -21,14 +21,24 @@ fn replies_over<C: Servers>(
     for word in words {
         languages.push(String::from_str(alloc, word)?)?;
     }
-    let folder = MemoryFolder::new(alloc, Vec::new(alloc), false)?;
-    let mut database = Database::open(alloc, folder, &languages)?;
     let mut out = Vec::new(alloc);
     for line in lines {
-        database = database.step(alloc, servers, line, &mut out)?;
+        let mut engine = Engine::open(alloc, folder, &languages)?;
+        engine.step(alloc, folder, servers, line.as_bytes(), &mut out)?;
+        engine.finish(servers);
     }
-    let _folder = database.close(servers);
     Ok(out)
+}
+
+/// The reply lines to some request lines, over these query servers.
+fn replies_over<C: Servers>(
+    alloc: Global,
+    servers: &mut C,
+    words: &[&str],
+    lines: &[&str],
+) -> Result<Vec<u8>, Fail> {
+    let mut folder = MemoryFolder::new(alloc, Vec::new(alloc), false)?;
+    replies_in(alloc, &mut folder, servers, words, lines)
 }
 
 /// The reply lines to some request lines.

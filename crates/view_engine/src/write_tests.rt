@@ -1,34 +1,17 @@
 use super::*;
-use crate::test_database::Database;
+use crate::tests::replies_in;
 use crash_disk::MemoryFolder;
 use std::alloc::Global;
 use std::process::Abort;
 use std::test::Fail;
-use view_ports::{FieldServers, FileName, Folder, Stem};
-
-/// The reply lines to some request lines over a folder, and the folder.
-fn replies_in(
-    alloc: Global,
-    folder: MemoryFolder,
-    lines: &[&str],
-) -> Result<(Vec<u8>, MemoryFolder), Fail> {
-    let mut servers = FieldServers::new(alloc, Vec::new(alloc))?;
-    let mut database = Database::open(alloc, folder, &[])?;
-    let mut out = Vec::new(alloc);
-    for line in lines {
-        database = database.step(alloc, &mut servers, line, &mut out)?;
-    }
-    Ok((out, database.close(&mut servers)))
-}
+use view_ports::FieldServers;
 
 /// Request lines, each with its reply line, over a new folder.
 fn assert_each(rt: &impl Abort, alloc: Global, rows: &[(&str, &str)]) -> Result<(), Fail> {
-    let folder = MemoryFolder::new(alloc, Vec::new(alloc), false)?;
+    let mut folder = MemoryFolder::new(alloc, Vec::new(alloc), false)?;
     let mut servers = FieldServers::new(alloc, Vec::new(alloc))?;
-    let mut database = Database::open(alloc, folder, &[])?;
     for (line, want) in rows {
-        let mut out = Vec::new(alloc);
-        database = database.step(alloc, &mut servers, line, &mut out)?;
+        let out = replies_in(alloc, &mut folder, &mut servers, &[], &[*line])?;
         let Some((newline, reply)) = out.as_slice().split_last() else {
             return Err(Fail::from("no reply"));
         };
@@ -161,76 +144,46 @@ const LINES: &[&str] = &[
     "{\"put\":{\"_id\":\"b\",\"n\":1}}",
 ];
 
-#[test]
-fn documents_are_there_again(rt: HostRuntime) -> Result<(), Fail> {
-    let alloc = rt.alloc();
-    let folder = MemoryFolder::new(alloc, Vec::new(alloc), false)?;
-    let (_written, folder) = replies_in(alloc, folder, LINES)?;
-    let (got, _folder) = replies_in(
-        alloc,
-        folder,
-        &[
-            "{\"info\":true}",
-            "{\"get\":\"a\"}",
-            "{\"view\":[\"s\",\"by_n\"]}",
-        ],
-    )?;
-    let want = "{\"doc_count\":2,\"doc_del_count\":1,\"update_seq\":4}\n\
-{\"error\":\"not_found\",\"reason\":\"deleted\"}\n\
-{\"total_rows\":1,\"offset\":0,\"rows\":[{\"id\":\"b\",\"key\":1,\"value\":null}]}\n";
-    assert_eq!(rt; got.as_slice(), want.as_bytes());
-    Ok(())
+/// Whether the bytes end a line, with this reply.
+fn is_reply(out: &[u8], want: &str) -> bool {
+    match out.strip_suffix(b"\n") {
+        Some(reply) => reply == want.as_bytes(),
+        None => false,
+    }
 }
 
-/// Each call on the folder that fails is a disk fault of the line in which it is made, or of the opening.
+/// A stop within each call of some lines leaves the documents of the lines before it, or of that line too.
 #[test]
-fn a_failed_call_is_a_disk_fault(rt: HostRuntime) -> Result<(), Fail> {
+fn a_stop_within_any_call_leaves_first_lines(rt: HostRuntime) -> Result<(), Fail> {
     let alloc = rt.alloc();
     let mut servers = FieldServers::new(alloc, Vec::new(alloc))?;
-    for call in 0..200 {
-        let folder = MemoryFolder::new(alloc, Vec::from_slice(alloc, &[call])?, false)?;
-        match faulted(alloc, folder, &mut servers)? {
-            Some(fault) => assert_eq!(rt; fault, StepFault::DiskFault, "call {call}"),
-            None => assert!(rt; call > 20, "call {call}"),
+    let mut folder = MemoryFolder::new(alloc, Vec::new(alloc), true)?;
+    let mut calls = Vec::new(alloc);
+    for line in LINES {
+        let _reply = replies_in(alloc, &mut folder, &mut servers, &[], &[*line])?;
+        calls.push(folder.calls_noted())?;
+    }
+    for call in 0..folder.calls_noted() {
+        let done = calls.iter().filter(|count| **count <= call).count();
+        for choice in 0..5 {
+            let mut image = folder.image_at(alloc, call, choice)?;
+            let out = replies_in(alloc, &mut image, &mut servers, &[], &["{\"info\":true}"])?;
+            let is_first = match COUNTS.get(done..) {
+                Some([before, after, ..]) => is_reply(&out, before) || is_reply(&out, after),
+                Some([before]) => is_reply(&out, before),
+                _ => false,
+            };
+            assert!(rt; is_first, "call {call}, choice {choice}");
         }
     }
     Ok(())
 }
 
-/// The fault that ends some lines, if there is one.
-fn faulted(
-    alloc: Global,
-    folder: MemoryFolder,
-    servers: &mut FieldServers,
-) -> Result<Option<StepFault>, Fail> {
-    let mut database = match Database::open(alloc, folder, &[]) {
-        Ok(database) => database,
-        Err(fault) => return Ok(Some(fault)),
-    };
-    let mut out = Vec::new(alloc);
-    for line in LINES {
-        database = match database.step(alloc, servers, line, &mut out) {
-            Ok(database) => database,
-            Err(fault) => return Ok(Some(fault)),
-        };
-    }
-    Ok(None)
-}
-
-#[test]
-fn a_damaged_root_is_named(rt: HostRuntime) -> Result<(), Fail> {
-    let alloc = rt.alloc();
-    let folder = MemoryFolder::new(alloc, Vec::new(alloc), false)?;
-    let (_written, mut folder) = replies_in(alloc, folder, LINES)?;
-    let name = FileName {
-        stem: Stem::Docs,
-        side: false,
-    };
-    if folder.len(name)? < 24 {
-        return Err(Fail::from("no slot"));
-    }
-    folder.write_at(name, 16, &(1_u64 << 41).to_le_bytes())?;
-    let fault = Database::open(alloc, folder, &[]).err();
-    assert_eq!(rt; fault, Some(StepFault::Damaged { name, offset: 0 }));
-    Ok(())
-}
+/// What `info` prints after each number of `LINES`.
+const COUNTS: &[&str] = &[
+    "{\"doc_count\":0,\"doc_del_count\":0,\"update_seq\":0}",
+    "{\"doc_count\":1,\"doc_del_count\":0,\"update_seq\":1}",
+    "{\"doc_count\":2,\"doc_del_count\":0,\"update_seq\":2}",
+    "{\"doc_count\":1,\"doc_del_count\":1,\"update_seq\":3}",
+    "{\"doc_count\":2,\"doc_del_count\":1,\"update_seq\":4}",
+];

@@ -76,7 +76,10 @@ fn a_failed_call_on_the_folder_ends_the_run(rt: HostRuntime) -> Result<(), Fail>
             return Err(Fail::from("no last line"));
         };
         assert!(rt; whole.starts_with(answered), "call {call}");
-        assert!(rt; answered.is_empty() || answered.ends_with(b"\n"), "call {call}");
+        assert!(rt;
+            answered.is_empty() || answered.ends_with(b"\n"),
+            "call {call}"
+        );
     }
     Ok(())
 }
