@@ -1,11 +1,13 @@
 #!/bin/sh
 # Measures `couchview serve`, beside `wc -l` and beside a bare loop of serde_json over the same lines.
-# Run by hand: bench/run.sh [DOCUMENTS]. It writes about 130 MB below bench/data and needs no network.
+# Run by hand: bench/run.sh [LINES]. It writes about 130 MB below bench/data and needs no network.
 set -e
 here=$(CDPATH='' cd -- "$(dirname -- "$0")" && pwd)
-documents=${1:-200000}
+lines=${1:-200000}
+documents=100
 data=$here/data
-mkdir -p "$data"
+rm -rf "$data/people"
+mkdir -p "$data/people"
 
 now() { date +%s.%N; }
 
@@ -33,19 +35,24 @@ ratio() {
 }
 
 echo "cores: $(nproc)"
-"$here/../couchview" serve < /dev/null
+(cd "$data/people" && "$here/../couchview" serve < /dev/null)
 serve=$here/../crates/couchview_cli/out/couchview_cli
 
 # 50 lines of 2,000,000 bytes that are refused at their first byte.
 awk 'BEGIN { s = "x"; while (length(s) < 2000000) s = s s; s = substr(s, 1, 1999999); for (i = 0; i < 50; i++) print s }' > "$data/refused"
-# Puts of documents of 100 bytes.
+# Documents of 100 bytes, which the database has, and requests for one after another.
 awk -v n="$documents" 'BEGIN { for (i = 1; i <= n; i++) printf "{\"put\":{\"_id\":\"d%07d\",\"age\":%d,\"name\":\"Ida Dal\",\"tags\":[\"a\",\"b\",\"c\"],\"town\":\"Oslo\",\"year\":20%02d,\"z\":\"pa\"}}\n", i, 10 + i % 90, i % 100 }' > "$data/puts"
-echo "document: $(head -n 1 "$data/puts" | awk '{ print length($0) - 8 }') bytes"
+echo "documents: $documents of $(head -n 1 "$data/puts" | awk '{ print length($0) - 8 }') bytes"
+(cd "$data/people" && "$serve" serve < "$data/puts" > "$data/out")
+grep -c '^{"ok":true' "$data/out" | grep -qx "$documents" || { echo "bench/run.sh: a put failed" >&2; exit 1; }
+awk -v n="$lines" -v d="$documents" 'BEGIN { for (i = 0; i < n; i++) printf "{\"get\":\"d%07d\"}\n", 1 + i % d }' > "$data/gets"
+# What the bare loop reads and writes: the documents that the requests are answered with.
+awk -v n="$lines" -v d="$documents" '{ text[NR - 1] = substr($0, 8, length($0) - 8) } END { for (i = 0; i < n; i++) print text[i % d] }' "$data/puts" > "$data/documents"
 
 piped_wc() { cat "$data/refused" | wc -l > /dev/null; }
-piped_serve() { cat "$data/refused" | "$serve" serve > /dev/null; }
-puts_serve() { "$serve" serve < "$data/puts" > /dev/null; }
-puts_loop() { "$loop" < "$data/puts" > /dev/null; }
+piped_serve() { cat "$data/refused" | (cd "$data/people" && "$serve" serve) > /dev/null; }
+gets_serve() { (cd "$data/people" && "$serve" serve) < "$data/gets" > /dev/null; }
+gets_loop() { "$loop" < "$data/documents" > /dev/null; }
 
 # The bare loop, built in a folder of its own.
 work=$(mktemp -d)
@@ -79,12 +86,12 @@ loop=$work/crates/serde_loop/out/serde_loop
 
 seconds wc piped_wc
 seconds refused piped_serve
-seconds loop puts_loop
-seconds puts puts_serve
+seconds loop gets_loop
+seconds gets gets_serve
 bytes=$(wc -c < "$data/refused")
 rate wc "$bytes" bytes
 rate refused "$bytes" bytes
-rate loop "$documents" documents
-rate puts "$documents" documents
+rate loop "$lines" documents
+rate gets "$lines" documents
 ratio refused wc "refused lines, beside wc -l"
-ratio puts loop "puts, beside the bare loop"
+ratio gets loop "documents asked for, beside the bare loop"

@@ -116,7 +116,8 @@ def kills():
             process.stdin.write(json.dumps(request).encode() + b"\n")
             process.stdin.flush()
             pending = name, request
-            if time.monotonic() >= stop:
+            last = time.monotonic() >= stop
+            if last:
                 time.sleep(numbers.random() * 0.002)
                 process.send_signal(signal.SIGKILL)
             line = process.stdout.readline()
@@ -124,6 +125,8 @@ def kills():
                 break
             database.took(name, request, line.decode().rstrip("\n"))
             pending = None, None
+            if last:
+                break
         process.wait()
         before = database.writes
         check(folder, database, *pending)
