@@ -175,6 +175,8 @@ fn other_words_are_answered_with_the_usage_line(rt: HostRuntime) -> Result<(), F
         "js=node",
         "serve serve",
         "serve --width 9",
+        "serve --width 2 --width 2",
+        "serve --width 02",
         "serve js",
         "serve =node",
         "serve -js=node",

@@ -58,6 +58,71 @@ fn a_run_goes_on_from_the_last(rt: HostRuntime) -> Result<(), Fail> {
     Ok(())
 }
 
+#[test]
+fn a_revision_decides_what_is_written(rt: HostRuntime) -> Result<(), Fail> {
+    let alloc = rt.alloc();
+    let mut folder = MemoryFolder::new(alloc, Vec::new(alloc), false)?;
+    let input = br#"{"put":{"_id":"x"}}
+{"put":{"_id":"x"}}
+{"delete":"x","rev":"1-00000000000000000000000000000001"}
+{"get":"x"}
+{"put":{"_id":"x"}}
+{"put":{"_id":"y","_rev":"1-00000000000000000000000000000001"}}
+{"delete":"z"}
+"#;
+    let want = r#"{"ok":true,"id":"x","rev":"1-00000000000000000000000000000001"}
+{"error":"conflict","reason":"Document update conflict."}
+{"ok":true,"id":"x","rev":"2-00000000000000000000000000000002"}
+{"error":"not_found","reason":"deleted"}
+{"ok":true,"id":"x","rev":"3-00000000000000000000000000000003"}
+{"error":"conflict","reason":"Document update conflict."}
+{"error":"not_found","reason":"missing"}
+"#;
+    let (status, replies) = serve_in(alloc, &mut folder, input, &[])?;
+    assert_eq!(rt; status, 0);
+    assert_eq!(rt; from_utf8(&replies), Ok(want));
+    Ok(())
+}
+
+/// The one reply to a put of a document with this member.
+fn put_reply(alloc: Global, member: &str) -> Result<Vec<u8>, Fail> {
+    let mut folder = MemoryFolder::new(alloc, Vec::new(alloc), false)?;
+    let line = format!(in alloc; "{{\"put\":{{\"_id\":\"x\",\"t\":{member}}}}}\n")?;
+    let (status, reply) = serve_in(alloc, &mut folder, line.as_bytes(), &[])?;
+    if status != 0 {
+        return Err(Fail::from("another status"));
+    }
+    Ok(reply)
+}
+
+#[test]
+fn numbers_are_whole(rt: HostRuntime) -> Result<(), Fail> {
+    let want = "{\"error\":\"bad_request\",\"reason\":\"number is not whole\"}\n";
+    for number in ["1.5", "1e2", "9223372036854775808"] {
+        let reply = put_reply(rt.alloc(), number)?;
+        assert_eq!(rt; from_utf8(&reply), Ok(want));
+    }
+    Ok(())
+}
+
+/// The document without the letters has 18 bytes.
+#[test]
+fn a_document_has_524288_bytes_at_most(rt: HostRuntime) -> Result<(), Fail> {
+    let alloc = rt.alloc();
+    let accepted = "{\"ok\":true,\"id\":\"x\",\"rev\":\"1-00000000000000000000000000000001\"}\n";
+    let too_large = "{\"error\":\"too_large\",\"reason\":\"document passes 524288 bytes\"}\n";
+    for (size, want) in [(524_270, accepted), (524_271, too_large)] {
+        let mut text = String::from_str(alloc, "\"")?;
+        for _ in 0..size {
+            text.push_str("a")?;
+        }
+        text.push_str("\"")?;
+        let reply = put_reply(alloc, text.as_str())?;
+        assert_eq!(rt; from_utf8(&reply), Ok(want));
+    }
+    Ok(())
+}
+
 /// Each call on the folder that fails ends the run: the lines before are answered, and the last line says so.
 #[test]
 fn a_failed_call_on_the_folder_ends_the_run(rt: HostRuntime) -> Result<(), Fail> {

@@ -14,12 +14,16 @@ const TAGS: &[u8] =
     br#"{"put":{"_id":"_design/by","language":"pick","views":{"tag":{"map":"for x in doc.tags { emit x, 1 }"}}}}
 {"put":{"_id":"a","tags":["t","t","t"]}}
 {"view":["by","tag"]}
+{"put":{"_id":"a","tags":["t"],"_rev":"1-00000000000000000000000000000002"}}
+{"view":["by","tag"]}
 "#;
 
 const TAGS_REPLIES: &str =
     r#"{"ok":true,"id":"_design/by","rev":"1-00000000000000000000000000000001"}
 {"ok":true,"id":"a","rev":"1-00000000000000000000000000000002"}
 {"total_rows":3,"offset":0,"rows":[{"id":"a","key":"t","value":1},{"id":"a","key":"t","value":1},{"id":"a","key":"t","value":1}]}
+{"ok":true,"id":"a","rev":"2-00000000000000000000000000000003"}
+{"total_rows":1,"offset":0,"rows":[{"id":"a","key":"t","value":1}]}
 "#;
 
 const BAD_SOURCE: &[u8] =
