@@ -126,32 +126,38 @@ const ROWS: &str = r#"{"total_rows":1,"offset":0,"rows":[{"id":"a","key":2,"valu
 
 const FAULT: &str = r#"{"error":"server_fault","reason":"query server failed twice"}"#;
 
+/// What a run writes over servers of which these calls fail, and its status.
+fn run_failing(alloc: Global, fail: &[u64]) -> Result<(u8, Vec<u8>), Fail> {
+    let words = words_of(alloc, "serve")?;
+    let mut source = MemorySource::new(alloc, A_DOCUMENT_AND_TWO_VIEWS, 1000, Vec::new(alloc))?;
+    let mut sink = MemorySink::new(alloc, 1000, Vec::new(alloc))?;
+    let mut servers = PickServers::new(alloc, fail.to_vec(alloc)?)?;
+    let mut folder = MemoryFolder::new(alloc, Vec::new(alloc), false)?;
+    let status = couchview(
+        alloc,
+        &words,
+        &mut source,
+        &mut sink,
+        &mut folder,
+        &mut servers,
+    );
+    Ok((status, sink.held().to_vec(alloc)?))
+}
+
 // The calls of the first view are the start 0; `reset` 1 and 2; `add_fun` 3 and 4; `map_doc` 5 and 6. A second attempt
 // starts a child anew: its calls are 7 to 13.
 #[test]
 fn a_failed_call_is_made_good_and_a_second_one_is_a_fault(rt: HostRuntime) -> Result<(), Fail> {
     let alloc = rt.alloc();
-    let words = words_of(alloc, "serve")?;
     for (fail, first) in [
         ([].as_slice(), ROWS),
         ([6].as_slice(), ROWS),
         ([6, 13].as_slice(), FAULT),
     ] {
-        let mut source = MemorySource::new(alloc, A_DOCUMENT_AND_TWO_VIEWS, 1000, Vec::new(alloc))?;
-        let mut sink = MemorySink::new(alloc, 1000, Vec::new(alloc))?;
-        let mut servers = PickServers::new(alloc, fail.to_vec(alloc)?)?;
-        let mut folder = MemoryFolder::new(alloc, Vec::new(alloc), false)?;
-        let status = couchview(
-            alloc,
-            &words,
-            &mut source,
-            &mut sink,
-            &mut folder,
-            &mut servers,
-        );
+        let (status, held) = run_failing(alloc, fail)?;
         let want = format!(in alloc; "{PUT_REPLIES}{first}\n{ROWS}\n")?;
         assert_eq!(rt; status, 0);
-        assert_eq!(rt; from_utf8(sink.held()), Ok(want.as_str()), "{first}");
+        assert_eq!(rt; from_utf8(&held), Ok(want.as_str()), "{first}");
     }
     Ok(())
 }
