@@ -15,6 +15,7 @@ use Rattle.view_ports.specs.declared.file_name.FileName.{FileName}
 use Rattle.view_engine.specs.declared.engine.Engine.{Engine}
 use Rattle.view_engine.specs.declared.halt.StepFault.{StepFault}
 use Rattle.view_engine.specs.declared.halt.StepFault.TheVariants.{Damaged, Full}
+use Rattle.view_engine.specs.declared.halt.StepFault.TheVariants as halt
 use Rattle.view_engine.specs.Halts.{IsFullFor}
 use Rattle.view_engine.specs.declared.refusal.Refusal.TheVariants.{NoMemory}
 use Rattle.view_engine.specs.Engine.{Appends as StepAppends, IsAt, Leaves, StandsAround}
@@ -71,12 +72,13 @@ module _ (functions : List ℕ → Functions) (honest : List ℕ → Type 0) (la
   }
 
 -- a line that the engine did not answer
-pub halted_by : (fault : StepFault) (line : List ℕ) (before : Moment) (old new : Told) (held : Option (List ℕ)) (docs : Docs) (HasLeft : Moment → Type 0) → IfTold old (λ d. AreAt docs d.now before.world.history)
+pub halted_by : (fault : StepFault) (line : List ℕ) (before : Moment) (old new : Told) (held : Option (List ℕ)) (docs : Docs) (HasLeft : Moment → Type 0) → fault ≢ halt.NoMemory → IfTold old (λ d. AreAt docs d.now before.world.history)
     → Tells old new (LeavesOnly (StandsAround before.world (request_of line))) → IfTold old (λ d. AreAt docs d.now before.world.history → (name : FileName) (at : ℕ) → fault ≡ Damaged name at → ⊥)
     → ((name : FileName) (length : Option ℕ) → fault ≡ Full name length → IsFullFor docs (request_of line) name length) → HasLeft before
     → IsHalted fault old new held held before line HasLeft
-halted_by fault line before old new held docs HasLeft at moments sound full left = record {
+halted_by fault line before old new held docs HasLeft halts at moments sound full left = record {
   moments = moments;
+  halts = halts;
   whole = told_pair old (λ d. AreAt docs d.now before.world.history) (λ d. AreAt docs d.now before.world.history → (name : FileName) (at : ℕ) → fault ≡ Damaged name at → ⊥) (λ d. (name : FileName) (at : ℕ) → fault ≡ Damaged name at → ⊥)
       (λ d is never. never is) at sound;
   full = told_now old (λ d. AreAt docs d.now before.world.history) (λ d. (name : FileName) (length : Option ℕ) → fault ≡ Full name length → IsFullAt before.world line name length)

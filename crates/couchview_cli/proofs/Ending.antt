@@ -158,6 +158,7 @@ module _ {functions : List ℕ → Functions} {honest : List ℕ → Type 0} {di
       leads = progress.reached.leads;
       moments = moved_halted origin disk disk' (progress.reached.after).world progress.moved line halted.moments;
       images = images_around;
+      halts = halted.halts;
       whole = told_first origin disk disk' (progress.reached.after).world progress.moved ((name : FileName) (at : ℕ) → fault ≡ Damaged name at → ⊥) halted.whole;
       full = told_first origin disk disk' (progress.reached.after).world progress.moved ((name : FileName) (length : Option ℕ) → fault ≡ Full name length → IsFullAt (progress.reached.after).world line name length) halted.full;
       left = halted.left;

@@ -121,6 +121,7 @@ module _ {fault : StepFault} {old new : Told} {held now : Option (List ℕ)} {be
   pub IsHalted-kept : (line : List ℕ) → IsHalted fault old new held now before (kept line) HasLeft → IsHalted fault old new held now before line HasLeft
   IsHalted-kept line halted = record {
     moments = subst (λ r. Tells old new (LeavesOnly (StandsAround before.world r))) (request_kept line) halted.moments;
+    halts = halted.halts;
     whole = halted.whole;
     full = told_now old (λ d. (name : FileName) (length : Option ℕ) → fault ≡ Full name length → IsFullAt before.world (kept line) name length) (λ d. (name : FileName) (length : Option ℕ) → fault ≡ Full name length → IsFullAt before.world line name length)
         (λ d full name length is. let found = full name length is in (found.0, ((found.1).0, (((found.1).1).0, subst (λ r. IsFullFor found.0 r name length) (request_kept line) ((found.1).1).1)))) halted.full;

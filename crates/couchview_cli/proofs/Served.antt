@@ -95,6 +95,7 @@ module _ (functions : List ℕ → Functions) (honest : List ℕ → Type 0) (la
       leads = off.leads;
       keeps = leads_accepted before.disk (at_start opening before.faults) off.exchanges off.moment off.leads;
       closes = closes_after before.held mid held (text_of off.exchanges) fault status off.wrote closes;
+      halts = off.halts;
       whole = off.whole;
       full = off.full;
       moments = off.moments;

@@ -1,5 +1,5 @@
 -- What serving does, in terms of what the ports tell.
-use Rattle.std.specs.Prelude.{◌≡◌, ◌<◌, ◌≤◌, ◌⊎◌, ℕ, List, [], ◌∷◌, ◌++◌, Option, Some, None, length}
+use Rattle.std.specs.Prelude.{◌≡◌, ◌≢◌, ◌<◌, ◌≤◌, ◌⊎◌, ℕ, List, [], ◌∷◌, ◌++◌, Option, Some, None, length}
 use Rattle.std.specs.Io.KnownBytes.{Consumes, Appends}
 use Rattle.view_ports.specs.declared.run_end.RunEnd.{RunEnd}
 use Rattle.view_ports.specs.declared.file_name.FileName.{FileName}
@@ -15,7 +15,7 @@ use Rattle.doc_file.specs.Docs.{IsAt as AreAt}
 use Rattle.doc_file.specs.Held.{Stands}
 use Rattle.doc_file.specs.History.{Write}
 use Rattle.view_engine.specs.declared.halt.StepFault.{StepFault}
-use Rattle.view_engine.specs.declared.halt.StepFault.TheVariants.{Damaged, Full}
+use Rattle.view_engine.specs.declared.halt.StepFault.TheVariants.{Damaged, Full, NoMemory}
 use Rattle.view_engine.specs.Halts.{IsFullFor}
 use Rattle.view_engine.specs.World.{World}
 use Rattle.view_engine.specs.Moments.{Moment}
@@ -89,6 +89,7 @@ module _ (functions : List ℕ → Functions) (honest : List ℕ → Type 0) (la
 
   -- A run that a fault of the folder cut short: some first lines were answered, each wholly, and then the line in hand was
   -- not. Its request took effect wholly or not at all. The last line that is written names the fault, unless the sink fails.
+  -- Want of memory doesn't cut a run short: such a line is answered.
   pub record IsCutShort (before after : Outside) (AtEnd : List Call → Type 0) (status : ℕ) : Type 0 where
     pub bytes : List ℕ
     pub exchanges : List Exchange
@@ -105,6 +106,7 @@ module _ (functions : List ℕ → Functions) (honest : List ℕ → Type 0) (la
     pub leads : LeadsTo (Steps functions honest languages before.disk) (at_start opening before.faults) exchanges moment
     pub keeps : IfTold before.disk (λ d. moment.world ≡ accepted (world_of opening) exchanges)
     pub closes : Closes before.held after.held (text_of exchanges) fault status
+    pub halts : fault ≢ NoMemory
     pub whole : IfTold before.disk (λ d. (name : FileName) (at : ℕ) → fault ≡ Damaged name at → ⊥)
     pub full : IfTold before.disk (λ d. (name : FileName) (length : Option ℕ) → fault ≡ Full name length → IsFullAt moment.world line name length)
     pub moments : Tells before.disk after.disk (LeavesOnly (StandsSinceWith opening moment.world line))

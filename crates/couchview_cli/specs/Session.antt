@@ -1,5 +1,5 @@
 -- How far a session has come in its input, and how it ends.
-use Rattle.std.specs.Prelude.{◌≡◌, ◌+◌, ◌⊎◌, ℕ, List, ◌∷◌, ◌++◌, Option, take}
+use Rattle.std.specs.Prelude.{◌≡◌, ◌≢◌, ◌+◌, ◌⊎◌, ℕ, List, ◌∷◌, ◌++◌, Option, take}
 use Rattle.std.specs.Io.KnownBytes.{Appends}
 use Rattle.view_ports.specs.declared.run_end.RunEnd.{RunEnd}
 use Rattle.view_ports.specs.declared.run_end.RunEnd.TheVariants as run_end
@@ -16,7 +16,7 @@ use Rattle.doc_file.specs.Held.{Stands as StandsFor}
 use Rattle.doc_file.specs.History.{Write}
 use Rattle.view_engine.specs.declared.engine.Engine.{Engine}
 use Rattle.view_engine.specs.declared.halt.StepFault.{StepFault}
-use Rattle.view_engine.specs.declared.halt.StepFault.TheVariants.{Damaged, Full}
+use Rattle.view_engine.specs.declared.halt.StepFault.TheVariants.{Damaged, Full, NoMemory}
 use Rattle.view_engine.specs.Refusals.{line_limit, request_of}
 use Rattle.view_engine.specs.Engine.{HasChild, IsAt, StandsAround}
 use Rattle.view_engine.specs.Moments.{Moment}
@@ -98,6 +98,7 @@ module _ (functions : List ℕ → Functions) (honest : List ℕ → Type 0) whe
     pub leads : LeadsTo (StepsOf origin) (at_start origin.opening origin.faults) exchanges moment
     pub moments : Tells origin.disk disk (LeavesOnly (StandsSinceWith origin.opening moment.world line))
     pub images : IfTold disk (λ d. (image : FileName → List ℕ) → IsImageOf d.now image → StandsAround moment.world (request_of line) image)
+    pub halts : fault ≢ NoMemory
     pub whole : IfTold origin.disk (λ d. (name : FileName) (at : ℕ) → fault ≡ Damaged name at → ⊥)
     pub full : IfTold origin.disk (λ d. (name : FileName) (length : Option ℕ) → fault ≡ Full name length → IsFullAt moment.world line name length)
     pub left : HasLeft moment
@@ -113,6 +114,7 @@ module _ (functions : List ℕ → Functions) (honest : List ℕ → Type 0) whe
 -- took effect wholly or not at all
 pub record IsHalted (fault : StepFault) (old new : Option (Disk FileName)) (held now : Option (List ℕ)) (before : Moment) (line : List ℕ) (HasLeft : Moment → Type 0) : Type 0 where
   pub moments : Tells old new (LeavesOnly (StandsAround before.world (request_of line)))
+  pub halts : fault ≢ NoMemory
   pub whole : IfTold old (λ d. (name : FileName) (at : ℕ) → fault ≡ Damaged name at → ⊥)
   pub full : IfTold old (λ d. (name : FileName) (length : Option ℕ) → fault ≡ Full name length → IsFullAt before.world line name length)
   pub left : HasLeft before

@@ -58,7 +58,7 @@ returns-in_default-clause-stopped g c = λ fault is before at.
     let HasLeft : Moment → Type 0 = HasChild (g.C.Servers.may_follow c.step.new.servers) (g.C.Servers.faults c.step.new.servers) c.step.new.self.pool in
     let held = g.K.Sink.held c.args.sink.now in
     subst (λ (f : StepFault). IsHalted f old new held held before c.args.line.now HasLeft) same
-    (halted_by c.in-Err.fault c.args.line.now before old new held docs HasLeft at.documents (c.in-Err.ensures.moments before.world.history at.documents)
+    (halted_by c.in-Err.fault c.args.line.now before old new held docs HasLeft c.in_default.not-NoMemory at.documents (c.in-Err.ensures.moments before.world.history at.documents)
     (told_now old (λ d. AreAt docs d.now before.world.history → (name : FileName) (at : ℕ) → c.step.result ≡ Err (Damaged name at) → ⊥)
     (λ d. AreAt docs d.now before.world.history → (name : FileName) (at : ℕ) → c.in-Err.fault ≡ Damaged name at → ⊥) (λ d never is_at name place damaged. never is_at name place (c.in-Err.is ∙ ap Err damaged)) (c.step.ensures.sound before.world.history))
     (λ name length full. c.step.ensures.full name length (c.in-Err.is ∙ ap Err full))
