@@ -13,8 +13,6 @@ mod preparing;
 mod prompt;
 mod session;
 mod shown_line;
-#[cfg(test)]
-mod tests;
 
 pub use doc_rows::DocRowLists;
 pub use document::Document;

@@ -20,8 +20,6 @@ mod pending;
 mod pending_file;
 mod pending_files;
 mod pending_lists;
-#[cfg(test)]
-mod tests;
 mod torn;
 
 pub use memory_folder::MemoryFolder;

@@ -10,8 +10,6 @@ mod laws;
 mod plain;
 mod plain_design;
 mod read;
-#[cfg(test)]
-mod tests;
 
 pub use design::{Design, View, Views};
 pub use document::{DESIGN_PREFIX, id_of, is_design_id};

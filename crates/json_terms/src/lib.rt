@@ -11,8 +11,6 @@ mod look;
 mod read;
 mod rows;
 mod term;
-#[cfg(test)]
-mod tests;
 mod write;
 
 pub use copy::copy_term;

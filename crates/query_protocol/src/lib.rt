@@ -11,8 +11,6 @@ mod reply;
 mod results;
 mod rows;
 mod sent;
-#[cfg(test)]
-mod tests;
 
 pub use document_line::map_line;
 pub use fault::ReplyFault;

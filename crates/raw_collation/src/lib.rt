@@ -8,6 +8,3 @@ mod sort;
 pub use compare::{raw_cmp, row_cmp};
 pub use laws::{rows_are_ordered, rows_sort_in_one_way, terms_are_ordered};
 pub use sort::sort_rows;
-
-#[cfg(test)]
-mod tests;

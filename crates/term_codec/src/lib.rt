@@ -12,8 +12,6 @@ mod decode;
 mod encode;
 mod fault;
 mod laws;
-#[cfg(test)]
-mod tests;
 
 pub use decode::{decode_term, read_count, read_text};
 pub use encode::{encode_term, put_count, put_text};

@@ -16,13 +16,9 @@ mod reduce_rows;
 mod run_end;
 mod script_servers;
 mod server_session;
-#[cfg(test)]
-mod server_tests;
 mod servers;
 mod servers_fault;
 mod stretch;
-#[cfg(test)]
-mod tests;
 mod write_text;
 
 pub use command::{Command, read_command};

@@ -1,7 +1,7 @@
 // The order of terms and of rows, worked out by hand from CouchDB's documentation and from this project's order of
 // the members of objects.
-use crate::{raw_cmp, row_cmp, sort_rows};
 use json_terms::{Chars, Members, Row, Term, Terms};
+use raw_collation::{raw_cmp, row_cmp, sort_rows};
 use std::alloc::Global;
 use std::test::Fail;
 

@@ -1,7 +1,7 @@
-use super::*;
-use json_terms::{Chars, Members, NoMemory, Term, Terms, read_term, write_term};
-use std::alloc::Global;
+use crate::texts::text_of;
+use json_terms::{Members, Term, Terms};
 use std::test::Fail;
+use term_codec::{CodecFault, decode_term, encode_term, spellings_are_prefix_free};
 
 /// A term of these kinds of values, and its spelling.
 const SPELLINGS: [(&str, &[u8]); 14] = [
@@ -52,12 +52,6 @@ const OTHERS: [&[u8]; 19] = [
     b"\x05\xff\xff\xff\xff\x01\0\0\0a\x03",
     b"\x05\x01\0\0\0\x01\0\0\0a\x06\x02\0\0\0\x01\x01\0\0\0\0\0\0\0",
 ];
-
-fn text_of(alloc: Global, term: &Term) -> Result<Vec<u8>, NoMemory> {
-    let mut out = Vec::new(alloc);
-    write_term(alloc, term, &mut out)?;
-    Ok(out)
-}
 
 #[test]
 fn spellings_are_read_where_they_stand(rt: HostRuntime) -> Result<(), Fail> {

@@ -1,30 +1,9 @@
-use super::*;
-use std::alloc::Global;
+use crate::texts::{nested, text_of};
+use json_terms::{
+    Chars, Members, NoMemory, Term, TermFault, Terms, copy_term, depth_within, member, read_term,
+    text_is_line, write_term, write_text,
+};
 use std::test::Fail;
-
-fn text_of(alloc: Global, term: &Term) -> Result<Vec<u8>, NoMemory> {
-    let mut out = Vec::new(alloc);
-    write_term(alloc, term, &mut out)?;
-    Ok(out)
-}
-
-fn nested(
-    alloc: Global,
-    depth: usize,
-    open: &str,
-    inside: &str,
-    close: &str,
-) -> Result<String, NoMemory> {
-    let mut text = String::new(alloc);
-    for _ in 0..depth {
-        text.push_str(open)?;
-    }
-    text.push_str(inside)?;
-    for _ in 0..depth {
-        text.push_str(close)?;
-    }
-    Ok(text)
-}
 
 #[test]
 fn texts_are_read_and_written(rt: HostRuntime) -> Result<(), Fail> {

@@ -1,4 +1,4 @@
-use super::*;
+use child_pool::{DocRowLists, Document, Pool, PoolFault};
 use design_docs::{Design, is_plain_design, read_design};
 use json_terms::{Chars, RowLists, Term, depth_within, read_term, write_term};
 use std::alloc::Global;

@@ -1,5 +1,9 @@
-use super::*;
+use crate::texts::{nested, text_of};
 use json_terms::{Chars, Members, Row, RowLists, Term, depth_within, read_term, write_term};
+use query_protocol::{
+    Kind, Reply, ReplyFault, add_fun_line, map_line, read_reply, reduce_line, rereduce_line,
+    reset_line,
+};
 use std::alloc::Global;
 use std::process::Abort;
 use std::test::Fail;
@@ -104,11 +108,7 @@ fn meaning(alloc: Global, kind: Kind, line: &str) -> Result<Vec<u8>, Fail> {
         Ok(Reply::Yes) => Ok(b"yes".to_vec(alloc)?),
         Ok(Reply::Compile) => Ok(b"complaint".to_vec(alloc)?),
         Ok(Reply::Rows(lists)) => rows_text(alloc, &lists),
-        Ok(Reply::Value(term)) => {
-            let mut out = Vec::new(alloc);
-            write_term(alloc, &term, &mut out)?;
-            Ok(out)
-        }
+        Ok(Reply::Value(term)) => Ok(text_of(alloc, &term)?),
         Err(ReplyFault::BadReply) => Ok(b"bad".to_vec(alloc)?),
         Err(ReplyFault::NoMemory) => Err(Fail::from("out of memory")),
     }
@@ -265,16 +265,14 @@ fn answers_have_limits(rt: HostRuntime) -> Result<(), Fail> {
         );
     }
     for (depth, want) in [(96, true), (97, false)] {
-        let open = filled(alloc, "", depth, "[", "")?;
-        let close = filled(alloc, "", depth, "]", "")?;
-        let nested = format!(in alloc; "{}{}", open.as_str(), close.as_str())?;
-        let key = format!(in alloc; "[[[{},1]]]", nested.as_str())?;
+        let value = nested(alloc, depth, "[", "", "]")?;
+        let key = format!(in alloc; "[[[{value},1]]]")?;
         assert_eq!(rt;
             is_proper(alloc, Kind::Rows(1), key.as_str()),
             want,
             "key {depth} deep"
         );
-        let result = format!(in alloc; "[true,[{}]]", nested.as_str())?;
+        let result = format!(in alloc; "[true,[{value}]]")?;
         assert_eq!(rt;
             is_proper(alloc, Kind::Value, result.as_str()),
             want,

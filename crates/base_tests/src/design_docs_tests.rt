@@ -1,4 +1,9 @@
-use super::*;
+use crate::texts::nested;
+use design_docs::{
+    Design, Views, id_of, is_design_id, is_plain, is_plain_design,
+    plain_design_documents_have_plain_designs, read_design, revisions_leave_designs,
+    views_are_few_and_in_order, views_are_found_by_name,
+};
 use json_terms::{NoMemory, Term, read_term, write_term};
 use std::alloc::Global;
 use std::process::Abort;
@@ -94,22 +99,13 @@ fn design_of(alloc: Global, views: u32) -> Result<String, Fail> {
 /// A document with so many of a text between two others.
 fn document_of(
     alloc: Global,
-    count: u32,
+    count: usize,
     open: &str,
     close: &str,
     quote: &str,
 ) -> Result<String, Fail> {
-    let mut text = String::from_str(alloc, "{\"_id\":\"x\",\"t\":")?;
-    text.push_str(quote)?;
-    for _ in 0..count {
-        text.push_str(open)?;
-    }
-    for _ in 0..count {
-        text.push_str(close)?;
-    }
-    text.push_str(quote)?;
-    text.push_str("}")?;
-    Ok(text)
+    let value = nested(alloc, count, open, "", close)?;
+    Ok(format!(in alloc; "{{\"_id\":\"x\",\"t\":{quote}{value}{quote}}}")?)
 }
 
 #[test]
@@ -121,7 +117,7 @@ fn documents_have_limits(rt: HostRuntime) -> Result<(), Fail> {
     }
     for (size, want) in [(524_288, true), (524_289, false)] {
         let text = document_of(alloc, size - 18, "a", "", "\"")?;
-        assert_eq!(rt; text.len(), size as usize);
+        assert_eq!(rt; text.len(), size);
         assert_eq!(rt; is_plain_text(alloc, text.as_str())?, want, "{size} bytes");
     }
     for (depth, want) in [(64, true), (65, false)] {

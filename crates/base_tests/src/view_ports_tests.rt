@@ -1,7 +1,9 @@
 ghost use Rattle.std.specs.Io.{ReadsAtMost};
 
-use super::*;
 use std::test::Fail;
+use view_ports::{
+    INPUT_LIMIT, MemorySink, MemorySource, PortFault, RunEnd, Sink, Source, write_all,
+};
 
 fn read<S: Source>(source: &mut S, into: &mut [u8]) -> Result<usize, PortFault>
     ensures { ReadsAtMost result into.new }

@@ -1,7 +1,11 @@
-use super::*;
+// Servers in the process, servers of a script, and the commands that they are sent.
+use crate::texts::nested;
 use json_terms::{Chars, NoMemory, Term, write_term};
 use std::alloc::Global;
 use std::test::Fail;
+use view_ports::{
+    Answer, Command, FieldServers, InProcess, ScriptServers, Servers, ServersFault, read_command,
+};
 
 const COMPLAINT: &str = r#"["error","compilation_error","source"]"#;
 
@@ -234,15 +238,8 @@ fn other_lines_are_no_commands(rt: HostRuntime) -> Result<(), Fail> {
 fn a_document_nests_64_deep_at_most(rt: HostRuntime) -> Result<(), Fail> {
     let alloc = rt.alloc();
     for (arrays, want) in [(62, true), (63, true), (64, false), (65, false)] {
-        let mut line = String::new(alloc);
-        line.push_str(r#"["map_doc",{"a":"#)?;
-        for _ in 0..arrays {
-            line.push_str("[")?;
-        }
-        for _ in 0..arrays {
-            line.push_str("]")?;
-        }
-        line.push_str("}]")?;
+        let value = nested(alloc, arrays, "[", "", "]")?;
+        let line = format!(in alloc; "[\"map_doc\",{{\"a\":{value}}}]")?;
         let proper = match read_command(alloc, line.as_bytes())? {
             Command::MapDoc { document } => document.len() == 1,
             _ => false,

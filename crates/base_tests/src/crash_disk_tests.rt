@@ -1,6 +1,6 @@
 ghost use Rattle.std.specs.Io.{ReadsAtMost};
 
-use super::*;
+use crash_disk::MemoryFolder;
 use json_terms::NoMemory;
 use std::alloc::Global;
 use std::test::Fail;

@@ -1,0 +1,24 @@
+//! Tests of the public calls of the crates `json_terms`, `raw_collation`, `term_codec`, `view_ports`, `crash_disk`,
+//! `design_docs`, `query_protocol` and `child_pool`; nothing else.
+#![tactic(auto)]
+
+#[cfg(test)]
+mod child_pool_tests;
+#[cfg(test)]
+mod crash_disk_tests;
+#[cfg(test)]
+mod design_docs_tests;
+#[cfg(test)]
+mod json_terms_tests;
+#[cfg(test)]
+mod query_protocol_tests;
+#[cfg(test)]
+mod raw_collation_tests;
+#[cfg(test)]
+mod server_tests;
+#[cfg(test)]
+mod term_codec_tests;
+#[cfg(test)]
+mod texts;
+#[cfg(test)]
+mod view_ports_tests;
