@@ -20,6 +20,3 @@ pub use parser::parse;
 pub use reduce::{PickReduce, parse_reduce, run_reduce, run_rereduce};
 pub use run::run_map;
 pub use syntax::Program;
-
-#[cfg(test)]
-mod tests;

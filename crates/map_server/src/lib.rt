@@ -11,8 +11,6 @@ mod pick_session;
 mod replies;
 mod serve;
 mod session;
-#[cfg(test)]
-mod tests;
 
 pub use laws::programs_follow_the_grammar;
 pub use pick_session::{PickServers, PickSession};

@@ -1,6 +1,6 @@
 // Where a run ends.
-use super::{mapped, nested};
-use crate::runs_stay_within_bounds;
+use crate::programs::{mapped, nested};
+use map_lang::runs_stay_within_bounds;
 use std::alloc::Global;
 use std::test::Fail;
 

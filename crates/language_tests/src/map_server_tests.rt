@@ -1,7 +1,8 @@
-//! Sessions, servers in the process, and whole runs over ports in memory.
+// Sessions, servers in the process, and whole runs over ports in memory.
 ghost use Rattle.std.specs.Prelude.{◌≢◌};
 
-use super::*;
+use crate::programs::nested;
+use map_server::{LINE_LIMIT, PickServers, Session, serve_lines};
 use std::alloc::Global;
 use std::process::Abort;
 use std::test::Fail;
@@ -120,16 +121,8 @@ fn lines_that_are_no_command_are_bad_lines(rt: HostRuntime) -> Result<(), Fail> 
 
 /// A command with a value that nests so deep.
 fn deep(alloc: Global, before: &str, depth: usize, behind: &str) -> Result<String, Fail> {
-    let mut line = String::new(alloc);
-    line.push_str(before)?;
-    for _ in 0..depth {
-        line.push_str("[")?;
-    }
-    for _ in 0..depth {
-        line.push_str("]")?;
-    }
-    line.push_str(behind)?;
-    Ok(line)
+    let value = nested(alloc, depth, "[", "", "]")?;
+    Ok(format!(in alloc; "{before}{value}{behind}")?)
 }
 
 #[test]

@@ -1,6 +1,6 @@
-// What compiles.
-use super::nested;
-use crate::{ParseFault, compiles_once, parse};
+// What compiles, worked out by hand from the language's description.
+use crate::programs::nested;
+use map_lang::{ParseFault, compiles_once, parse};
 use std::test::Fail;
 
 #[test]

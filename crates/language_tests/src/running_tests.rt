@@ -1,5 +1,5 @@
-// What programs give.
-use super::mapped;
+// What programs give, worked out by hand from the language's description.
+use crate::programs::mapped;
 use std::test::Fail;
 
 #[test]

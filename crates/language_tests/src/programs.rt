@@ -1,16 +1,11 @@
-// What compiles and what programs give, worked out by hand from the language's description.
-use crate::{parse, run_map};
+// Texts, and what programs give of documents.
 use json_terms::{RowLists, read_term, write_term};
+use map_lang::{parse, run_map};
 use std::alloc::Global;
 use std::test::Fail;
 
-mod compiling;
-mod limits;
-mod reducing;
-mod running;
-
 // The text with so many copies of `open` before it and of `close` behind it.
-fn nested(
+pub fn nested(
     alloc: Global,
     depth: usize,
     open: &str,
@@ -44,7 +39,7 @@ fn rows_text(alloc: Global, lists: &RowLists) -> Result<Vec<u8>, Fail> {
 }
 
 // What a source gives of a document.
-fn mapped(alloc: Global, source: &str, document: &str) -> Result<Vec<u8>, Fail> {
+pub fn mapped(alloc: Global, source: &str, document: &str) -> Result<Vec<u8>, Fail> {
     let program = parse(alloc, source)?;
     let document = read_term(alloc, document.as_bytes())?;
     let lists = run_map(alloc, &program, &document)?;

@@ -1,6 +1,6 @@
 // What the reduces give.
-use crate::{PickReduce, parse_reduce, reduce_in_parts, run_reduce, run_rereduce};
 use json_terms::{Chars, Row, Term, copy_term, read_term, write_term};
+use map_lang::{PickReduce, parse_reduce, reduce_in_parts, run_reduce, run_rereduce};
 use std::alloc::Global;
 use std::test::Fail;
 
