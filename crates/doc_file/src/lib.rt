@@ -3,28 +3,18 @@
 
 mod accept;
 mod body;
-#[cfg(test)]
-mod changes_tests;
 mod content;
 mod docs;
 mod draft;
 mod entry;
 mod fault;
-#[cfg(test)]
-mod file_tests;
 mod incoming;
-#[cfg(test)]
-mod incoming_tests;
 mod last_writes;
 mod laws;
 mod load;
 mod publish;
 mod record;
 mod rev;
-#[cfg(test)]
-mod tests;
-#[cfg(test)]
-mod write_tests;
 
 pub use accept::{may_delete, may_put};
 pub use body::read_body;

@@ -2,15 +2,11 @@
 //! gate: one byte, written after all that stands behind it was synced.
 #![tactic(auto)]
 
-#[cfg(test)]
-mod crash_tests;
 mod fault;
 mod gate;
 mod root;
 mod slot;
 mod steps;
-#[cfg(test)]
-mod tests;
 
 pub use fault::GateFault;
 pub use gate::GateFile;

@@ -1,17 +1,13 @@
 ghost use Rattle.std.specs.Prelude.{◌<◌};
 ghost use Rattle.crash_disk.specs.State.{calls_told, told};
 
-use super::*;
+use crate::documents::DOCS;
 use crash_disk::MemoryFolder;
+use gate_file::{GateFault, GateFile};
 use std::alloc::Global;
 use std::process::Abort;
 use std::test::Fail;
-use view_ports::{FileName, Folder, Stem};
-
-const DOCS: FileName = FileName {
-    stem: Stem::Docs,
-    side: false,
-};
+use view_ports::{Folder, Stem};
 
 /// How many choices of what a crash leaves are tried at each call: nothing that wasn't synced, all of it, torn ranges of
 /// 255, and seven mixtures.

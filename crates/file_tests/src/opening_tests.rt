@@ -1,15 +1,10 @@
-use super::*;
+// What is found in the documents' file when it is opened.
+use crate::documents::{folder_of, is_damage};
 use crash_disk::MemoryFolder;
-use gate_file::{GateFault, GateFile};
+use doc_file::{DocFault, Docs, Info};
 use json_terms::{NoMemory, write_term};
 use std::alloc::Global;
 use std::test::Fail;
-use view_ports::{FileName, Folder, Stem};
-
-const DOCS: FileName = FileName {
-    stem: Stem::Docs,
-    side: false,
-};
 
 /// The spelling of `{"_id":"a"}`.
 const BODY: &[u8] = b"\x05\x01\0\0\0\x03\0\0\0_id\x07\x01\0\0\0a";
@@ -27,20 +22,6 @@ fn root(alloc: Global, offset: u64, length: u32) -> Result<Vec<u8>, NoMemory> {
     bytes.extend_from_slice(b"\x22\0\0\0\x01\0\0\0b\x02\0\0\0\0\0\0\0\x01\0\0\0\0\0\0\0\x01")?;
     bytes.extend_from_slice(b"\0\0\0\0\0\0\0\0\0\0\0\0")?;
     Ok(bytes)
-}
-
-/// A file with a body at 8,192 and then a root record.
-fn commit<F: Folder>(folder: &mut F, body: &[u8], root: &[u8]) -> Result<(), GateFault> {
-    let mut file = GateFile::open(folder, Stem::Docs)?;
-    file.append(folder, body)?;
-    let at = file.append(folder, root)?;
-    file.commit(folder, at, root.len() as u64)
-}
-
-fn folder_of(alloc: Global, body: &[u8], root: &[u8]) -> Result<MemoryFolder, Fail> {
-    let mut folder = MemoryFolder::new(alloc, Vec::new(alloc), false)?;
-    commit(&mut folder, body, root)?;
-    Ok(folder)
 }
 
 #[test]
@@ -77,14 +58,6 @@ fn documents_are_found_again(rt: HostRuntime) -> Result<(), Fail> {
     assert!(rt; matches!(docs.get(alloc, &mut folder, "b"), Err(DocFault::Deleted)));
     assert!(rt; matches!(docs.get(alloc, &mut folder, "c"), Err(DocFault::Missing)));
     Ok(())
-}
-
-/// Whether the fault is damage at this place.
-fn is_damage(fault: Option<DocFault>, at: u64) -> bool {
-    match fault {
-        Some(DocFault::Gate(GateFault::Damaged { name, offset })) => name == DOCS && offset == at,
-        _ => false,
-    }
 }
 
 #[test]

@@ -1,43 +1,13 @@
 ghost use Rattle.std.specs.Prelude.{◌<◌};
 ghost use Rattle.crash_disk.specs.State.{calls_told, told};
 
-use super::*;
+use crate::documents::{delete, get, put};
 use crash_disk::MemoryFolder;
-use design_docs::{id_of, is_design_id};
-use json_terms::{Term, member, read_term, write_term};
+use doc_file::{DocFault, Docs, Info, Rev};
+use json_terms::{Term, member, write_term};
 use std::alloc::Global;
 use std::process::Abort;
 use std::test::Fail;
-use view_ports::Folder;
-
-/// Puts the document with this text, over documents that are opened anew.
-fn put<F: Folder>(
-    alloc: Global,
-    folder: &mut F,
-    text: &str,
-) -> Result<Result<Rev, DocFault>, Fail> {
-    let document = read_term(alloc, text.as_bytes())?;
-    if is_design_id(id_of(&document)) {
-        return Err(Fail::from("a design document"));
-    }
-    let mut docs = Docs::open(alloc, folder)?;
-    Ok(docs.put(alloc, folder, document))
-}
-
-fn delete<F: Folder>(
-    alloc: Global,
-    folder: &mut F,
-    id: &str,
-    rev: Option<&str>,
-) -> Result<Result<Rev, DocFault>, Fail> {
-    let mut docs = Docs::open(alloc, folder)?;
-    Ok(docs.delete(alloc, folder, id, rev))
-}
-
-fn get<F: Folder>(alloc: Global, folder: &mut F, id: &str) -> Result<Result<Term, DocFault>, Fail> {
-    let docs = Docs::open(alloc, folder)?;
-    Ok(docs.get(alloc, folder, id))
-}
 
 /// The generation and the number of a write, or its refusal.
 fn told(alloc: Global, outcome: Result<Rev, DocFault>) -> Result<String, Fail> {

@@ -1,4 +1,7 @@
-use super::*;
+// Revisions, root records, and which writes are accepted.
+use doc_file::{
+    DocFault, Entry, LastWrite, Rev, is_revision, may_delete, may_put, read_root, write_root,
+};
 use json_terms::{Chars, NoMemory};
 use std::alloc::Global;
 use std::test::Fail;

@@ -1,10 +1,9 @@
-use super::*;
-use crash_disk::MemoryFolder;
-use gate_file::{GateFault, GateFile};
+// The changes since a write.
+use crate::documents::{folder_of, is_damage};
+use doc_file::{Changes, Docs};
 use json_terms::{NoMemory, Term, write_term};
 use std::alloc::Global;
 use std::test::Fail;
-use view_ports::{Folder, Stem};
 
 /// The spellings of `{"_id":"c"}` and `{"_id":"a"}`, 18 bytes each.
 const BODIES: &[u8] =
@@ -22,20 +21,6 @@ fn root(alloc: Global, place: u64) -> Result<Vec<u8>, NoMemory> {
     bytes.extend_from_slice(b"\x22\0\0\0\x01\0\0\0c\x02\0\0\0\0\0\0\0\x01\0\0\0\0\0\0\0\0")?;
     bytes.extend_from_slice(b"\0\x20\0\0\0\0\0\0\x12\0\0\0")?;
     Ok(bytes)
-}
-
-/// The documents of a folder whose file has the bodies at 8,192 and then the root record.
-fn commit<F: Folder>(folder: &mut F, root: &[u8]) -> Result<(), GateFault> {
-    let mut file = GateFile::open(folder, Stem::Docs)?;
-    file.append(folder, BODIES)?;
-    let at = file.append(folder, root)?;
-    file.commit(folder, at, root.len() as u64)
-}
-
-fn folder_of(alloc: Global, root: &[u8]) -> Result<MemoryFolder, Fail> {
-    let mut folder = MemoryFolder::new(alloc, Vec::new(alloc), false)?;
-    commit(&mut folder, root)?;
-    Ok(folder)
 }
 
 /// Each change as its number, its id and its document.
@@ -67,7 +52,7 @@ fn tell_document(
 fn changes_come_in_the_order_of_their_numbers(rt: HostRuntime) -> Result<(), Fail> {
     let alloc = rt.alloc();
     let root = root(alloc, 8210)?;
-    let mut folder = folder_of(alloc, root.as_slice())?;
+    let mut folder = folder_of(alloc, BODIES, root.as_slice())?;
     let docs = Docs::open(alloc, &mut folder)?;
     let cases: [(u64, u32, &[u8]); 10] = [
         (0, 0, b""),
@@ -98,19 +83,11 @@ fn changes_come_in_the_order_of_their_numbers(rt: HostRuntime) -> Result<(), Fai
     Ok(())
 }
 
-/// Whether the fault is damage at this place.
-fn is_damage(fault: Option<DocFault>, at: u64) -> bool {
-    match fault {
-        Some(DocFault::Gate(GateFault::Damaged { offset, .. })) => offset == at,
-        _ => false,
-    }
-}
-
 #[test]
 fn damage_is_met_only_where_it_is_asked_for(rt: HostRuntime) -> Result<(), Fail> {
     let alloc = rt.alloc();
     let root = root(alloc, 8211)?;
-    let mut folder = folder_of(alloc, root.as_slice())?;
+    let mut folder = folder_of(alloc, BODIES, root.as_slice())?;
     let docs = Docs::open(alloc, &mut folder)?;
     let changes = docs.changed_since(alloc, &mut folder, 0, 2)?;
     assert_eq!(rt; changes.len(), 2);

@@ -1,7 +1,8 @@
 ghost use Rattle.std.specs.Prelude.{None, ◌≡◌, ◌<◌, IfSome, vec_len};
 ghost use Rattle.view_ports.specs.Faults.{HasCause};
 
-use super::*;
+use crate::documents::DOCS;
+use gate_file::{GateFault, GateFile};
 use std::alloc::Global;
 use std::test::Fail;
 use view_ports::{FileName, Folder, FolderFault, PortFault, Stem};
@@ -149,11 +150,6 @@ impl Folder for PlainFolder {
 }
 
 const NONE: u64 = u64::MAX;
-
-const DOCS: FileName = FileName {
-    stem: Stem::Docs,
-    side: false,
-};
 
 /// A file with one commit of "root" and one more of "second".
 fn script<F: Folder>(folder: &mut F) -> Result<(), GateFault> {
