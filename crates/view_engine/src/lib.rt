@@ -13,10 +13,6 @@ mod reads;
 mod refusal;
 mod request;
 mod rows;
-#[cfg(test)]
-mod tests;
-#[cfg(test)]
-mod write_tests;
 mod writes;
 
 pub use engine::Engine;

@@ -1,5 +1,4 @@
-use super::*;
-use crate::tests::replies_in;
+use crate::replies::replies_in;
 use crash_disk::MemoryFolder;
 use std::alloc::Global;
 use std::process::Abort;

@@ -1,4 +1,5 @@
-use super::*;
+// Request lines and their reply lines.
+use crate::replies::replies_in;
 use crash_disk::MemoryFolder;
 use json_terms::Chars;
 use std::alloc::Global;
@@ -8,27 +9,6 @@ use view_ports::{Answer, FieldServers, ScriptServers, Servers};
 
 const PEOPLE: &str =
     "{\"put\":{\"_id\":\"_design/people\",\"language\":\"field\",\"views\":{\"by_name\":{\"map\":\"name\"}}}}";
-
-/// The reply lines to some request lines over a folder and these query servers. The documents are opened anew for each line.
-pub fn replies_in<C: Servers>(
-    alloc: Global,
-    folder: &mut MemoryFolder,
-    servers: &mut C,
-    words: &[&str],
-    lines: &[&str],
-) -> Result<Vec<u8>, Fail> {
-    let mut languages = Vec::new(alloc);
-    for word in words {
-        languages.push(String::from_str(alloc, word)?)?;
-    }
-    let mut out = Vec::new(alloc);
-    for line in lines {
-        let mut engine = Engine::open(alloc, folder, &languages)?;
-        engine.step(alloc, folder, servers, line.as_bytes(), &mut out)?;
-        engine.finish(servers);
-    }
-    Ok(out)
-}
 
 /// The reply lines to some request lines, over these query servers.
 fn replies_over<C: Servers>(
@@ -267,6 +247,11 @@ fn lines_are_refused(rt: HostRuntime) -> Result<(), Fail> {
             "document id is not allowed",
         ),
         (
+            "{\"put\":{\"_id\":\"_design/\",\"_x\":1}}",
+            "bad_id",
+            "document id is not allowed",
+        ),
+        (
             "{\"put\":{\"_id\":\"_x\",\"_y\":1,\"_rev\":2}}",
             "bad_id",
             "document id is not allowed",
@@ -433,6 +418,27 @@ fn designs_of_any_language_are_taken(rt: HostRuntime) -> Result<(), Fail> {
 {\"ok\":true,\"id\":\"x\",\"rev\":\"1-00000000000000000000000000000003\"}\n\
 {\"error\":\"unknown_language\",\"reason\":\"javascript\"}\n\
 {\"error\":\"not_found\",\"reason\":\"missing_named_view\"}\n",
+    )
+}
+
+/// A design document is stored with all of its members, and a put that names its revision deletes it.
+#[test]
+fn designs_are_stored_and_deleted(rt: HostRuntime) -> Result<(), Fail> {
+    assert_replies(
+        &rt,
+        rt.alloc(),
+        &[
+            "{\"put\":{\"z\":{\"_b\":1},\"A\":[],\"_id\":\"_design/x\"}}",
+            "{\"get\":\"_design/x\"}",
+            "{\"put\":{\"_id\":\"_design/x\",\"_deleted\":true,\"_rev\":\"2-0123456789abcdef0123456789abcdef\"}}",
+            "{\"put\":{\"z\":1,\"_id\":\"_design/x\",\"_deleted\":true,\"_rev\":\"1-00000000000000000000000000000001\"}}",
+            "{\"get\":\"_design/x\"}",
+        ],
+        "{\"ok\":true,\"id\":\"_design/x\",\"rev\":\"1-00000000000000000000000000000001\"}\n\
+{\"A\":[],\"_id\":\"_design/x\",\"_rev\":\"1-00000000000000000000000000000001\",\"z\":{\"_b\":1}}\n\
+{\"error\":\"conflict\",\"reason\":\"Document update conflict.\"}\n\
+{\"ok\":true,\"id\":\"_design/x\",\"rev\":\"2-00000000000000000000000000000002\"}\n\
+{\"error\":\"not_found\",\"reason\":\"deleted\"}\n",
     )
 }
 

@@ -1,0 +1,9 @@
+//! Tests of the public calls of the crate `view_engine`; nothing else.
+#![tactic(auto)]
+
+#[cfg(test)]
+mod replies;
+#[cfg(test)]
+mod request_tests;
+#[cfg(test)]
+mod write_tests;
