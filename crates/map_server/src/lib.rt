@@ -2,7 +2,6 @@
 //! sessions, alone, as servers in the process, and over the lines of a source.
 #![tactic(auto)]
 
-mod answers;
 mod change;
 mod dialogue;
 mod laws;

@@ -10,14 +10,13 @@ ghost use Rattle.map_server.specs.Pick.{pick};
 ghost use Rattle.map_server.specs.PickFunctions.{pick_map};
 ghost use Rattle.map_server.specs.Replies.{answer_of, sources_then};
 
-use crate::answers::{answer_text, bad_line};
 use crate::change::{Change, Reply};
 use crate::map_function::MapFunction;
 use crate::replies::{add, forget, reduce, rereduce};
 use json_terms::{Members, NoMemory, Term, Terms};
 use std::alloc::Global;
 use std::marker::Model;
-use view_ports::{Command, InProcess, ServerSession, read_command};
+use view_ports::{Command, InProcess, ServerSession, answer_text, bad_line, read_command};
 
 /// Query servers of the language `pick`.
 pub type PickServers = InProcess<PickSession>;

@@ -1,20 +1,20 @@
 //! The replies to commands other than `map_doc`.
 
-ghost use Rattle.std.specs.Prelude.{◌≡◌, List, ℕ, IfOk};
-ghost use Rattle.json_terms.specs.Json.{is_true};
+ghost use Rattle.std.specs.Prelude.{◌≡◌, ◌≤◌, List, ℕ, IfOk};
+ghost use Rattle.json_terms.specs.Json.{depth, is_true};
+ghost use Rattle.json_terms.specs.Seen.{json};
 ghost use Rattle.view_ports.specs.Honest.{IsTextOf};
 ghost use Rattle.view_ports.specs.declared.command.Command.TheVariants as command;
 ghost use Rattle.map_server.specs.declared.change.Change.TheVariants as change;
 ghost use Rattle.map_server.specs.Changes.{changed};
-ghost use Rattle.map_server.specs.Replies.{IsReducible, answer_of, sources_then};
+ghost use Rattle.map_server.specs.Replies.{IsReducible, answer_of, result_depth, result_term, sources_then};
 
-use crate::answers::{complaint, result_text, yes};
 use crate::change::{Change, Reply};
 use crate::map_function::MapFunction;
-use json_terms::{Chars, NoMemory, Terms};
+use json_terms::{Chars, NoMemory, Term, Terms};
 use map_lang::{parse_reduce, run_reduce, run_rereduce};
 use std::alloc::Global;
-use view_ports::ReduceRows;
+use view_ports::{ReduceRows, answer_text, complaint, yes};
 
 /// The reply to `reset`.
 pub fn forget(alloc: Global) -> Result<Reply, NoMemory>
@@ -63,4 +63,17 @@ pub fn rereduce(alloc: Global, source: Chars, values: Terms) -> Result<Vec<u8>, 
         return complaint(alloc);
     };
     result_text(alloc, run_rereduce(alloc, how, values.as_slice())?)
+}
+
+/// `[true,[RESULT]]`.
+fn result_text(alloc: Global, value: Term) -> Result<Vec<u8>, NoMemory>
+    requires { depth (json value) ≤ result_depth }
+    ensures { IfOk result (λ text. IsTextOf (result_term (json value)) text.items) }
+{
+    let mut results = Terms::with_capacity(alloc, 1)?;
+    results.push(value)?;
+    let mut answer = Terms::with_capacity(alloc, 2)?;
+    answer.push(Term::True)?;
+    answer.push(Term::Array(results))?;
+    answer_text(alloc, &Term::Array(answer))
 }

@@ -4,13 +4,12 @@ ghost use Rattle.std.specs.Prelude.{◌≡◌, ◌++◌, [], IfOk, OnErr, OnOk};
 ghost use Rattle.view_ports.specs.Commands.{command};
 ghost use Rattle.map_server.specs.Replies.{answer_text, sources_after_line};
 
-use crate::answers::bad_line;
 use crate::change::Reply;
 use crate::pick_session::PickSession;
 use json_terms::NoMemory;
 use std::alloc::Global;
 use std::marker::Model;
-use view_ports::ServerSession;
+use view_ports::{ServerSession, bad_line};
 
 /// How many bytes a line has at most.
 pub const LINE_LIMIT: usize = 134_217_728;

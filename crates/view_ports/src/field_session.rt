@@ -11,7 +11,7 @@ ghost use Rattle.view_ports.specs.FieldRows.{emitted};
 ghost use Rattle.view_ports.specs.Functions.{Functions, rows_term, lists_term};
 ghost use Rattle.view_ports.specs.Honest.{Answers, IsAnswerable, IsTextOf, Spells, no_compilation, rows_of};
 
-use crate::answer_text::{answer_text, bad_line, complaint, yes};
+use crate::answers::{answer_text, bad_line, complaint, yes};
 use crate::command::{Command, read_command};
 use crate::in_process::InProcess;
 use crate::server_session::ServerSession;

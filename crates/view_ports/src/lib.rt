@@ -2,7 +2,7 @@
 //! over them is: which lines were read, what was written for each, and how the run ended.
 #![tactic(auto)]
 
-mod answer_text;
+mod answers;
 mod command;
 mod field_session;
 mod file_name;
@@ -21,6 +21,7 @@ mod servers_fault;
 mod stretch;
 mod write_text;
 
+pub use answers::{answer_text, bad_line, complaint, yes};
 pub use command::{Command, read_command};
 pub use field_session::{FieldServers, FieldSession};
 pub use file_name::{FileName, Stem};
