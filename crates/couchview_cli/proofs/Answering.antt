@@ -1,6 +1,6 @@
 -- What a step of the engine is to a session.
-use Rattle.std.specs.Prelude.{◌≡◌, ◌≢◌, ◌++◌, ℕ, List, [], ◌∷◌, Option}
-use Rattle.std.proofs.Common.{refl, sym, ap, ◌∙◌, subst, inl, inr}
+use Rattle.std.specs.Prelude.{◌≡◌, ◌≢◌, ◌++◌, ℕ, List, [], ◌∷◌, Option, Some, None}
+use Rattle.std.proofs.Common.{refl, sym, ap, ◌∙◌, subst, inl}
 use Rattle.view_ports.specs.Calls.{Call}
 use Rattle.view_ports.specs.Disk.{IfTold, LeavesOnly, Tells}
 use Rattle.view_ports.specs.Functions.{Functions}
@@ -16,7 +16,7 @@ use Rattle.view_engine.specs.declared.engine.Engine.{Engine}
 use Rattle.view_engine.specs.declared.halt.StepFault.{StepFault}
 use Rattle.view_engine.specs.declared.halt.StepFault.TheVariants.{Damaged, Full}
 use Rattle.view_engine.specs.declared.halt.StepFault.TheVariants as halt
-use Rattle.view_engine.specs.Halts.{IsFullFor}
+use Rattle.view_engine.specs.Halts.{IsFullFor, WouldWrite}
 use Rattle.view_engine.specs.declared.refusal.Refusal.TheVariants.{NoMemory}
 use Rattle.view_engine.specs.Engine.{Appends as StepAppends, IsAt, Leaves, StandsAround}
 use Rattle.view_engine.specs.Moments.{Moment}
@@ -71,18 +71,27 @@ module _ (functions : List ℕ → Functions) (honest : List ℕ → Type 0) (la
     wrote = wrote;
   }
 
+-- a full file is met by a write that is accepted
+full_at : (fault : StepFault) (line : List ℕ) (before : Moment) (old : Told) (docs : Docs) → ((name : FileName) (length : Option ℕ) → fault ≡ Full name length → IsFullFor docs (request_of line) name length)
+    → ((name : FileName) (length : Option ℕ) → fault ≡ Full name length → WouldWrite docs old (request_of line)) → IfTold old (λ d. AreAt docs d.now before.world.history)
+    → IfTold old (λ d. (name : FileName) (length : Option ℕ) → fault ≡ Full name length → IsFullAt before.world line name length)
+full_at fault line before None docs full reached at = tt
+full_at fault line before (Some d) docs full reached at = λ name length found.
+    let made = reached name length found before.world.history at in
+    record { docs = docs; files = d.now; at = at; full = full name length found; write = made.0; accepted = made.1 }
+
 -- a line that the engine did not answer
 pub halted_by : (fault : StepFault) (line : List ℕ) (before : Moment) (old new : Told) (held : Option (List ℕ)) (docs : Docs) (HasLeft : Moment → Type 0) → fault ≢ halt.NoMemory → IfTold old (λ d. AreAt docs d.now before.world.history)
     → Tells old new (LeavesOnly (StandsAround before.world (request_of line))) → IfTold old (λ d. AreAt docs d.now before.world.history → (name : FileName) (at : ℕ) → fault ≡ Damaged name at → ⊥)
-    → ((name : FileName) (length : Option ℕ) → fault ≡ Full name length → IsFullFor docs (request_of line) name length) → HasLeft before
+    → ((name : FileName) (length : Option ℕ) → fault ≡ Full name length → IsFullFor docs (request_of line) name length)
+    → ((name : FileName) (length : Option ℕ) → fault ≡ Full name length → WouldWrite docs old (request_of line)) → HasLeft before
     → IsHalted fault old new held held before line HasLeft
-halted_by fault line before old new held docs HasLeft halts at moments sound full left = record {
+halted_by fault line before old new held docs HasLeft halts at moments sound full reached left = record {
   moments = moments;
   halts = halts;
   whole = told_pair old (λ d. AreAt docs d.now before.world.history) (λ d. AreAt docs d.now before.world.history → (name : FileName) (at : ℕ) → fault ≡ Damaged name at → ⊥) (λ d. (name : FileName) (at : ℕ) → fault ≡ Damaged name at → ⊥)
       (λ d is never. never is) at sound;
-  full = told_now old (λ d. AreAt docs d.now before.world.history) (λ d. (name : FileName) (length : Option ℕ) → fault ≡ Full name length → IsFullAt before.world line name length)
-      (λ d is name length found. (docs, (d.now, (is, full name length found)))) at;
+  full = full_at fault line before old docs full reached at;
   left = left;
   silent = refl;
 }

@@ -1,5 +1,5 @@
 -- A session that can't go on comes to an end.
-use Rattle.std.proofs.Common.{◌≡◌, ◌≤◌, ℕ, List, Option, length}
+use Rattle.std.proofs.Common.{◌≤◌, ℕ, List, Option, length}
 use Rattle.view_ports.specs.Calls.{Call}
 use Rattle.view_ports.specs.Functions.{Functions}
 use Rattle.view_ports.specs.Runs.{input_limit}

@@ -1,13 +1,13 @@
 -- The ends of a session.
 use Rattle.std.specs.Prelude.{◌≡◌, ◌≢◌, ℕ, List, [], ◌∷◌, ◌++◌, Option}
-use Rattle.std.proofs.Common.{refl, sym, ap, ◌∙◌, subst, append_assoc, append-nil}
+use Rattle.std.proofs.Common.{refl, sym, ap, ◌∙◌, subst, append_assoc}
 use Rattle.std.proofs.KnownBytes.{Appends-trans}
 use Rattle.std.specs.Io.KnownBytes.{Appends}
 use Rattle.view_ports.specs.declared.file_name.FileName.{FileName}
 use Rattle.view_ports.specs.declared.run_end.RunEnd.{RunEnd}
 use Rattle.view_ports.specs.declared.run_end.RunEnd.TheVariants.{InputEnded, SinkFailed, SourceFailed, OutOfMemory, InputTooLong}
 use Rattle.view_ports.specs.Calls.{Call}
-use Rattle.view_ports.specs.Disk.{IfTold, IsImageOf, LeavesOnly, Tells}
+use Rattle.view_ports.specs.Disk.{IfTold, IsImageOf, LeavesOnly}
 use Rattle.view_ports.specs.Functions.{Functions}
 use Rattle.view_ports.specs.Lines.{IsCut, IsLine, ended, last_line}
 use Rattle.view_ports.specs.Exchanges.{Exchange, lines_of, text_of}

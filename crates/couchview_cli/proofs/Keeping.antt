@@ -8,8 +8,8 @@ use Rattle.view_engine.specs.Moments.{Moment}
 use Rattle.view_engine.specs.declared.refusal.Refusal.TheVariants.{NoMemory}
 use Rattle.view_engine.specs.Refusals.{line_limit, refusal_text, request_of}
 use Rattle.view_ports.specs.Lines.{ended}
-use Rattle.view_engine.specs.Steps.{Answers, MayHaveCalled}
-use Rattle.view_ports.specs.Disk.{Disk, LeavesOnly, Tells}
+use Rattle.view_engine.specs.Steps.{Answers, IsWrite, MayHaveCalled}
+use Rattle.view_ports.specs.Disk.{LeavesOnly, Tells}
 use Rattle.view_ports.specs.declared.file_name.FileName.{FileName}
 use Rattle.view_ports.proofs.Told.{told_now}
 use Rattle.view_engine.specs.declared.halt.StepFault.{StepFault}
@@ -124,7 +124,7 @@ module _ {fault : StepFault} {old new : Told} {held now : Option (List ℕ)} {be
     halts = halted.halts;
     whole = halted.whole;
     full = told_now old (λ d. (name : FileName) (length : Option ℕ) → fault ≡ Full name length → IsFullAt before.world (kept line) name length) (λ d. (name : FileName) (length : Option ℕ) → fault ≡ Full name length → IsFullAt before.world line name length)
-        (λ d full name length is. let found = full name length is in (found.0, ((found.1).0, (((found.1).1).0, subst (λ r. IsFullFor found.0 r name length) (request_kept line) ((found.1).1).1)))) halted.full;
+        (λ d full name length is. let found = full name length is in record { docs = found.docs; files = found.files; at = found.at; full = subst (λ r. IsFullFor found.docs r name length) (request_kept line) found.full; write = found.write; accepted = subst (λ r. IsWrite before.world r found.write) (request_kept line) found.accepted }) halted.full;
     left = halted.left;
     silent = halted.silent;
   }

@@ -1,18 +1,18 @@
 -- Histories that go on, and what a crash leaves meanwhile.
 use Rattle.std.specs.Prelude.{Bool, true, false, if◌then◌else◌}
-use Rattle.std.proofs.Common.{◌≡◌, ◌⊎◌, ℕ, List, [], ◌∷◌, ◌++◌, Option, Result, Ok, Err, inl, inr, refl, sym, ap, ◌∙◌, subst, append_assoc}
+use Rattle.std.proofs.Common.{ℕ, List, [], ◌∷◌, ◌++◌, Option, Result, Ok, inl, inr, refl, sym, ap, ◌∙◌, subst, append_assoc}
 use Rattle.view_ports.specs.Disk.{Disk, IfTold, LeavesOnly, Tells}
 use Rattle.view_ports.specs.Exchanges.{Exchange}
 use Rattle.view_ports.specs.Functions.{Functions}
 use Rattle.view_ports.specs.declared.file_name.FileName.{FileName}
 use Rattle.view_ports.proofs.Moments.{joined, weaker}
-use Rattle.view_ports.proofs.Told.{told_after, told_all, told_back, told_given, told_map, told_now, told_pair, told_then}
+use Rattle.view_ports.proofs.Told.{told_after, told_all, told_back, told_given, told_map, told_pair, told_then}
 use Rattle.doc_file.specs.Held.{Stands}
 use Rattle.doc_file.specs.History.{Write}
 use Rattle.view_engine.specs.declared.refusal.Refusal.{Refusal}
 use Rattle.view_engine.specs.declared.request.Request.{Request}
 use Rattle.view_engine.specs.declared.request.Request.TheVariants.{Delete, Put}
-use Rattle.view_engine.specs.Accepted.{after_exchange, after_request, is_ok}
+use Rattle.view_engine.specs.Accepted.{after_request, is_ok}
 use Rattle.view_engine.specs.Engine.{StandsAround}
 use Rattle.view_engine.specs.Moments.{Moment}
 use Rattle.view_engine.specs.Refusals.{request_of}

@@ -4,7 +4,7 @@ use Rattle.std.proofs.Common.{sym, ap, ◌∙◌, subst}
 use Rattle.std.proofs.KnownBytes.{Appends-nil, Appends-trans}
 use Rattle.std.specs.Io.KnownBytes.{Appends}
 use Rattle.view_ports.specs.Calls.{Call}
-use Rattle.view_ports.specs.Disk.{IfTold, LeavesOnly, Tells}
+use Rattle.view_ports.specs.Disk.{LeavesOnly, Tells}
 use Rattle.view_ports.specs.Functions.{Functions}
 use Rattle.view_ports.specs.Lines.{IsLine, ended}
 use Rattle.view_ports.proofs.Exchanging.{text_of-push}

@@ -1,6 +1,6 @@
 -- What serving did, from the end of its session.
-use Rattle.std.specs.Prelude.{◌≡◌, ◌≤◌, ◌⊎◌, ℕ, List, [], ◌++◌, Option, Some, None, length}
-use Rattle.std.proofs.Common.{refl, sym, ap, ◌∙◌, subst, inl, inr, lit≤}
+use Rattle.std.specs.Prelude.{◌≡◌, ◌≤◌, ℕ, List, [], Option, Some, None, length}
+use Rattle.std.proofs.Common.{refl, sym, ◌∙◌, subst, inl, inr, lit≤}
 use Rattle.std.proofs.KnownBytes.{Consumes-nil, Appends-nil, Appends-trans}
 use Rattle.std.specs.Io.KnownBytes.{Appends, Consumes}
 use Rattle.view_ports.specs.declared.file_name.FileName.{FileName}
@@ -8,6 +8,7 @@ use Rattle.view_ports.specs.declared.run_end.RunEnd.{RunEnd}
 use Rattle.view_ports.specs.declared.run_end.RunEnd.TheVariants.{OutOfMemory}
 use Rattle.view_ports.specs.Calls.{Call}
 use Rattle.view_ports.specs.Disk.{IfTold, IsImageOf, LeavesOnly, Tells}
+use Rattle.view_ports.specs.Faults.{Rose}
 use Rattle.view_ports.specs.Exchanges.{Exchange, LeadsTo, text_of}
 use Rattle.view_ports.specs.Functions.{Functions}
 use Rattle.view_ports.specs.Runs.{HasRead, status_of, input_limit}
@@ -21,13 +22,13 @@ use Rattle.doc_file.specs.History.{Write}
 use Rattle.doc_file.proofs.Stores.{image_now}
 use Rattle.view_engine.specs.declared.engine.Engine.{Engine}
 use Rattle.view_engine.specs.declared.halt.StepFault.{StepFault}
-use Rattle.view_engine.specs.declared.halt.StepFault.TheVariants.{Damaged, Full}
+use Rattle.view_engine.specs.declared.halt.StepFault.TheVariants.{Damaged, DiskFault, Full}
 use Rattle.view_engine.specs.Engine.{HasChild, HasStopped, IsAt}
 use Rattle.view_engine.specs.Moments.{Moment}
 use Rattle.view_engine.specs.Accepted.{accepted}
 use Rattle.view_engine.proofs.AcceptedWrites.{LeadsTo-accepted}
 use Rattle.couchview_cli.specs.Closing.{Closes}
-use Rattle.couchview_cli.specs.Serving.{AreLeft, Finishes, IsCutShort, IsUnopened, Outside, Serves, Steps, at_start, world_of}
+use Rattle.couchview_cli.specs.Serving.{AreLeft, Finishes, IsCutShort, IsUnopened, Outside, Steps, at_start}
 use Rattle.couchview_cli.specs.Session.{CutOff, Ended, Origin}
 use Rattle.couchview_cli.proofs.Moving.{moved_start, Told}
 
@@ -45,10 +46,10 @@ module _ (functions : List ℕ → Functions) (honest : List ℕ → Type 0) (la
   leads_accepted None start exchanges moment leads = tt
   leads_accepted (Some d) start exchanges moment leads = LeadsTo-accepted functions honest languages start exchanges moment leads
 
-  module _ (before : Outside) (left held : Option (List ℕ)) (disk : Told) (may_follow may_follow' : List Call → Type 0) (faults faults' : ℕ) (engine : Engine) (pool : Pool)
+  module _ (before : Outside) (left held : Option (List ℕ)) (disk : Told) (disk_faults : ℕ) (may_follow may_follow' : List Call → Type 0) (faults faults' : ℕ) (engine : Engine) (pool : Pool)
       (stops : (calls : List Call) → may_follow calls → HasStopped may_follow' pool calls) (same : faults' ≡ faults) where
     abbrev after : Outside
-    after = record { left = left; held = held; disk = disk; faults = faults' }
+    after = record { left = left; held = held; disk = disk; disk_faults = disk_faults; faults = faults' }
 
     are_left : (moment : Moment) → may_follow moment.calls → AreLeft may_follow' moment.calls
     are_left moment follows = let stopped = stops moment.calls follows in record { added = stopped.added; follows = stopped.follows; stopped = stopped.stopped.stopped }
@@ -77,9 +78,9 @@ module _ (functions : List ℕ → Functions) (honest : List ℕ → Type 0) (la
 
     -- a session that was cut short, and then the children were ended and the last line was written
     pub cut_short : (mid : Option (List ℕ)) (bytes : List ℕ) (fault : StepFault) (status : ℕ) → Consumes before.left left bytes → length bytes ≤ input_limit
-        → CutOff functions honest fault (origin_of languages opening before) mid disk bytes (HasChild may_follow faults engine.pool) → Closes mid held [] fault status
+        → (fault ≡ DiskFault → Rose before.disk_faults disk_faults) → CutOff functions honest fault (origin_of languages opening before) mid disk bytes (HasChild may_follow faults engine.pool) → Closes mid held [] fault status
         → IsCutShort functions honest languages opening before after (AreLeft may_follow') status
-    cut_short mid bytes fault status reads counts off closes = record {
+    cut_short mid bytes fault status reads counts cause off closes = record {
       bytes = bytes;
       exchanges = off.exchanges;
       lines = off.lines;
@@ -96,6 +97,7 @@ module _ (functions : List ℕ → Functions) (honest : List ℕ → Type 0) (la
       keeps = leads_accepted before.disk (at_start opening before.faults) off.exchanges off.moment off.leads;
       closes = closes_after before.held mid held (text_of off.exchanges) fault status off.wrote closes;
       halts = off.halts;
+      cause = cause;
       whole = off.whole;
       full = off.full;
       moments = off.moments;
@@ -104,21 +106,22 @@ module _ (functions : List ℕ → Functions) (honest : List ℕ → Type 0) (la
       at_end = are_left off.moment off.left.follows;
     }
 
-  module _ (before : Outside) (held : Option (List ℕ)) (disk : Told) (may_follow : List Call → Type 0) (follows : may_follow []) (opened : Tells before.disk disk (LeavesOnly (λ image. Stands image opening))) where
+  module _ (before : Outside) (held : Option (List ℕ)) (disk : Told) (disk_faults : ℕ) (may_follow : List Call → Type 0) (follows : may_follow []) (opened : Tells before.disk disk (LeavesOnly (λ image. Stands image opening))) where
     abbrev now : Outside
-    now = record { left = before.left; held = held; disk = disk; faults = before.faults }
+    now = record { left = before.left; held = held; disk = disk; disk_faults = disk_faults; faults = before.faults }
 
     abbrev none_left : AreLeft may_follow []
     none_left = record { added = []; follows = follows; stopped = refl }
 
     -- the folder could not be opened
-    pub unopened : (fault : StepFault) (status : ℕ) → Closes before.held held [] fault status → IfTold before.disk (λ d. (name : FileName) (at : ℕ) → fault ≡ Damaged name at → ⊥)
+    pub unopened : (fault : StepFault) (status : ℕ) → Closes before.held held [] fault status → (fault ≡ DiskFault → Rose before.disk_faults disk_faults) → IfTold before.disk (λ d. (name : FileName) (at : ℕ) → fault ≡ Damaged name at → ⊥)
         → ((name : FileName) (length : Option ℕ) → fault ≡ Full name length → ⊥)
         → IsUnopened functions honest languages opening before now (AreLeft may_follow) status
-    unopened fault status closes whole room = record {
+    unopened fault status closes cause whole room = record {
       fault = fault;
       unread = refl;
       closes = closes;
+      cause = cause;
       whole = whole;
       room = room;
       moments = opened;

@@ -1,5 +1,5 @@
 -- What the status of a run says.
-use Rattle.std.specs.Prelude.{◌≡◌, ◌≢◌, ◌<◌, ◌≤◌, ◌⊎◌, ℕ, List, [], ◌++◌, Option, Some, None, length}
+use Rattle.std.specs.Prelude.{◌≡◌, ◌≢◌, ◌<◌, ◌⊎◌, ℕ, List, [], Option, Some, None, length}
 use Rattle.std.proofs.Common.{refl, sym, ap, ◌∙◌, subst, arith, inl, inr, length-append}
 use Rattle.std.proofs.KnownBytes.{Consumes-nil}
 use Rattle.std.specs.Io.KnownBytes.{Consumes}
@@ -16,8 +16,7 @@ use Rattle.doc_file.specs.History.{Write}
 use Rattle.view_engine.specs.declared.halt.StepFault.{StepFault}
 use Rattle.view_engine.specs.declared.halt.StepFault.TheVariants.{DiskFault, Damaged, Full, NoMemory}
 use Rattle.couchview_cli.specs.Closing.{Closes, fault_status}
-use Rattle.couchview_cli.specs.Serving.{Finishes, IsCutShort, IsUnopened, Outside, Serves, StopsAtLimit, IsShort}
-use Rattle.couchview_cli.proofs.Moving.{Told}
+use Rattle.couchview_cli.specs.Serving.{Outside, Serves, StopsAtLimit, IsShort}
 
 -- no run ends with the status of words that are no command
 pub fault_no_usage : (fault : StepFault) → fault_status fault ≢ 2

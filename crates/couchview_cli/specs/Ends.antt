@@ -1,5 +1,5 @@
 -- How the run of a session ends.
-use Rattle.std.specs.Prelude.{◌≡◌, ◌≤◌, ℕ, List, Option, length}
+use Rattle.std.specs.Prelude.{◌≤◌, ℕ, List, Option, length}
 use Rattle.view_ports.specs.declared.run_end.RunEnd.TheVariants.{SinkFailed, OutOfMemory}
 use Rattle.view_ports.specs.declared.file_name.FileName.{FileName}
 use Rattle.view_ports.specs.Calls.{Call}

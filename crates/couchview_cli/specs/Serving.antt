@@ -5,7 +5,8 @@ use Rattle.view_ports.specs.declared.run_end.RunEnd.{RunEnd}
 use Rattle.view_ports.specs.declared.file_name.FileName.{FileName}
 use Rattle.view_ports.specs.Calls.{Call, child}
 use Rattle.view_ports.specs.Disk.{Disk, IfTold, IsImageOf, LeavesOnly, Tells}
-use Rattle.view_ports.specs.Exchanges.{Exchange, LeadsTo, IsPrefixOf, lines_of, text_of}
+use Rattle.view_ports.specs.Faults.{Rose}
+use Rattle.view_ports.specs.Exchanges.{Exchange, LeadsTo, lines_of, text_of}
 use Rattle.view_ports.specs.Functions.{Functions}
 use Rattle.view_ports.specs.Lines.{IsCut, last_line}
 use Rattle.view_ports.specs.Runs.{Run, HasRead, status_of, input_limit}
@@ -15,7 +16,7 @@ use Rattle.doc_file.specs.Docs.{IsAt as AreAt}
 use Rattle.doc_file.specs.Held.{Stands}
 use Rattle.doc_file.specs.History.{Write}
 use Rattle.view_engine.specs.declared.halt.StepFault.{StepFault}
-use Rattle.view_engine.specs.declared.halt.StepFault.TheVariants.{Damaged, Full, NoMemory}
+use Rattle.view_engine.specs.declared.halt.StepFault.TheVariants.{Damaged, DiskFault, Full, NoMemory}
 use Rattle.view_engine.specs.Halts.{IsFullFor}
 use Rattle.view_engine.specs.World.{World}
 use Rattle.view_engine.specs.Moments.{Moment}
@@ -26,11 +27,12 @@ use Rattle.view_engine.specs.Accepted.{accepted}
 use Rattle.couchview_cli.specs.Closing.{Closes}
 
 -- what the ports tell at one moment: the bytes that the source has left, those that the sink holds, the disk, and how many
--- faults the query servers had
+-- faults the folder had, and the query servers
 pub record Outside : Type 0 where
   pub left : Option (List ℕ)
   pub held : Option (List ℕ)
   pub disk : Option (Disk FileName)
+  pub disk_faults : ℕ
   pub faults : ℕ
 
 abbrev pub world_of : List Write → World
@@ -59,9 +61,15 @@ abbrev pub StandsSinceWith : List Write → World → List ℕ → (FileName →
 StandsSinceWith opening world line image = StandsSince opening world.history image
     ⊎ ((write : Write) × IsWrite world (request_of line) write × Stands image (write ∷ world.history))
 
--- the request of a line would make a file of the documents too long, or is one commit too many, at the end of this history
-abbrev pub IsFullAt : World → List ℕ → FileName → Option ℕ → Type 0
-IsFullAt world line name length = (docs : Docs) × ((files : FileName → File) × (AreAt docs files world.history × IsFullFor docs (request_of line) name length))
+-- the request of a line is a write that is accepted at the end of this history, and with it a file of the documents there would
+-- be too long, or has one commit too many
+pub record IsFullAt (world : World) (line : List ℕ) (name : FileName) (length : Option ℕ) : Type 0 where
+  pub docs : Docs
+  pub files : FileName → File
+  pub at : AreAt docs files world.history
+  pub full : IsFullFor docs (request_of line) name length
+  pub write : Write
+  pub accepted : IsWrite world (request_of line) write
 
 -- a step of a run, where the disk is told
 abbrev pub Steps : (List ℕ → Functions) → (List ℕ → Type 0) → List (List ℕ × List ℕ) → Option (Disk FileName) → Moment → Exchange → Moment → Type 0
@@ -107,6 +115,7 @@ module _ (functions : List ℕ → Functions) (honest : List ℕ → Type 0) (la
     pub keeps : IfTold before.disk (λ d. moment.world ≡ accepted (world_of opening) exchanges)
     pub closes : Closes before.held after.held (text_of exchanges) fault status
     pub halts : fault ≢ NoMemory
+    pub cause : fault ≡ DiskFault → Rose before.disk_faults after.disk_faults
     pub whole : IfTold before.disk (λ d. (name : FileName) (at : ℕ) → fault ≡ Damaged name at → ⊥)
     pub full : IfTold before.disk (λ d. (name : FileName) (length : Option ℕ) → fault ≡ Full name length → IsFullAt moment.world line name length)
     pub moments : Tells before.disk after.disk (LeavesOnly (StandsSinceWith opening moment.world line))
@@ -119,6 +128,7 @@ module _ (functions : List ℕ → Functions) (honest : List ℕ → Type 0) (la
     pub fault : StepFault
     pub unread : after.left ≡ before.left
     pub closes : Closes before.held after.held [] fault status
+    pub cause : fault ≡ DiskFault → Rose before.disk_faults after.disk_faults
     pub whole : IfTold before.disk (λ d. (name : FileName) (at : ℕ) → fault ≡ Damaged name at → ⊥)
     pub room : (name : FileName) (length : Option ℕ) → fault ≡ Full name length → ⊥
     pub moments : Tells before.disk after.disk (LeavesOnly (λ image. Stands image opening))

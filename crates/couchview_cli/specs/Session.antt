@@ -10,7 +10,6 @@ use Rattle.view_ports.specs.Exchanges.{Exchange, LeadsTo, IsPrefixOf, lines_of, 
 use Rattle.view_ports.specs.Functions.{Functions}
 use Rattle.view_ports.specs.Lines.{IsCut, last_line}
 use Rattle.view_ports.specs.Runs.{Run, Reached}
-use Rattle.child_pool.specs.declared.pool.Pool.{Pool}
 use Rattle.child_pool.specs.Pools.{languages_of}
 use Rattle.doc_file.specs.Held.{Stands as StandsFor}
 use Rattle.doc_file.specs.History.{Write}

@@ -125,8 +125,8 @@ pub fn couchview<S: Source, K: Sink, F: Folder, C: Servers>(
 
     // What is read, written, asked and kept, over a folder that tells its disk, where nothing is pending and a history stands.
     ensures serves { IsServe words.now → (opening : List Write) → IfTold (F.disk folder.old) (λ d. HoldsHistory d.now opening) → Serves C.functions C.honest (languages_named words.now) opening
-        (record { left = S.left source.old; held = K.held sink.old; disk = F.disk folder.old; faults = C.faults servers.old })
-        (record { left = S.left source.new; held = K.held sink.new; disk = F.disk folder.new; faults = C.faults servers.new })
+        (record { left = S.left source.old; held = K.held sink.old; disk = F.disk folder.old; disk_faults = F.faults folder.old; faults = C.faults servers.old })
+        (record { left = S.left source.new; held = K.held sink.new; disk = F.disk folder.new; disk_faults = F.faults folder.new; faults = C.faults servers.new })
         (AreLeft (C.may_follow servers.new)) result }
     ensures refuses { ¬ IsServe words.now → ShowsUsage (K.held sink.old) (K.held sink.new) result }
     ensures unread { ¬ IsServe words.now → source.new ≡ source.old }

@@ -40,8 +40,8 @@ pub fn serve<S: Source, K: Sink, F: Folder, C: Servers>(
 ) -> u8
     requires { C.may_follow servers.old [] }
     ensures serves { (opening : List Write) → IfTold (F.disk folder.old) (λ d. HoldsHistory d.now opening) → Serves C.functions C.honest (languages_in (map string_bytes words.now)) opening
-        (record { left = S.left source.old; held = K.held sink.old; disk = F.disk folder.old; faults = C.faults servers.old })
-        (record { left = S.left source.new; held = K.held sink.new; disk = F.disk folder.new; faults = C.faults servers.new })
+        (record { left = S.left source.old; held = K.held sink.old; disk = F.disk folder.old; disk_faults = F.faults folder.old; faults = C.faults servers.old })
+        (record { left = S.left source.new; held = K.held sink.new; disk = F.disk folder.new; disk_faults = F.faults folder.new; faults = C.faults servers.new })
         (AreLeft (C.may_follow servers.new)) result }
     ensures no_usage { result ≢ 2 }
     ensures ended { result ≡ 0 → IsAtEnd (S.left source.new) }

@@ -22,7 +22,7 @@ pub use docs::changes::{Change, Changes};
 pub use docs::{Docs, Info};
 pub use entry::{Entry, LastWrite};
 pub use fault::DocFault;
-pub use laws::{images_of_open_documents_stand, states_are_told};
+pub use laws::{empty_folders_hold_no_writes, images_of_open_documents_stand, states_are_told};
 pub use load::{load_body, load_root};
 pub use record::{RootRecord, read_root, write_root};
 pub use rev::{Rev, is_revision};

@@ -5,6 +5,7 @@ use json_terms::Chars;
 use std::alloc::Global;
 use std::process::Abort;
 use std::test::Fail;
+use view_engine::requests_have_one_outcome;
 use view_ports::{Answer, FieldServers, ScriptServers, Servers};
 
 const PEOPLE: &str =
@@ -97,6 +98,7 @@ fn rows_are_in_raw_order(rt: HostRuntime) -> Result<(), Fail> {
 /// Each line alone, with its refusal's name and reason.
 #[test]
 fn lines_are_refused(rt: HostRuntime) -> Result<(), Fail> {
+    requests_have_one_outcome::<FieldServers>();
     for (line, name, reason) in [
         ("{\"info\":true", "bad_request", "line is not JSON"),
         ("\"\u{0}\"", "bad_request", "line is not JSON"),

@@ -1,7 +1,7 @@
 // What is found in the documents' file when it is opened.
 use crate::documents::{folder_of, is_damage};
 use crash_disk::MemoryFolder;
-use doc_file::{DocFault, Docs, Info};
+use doc_file::{DocFault, Docs, Info, empty_folders_hold_no_writes};
 use json_terms::{NoMemory, write_term};
 use std::alloc::Global;
 use std::test::Fail;
@@ -26,6 +26,7 @@ fn root(alloc: Global, offset: u64, length: u32) -> Result<Vec<u8>, NoMemory> {
 
 #[test]
 fn an_empty_folder_has_no_documents(rt: HostRuntime) -> Result<(), Fail> {
+    empty_folders_hold_no_writes();
     let alloc = rt.alloc();
     let mut folder = MemoryFolder::new(alloc, Vec::new(alloc), false)?;
     let docs = Docs::open(alloc, &mut folder)?;

@@ -1,5 +1,5 @@
 -- What a crash leaves around a write: the history before it, or with it.
-use Rattle.std.proofs.Common.{◌≡◌, ◌⊎◌, ℕ, List, ◌∷◌, Option, Result, inl, inr}
+use Rattle.std.proofs.Common.{◌⊎◌, ℕ, List, ◌∷◌, Option, Result, inl, inr}
 use Rattle.view_ports.specs.Disk.{Disk, Framed, IfTold, LeavesOnly, Moves, Tells}
 use Rattle.view_ports.specs.File.{File}
 use Rattle.view_ports.specs.declared.file_name.FileName.{FileName}

@@ -1,5 +1,6 @@
--- A request isn't both refused and accepted.
-use Rattle.std.proofs.Common.{◌≡◌, ◌⊎◌, ℕ, List, ◌∷◌, Option, Some, None, Result, Ok, inl, inr, sym, ap, ◌∙◌, subst}
+-- A request has one refusal at most, and isn't both refused and accepted.
+use Rattle.std.proofs.Common.{◌≡◌, ◌⊎◌, ℕ, List, ◌∷◌, Option, Some, None, Result, Ok, inl, inr, refl, sym, ap, ◌∙◌, subst}
+use Rattle.std.specs.Prelude.{option_and_then}
 use Rattle.json_terms.specs.Json.{Json, members_of, object}
 use Rattle.view_ports.specs.Functions.{Functions}
 use Rattle.view_ports.specs.declared.file_name.FileName.{FileName}
@@ -12,12 +13,13 @@ use Rattle.doc_file.specs.Incoming.{IsUnfit, IsWritable}
 use Rattle.doc_file.specs.Writes.{IsAcceptedDelete, IsAcceptedPut, IsRefusedDelete, IsRefusedPut}
 use Rattle.view_engine.specs.declared.refusal.Refusal.{Refusal}
 use Rattle.view_engine.specs.declared.request.Request.{Request}
-use Rattle.view_engine.specs.declared.request.Request.TheVariants.{Delete, Put}
-use Rattle.view_engine.specs.Delete.{DoesDelete, IsDeleteRefused}
+use Rattle.view_engine.specs.declared.request.Request.TheVariants.{Delete, Get, Info, Put, View}
 use Rattle.view_engine.specs.Engine.{StandsAround}
+use Rattle.view_engine.specs.Get.{not_live}
+use Rattle.view_engine.specs.Laws.{IsNotRefusedAndDone, IsRefusedOnce}
 use Rattle.view_engine.specs.Moments.{Moment}
 use Rattle.view_engine.specs.Put.{DoesPut, IsPutRefused}
-use Rattle.view_engine.specs.Refusals.{request_of}
+use Rattle.view_engine.specs.Refusals.{refused_as, request_of}
 use Rattle.view_engine.specs.Steps.{Does, DoesRequest, IsWrite}
 use Rattle.view_engine.specs.World.{World, written}
 
@@ -45,7 +47,93 @@ delete_clash : (state : State) (given : Option (List ℕ)) (fault : DocFault) �
 delete_clash state given fault (inl unformed) accepted = unformed.1 accepted.formed
 delete_clash state given fault (inr refused) accepted = let clash : Some fault ≡ None = sym refused.1 ∙ accepted.accepted in cc
 
+-- ---- one refusal at most
+
+unfit_once : (document : Json) (first second : DocFault) → IsUnfit document first → IsUnfit document second → first ≡ second
+unfit_once document doc.BadId doc.BadId a b = refl
+unfit_once document doc.BadId (doc.BadMember name) a b = absurd (a b.0)
+unfit_once document doc.BadId doc.BadRev a b = absurd (a b.0)
+unfit_once document doc.BadId doc.TooLarge a b = absurd (a b.0)
+unfit_once document doc.BadId doc.TooDeep a b = absurd (a b.0)
+unfit_once document (doc.BadMember name) doc.BadId a b = absurd (b a.0)
+unfit_once document (doc.BadMember name) (doc.BadMember other) a b = let same : Some name ≡ Some other = sym a.1 ∙ b.1 in cc
+unfit_once document (doc.BadMember name) doc.BadRev a b = let clash : Some name ≡ None = sym a.1 ∙ b.1 in cc
+unfit_once document (doc.BadMember name) doc.TooLarge a b = let clash : Some name ≡ None = sym a.1 ∙ b.1 in cc
+unfit_once document (doc.BadMember name) doc.TooDeep a b = let clash : Some name ≡ None = sym a.1 ∙ b.1 in cc
+unfit_once document doc.BadRev doc.BadId a b = absurd (b a.0)
+unfit_once document doc.BadRev (doc.BadMember name) a b = let clash : Some name ≡ None = sym b.1 ∙ a.1 in cc
+unfit_once document doc.BadRev doc.BadRev a b = refl
+unfit_once document doc.BadRev doc.TooLarge a b = absurd (a.2 b.2)
+unfit_once document doc.BadRev doc.TooDeep a b = absurd (a.2 b.2)
+unfit_once document doc.TooLarge doc.BadId a b = absurd (b a.0)
+unfit_once document doc.TooLarge (doc.BadMember name) a b = let clash : Some name ≡ None = sym b.1 ∙ a.1 in cc
+unfit_once document doc.TooLarge doc.BadRev a b = absurd (b.2 a.2)
+unfit_once document doc.TooLarge doc.TooLarge a b = refl
+unfit_once document doc.TooLarge doc.TooDeep a b = absurd (a.3 b.3)
+unfit_once document doc.TooDeep doc.BadId a b = absurd (b a.0)
+unfit_once document doc.TooDeep (doc.BadMember name) a b = let clash : Some name ≡ None = sym b.1 ∙ a.1 in cc
+unfit_once document doc.TooDeep doc.BadRev a b = absurd (b.2 a.2)
+unfit_once document doc.TooDeep doc.TooLarge a b = absurd (b.3 a.3)
+unfit_once document doc.TooDeep doc.TooDeep a b = refl
+unfit_once document doc.Conflict second a b = absurd a
+unfit_once document doc.Missing second a b = absurd a
+unfit_once document doc.Deleted second a b = absurd a
+unfit_once document (doc.Gate fault) second a b = absurd a
+unfit_once document doc.NoMemory second a b = absurd a
+unfit_once document first doc.Conflict a b = absurd b
+unfit_once document first doc.Missing a b = absurd b
+unfit_once document first doc.Deleted a b = absurd b
+unfit_once document first (doc.Gate fault) a b = absurd b
+unfit_once document first doc.NoMemory a b = absurd b
+
+put_once : (state : State) (document : Json) (first second : DocFault) → IsRefusedPut state document first → IsRefusedPut state document second → first ≡ second
+put_once state document first second (inl a) (inl b) = unfit_once document first second a b
+put_once state document first second (inl a) (inr b) = absurd (unfit_not document first a b.0)
+put_once state document first second (inr a) (inl b) = absurd (unfit_not document second b a.0)
+put_once state document first second (inr a) (inr b) = let same : Some first ≡ Some second = sym a.1 ∙ b.1 in cc
+
+delete_once : (state : State) (given : Option (List ℕ)) (first second : DocFault) → IsRefusedDelete state given first → IsRefusedDelete state given second → first ≡ second
+delete_once state given first second (inl a) (inl b) = a.0 ∙ sym b.0
+delete_once state given first second (inl a) (inr b) = absurd (a.1 b.0)
+delete_once state given first second (inr a) (inl b) = absurd (b.1 a.0)
+delete_once state given first second (inr a) (inr b) = let same : Some first ≡ Some second = sym a.1 ∙ b.1 in cc
+
+put_refused_once : (world : World) (document : Json) (first second : Refusal) → IsPutRefused world document first → IsPutRefused world document second → first ≡ second
+put_refused_once world document first second (inl a) (inl b) = a.1 ∙ sym b.1
+put_refused_once world document first second (inl a) (inr b) = absurd (let clash : _ ≡ _ = sym a.0 ∙ b.0 in cc)
+put_refused_once world document first second (inr a) (inl b) = absurd (let clash : _ ≡ _ = sym b.0 ∙ a.0 in cc)
+put_refused_once world document first second (inr a) (inr b) =
+    (a.1).2 ∙ ap refused_as (put_once _ document (a.1).0 (b.1).0 (a.1).1 (b.1).1) ∙ sym (b.1).2
+
+-- a document that is live isn't refused to a reader
+live_not_refused : (found : Option Write) (document : Json) (refusal : Refusal) → option_and_then (λ (write : Write). write.document) found ≡ Some document → not_live found ≡ Some refusal → ⊥
+live_not_refused None document refusal live refused = cc
+live_not_refused (Some write) document refusal live refused = by_document write.document live refused
+  where
+    by_document : (stored : Option Json) → stored ≡ Some document → not_live (Some (record { id = write.id; document = stored })) ≡ Some refusal → ⊥
+    by_document None live refused = cc
+    by_document (Some other) live refused = cc
+
 module _ (functions : List ℕ → Functions) (honest : List ℕ → Type 0) (languages : List (List ℕ × List ℕ)) where
+  pub is_refused_once : IsRefusedOnce functions honest languages
+  is_refused_once world (Put document) first second a b = put_refused_once world (object (members_of document)) first second a b
+  is_refused_once world (Delete id given) first second a b = a.2 ∙ ap refused_as (delete_once _ given a.0 b.0 a.1 b.1) ∙ sym b.2
+  is_refused_once world (Get id) first second a b = let same : Some first ≡ Some second = sym a ∙ b in cc
+  is_refused_once world Info first second a b = absurd a
+  is_refused_once world (View name None) first second a b = let same : Some first ≡ Some second = sym a ∙ b in cc
+  is_refused_once world (View name (Some query)) first second a b = a ∙ sym b
+  is_refused_once world other first second a b = a ∙ sym b
+
+  pub is_not_refused_and_done : IsNotRefusedAndDone functions honest languages
+  is_not_refused_and_done before after (Put document) refusal reply refused done =
+      not_both_put before.world (object (members_of document)) refusal reply done.0 refused done.1
+  is_not_refused_and_done before after (Delete id given) refusal reply refused done = delete_clash _ given refused.0 refused.1 (done.1).accepted
+  is_not_refused_and_done before after (Get id) refusal reply refused done = live_not_refused _ (done.0).0 refusal (done.0).1 refused
+  is_not_refused_and_done before after Info refusal reply refused done = refused
+  is_not_refused_and_done before after (View name None) refusal reply refused done = let clash : Some refusal ≡ None = sym refused ∙ done.accepted in cc
+  is_not_refused_and_done before after (View name (Some query)) refusal reply refused done = done
+  is_not_refused_and_done before after other refusal reply refused done = done
+
   -- an accepted write was made
   request_writes : (before : Moment) (request : Result Request Refusal) (reply : List ℕ) (after : Moment) (write : Write) → DoesRequest functions honest languages before request reply after → IsWrite before.world request write
       → after.world ≡ written before.world write

@@ -1,5 +1,5 @@
 -- Faults of the documents, as a request meets them.
-use Rattle.std.proofs.Common.{◌≡◌, ℕ, refl, sym, ap, ◌∙◌}
+use Rattle.std.proofs.Common.{◌≡◌, ℕ}
 use Rattle.view_ports.specs.declared.file_name.FileName.{FileName}
 use Rattle.gate_file.specs.declared.fault.GateFault.TheVariants as gate
 use Rattle.doc_file.specs.declared.fault.DocFault.{DocFault}

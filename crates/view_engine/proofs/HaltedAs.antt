@@ -12,23 +12,12 @@ use Rattle.doc_file.specs.Docs.{bytes_in, file_of, last_of, IsSpoiled}
 use Rattle.view_engine.specs.declared.halt.Halt.{Halt}
 use Rattle.view_engine.specs.declared.halt.Halt.TheVariants.{Stopped}
 use Rattle.view_engine.specs.declared.halt.StepFault.TheVariants.{Damaged}
-use Rattle.view_engine.specs.Halts.{halted_as, IsDamage}
+use Rattle.view_engine.specs.Halts.{fault_of, halted_as, IsDamage}
+use Rattle.view_engine.proofs.Faults.{damage_is}
 
 -- a damaged file comes of a damaged file
 damaged_back : (fault : DocFault) (name : FileName) (at : ℕ) → halted_as fault ≡ Stopped (Damaged name at) → fault ≡ doc.Gate (gate.Damaged name at)
-damaged_back doc.BadId name at is = absurd (let clash : ⊥ = cc in clash)
-damaged_back (doc.BadMember n) name at is = absurd (let clash : ⊥ = cc in clash)
-damaged_back doc.BadRev name at is = absurd (let clash : ⊥ = cc in clash)
-damaged_back doc.TooLarge name at is = absurd (let clash : ⊥ = cc in clash)
-damaged_back doc.TooDeep name at is = absurd (let clash : ⊥ = cc in clash)
-damaged_back doc.Conflict name at is = absurd (let clash : ⊥ = cc in clash)
-damaged_back doc.Missing name at is = absurd (let clash : ⊥ = cc in clash)
-damaged_back doc.Deleted name at is = absurd (let clash : ⊥ = cc in clash)
-damaged_back (doc.Gate gate.DiskFault) name at is = absurd (let clash : ⊥ = cc in clash)
-damaged_back (doc.Gate (gate.Damaged n o)) name at is = cc
-damaged_back (doc.Gate (gate.Full n l)) name at is = absurd (let clash : ⊥ = cc in clash)
-damaged_back (doc.Gate gate.NoMemory) name at is = absurd (let clash : ⊥ = cc in clash)
-damaged_back doc.NoMemory name at is = absurd (let clash : ⊥ = cc in clash)
+damaged_back fault name at is = damage_is fault name at (ap fault_of is)
 
 -- the same of a call's result and what it is taken for
 pub damaged_from : {T : Type 0} (result : Result T DocFault) (fault : DocFault) (halt : Halt) (name : FileName) (at : ℕ) → result ≡ Err fault → halt ≡ halted_as fault → halt ≡ Stopped (Damaged name at)

@@ -1,6 +1,6 @@
 -- What a request leaves that calls no server: the engine at a moment, and what was appended.
 use Rattle.std.specs.Prelude.{IfErr, OnOk}
-use Rattle.std.proofs.Common.{◌≡◌, ◌++◌, ℕ, List, ◌∷◌, inl, inr, Result, Ok, Err, Option, Some, None, refl, sym, ap, subst}
+use Rattle.std.proofs.Common.{◌≡◌, ◌++◌, ℕ, List, ◌∷◌, inl, inr, Result, Ok, Err, Option, Some, None, refl, subst}
 use Rattle.view_ports.specs.Calls.{Call}
 use Rattle.view_ports.specs.Disk.{Disk, IfTold}
 use Rattle.view_ports.specs.Functions.{Functions}
@@ -23,7 +23,7 @@ use Rattle.json_terms.specs.declared.term.Members.{Members}
 use Rattle.view_engine.specs.declared.refusal.Refusal.{Refusal}
 use Rattle.view_engine.specs.declared.refusal.Refusal.TheVariants.{NotBuiltYet}
 use Rattle.view_engine.specs.declared.engine.Engine.{Engine}
-use Rattle.view_engine.specs.Engine.{Appends, HasChild, IsAt, Leaves}
+use Rattle.view_engine.specs.Engine.{Appends, IsAt, Leaves}
 use Rattle.view_engine.specs.Halts.{GoesOn}
 use Rattle.view_engine.specs.Moments.{Moment, with_world}
 use Rattle.view_engine.specs.Refusals.{refusal_text}

@@ -1,5 +1,5 @@
 -- What two calls say that change no file.
-use Rattle.std.proofs.Common.{◌≡◌, ℕ, List, Option, None, Some, ap, sym, ◌∙◌, subst}
+use Rattle.std.proofs.Common.{◌≡◌, ℕ, List, Option, None, Some, ap, sym, subst}
 use Rattle.view_ports.specs.Disk.{Disk, IfTold, MovesNone, Tells}
 use Rattle.view_ports.specs.declared.file_name.FileName.{FileName}
 use Rattle.view_ports.proofs.DiskRuns.{none_same}

@@ -1,5 +1,5 @@
 -- Writes that are accepted or refused, as the documents answer them.
-use Rattle.std.proofs.Common.{◌≡◌, ◌⊎◌, ℕ, List, Bool, false, Option, None, Some, Ok, inl, inr, refl, sym, ap, ◌∙◌, subst}
+use Rattle.std.proofs.Common.{◌≡◌, ◌⊎◌, ℕ, List, false, Option, None, Some, Ok, inl, inr, refl, sym, ap, ◌∙◌, subst}
 use Rattle.json_terms.specs.Json.{Json, members_of, object}
 use Rattle.view_ports.specs.File.{File}
 use Rattle.view_ports.specs.declared.file_name.FileName.{FileName}
@@ -15,8 +15,7 @@ use Rattle.doc_file.specs.History.{Write}
 use Rattle.doc_file.specs.Stored.{next_revision}
 use Rattle.doc_file.specs.Writes.{IsAcceptedDelete, IsAcceptedPut, IsFileFault, IsRefusedDelete, IsRefusedPut}
 use Rattle.doc_file.proofs.Histories.{state_kept}
-use Rattle.view_engine.specs.declared.halt.Halt.{Halt}
-use Rattle.view_engine.specs.declared.halt.Halt.TheVariants.{Refused, Stopped}
+use Rattle.view_engine.specs.declared.halt.Halt.TheVariants.{Refused}
 use Rattle.view_engine.specs.declared.request.Request.TheVariants.{Delete, Put}
 use Rattle.view_engine.specs.declared.refusal.Refusal.{Refusal}
 use Rattle.view_engine.specs.Answer.{write_text}

@@ -2,6 +2,7 @@
 use Rattle.std.specs.Prelude.{◌≡◌, ℕ, ◌+◌, ◌^◌, ◌<◌, ◌≤◌, List, Option, Some, None, Result, Ok, Err}
 use Rattle.json_terms.specs.Json.{Json, object, members_of}
 use Rattle.design_docs.specs.Documents.{id_of}
+use Rattle.view_ports.specs.Disk.{Disk, IfTold}
 use Rattle.view_ports.specs.File.{File}
 use Rattle.view_ports.specs.declared.file_name.FileName.{FileName}
 use Rattle.gate_file.specs.declared.fault.GateFault.TheVariants as gate
@@ -9,7 +10,8 @@ use Rattle.gate_file.specs.GateFile.{commits_of, length_of, name_of, start_of}
 use Rattle.doc_file.specs.declared.docs.Docs.{Docs}
 use Rattle.doc_file.specs.declared.fault.DocFault.{DocFault}
 use Rattle.doc_file.specs.declared.fault.DocFault.TheVariants as doc
-use Rattle.doc_file.specs.Docs.{bytes_in, entries_of, file_of, last_of, seq_of, IsSpoiled}
+use Rattle.doc_file.specs.Docs.{bytes_in, entries_of, file_of, last_of, seq_of, IsAt, IsSpoiled}
+use Rattle.doc_file.specs.History.{Write}
 use Rattle.doc_file.specs.Stored.{size_of}
 use Rattle.doc_file.specs.Writes.{content_of}
 use Rattle.view_engine.specs.declared.halt.Halt.{Halt}
@@ -20,6 +22,7 @@ use Rattle.view_engine.specs.declared.refusal.Refusal.{Refusal}
 use Rattle.view_engine.specs.declared.refusal.Refusal.TheVariants as refusal
 use Rattle.view_engine.specs.declared.request.Request.{Request}
 use Rattle.view_engine.specs.declared.request.Request.TheVariants.{Put, Delete}
+use Rattle.view_engine.specs.Steps.{IsWrite}
 
 abbrev pub halted_as : DocFault → Halt
 halted_as doc.BadId = Refused refusal.BadId
@@ -76,3 +79,32 @@ abbrev pub IsFullFor : Docs → Result Request Refusal → FileName → Option �
 IsFullFor docs (Ok (Put document)) name length = IsFull docs (id_of (object (members_of document))) (content_of (object (members_of document))) name length
 IsFullFor docs (Ok (Delete id given)) name length = IsFull docs id None name length
 IsFullFor docs other name length = ⊥
+
+-- ---- what a halt says of the documents' file
+
+abbrev pub IsDiskFault : Halt → Type 0
+IsDiskFault halt = halt ≡ Stopped DiskFault
+
+-- where it names a damaged place, the place is one
+abbrev pub IsDamageOf : Docs → (FileName → File) → Halt → Type 0
+IsDamageOf docs files halt = (name : FileName) (at : ℕ) → halt ≡ Stopped (Damaged name at) → IsDamage docs files name at
+
+-- it names no damaged place
+abbrev pub IsNoDamage : Halt → Type 0
+IsNoDamage halt = (name : FileName) (at : ℕ) → halt ≡ Stopped (Damaged name at) → ⊥
+
+-- where it names a full file, the request would make it too long, or has one commit too many for it
+abbrev pub IsFullOf : Docs → Result Request Refusal → Halt → Type 0
+IsFullOf docs request halt = (name : FileName) (length : Option ℕ) → halt ≡ Stopped (Full name length) → IsFullFor docs request name length
+
+-- the request is a write that is accepted at the end of the history
+abbrev pub WouldWrite : Docs → Option (Disk FileName) → Result Request Refusal → Type 0
+WouldWrite docs disk request = (history : List Write) → IfTold disk (λ d. IsAt docs d.now history → (write : Write) × IsWrite (record { history = history }) request write)
+
+-- where it names a full file, the request is such a write
+abbrev pub IsFullOfWrite : Docs → Option (Disk FileName) → Result Request Refusal → Halt → Type 0
+IsFullOfWrite docs disk request halt = (name : FileName) (length : Option ℕ) → halt ≡ Stopped (Full name length) → WouldWrite docs disk request
+
+-- it names no full file
+abbrev pub IsNotFull : Halt → Type 0
+IsNotFull halt = (name : FileName) (length : Option ℕ) → halt ≡ Stopped (Full name length) → ⊥

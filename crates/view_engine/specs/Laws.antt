@@ -1,10 +1,16 @@
--- What the definitions of the history say together.
+-- What the definitions say together: those of the history, and those of what a request does.
 use Rattle.std.specs.Prelude.{◌≡◌, ℕ, List, bytes_eq}
 use Rattle.std.specs.Ordering.{nat_cmp}
 use Rattle.std.specs.Cmp.Lexicographic.{slice_cmp}
 use Rattle.std.specs.List.Sorted.{IsStrictlySortedBy}
 use Rattle.std.specs.Map.{lookup, keys_of}
+use Rattle.view_ports.specs.Functions.{Functions}
 use Rattle.doc_file.specs.History.{Write, last_write, last_writes, live, live_document}
+use Rattle.view_engine.specs.declared.refusal.Refusal.{Refusal}
+use Rattle.view_engine.specs.declared.request.Request.{Request}
+use Rattle.view_engine.specs.Moments.{Moment}
+use Rattle.view_engine.specs.Steps.{IsRefusedAs, Performs}
+use Rattle.view_engine.specs.World.{World}
 
 -- among the last writes each id has the one that came last
 abbrev pub HasLastWrites : List Write → Type 0
@@ -17,3 +23,12 @@ HasLiveDocuments history = (id : List ℕ) → lookup (bytes_eq id) (live histor
 -- the live documents are in strictly rising byte order of id
 abbrev pub IsInOrderOfId : List Write → Type 0
 IsInOrderOfId history = IsStrictlySortedBy (slice_cmp nat_cmp) (keys_of (live history))
+
+module _ (functions : List ℕ → Functions) (honest : List ℕ → Type 0) (languages : List (List ℕ × List ℕ)) where
+  -- before any server is asked a request has one refusal at most
+  abbrev pub IsRefusedOnce : Type 0
+  IsRefusedOnce = (world : World) (request : Request) (first second : Refusal) → IsRefusedAs functions honest languages world request first → IsRefusedAs functions honest languages world request second → first ≡ second
+
+  -- and a request that is refused then isn't done
+  abbrev pub IsNotRefusedAndDone : Type 0
+  IsNotRefusedAndDone = (before after : Moment) (request : Request) (refusal : Refusal) (reply : List ℕ) → IsRefusedAs functions honest languages before.world request refusal → Performs functions honest languages before request reply after → ⊥

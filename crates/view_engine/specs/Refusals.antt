@@ -1,5 +1,5 @@
 -- Refusals: their texts, and which of several comes.
-use Rattle.std.specs.Prelude.{ℕ, List, [], ◌∷◌, ◌++◌, Bool, nat_lt, length, codes, Option, Some, None, Result, Ok, Err, ok_or, if◌then◌else◌}
+use Rattle.std.specs.Prelude.{ℕ, List, [], ◌∷◌, ◌++◌, nat_lt, length, codes, Option, Some, None, Result, Ok, Err, ok_or, if◌then◌else◌}
 use Rattle.json_terms.specs.Json.{Json, string}
 use Rattle.json_terms.specs.Reading.{reading}
 use Rattle.json_terms.specs.Text.{text_of}

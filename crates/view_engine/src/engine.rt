@@ -13,7 +13,7 @@ ghost use Rattle.doc_file.specs.Held.{IsRootPlace, Stands as StandsFor};
 ghost use Rattle.doc_file.specs.History.{Write};
 ghost use Rattle.view_engine.specs.Moments.{Moment};
 ghost use Rattle.view_engine.specs.Engine.{Appends, HasChild, HasStopped, IsAt, Leaves, StandsAround};
-ghost use Rattle.view_engine.specs.Halts.{fault_of, halted_as, GoesOn, HasGoneOn, IsDamage, IsFullFor};
+ghost use Rattle.view_engine.specs.Halts.{fault_of, halted_as, GoesOn, HasGoneOn, IsDamage, IsDamageOf, IsDiskFault, IsFullFor, IsFullOf, IsFullOfWrite, IsNoDamage, WouldWrite};
 ghost use Rattle.view_engine.specs.Refusals.{request_of, refusal_text};
 ghost use Rattle.view_engine.specs.Steps.{Does, DoesRequest, DoesRequestText, MayHaveCalled};
 
@@ -98,6 +98,7 @@ impl Engine {
         ensures damaged { IfTold (F.disk folder.old) (λ d. (name : FileName) (at : ℕ) → result ≡ Err (StepFault.Damaged name at) → IsDamage self.old.docs d.now name at) }
         ensures sound { (history : List Write) → IfTold (F.disk folder.old) (λ d. AreAt self.old.docs d.now history → (name : FileName) (at : ℕ) → result ≡ Err (StepFault.Damaged name at) → ⊥) }
         ensures full { (name : FileName) (length : Option ℕ) → result ≡ Err (StepFault.Full name length) → IsFullFor self.old.docs (request_of line.now) name length }
+        ensures reached { (name : FileName) (length : Option ℕ) → result ≡ Err (StepFault.Full name length) → WouldWrite self.old.docs (F.disk folder.old) (request_of line.now) }
         ensures cause { HasCauseIf (λ fault. fault ≡ StepFault.DiskFault) (F.faults folder.old) (F.faults folder.new) result }
         ensures languages { languages_of self.new.pool ≡ languages_of self.old.pool }
         ensures later { C.faults servers.old ≤ C.faults servers.new }
@@ -145,10 +146,11 @@ impl Engine {
         ensures silent { OnErr result (out.new.items ≡ out.old.items) }
         ensures open { OnOk result (IfTold (F.disk folder.new) (λ d. IsOpen self.new.docs d.now)) }
         ensures still_open { IfErr result (λ halt. GoesOn halt → IfTold (F.disk folder.new) (λ d. IsOpen self.new.docs d.now)) }
-        ensures damaged { IfTold (F.disk folder.old) (λ d. IfErr result (λ halt. (name : FileName) (at : ℕ) → halt ≡ Halt.Stopped (StepFault.Damaged name at) → IsDamage self.old.docs d.now name at)) }
-        ensures sound { (history : List Write) → IfTold (F.disk folder.old) (λ d. AreAt self.old.docs d.now history → IfErr result (λ halt. (name : FileName) (at : ℕ) → halt ≡ Halt.Stopped (StepFault.Damaged name at) → ⊥)) }
-        ensures full { IfErr result (λ halt. (name : FileName) (length : Option ℕ) → halt ≡ Halt.Stopped (StepFault.Full name length) → IsFullFor self.old.docs (request_of line.now) name length) }
-        ensures cause { HasCauseIf (λ halt. halt ≡ Halt.Stopped StepFault.DiskFault) (F.faults folder.old) (F.faults folder.new) result }
+        ensures damaged { IfTold (F.disk folder.old) (λ d. IfErr result (IsDamageOf self.old.docs d.now)) }
+        ensures sound { (history : List Write) → IfTold (F.disk folder.old) (λ d. AreAt self.old.docs d.now history → IfErr result IsNoDamage) }
+        ensures full { IfErr result (IsFullOf self.old.docs (request_of line.now)) }
+        ensures reached { IfErr result (IsFullOfWrite self.old.docs (F.disk folder.old) (request_of line.now)) }
+        ensures cause { HasCauseIf IsDiskFault (F.faults folder.old) (F.faults folder.new) result }
         ensures languages { languages_of self.new.pool ≡ languages_of self.old.pool }
         ensures later { C.faults servers.old ≤ C.faults servers.new }
     {
@@ -183,10 +185,11 @@ impl Engine {
         ensures silent { OnErr result (out.new.items ≡ out.old.items) }
         ensures open { OnOk result (IfTold (F.disk folder.new) (λ d. IsOpen self.new.docs d.now)) }
         ensures still_open { IfErr result (λ halt. GoesOn halt → IfTold (F.disk folder.new) (λ d. IsOpen self.new.docs d.now)) }
-        ensures damaged { IfTold (F.disk folder.old) (λ d. IfErr result (λ halt. (name : FileName) (at : ℕ) → halt ≡ Halt.Stopped (StepFault.Damaged name at) → IsDamage self.old.docs d.now name at)) }
-        ensures sound { (history : List Write) → IfTold (F.disk folder.old) (λ d. AreAt self.old.docs d.now history → IfErr result (λ halt. (name : FileName) (at : ℕ) → halt ≡ Halt.Stopped (StepFault.Damaged name at) → ⊥)) }
-        ensures full { IfErr result (λ halt. (name : FileName) (length : Option ℕ) → halt ≡ Halt.Stopped (StepFault.Full name length) → IsFullFor self.old.docs (Ok request) name length) }
-        ensures cause { HasCauseIf (λ halt. halt ≡ Halt.Stopped StepFault.DiskFault) (F.faults folder.old) (F.faults folder.new) result }
+        ensures damaged { IfTold (F.disk folder.old) (λ d. IfErr result (IsDamageOf self.old.docs d.now)) }
+        ensures sound { (history : List Write) → IfTold (F.disk folder.old) (λ d. AreAt self.old.docs d.now history → IfErr result IsNoDamage) }
+        ensures full { IfErr result (IsFullOf self.old.docs (Ok request)) }
+        ensures reached { IfErr result (IsFullOfWrite self.old.docs (F.disk folder.old) (Ok request)) }
+        ensures cause { HasCauseIf IsDiskFault (F.faults folder.old) (F.faults folder.new) result }
         ensures languages { languages_of self.new.pool ≡ languages_of self.old.pool }
         ensures later { C.faults servers.old ≤ C.faults servers.new }
     {

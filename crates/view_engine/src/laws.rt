@@ -1,11 +1,19 @@
 // The laws of the definitions. Each function states some, and does nothing.
-ghost use Rattle.std.specs.Prelude.{List};
+ghost use Rattle.std.specs.Prelude.{List, ℕ};
 ghost use Rattle.doc_file.specs.History.{Write};
-ghost use Rattle.view_engine.specs.Laws.{HasLastWrites, HasLiveDocuments, IsInOrderOfId};
+ghost use Rattle.view_engine.specs.Laws.{HasLastWrites, HasLiveDocuments, IsInOrderOfId, IsNotRefusedAndDone, IsRefusedOnce};
+
+use view_ports::Servers;
 
 /// The live documents are those whose last write is no deletion, each id once and in byte order.
 pub fn live_documents_have_their_last_write()
     ensures last { (history : List Write) → HasLastWrites history }
     ensures live { (history : List Write) → HasLiveDocuments history }
     ensures ordered { (history : List Write) → IsInOrderOfId history }
+{}
+
+/// A request has one refusal at most before any server is asked, and where it has one, it isn't done.
+pub fn requests_have_one_outcome<C: Servers>()
+    ensures refused { (languages : List (List ℕ × List ℕ)) → IsRefusedOnce C.functions C.honest languages }
+    ensures done { (languages : List (List ℕ × List ℕ)) → IsNotRefusedAndDone C.functions C.honest languages }
 {}

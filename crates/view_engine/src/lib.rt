@@ -18,7 +18,7 @@ mod writes;
 pub use engine::Engine;
 pub use fault_line::no_memory_line;
 pub use halt::StepFault;
-pub use laws::live_documents_have_their_last_write;
+pub use laws::{live_documents_have_their_last_write, requests_have_one_outcome};
 pub use line::{LINE_LIMIT, read_request};
 pub use refusal::Refusal;
 pub use request::{Request, ViewName};

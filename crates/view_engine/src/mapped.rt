@@ -6,7 +6,7 @@ ghost use Rattle.view_ports.specs.declared.file_name.FileName.{FileName};
 ghost use Rattle.doc_file.specs.Changes.{numbered, HasDocument};
 ghost use Rattle.doc_file.specs.Docs.{IsAt, IsOpen};
 ghost use Rattle.doc_file.specs.History.{Write};
-ghost use Rattle.view_engine.specs.Halts.{IsDamage};
+ghost use Rattle.view_engine.specs.Halts.{IsDamageOf, IsDiskFault, IsNoDamage, IsNotFull};
 ghost use Rattle.view_engine.specs.Mapped.{AreMapped, AreMappedOf};
 ghost use Rattle.view_engine.specs.declared.refusal.Refusal.{Refusal};
 
@@ -37,10 +37,10 @@ pub(crate) fn load_mapped<F: Folder>(
     ensures mapped { (history : List Write) → IfTold (F.disk folder.old) (λ d. IsAt docs.now d.now history → IfOk result (AreMapped history)) }
     ensures refused { IfErr result (λ halt. (refusal : Refusal) → halt ≡ Halt.Refused refusal → ⊥) }
     ensures disk { Tells (F.disk folder.old) (F.disk folder.new) MovesNone }
-    ensures damaged { IfTold (F.disk folder.old) (λ d. IsOpen docs.now d.now → IfErr result (λ halt. (name : FileName) (at : ℕ) → halt ≡ Halt.Stopped (StepFault.Damaged name at) → IsDamage docs.now d.now name at)) }
-    ensures sound { (history : List Write) → IfTold (F.disk folder.old) (λ d. IsAt docs.now d.now history → IfErr result (λ halt. (name : FileName) (at : ℕ) → halt ≡ Halt.Stopped (StepFault.Damaged name at) → ⊥)) }
-    ensures room { IfErr result (λ halt. (name : FileName) (length : Option ℕ) → halt ≡ Halt.Stopped (StepFault.Full name length) → ⊥) }
-    ensures cause { HasCauseIf (λ halt. halt ≡ Halt.Stopped StepFault.DiskFault) (F.faults folder.old) (F.faults folder.new) result }
+    ensures damaged { IfTold (F.disk folder.old) (λ d. IsOpen docs.now d.now → IfErr result (IsDamageOf docs.now d.now)) }
+    ensures sound { (history : List Write) → IfTold (F.disk folder.old) (λ d. IsAt docs.now d.now history → IfErr result IsNoDamage) }
+    ensures room { IfErr result IsNotFull }
+    ensures cause { HasCauseIf IsDiskFault (F.faults folder.old) (F.faults folder.new) result }
 {
     match docs.changed_since(alloc, folder, 0, MOST) {
         Ok(changes) => {

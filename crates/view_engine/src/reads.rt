@@ -11,10 +11,10 @@ ghost use Rattle.doc_file.specs.Docs.{info_of, IsAt};
 ghost use Rattle.doc_file.specs.History.{Write, live_document};
 ghost use Rattle.view_engine.specs.Answer.{info_text};
 ghost use Rattle.view_engine.specs.Get.{get_refusal, DoesInfo};
-ghost use Rattle.view_engine.specs.Halts.{IsDamage};
+ghost use Rattle.view_engine.specs.Halts.{IsDamageOf, IsDiskFault, IsNoDamage, IsNotFull};
 
 use crate::answer::write_info;
-use crate::halt::{Halt, StepFault};
+use crate::halt::Halt;
 use crate::refusal::Refusal;
 use doc_file::Docs;
 use json_terms::{NoMemory, write_term};
@@ -35,10 +35,10 @@ pub(crate) fn get<F: Folder>(
         → get_refusal (record { history = history }) id.now ≡ Some refusal)) }
     ensures silent { OnErr result (out.new.items ≡ out.old.items) }
     ensures disk { Tells (F.disk folder.old) (F.disk folder.new) MovesNone }
-    ensures damaged { IfTold (F.disk folder.old) (λ d. IfErr result (λ halt. (name : FileName) (at : ℕ) → halt ≡ Halt.Stopped (StepFault.Damaged name at) → IsDamage docs.now d.now name at)) }
-    ensures sound { (history : List Write) → IfTold (F.disk folder.old) (λ d. IsAt docs.now d.now history → IfErr result (λ halt. (name : FileName) (at : ℕ) → halt ≡ Halt.Stopped (StepFault.Damaged name at) → ⊥)) }
-    ensures room { IfErr result (λ halt. (name : FileName) (length : Option ℕ) → halt ≡ Halt.Stopped (StepFault.Full name length) → ⊥) }
-    ensures cause { HasCauseIf (λ halt. halt ≡ Halt.Stopped StepFault.DiskFault) (F.faults folder.old) (F.faults folder.new) result }
+    ensures damaged { IfTold (F.disk folder.old) (λ d. IfErr result (IsDamageOf docs.now d.now)) }
+    ensures sound { (history : List Write) → IfTold (F.disk folder.old) (λ d. IsAt docs.now d.now history → IfErr result IsNoDamage) }
+    ensures room { IfErr result IsNotFull }
+    ensures cause { HasCauseIf IsDiskFault (F.faults folder.old) (F.faults folder.new) result }
 {
     match docs.get(alloc, folder, id) {
         Ok(document) => {

@@ -15,13 +15,13 @@ ghost use Rattle.doc_file.specs.Stored.{next_revision};
 ghost use Rattle.view_engine.specs.Answer.{write_text};
 ghost use Rattle.view_engine.specs.Delete.{delete_write, DoesDelete, IsDeleteRefused};
 ghost use Rattle.view_engine.specs.Engine.{StandsAround};
-ghost use Rattle.view_engine.specs.Halts.{GoesOn, IsFullFor};
+ghost use Rattle.view_engine.specs.Halts.{GoesOn, IsDiskFault, IsFullOf, IsFullOfWrite, IsNoDamage};
 ghost use Rattle.view_engine.specs.Put as spec;
 ghost use Rattle.view_engine.specs.Replies.{accepted_reply};
 ghost use Rattle.view_engine.specs.World.{written};
 
 use crate::answer::write_accepted;
-use crate::halt::{Halt, StepFault};
+use crate::halt::Halt;
 use crate::refusal::Refusal;
 use crate::request::Request;
 use design_docs::{DESIGN_PREFIX, id_of, is_design_id, is_plain};
@@ -54,9 +54,10 @@ pub(crate) fn put<F: Folder>(
     ensures open { IfTold (F.disk folder.new) (λ d. OnOk result (IsOpen docs.new d.now)) }
     ensures moments { (history : List Write) → IfTold (F.disk folder.old) (λ d. IsAt docs.old d.now history) → Tells (F.disk folder.old) (F.disk folder.new)
         (LeavesOnly (StandsAround (record { history = history }) (Ok (Request.Put document)))) }
-    ensures whole { IfErr result (λ halt. (name : FileName) (at : ℕ) → halt ≡ Halt.Stopped (StepFault.Damaged name at) → ⊥) }
-    ensures full { IfErr result (λ halt. (name : FileName) (length : Option ℕ) → halt ≡ Halt.Stopped (StepFault.Full name length) → IsFullFor docs.old (Ok (Request.Put document)) name length) }
-    ensures cause { HasCauseIf (λ halt. halt ≡ Halt.Stopped StepFault.DiskFault) (F.faults folder.old) (F.faults folder.new) result }
+    ensures whole { IfErr result IsNoDamage }
+    ensures full { IfErr result (IsFullOf docs.old (Ok (Request.Put document))) }
+    ensures reached { IfErr result (IsFullOfWrite docs.old (F.disk folder.old) (Ok (Request.Put document))) }
+    ensures cause { HasCauseIf IsDiskFault (F.faults folder.old) (F.faults folder.new) result }
 {
     let document = Term::Object(document);
     if is_unbuilt(alloc, &document)? {
@@ -96,9 +97,10 @@ pub(crate) fn delete<F: Folder>(
     ensures open { IfTold (F.disk folder.new) (λ d. OnOk result (IsOpen docs.new d.now)) }
     ensures moments { (history : List Write) → IfTold (F.disk folder.old) (λ d. IsAt docs.old d.now history) → Tells (F.disk folder.old) (F.disk folder.new)
         (LeavesOnly (StandsAround (record { history = history }) (Ok (Request.Delete id rev)))) }
-    ensures whole { IfErr result (λ halt. (name : FileName) (at : ℕ) → halt ≡ Halt.Stopped (StepFault.Damaged name at) → ⊥) }
-    ensures full { IfErr result (λ halt. (name : FileName) (length : Option ℕ) → halt ≡ Halt.Stopped (StepFault.Full name length) → IsFullFor docs.old (Ok (Request.Delete id rev)) name length) }
-    ensures cause { HasCauseIf (λ halt. halt ≡ Halt.Stopped StepFault.DiskFault) (F.faults folder.old) (F.faults folder.new) result }
+    ensures whole { IfErr result IsNoDamage }
+    ensures full { IfErr result (IsFullOf docs.old (Ok (Request.Delete id rev))) }
+    ensures reached { IfErr result (IsFullOfWrite docs.old (F.disk folder.old) (Ok (Request.Delete id rev))) }
+    ensures cause { HasCauseIf IsDiskFault (F.faults folder.old) (F.faults folder.new) result }
 {
     let reply = accepted_line(alloc, docs, id.as_str())?;
     let start = out.len();

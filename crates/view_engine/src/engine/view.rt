@@ -13,7 +13,7 @@ ghost use Rattle.doc_file.specs.Docs.{IsAt as AreAt, IsOpen};
 ghost use Rattle.doc_file.specs.History.{Write};
 ghost use Rattle.view_engine.specs.Answer.{answer};
 ghost use Rattle.view_engine.specs.Engine.{Appends, HasChild, IsAt, Leaves};
-ghost use Rattle.view_engine.specs.Halts.{GoesOn, IsDamage};
+ghost use Rattle.view_engine.specs.Halts.{GoesOn, IsDamageOf, IsDiskFault, IsNoDamage, IsNotFull};
 ghost use Rattle.view_engine.specs.Moments.{Moment};
 ghost use Rattle.view_engine.specs.Refusals.{refusal_text};
 ghost use Rattle.view_engine.specs.Rows.{emitted_by, emitted_rows};
@@ -65,10 +65,10 @@ impl Engine {
         ensures silent { OnErr result (out.new.items ≡ out.old.items) }
         ensures docs { self.new.docs ≡ self.old.docs }
         ensures disk { Tells (F.disk folder.old) (F.disk folder.new) MovesNone }
-        ensures damaged { IfTold (F.disk folder.old) (λ d. IsOpen self.old.docs d.now → IfErr result (λ halt. (name : FileName) (at : ℕ) → halt ≡ Halt.Stopped (StepFault.Damaged name at) → IsDamage self.old.docs d.now name at)) }
-        ensures sound { (history : List Write) → IfTold (F.disk folder.old) (λ d. AreAt self.old.docs d.now history → IfErr result (λ halt. (name : FileName) (at : ℕ) → halt ≡ Halt.Stopped (StepFault.Damaged name at) → ⊥)) }
-        ensures room { IfErr result (λ halt. (name : FileName) (length : Option ℕ) → halt ≡ Halt.Stopped (StepFault.Full name length) → ⊥) }
-        ensures cause { HasCauseIf (λ halt. halt ≡ Halt.Stopped StepFault.DiskFault) (F.faults folder.old) (F.faults folder.new) result }
+        ensures damaged { IfTold (F.disk folder.old) (λ d. IsOpen self.old.docs d.now → IfErr result (IsDamageOf self.old.docs d.now)) }
+        ensures sound { (history : List Write) → IfTold (F.disk folder.old) (λ d. AreAt self.old.docs d.now history → IfErr result IsNoDamage) }
+        ensures room { IfErr result IsNotFull }
+        ensures cause { HasCauseIf IsDiskFault (F.faults folder.old) (F.faults folder.new) result }
         ensures languages { languages_of self.new.pool ≡ languages_of self.old.pool }
         ensures later { C.faults servers.old ≤ C.faults servers.new }
     {
@@ -105,10 +105,10 @@ impl Engine {
         ensures refused { IfErr result (λ halt. (refusal : Refusal) → halt ≡ Halt.Refused refusal → (history : List Write) → IfTold (F.disk folder.old) (λ d. AreAt self.now.docs d.now history
             → spec.view_refusal (languages_of self.now.pool) (record { history = history }) name.now ≡ Some refusal)) }
         ensures disk { Tells (F.disk folder.old) (F.disk folder.new) MovesNone }
-        ensures damaged { IfTold (F.disk folder.old) (λ d. IfErr result (λ halt. (name : FileName) (at : ℕ) → halt ≡ Halt.Stopped (StepFault.Damaged name at) → IsDamage self.now.docs d.now name at)) }
-        ensures sound { (history : List Write) → IfTold (F.disk folder.old) (λ d. AreAt self.now.docs d.now history → IfErr result (λ halt. (name : FileName) (at : ℕ) → halt ≡ Halt.Stopped (StepFault.Damaged name at) → ⊥)) }
-        ensures room { IfErr result (λ halt. (name : FileName) (length : Option ℕ) → halt ≡ Halt.Stopped (StepFault.Full name length) → ⊥) }
-        ensures cause { HasCauseIf (λ halt. halt ≡ Halt.Stopped StepFault.DiskFault) (F.faults folder.old) (F.faults folder.new) result }
+        ensures damaged { IfTold (F.disk folder.old) (λ d. IfErr result (IsDamageOf self.now.docs d.now)) }
+        ensures sound { (history : List Write) → IfTold (F.disk folder.old) (λ d. AreAt self.now.docs d.now history → IfErr result IsNoDamage) }
+        ensures room { IfErr result IsNotFull }
+        ensures cause { HasCauseIf IsDiskFault (F.faults folder.old) (F.faults folder.new) result }
     {
         let id = design_id(alloc, name.design.as_str())?;
         let document = match self.docs.get(alloc, folder, id.as_str()) {

@@ -1,5 +1,5 @@
 -- The status is that of the fault.
-use Rattle.std.proofs.Common.{◌≡◌, sym, ◌∙◌}
+use Rattle.std.proofs.Common.{sym, ◌∙◌}
 use Rattle.couchview_cli.proofs.Statuses.{fault_no_usage}
 use Rattle.couchview_cli.proofs.closing.close.Goals as goal
 

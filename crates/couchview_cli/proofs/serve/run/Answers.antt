@@ -1,9 +1,9 @@
 -- What was read is the session's input, and the session's end is that of the run.
-use Rattle.std.proofs.Common.{◌≡◌, ◌≤◌, ◌++◌, ◌∙◌, List, ℕ, [], Ok, Err, IfErr, length, take, drop, refl, sym, ap, subst, append-nil, length-append, length-take, arith}
+use Rattle.std.proofs.Common.{◌≡◌, ◌≤◌, ◌++◌, List, ℕ, [], length, take, drop, refl, sym, ap, subst, append-nil, length-append, length-take, arith}
 use Rattle.std.proofs.lemmas.List.{take-append-le}
 use Rattle.std.proofs.KnownBytes.{Consumes-nil, Consumes-trans, Consumes-kept}
 use Rattle.std.specs.Io.KnownBytes.{Consumes}
-use Rattle.couchview_cli.specs.Ends.{ComesTo, end_of}
+use Rattle.couchview_cli.specs.Ends.{ComesTo}
 use Rattle.couchview_cli.specs.Session.{EndedBy}
 use Rattle.couchview_cli.specs.declared.serve.ServeEnd.{ServeEnd}
 use Rattle.couchview_cli.proofs.Coming.{comes_by}

@@ -1,6 +1,6 @@
 -- A document's rows follow those of the documents before it.
 use Rattle.std.specs.Prelude.{slice_index_or}
-use Rattle.std.proofs.Common.{◌≡◌, ◌∙◌, ◌⊎◌, ◌<◌, ◌≤◌, ◌++◌, ℕ, zero, suc, List, [], length, map, drop, sym, ap, inl, inr, arith, add-one, append_assoc, append-nil}
+use Rattle.std.proofs.Common.{◌≡◌, ◌∙◌, ◌⊎◌, ◌<◌, ◌≤◌, ◌++◌, ℕ, zero, suc, List, [], length, drop, sym, ap, inl, inr, arith, add-one, append_assoc, append-nil}
 use Rattle.json_terms.specs.declared.term.Row.{Row}
 use Rattle.view_engine.specs.Rows.{emitted_by, emitted_rows, rows_from}
 use Rattle.view_engine.proofs.EmittedRows.{documents_step, no_rows_left}

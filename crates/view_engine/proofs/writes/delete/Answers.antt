@@ -1,17 +1,14 @@
 -- A deletion is what the documents make of it.
-use Rattle.std.proofs.Common.{◌≡◌, ◌⊎◌, ◌∷◌, ◌++◌, ℕ, List, Ok, Option, None, OnOk, inl, inr, sym, ap, ◌∙◌, subst, rules}
+use Rattle.std.proofs.Common.{◌≡◌, ◌⊎◌, ◌∷◌, ℕ, List, Ok, Option, None, OnOk, inl, inr, sym, ◌∙◌, subst, rules}
+use Rattle.std.specs.Prelude.{option_map}
 use Rattle.view_ports.specs.Disk.{LeavesOnly, Moves, Tells}
-use Rattle.view_ports.specs.Lines.{ended}
-use Rattle.view_ports.specs.declared.file_name.FileName.{FileName}
 use Rattle.view_ports.proofs.Told.{told_after, told_all, told_now}
 use Rattle.doc_file.specs.Accepted.{state_in}
-use Rattle.doc_file.specs.Docs.{last_of, IsAt, IsDocsFile}
+use Rattle.doc_file.specs.Docs.{file_of, last_of, IsAt, IsDocsFile}
 use Rattle.doc_file.specs.Held.{Stands}
 use Rattle.doc_file.specs.Stored.{write_of}
 use Rattle.doc_file.specs.Writes.{IsAcceptedDelete, IsFileFault, IsRefusedDelete}
 use Rattle.doc_file.specs.declared.fault.DocFault.TheVariants.{NoMemory}
-use Rattle.view_engine.specs.declared.halt.Halt.TheVariants.{Stopped}
-use Rattle.view_engine.specs.declared.halt.StepFault.TheVariants.{Full}
 use Rattle.view_engine.specs.declared.request.Request.TheVariants.{Delete}
 use Rattle.view_engine.specs.Delete.{delete_write}
 use Rattle.view_engine.specs.Engine.{StandsAround}
@@ -19,6 +16,7 @@ use Rattle.view_engine.specs.Halts.{IsFull}
 use Rattle.view_engine.specs.Steps.{IsWrite}
 use Rattle.view_engine.specs.World.{World}
 use Rattle.view_engine.proofs.Around.{moves_around, stays_around}
+use Rattle.view_engine.proofs.FullFiles.{delete_not_of_file, full_of_file}
 use Rattle.view_engine.proofs.Writing.{delete_does, delete_is_write, delete_refused, reply_to}
 use Rattle.view_engine.proofs.writes.delete.Goals as goal
 
@@ -100,3 +98,19 @@ returns-clause-full g c = λ name length is.
     let docs = c.args.docs.now in
     let there : IsFull docs c.as_str-2.result.now None name length = search rules in
     subst (λ i. IsFull docs i None name length) c.as_str-2.ensures there
+
+pub returns-clause-reached : goal.returns-clause-reached
+returns-clause-reached g c = λ name length is history.
+    let docs = c.args.docs.now in
+    let world : World = record { history = history } in
+    let id = c.as_str-2.result.now in
+    let given = option_map (λ text. text.now) c.text_of.result in
+    let of_file : IsFileFault (file_of docs) c.in-Err.fault = full_of_file (file_of docs) c.in-Err.fault name length (IsRefusedDelete (state_in (last_of docs id)) given)
+    (delete_not_of_file (state_in (last_of docs id)) given) c.in-Err.ensures.refused (sym c.from.ensures ∙ is) in
+    told_all (g.F.Folder.disk c.args.folder.now) _
+    (λ d at. (
+      delete_write world c.args.id,
+      delete_is_write docs d.now history at c.args.id c.args.rev
+          (both (λ i given. IsAcceptedDelete (state_in (last_of docs i)) given) c.as_str-2.ensures c.text_of.ensures (c.in-Err.ensures.reached of_file))
+          (reply_to docs d.now history at c.as_str.result.now c.args.id c.as_str.ensures (c.in_ok-reply.ensures.history d.now history at)),
+    ))

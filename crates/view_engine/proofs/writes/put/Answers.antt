@@ -1,19 +1,21 @@
 -- A put is what the documents make of it.
-use Rattle.std.proofs.Common.{◌≡◌, ◌⊎◌, ◌∷◌, ℕ, List, Ok, OnOk, inl, inr, refl, sym, ap, ◌∙◌, subst, false}
+use Rattle.std.proofs.Common.{◌⊎◌, ◌∷◌, Ok, OnOk, inl, inr, sym, ◌∙◌, subst}
 use Rattle.json_terms.specs.Json.{object, members_of}
-use Rattle.view_ports.specs.Disk.{IfTold, LeavesOnly, Moves, Tells}
+use Rattle.view_ports.specs.Disk.{LeavesOnly, Moves, Tells}
 use Rattle.view_ports.proofs.Told.{told_after, told_all, told_now}
 use Rattle.design_docs.specs.Documents.{id_of}
-use Rattle.doc_file.specs.Docs.{IsAt, IsDocsFile, IsSame}
+use Rattle.doc_file.specs.Accepted.{state_in}
+use Rattle.doc_file.specs.Docs.{file_of, last_of, IsAt, IsDocsFile}
 use Rattle.doc_file.specs.Held.{Stands}
-use Rattle.doc_file.specs.Writes.{IsFileFault}
+use Rattle.doc_file.specs.Writes.{IsFileFault, IsRefusedPut}
 use Rattle.view_engine.specs.declared.request.Request.TheVariants.{Put}
 use Rattle.view_engine.specs.Engine.{StandsAround}
-use Rattle.view_engine.specs.Put.{is_unbuilt, put_write, IsPutRefused}
+use Rattle.view_engine.specs.Put.{put_write}
 use Rattle.view_engine.specs.Steps.{IsWrite}
 use Rattle.view_engine.specs.World.{World}
 use Rattle.view_engine.proofs.Around.{moves_around, stays_around}
 use Rattle.view_engine.proofs.PlainPuts.{plain_where_built}
+use Rattle.view_engine.proofs.FullFiles.{full_of_file, put_not_of_file}
 use Rattle.view_engine.proofs.Writing.{put_does, put_is_write, put_refused, reply_to}
 use Rattle.view_engine.proofs.writes.put.Goals as goal
 
@@ -88,3 +90,17 @@ returns-clause-moments g c = λ history at.
           (c.put.ensures.stands history at)
       | inr same ↦ subst (λ folder. Tells before (g.F.Folder.disk folder) around) (sym same.1) (stays_around docs before history (Ok (Put c.args.document)) at)
     ]
+
+pub returns-clause-reached : goal.returns-clause-reached
+returns-clause-reached g c = λ name length is history.
+    let docs = c.args.docs.now in
+    let document = object (members_of c.args.document) in
+    let world : World = record { history = history } in
+    let of_file : IsFileFault (file_of docs) c.in-Err.fault = full_of_file (file_of docs) c.in-Err.fault name length (IsRefusedPut (state_in (last_of docs (id_of document))) document)
+    (put_not_of_file (state_in (last_of docs (id_of document))) document) c.in-Err.ensures.refused (sym c.from.ensures ∙ is) in
+    told_all (g.F.Folder.disk c.args.folder.now) _
+    (λ d at. (
+      put_write world document,
+      put_is_write docs d.now history at c.args.document (sym c.in_ok-is_unbuilt.ensures ∙ c.if-branch.false) (c.in-Err.ensures.reached of_file)
+          (reply_to docs d.now history at c.id_of.result.now (id_of document) c.id_of.ensures (c.in_ok-reply.ensures.history d.now history at)),
+    ))

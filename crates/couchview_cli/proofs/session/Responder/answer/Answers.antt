@@ -1,18 +1,16 @@
 -- A line is answered as the engine's step does it.
-use Rattle.std.proofs.Common.{◌≡◌, ◌≢◌, ◌∙◌, List, ℕ, Option, [], Err, sym, ap, subst, rules}
-use Rattle.view_ports.specs.Disk.{IfTold}
+use Rattle.std.proofs.Common.{◌≡◌, ◌∙◌, List, ℕ, Err, ap, subst}
 use Rattle.view_ports.specs.declared.file_name.FileName.{FileName}
 use Rattle.view_ports.proofs.Told.{told_now}
 use Rattle.std.specs.Io.KnownBytes.{Appends}
 use Rattle.child_pool.specs.Pools.{languages_of}
 use Rattle.doc_file.specs.Docs.{IsAt as AreAt}
 use Rattle.view_engine.specs.declared.halt.StepFault.{StepFault}
-use Rattle.view_engine.specs.declared.halt.StepFault.TheVariants.{Damaged, Full, NoMemory}
+use Rattle.view_engine.specs.declared.halt.StepFault.TheVariants.{Damaged}
 use Rattle.view_engine.specs.Engine.{HasChild}
 use Rattle.view_engine.specs.Moments.{Moment}
 use Rattle.couchview_cli.specs.Session.{IsHalted, Stopped}
 use Rattle.couchview_cli.proofs.Answering.{answered_done, answered_spent, halted_by}
-use Rattle.couchview_cli.proofs.Results.{OnErr-map}
 use Rattle.couchview_cli.proofs.session.Responder.answer.Goals as goal
 
 pub returns-in-Ok-write_all-clause-ok : goal.returns-in-Ok-write_all-clause-ok
@@ -61,5 +59,5 @@ returns-in_default-clause-stopped g c = λ fault is before at.
     (halted_by c.in-Err.fault c.args.line.now before old new held docs HasLeft c.in_default.not-NoMemory at.documents (c.in-Err.ensures.moments before.world.history at.documents)
     (told_now old (λ d. AreAt docs d.now before.world.history → (name : FileName) (at : ℕ) → c.step.result ≡ Err (Damaged name at) → ⊥)
     (λ d. AreAt docs d.now before.world.history → (name : FileName) (at : ℕ) → c.in-Err.fault ≡ Damaged name at → ⊥) (λ d never is_at name place damaged. never is_at name place (c.in-Err.is ∙ ap Err damaged)) (c.step.ensures.sound before.world.history))
-    (λ name length full. c.step.ensures.full name length (c.in-Err.is ∙ ap Err full))
+    (λ name length full. c.step.ensures.full name length (c.in-Err.is ∙ ap Err full)) (λ name length full. c.step.ensures.reached name length (c.in-Err.is ∙ ap Err full))
     (c.in-Err.ensures.stopped c.in_default.not-NoMemory before at.child))

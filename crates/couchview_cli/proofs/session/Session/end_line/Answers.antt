@@ -1,12 +1,10 @@
 -- A line that ends is answered, or ends the session.
-use Rattle.std.specs.Prelude.{IfErr, OnOk}
+use Rattle.std.specs.Prelude.{IfErr}
 use Rattle.std.proofs.Common.{◌≡◌, ◌++◌, List, ℕ, [], length, refl, sym, ap, ◌∙◌, subst, append_assoc, arith}
 use Rattle.std.proofs.lemmas.List.{nil_from_length}
 use Rattle.std.proofs.lemmas.Bool.{eqb-true}
-use Rattle.view_ports.specs.Disk.{IfTold}
 use Rattle.view_ports.specs.Lines.{ended}
 use Rattle.child_pool.specs.Pools.{languages_of}
-use Rattle.doc_file.specs.Docs.{IsOpen}
 use Rattle.view_engine.specs.Engine.{IsAt}
 use Rattle.couchview_cli.specs.declared.session.SessionError.{SessionError}
 use Rattle.couchview_cli.specs.Session.{EndedBy, Origin, Progress}

@@ -1,6 +1,6 @@
 -- A line is its request or its refusal, and what is done is what the line asks for.
 use Rattle.std.specs.Prelude.{IfErr, OnOk}
-use Rattle.std.proofs.Common.{◌≡◌, Result, Ok, sym, subst}
+use Rattle.std.proofs.Common.{◌≡◌, Result, sym, subst}
 use Rattle.view_ports.specs.Disk.{IfTold}
 use Rattle.child_pool.specs.Pools.{languages_of}
 use Rattle.view_engine.specs.declared.halt.Halt.TheVariants.{Refused}

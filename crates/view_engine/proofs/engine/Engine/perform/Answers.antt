@@ -26,7 +26,7 @@ use Rattle.view_engine.specs.Put.{put_write, DoesPut, IsPutRefused}
 use Rattle.view_engine.specs.Refusals.{refusal_text}
 use Rattle.view_engine.specs.Replies.{accepted_reply}
 use Rattle.view_engine.specs.Steps.{DoesRequest, DoesRequestText, IsRefusedAs, MayHaveCalled, Performs}
-use Rattle.view_engine.specs.World.{World, written}
+use Rattle.view_engine.specs.World.{written}
 use Rattle.view_engine.proofs.Keeping.{all_kept, at_kept, at_none, moments_none, moments_still, open_none, stands_kept, stands_none, stands_still}
 use Rattle.view_engine.proofs.Performing.{appends_document, appends_told, appends_written, leaves_known, leaves_refused, unbuilt}
 use Rattle.view_engine.proofs.engine.Engine.perform.Goals as goal

@@ -8,7 +8,7 @@ use Rattle.child_pool.specs.Pools.{languages_of}
 use Rattle.doc_file.specs.Docs.{IsAt as AreAt}
 use Rattle.view_engine.specs.declared.halt.Halt.{Halt}
 use Rattle.view_engine.specs.declared.halt.Halt.TheVariants.{Refused, Stopped}
-use Rattle.view_engine.specs.declared.halt.StepFault.TheVariants.{Damaged, NoMemory}
+use Rattle.view_engine.specs.declared.halt.StepFault.TheVariants.{Damaged, Full, NoMemory}
 use Rattle.view_engine.specs.Engine.{IsAt}
 use Rattle.view_engine.specs.Halts.{GoesOn}
 use Rattle.view_engine.specs.Moments.{Moment}
@@ -79,6 +79,11 @@ returns-in-Err-Stopped-clause-sound g c = λ history.
     (λ d. AreAt c.args.self.now.docs d.now history → (name : FileName) (at : ℕ) → Err c.in-Err-Stopped.fault ≡ Err (Damaged name at) → ⊥)
     (λ d never at_now name at is. let fault_is : c.in-Err-Stopped.fault ≡ Damaged name at = cc in never at_now name at (c.in-Err-Stopped.field-0-is ∙ ap Stopped fault_is))
     (c.in-Err-Stopped.ensures.sound history)
+
+pub returns-in-Err-Stopped-clause-reached : goal.returns-in-Err-Stopped-clause-reached
+returns-in-Err-Stopped-clause-reached g c = λ name size is.
+    let fault_is : c.in-Err-Stopped.fault ≡ Full name size = cc in
+    c.in-Err-Stopped.ensures.reached name size (c.in-Err-Stopped.field-0-is ∙ ap Stopped fault_is)
 
 -- ---- what is unmoved
 
