@@ -1,11 +1,7 @@
-//! Tests of the public calls of the crates `json_terms`, `raw_collation`, `term_codec`, `view_ports`, `crash_disk`,
-//! `design_docs`, `query_protocol` and `child_pool`; nothing else.
+//! Tests of the public calls of the crates `json_terms`, `raw_collation`, `term_codec`, `view_ports` (query servers),
+//! `design_docs` and `query_protocol`; nothing else.
 #![tactic(auto)]
 
-#[cfg(test)]
-mod child_pool_tests;
-#[cfg(test)]
-mod crash_disk_tests;
 #[cfg(test)]
 mod design_docs_tests;
 #[cfg(test)]
@@ -20,5 +16,3 @@ mod server_tests;
 mod term_codec_tests;
 #[cfg(test)]
 mod texts;
-#[cfg(test)]
-mod view_ports_tests;
