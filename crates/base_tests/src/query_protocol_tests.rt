@@ -1,94 +1,76 @@
-use crate::texts::{nested, text_of};
-use json_terms::{Chars, Members, Row, RowLists, Term, depth_within, read_term, write_term};
+use crate::texts::{assert_text, nested, text_of};
+use json_terms::{
+    Chars, Members, NoMemory, Row, RowLists, Term, depth_within, read_term, write_term,
+};
 use query_protocol::{
     Kind, Reply, ReplyFault, add_fun_line, map_line, read_reply, reduce_line, rereduce_line,
     reset_line,
 };
 use std::alloc::Global;
-use std::process::Abort;
 use std::test::Fail;
 
-#[test]
-fn a_session_begins_with_these_lines(rt: HostRuntime) -> Result<(), Fail> {
-    let alloc = rt.alloc();
-    let mut out = Vec::new(alloc);
-    reset_line(alloc, &mut out)?;
-    assert_eq!(rt;
-        out.as_slice(),
-        b"[\"reset\",{\"reduce_limit\":false}]".as_slice()
-    );
-    let mut out = [b'>'].to_vec(alloc)?;
-    add_fun_line(alloc, "emit \"a\"\n\u{e9}", &mut out)?;
-    assert_eq!(rt;
-        out.as_slice(),
-        ">[\"add_fun\",\"emit \\\"a\\\"\\n\u{e9}\"]".as_bytes()
-    );
-    Ok(())
-}
-
-fn mapped(alloc: Global, doc: &Term) -> Result<Vec<u8>, Fail> {
-    let Term::Object(_) = doc else {
+/// Appends the line that asks about a document.
+fn put_map(alloc: Global, document: &str, out: &mut Vec<u8>) -> Result<(), Fail> {
+    let document = read_term(alloc, document.as_bytes())?;
+    let Term::Object(_) = &document else {
         return Err(Fail::from("no object"));
     };
-    if !depth_within(doc, 64) {
+    if !depth_within(&document, 64) {
         return Err(Fail::from("too deep"));
     }
-    let mut out = Vec::new(alloc);
-    map_line(alloc, doc, &mut out)?;
-    Ok(out)
+    Ok(map_line(alloc, &document, out)?)
 }
 
-#[test]
-fn documents_are_asked_about(rt: HostRuntime) -> Result<(), Fail> {
-    let alloc = rt.alloc();
-    for (doc, want) in [
-        ("{}", "[\"map_doc\",{}]"),
-        (
-            "{\"b\": [1, null], \"_id\": \"a\"}",
-            "[\"map_doc\",{\"_id\":\"a\",\"b\":[1,null]}]",
-        ),
-    ] {
-        let term = read_term(alloc, doc.as_bytes())?;
-        assert_eq!(rt; mapped(alloc, &term)?.as_slice(), want.as_bytes(), "{doc}");
-    }
-    Ok(())
-}
-
-#[test]
-fn reductions_are_asked_for(rt: HostRuntime) -> Result<(), Fail> {
-    let alloc = rt.alloc();
+/// Appends the line that asks to reduce two rows.
+fn put_reduce(alloc: Global, out: &mut Vec<u8>) -> Result<(), Fail> {
     let rows = [
         Row {
             key: Term::Null,
-            id: Chars::from_text(alloc, "a")?,
+            id: Chars::from_text(alloc, "a\n")?,
             place: 0,
             value: Term::Int(-1),
         },
         Row {
-            key: Term::Text(Chars::from_text(alloc, "k\n")?),
+            key: Term::True,
             id: Chars::from_text(alloc, "b")?,
             place: 7,
             value: Term::Object(Members::new(alloc)),
         },
     ];
+    Ok(reduce_line(alloc, "sum", &rows, out)?)
+}
+
+/// The lines of a session's beginning, one behind the other.
+fn first_lines(alloc: Global) -> Result<Vec<u8>, NoMemory> {
     let mut out = Vec::new(alloc);
-    reduce_line(alloc, "sum", &rows, &mut out)?;
-    assert_eq!(rt;
-        out.as_slice(),
-        b"[\"reduce\",[\"sum\"],[[[null,\"a\"],-1],[[\"k\\n\",\"b\"],{}]]]".as_slice()
-    );
-    let values = [Term::Int(7), Term::Null];
+    reset_line(alloc, &mut out)?;
+    add_fun_line(alloc, "emit \"a\"\n\u{e9}", &mut out)?;
+    Ok(out)
+}
+
+const FIRST: &str = r#"["reset",{"reduce_limit":false}]["add_fun","emit \"a\"\né"]"#;
+
+/// The lines that ask for rows and for results, one behind the other.
+fn later_lines(alloc: Global) -> Result<Vec<u8>, Fail> {
     let mut out = Vec::new(alloc);
-    rereduce_line(alloc, "sum", &values, &mut out)?;
-    assert_eq!(rt;
-        out.as_slice(),
-        b"[\"rereduce\",[\"sum\"],[7,null]]".as_slice()
-    );
+    put_map(alloc, r#"{"b": [1, null], "_id": "a"}"#, &mut out)?;
+    put_reduce(alloc, &mut out)?;
+    rereduce_line(alloc, "sum", &[Term::Int(7), Term::Null], &mut out)?;
+    Ok(out)
+}
+
+const LATER: &str =
+    r#"["map_doc",{"_id":"a","b":[1,null]}]["reduce",["sum"],[[[null,"a\n"],-1],[[true,"b"],{}]]]["rereduce",["sum"],[7,null]]"#;
+
+#[test]
+fn each_command_has_its_line(rt: HostRuntime) -> Result<(), Fail> {
+    assert_eq!(rt; first_lines(rt.alloc())?.as_slice(), FIRST.as_bytes());
+    assert_eq!(rt; later_lines(rt.alloc())?.as_slice(), LATER.as_bytes());
     Ok(())
 }
 
 /// `KEY=VALUE ` for each row, and `;` behind the rows of each function.
-fn rows_text(alloc: Global, lists: &RowLists) -> Result<Vec<u8>, Fail> {
+fn rows_text(alloc: Global, lists: &RowLists) -> Result<String, Fail> {
     let mut out = Vec::new(alloc);
     for rows in lists.as_slice() {
         for row in rows.as_slice() {
@@ -99,196 +81,177 @@ fn rows_text(alloc: Global, lists: &RowLists) -> Result<Vec<u8>, Fail> {
         }
         out.push(b';')?;
     }
-    Ok(out)
+    Ok(String::from_utf8(out)?)
 }
 
-fn meaning(alloc: Global, kind: Kind, line: &str) -> Result<Vec<u8>, Fail> {
-    match read_reply(alloc, kind, line.as_bytes()) {
-        Ok(Reply::Log) => Ok(b"log".to_vec(alloc)?),
-        Ok(Reply::Yes) => Ok(b"yes".to_vec(alloc)?),
-        Ok(Reply::Compile) => Ok(b"complaint".to_vec(alloc)?),
-        Ok(Reply::Rows(lists)) => rows_text(alloc, &lists),
-        Ok(Reply::Value(term)) => Ok(text_of(alloc, &term)?),
-        Err(ReplyFault::BadReply) => Ok(b"bad".to_vec(alloc)?),
-        Err(ReplyFault::NoMemory) => Err(Fail::from("out of memory")),
+/// What the reply says, or why it is none.
+fn meaning(alloc: Global, kind: Kind, line: &str) -> Result<String, Fail> {
+    let word = match read_reply(alloc, kind, line.as_bytes()) {
+        Ok(Reply::Log) => "log",
+        Ok(Reply::Yes) => "yes",
+        Ok(Reply::Compile) => "complaint",
+        Ok(Reply::Rows(lists)) => return rows_text(alloc, &lists),
+        Ok(Reply::Value(term)) => return text_of(alloc, &term),
+        Err(ReplyFault::BadReply) => "bad",
+        Err(ReplyFault::NoMemory) => "out of memory",
+    };
+    Ok(String::from_str(alloc, word)?)
+}
+
+/// Lines, and what they say where a reply of the kind is waited for.
+const REPLIES: &[(Kind, &str, &str)] = &[
+    (Kind::Source, "true", "yes"),
+    (Kind::Source, " true ", "yes"),
+    (Kind::Source, "", "bad"),
+    (Kind::Source, "tru", "bad"),
+    (Kind::Source, "true true", "bad"),
+    (Kind::Source, "false", "bad"),
+    (Kind::Source, "1.0", "bad"),
+    (Kind::Source, r#""true""#, "bad"),
+    (Kind::Source, "[true]", "bad"),
+    (Kind::Source, "[]", "bad"),
+    (Kind::Source, "[true,[1]]", "bad"),
+    (Kind::Source, r#"["log",""]"#, "log"),
+    (Kind::Source, r#"["log",1]"#, "bad"),
+    (Kind::Source, r#"["log"]"#, "bad"),
+    (Kind::Source, r#"["log","a","b"]"#, "bad"),
+    (Kind::Source, r#"["logs","a"]"#, "bad"),
+    (Kind::Source, r#"{"log":"a"}"#, "bad"),
+    (
+        Kind::Source,
+        r#"["error","compilation_error",""]"#,
+        "complaint",
+    ),
+    (
+        Kind::Source,
+        r#"["fatal","compilation_error","a"]"#,
+        "complaint",
+    ),
+    (Kind::Source, r#"["fatal","compilation_error",1]"#, "bad"),
+    (Kind::Source, r#"["error","compilation_error"]"#, "bad"),
+    (Kind::Source, r#"["compilation_error","a"]"#, "bad"),
+    (Kind::Source, r#"["warn","compilation_error","a"]"#, "bad"),
+    (Kind::Source, r#"["error","bad_line","a"]"#, "bad"),
+    (
+        Kind::Source,
+        r#"["error","compilation_error","a",1]"#,
+        "bad",
+    ),
+    (Kind::Reset, "true", "yes"),
+    (Kind::Reset, "", "bad"),
+    (Kind::Reset, "[true,[1]]", "bad"),
+    (Kind::Reset, r#"["log",""]"#, "log"),
+    (Kind::Reset, r#"["error","compilation_error",""]"#, "bad"),
+    (Kind::Reset, r#"["fatal","compilation_error","a"]"#, "bad"),
+    (Kind::Rows(0), "[]", ""),
+    (Kind::Rows(0), "[[]]", "bad"),
+    (Kind::Rows(1), "[]", "bad"),
+    (Kind::Rows(1), "[[[2,1],[1,2]]]", "2=1 1=2 ;"),
+    (
+        Kind::Rows(2),
+        r#"[[["a",1],[null,{"b":[2]}]],[]]"#,
+        r#""a"=1 null={"b":[2]} ;;"#,
+    ),
+    (Kind::Rows(2), r#"[[["a",1]]]"#, "bad"),
+    (Kind::Rows(2), "[[],[],[]]", "bad"),
+    (Kind::Rows(2), r#"[[],[["a"]]]"#, "bad"),
+    (Kind::Rows(2), r#"[[],[["a",1,2]]]"#, "bad"),
+    (Kind::Rows(2), r#"[[],[["a",1.5]]]"#, "bad"),
+    (Kind::Rows(2), "[[],[1]]", "bad"),
+    (Kind::Rows(2), "[[],1]", "bad"),
+    (Kind::Rows(2), "[[],[]", "bad"),
+    (Kind::Rows(2), r#"{"a":[],"b":[]}"#, "bad"),
+    (Kind::Rows(2), r#"["log","a"]"#, "log"),
+    (Kind::Rows(2), "[true,[1]]", "bad"),
+    (Kind::Rows(2), "true", "bad"),
+    (Kind::Rows(3), r#"["error","compilation_error","a"]"#, "bad"),
+    (Kind::Value, "[true,[7]]", "7"),
+    (Kind::Value, "[true,[null]]", "null"),
+    (
+        Kind::Value,
+        r#"[true, [{"b":1,"a":[]}]]"#,
+        r#"{"a":[],"b":1}"#,
+    ),
+    (Kind::Value, "[true,[]]", "bad"),
+    (Kind::Value, "[true,[1,2]]", "bad"),
+    (Kind::Value, "[true,[1],2]", "bad"),
+    (Kind::Value, "[true,1]", "bad"),
+    (Kind::Value, "[false,[1]]", "bad"),
+    (Kind::Value, "[1,[1]]", "bad"),
+    (Kind::Value, "[[1]]", "bad"),
+    (Kind::Value, "[[[1,2]]]", "bad"),
+    (Kind::Value, "true", "bad"),
+    (Kind::Value, "[true,[1e2]]", "bad"),
+    (Kind::Value, r#"["log","a"]"#, "log"),
+    (
+        Kind::Value,
+        r#"["error","compilation_error","a"]"#,
+        "complaint",
+    ),
+    (Kind::Value, r#"["error","reduce_overflow","a"]"#, "bad"),
+];
+
+#[test]
+fn replies_have_their_meaning(rt: HostRuntime) -> Result<(), Fail> {
+    for (kind, line, want) in REPLIES {
+        assert_text(&rt, meaning(rt.alloc(), *kind, line), want, line)?;
     }
+    Ok(())
 }
 
-fn assert_meaning(
-    rt: &impl Abort,
+/// Whether the line is a proper reply that has so many of a text between two others.
+fn is_proper(
     alloc: Global,
     kind: Kind,
-    line: &str,
-    want: &str,
-) -> Result<(), Fail> {
-    let got = meaning(alloc, kind, line)?;
-    assert_eq!(rt; got.as_slice(), want.as_bytes(), "{kind:?}: {line}");
-    Ok(())
-}
-
-#[test]
-fn resets_and_sources_are_answered(rt: HostRuntime) -> Result<(), Fail> {
-    for (line, reset, source) in [
-        ("true", "yes", "yes"),
-        (" true ", "yes", "yes"),
-        ("", "bad", "bad"),
-        ("tru", "bad", "bad"),
-        ("true true", "bad", "bad"),
-        ("false", "bad", "bad"),
-        ("1.0", "bad", "bad"),
-        ("\"true\"", "bad", "bad"),
-        ("[true]", "bad", "bad"),
-        ("[]", "bad", "bad"),
-        ("[true,[1]]", "bad", "bad"),
-        ("[\"log\",\"\"]", "log", "log"),
-        ("[\"log\",1]", "bad", "bad"),
-        ("[\"log\"]", "bad", "bad"),
-        ("[\"log\",\"a\",\"b\"]", "bad", "bad"),
-        ("[\"logs\",\"a\"]", "bad", "bad"),
-        ("{\"log\":\"a\"}", "bad", "bad"),
-        ("[\"error\",\"compilation_error\",\"\"]", "bad", "complaint"),
-        (
-            "[\"fatal\",\"compilation_error\",\"a\"]",
-            "bad",
-            "complaint",
-        ),
-        ("[\"fatal\",\"compilation_error\",1]", "bad", "bad"),
-        ("[\"error\",\"compilation_error\"]", "bad", "bad"),
-        ("[\"compilation_error\",\"a\"]", "bad", "bad"),
-        ("[\"warn\",\"compilation_error\",\"a\"]", "bad", "bad"),
-        ("[\"error\",\"bad_line\",\"a\"]", "bad", "bad"),
-        ("[\"error\",\"compilation_error\",\"a\",1]", "bad", "bad"),
-    ] {
-        assert_meaning(&rt, rt.alloc(), Kind::Reset, line, reset)?;
-        assert_meaning(&rt, rt.alloc(), Kind::Source, line, source)?;
-    }
-    Ok(())
-}
-
-#[test]
-fn documents_are_answered_with_rows(rt: HostRuntime) -> Result<(), Fail> {
-    for (count, line, want) in [
-        (0, "[]", ""),
-        (0, "[[]]", "bad"),
-        (1, "[]", "bad"),
-        (1, "[[[2,1],[1,2]]]", "2=1 1=2 ;"),
-        (
-            2,
-            "[[[\"a\",1],[null,{\"b\":[2]}]],[]]",
-            "\"a\"=1 null={\"b\":[2]} ;;",
-        ),
-        (2, "[[[\"a\",1]]]", "bad"),
-        (2, "[[],[],[]]", "bad"),
-        (2, "[[],[[\"a\"]]]", "bad"),
-        (2, "[[],[[\"a\",1,2]]]", "bad"),
-        (2, "[[],[[\"a\",1.5]]]", "bad"),
-        (2, "[[],[1]]", "bad"),
-        (2, "[[],1]", "bad"),
-        (2, "[[],[]", "bad"),
-        (2, "{\"a\":[],\"b\":[]}", "bad"),
-        (2, "[\"log\",\"a\"]", "log"),
-        (2, "[true,[1]]", "bad"),
-        (2, "true", "bad"),
-        (3, "[\"error\",\"compilation_error\",\"a\"]", "bad"),
-    ] {
-        assert_meaning(&rt, rt.alloc(), Kind::Rows(count), line, want)?;
-    }
-    Ok(())
-}
-
-#[test]
-fn reductions_are_answered_with_a_value(rt: HostRuntime) -> Result<(), Fail> {
-    for (line, want) in [
-        ("[true,[7]]", "7"),
-        ("[true,[null]]", "null"),
-        ("[true, [{\"b\":1,\"a\":[]}]]", "{\"a\":[],\"b\":1}"),
-        ("[true,[]]", "bad"),
-        ("[true,[1,2]]", "bad"),
-        ("[true,[1],2]", "bad"),
-        ("[true,1]", "bad"),
-        ("[false,[1]]", "bad"),
-        ("[1,[1]]", "bad"),
-        ("[[1]]", "bad"),
-        ("[[[1,2]]]", "bad"),
-        ("true", "bad"),
-        ("[true,[1e2]]", "bad"),
-        ("[\"log\",\"a\"]", "log"),
-        ("[\"error\",\"compilation_error\",\"a\"]", "complaint"),
-        ("[\"error\",\"reduce_overflow\",\"a\"]", "bad"),
-    ] {
-        assert_meaning(&rt, rt.alloc(), Kind::Value, line, want)?;
-    }
-    Ok(())
-}
-
-/// A text so many times between two others.
-fn filled(
-    alloc: Global,
-    before: &str,
     count: usize,
-    text: &str,
-    after: &str,
-) -> Result<String, Fail> {
-    let mut out = String::from_str(alloc, before)?;
-    for _ in 0..count {
-        out.push_str(text)?;
-    }
-    out.push_str(after)?;
-    Ok(out)
+    filling: &[&str; 2],
+    around: &[&str; 2],
+) -> Result<bool, NoMemory> {
+    let inside = nested(alloc, count, filling[0], "", filling[1])?;
+    let line = format!(in alloc; "{}{inside}{}", around[0], around[1])?;
+    Ok(read_reply(alloc, kind, line.as_bytes()).is_ok())
 }
 
-fn is_proper(alloc: Global, kind: Kind, line: &str) -> bool {
-    read_reply(alloc, kind, line.as_bytes()).is_ok()
-}
+const KEY: &[&str; 2] = &["[[[", ",1]]]"];
+
+const KEY_TEXT: &[&str; 2] = &["[[[\"", "\",1]]]"];
+
+const VALUE_TEXT: &[&str; 2] = &["[[[1,\"", "\"]]]"];
+
+const RESULT: &[&str; 2] = &["[true,[", "]]"];
+
+const RESULT_TEXT: &[&str; 2] = &["[true,[\"", "\"]]"];
+
+const LETTERS: &[&str; 2] = &["a", ""];
+
+const ARRAYS: &[&str; 2] = &["[", "]"];
+
+/// The kind of a reply, how many of which texts stand in it, and whether it is proper.
+const LIMITS: &[(Kind, usize, &[&str; 2], &[&str; 2], bool)] = &[
+    (Kind::Rows(1), 1_048_574, LETTERS, KEY_TEXT, true),
+    (Kind::Rows(1), 1_048_575, LETTERS, KEY_TEXT, false),
+    (Kind::Rows(1), 1_048_574, LETTERS, VALUE_TEXT, true),
+    (Kind::Rows(1), 1_048_575, LETTERS, VALUE_TEXT, false),
+    (Kind::Value, 1_048_574, LETTERS, RESULT_TEXT, true),
+    (Kind::Value, 1_048_575, LETTERS, RESULT_TEXT, false),
+    (Kind::Rows(1), 96, ARRAYS, KEY, true),
+    (Kind::Rows(1), 97, ARRAYS, KEY, false),
+    (Kind::Value, 96, ARRAYS, RESULT, true),
+    (Kind::Value, 97, ARRAYS, RESULT, false),
+];
 
 #[test]
 fn answers_have_limits(rt: HostRuntime) -> Result<(), Fail> {
-    let alloc = rt.alloc();
-    for (size, want) in [(1_048_576, true), (1_048_577, false)] {
-        let key = filled(alloc, "[[[\"", size - 2, "a", "\",1]]]")?;
-        assert_eq!(rt;
-            is_proper(alloc, Kind::Rows(1), key.as_str()),
-            want,
-            "key of {size}"
-        );
-        let value = filled(alloc, "[[[1,\"", size - 2, "a", "\"]]]")?;
-        assert_eq!(rt;
-            is_proper(alloc, Kind::Rows(1), value.as_str()),
-            want,
-            "value of {size}"
-        );
-        let result = filled(alloc, "[true,[\"", size - 2, "a", "\"]]")?;
-        assert_eq!(rt;
-            is_proper(alloc, Kind::Value, result.as_str()),
-            want,
-            "result of {size}"
-        );
-    }
-    for (depth, want) in [(96, true), (97, false)] {
-        let value = nested(alloc, depth, "[", "", "]")?;
-        let key = format!(in alloc; "[[[{value},1]]]")?;
-        assert_eq!(rt;
-            is_proper(alloc, Kind::Rows(1), key.as_str()),
-            want,
-            "key {depth} deep"
-        );
-        let result = format!(in alloc; "[true,[{value}]]")?;
-        assert_eq!(rt;
-            is_proper(alloc, Kind::Value, result.as_str()),
-            want,
-            "result {depth} deep"
-        );
+    for (kind, count, filling, around, want) in LIMITS {
+        let proper = is_proper(rt.alloc(), *kind, *count, filling, around)?;
+        assert!(rt; proper == *want, "{count}");
     }
     Ok(())
 }
 
 #[test]
 fn faults_have_words(rt: HostRuntime) -> Result<(), Fail> {
-    for (fault, want) in [
-        (ReplyFault::BadReply, "no proper reply"),
-        (ReplyFault::NoMemory, "out of memory"),
-    ] {
-        assert_eq!(rt; format!(in rt.alloc(); "{fault}")?.as_str(), want);
-    }
+    let words = format!(in rt.alloc(); "{}, {}", ReplyFault::BadReply, ReplyFault::NoMemory)?;
+    assert_eq!(rt; words.as_str(), "no proper reply, out of memory");
     Ok(())
 }

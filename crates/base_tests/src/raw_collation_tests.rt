@@ -1,147 +1,90 @@
 // The order of terms and of rows, worked out by hand from CouchDB's documentation and from this project's order of
 // the members of objects.
-use json_terms::{Chars, Members, Row, Term, Terms};
+use json_terms::{Chars, Row, Term, read_term};
 use raw_collation::{raw_cmp, row_cmp, sort_rows};
 use std::alloc::Global;
 use std::test::Fail;
 
-fn text(alloc: Global, bytes: &str) -> Result<Term, Fail> {
-    Ok(Term::Text(Chars::from_text(alloc, bytes)?))
-}
+/// Terms in rising order. Of the texts by bytes the last but one comes before the last, and by UTF-16 units behind it.
+const RISING: &str = r#"[
+    -9223372036854775808, -256, -2, -1, 0, 1, 2, 10, 255, 256, 9223372036854775807, false, null, true,
+    {}, {"": "z"}, {"a": -1}, {"a": 1}, {"a": 1, "b": 0}, {"a": 1, "b": null}, {"a": 2}, {"a": true},
+    {"a": {"b": 1}}, {"a": []}, {"aa": -5}, {"b": -5}, {"é": -5},
+    [], [-1, true], [1], [1, 0], [1, 0, false], [1, 2], [null], [{}], [[]], [[1]], [[1], 7], [[1, 5]], [""],
+    "", "1", "A", "Z", "a", "a\u0000", "aa", "ab", "b", "z", "é", "中", "\uffff", "😀"
+]"#;
 
-fn array(alloc: Global, items: Vec<Term>) -> Result<Term, Fail> {
-    let mut terms = Terms::new(alloc);
-    for item in items {
-        terms.push(item)?;
+/// The first two terms whose order isn't that of their places.
+fn misplaced_terms(terms: &[Term]) -> Option<(usize, usize)> {
+    for i in 0..terms.len() {
+        for j in 0..terms.len() {
+            if raw_cmp(&terms[i], &terms[j]) != i.cmp(&j) {
+                return Some((i, j));
+            }
+        }
     }
-    Ok(Term::Array(terms))
-}
-
-fn empty_object(alloc: Global) -> Term {
-    Term::Object(Members::new(alloc))
-}
-
-fn object(alloc: Global, name: &str, value: Term) -> Result<Term, Fail> {
-    let mut members = Members::new(alloc);
-    members.push(Chars::from_text(alloc, name)?, value)?;
-    Ok(Term::Object(members))
-}
-
-// An object with the members `"a"`, which is 1, and `"b"`.
-fn object_of_two(alloc: Global, b: Term) -> Result<Term, Fail> {
-    let mut members = Members::new(alloc);
-    members.push(Chars::from_text(alloc, "a")?, Term::Int(1))?;
-    members.push(Chars::from_text(alloc, "b")?, b)?;
-    Ok(Term::Object(members))
-}
-
-// Objects in rising order.
-fn push_objects(alloc: Global, terms: &mut Vec<Term>) -> Result<(), Fail> {
-    terms.push(empty_object(alloc))?;
-    terms.push(object(alloc, "", text(alloc, "z")?)?)?;
-    terms.push(object(alloc, "a", Term::Int(-1))?)?;
-    terms.push(object(alloc, "a", Term::Int(1))?)?;
-    terms.push(object_of_two(alloc, Term::Int(0))?)?;
-    terms.push(object_of_two(alloc, Term::Null)?)?;
-    terms.push(object(alloc, "a", Term::Int(2))?)?;
-    terms.push(object(alloc, "a", Term::True)?)?;
-    terms.push(object(alloc, "a", object(alloc, "b", Term::Int(1))?)?)?;
-    terms.push(object(alloc, "a", array(alloc, Vec::new(alloc))?)?)?;
-    terms.push(object(alloc, "aa", Term::Int(-5))?)?;
-    terms.push(object(alloc, "b", Term::Int(-5))?)?;
-    terms.push(object(alloc, "é", Term::Int(-5))?)?;
-    Ok(())
-}
-
-// Arrays in rising order.
-fn push_arrays(alloc: Global, terms: &mut Vec<Term>) -> Result<(), Fail> {
-    terms.push(array(alloc, Vec::new(alloc))?)?;
-    terms.push(array(alloc, vec![in alloc; Term::Int(-1), Term::True]?)?)?;
-    terms.push(array(alloc, vec![in alloc; Term::Int(1)]?)?)?;
-    terms.push(array(alloc, vec![in alloc; Term::Int(1), Term::Int(0)]?)?)?;
-    terms.push(array(
-        alloc,
-        vec![in alloc; Term::Int(1), Term::Int(0), Term::False]?,
-    )?)?;
-    terms.push(array(alloc, vec![in alloc; Term::Int(1), Term::Int(2)]?)?)?;
-    terms.push(array(alloc, vec![in alloc; Term::Null]?)?)?;
-    terms.push(array(alloc, vec![in alloc; empty_object(alloc)]?)?)?;
-    terms.push(array(alloc, vec![in alloc; array(alloc, Vec::new(alloc))?]?)?)?;
-    terms.push(array(
-        alloc,
-        vec![in alloc; array(alloc, vec![in alloc; Term::Int(1)]?)?]?,
-    )?)?;
-    terms.push(array(
-        alloc,
-        vec![in alloc; array(alloc, vec![in alloc; Term::Int(1)]?)?, Term::Int(7)]?,
-    )?)?;
-    terms.push(array(
-        alloc,
-        vec![in alloc; array(alloc, vec![in alloc; Term::Int(1), Term::Int(5)]?)?]?,
-    )?)?;
-    terms.push(array(alloc, vec![in alloc; text(alloc, "")?]?)?)?;
-    Ok(())
-}
-
-// Terms in rising order.
-fn rising(alloc: Global) -> Result<Vec<Term>, Fail> {
-    let mut terms = Vec::new(alloc);
-    for n in [i64::MIN, -256, -2, -1, 0, 1, 2, 10, 255, 256, i64::MAX] {
-        terms.push(Term::Int(n))?;
-    }
-    terms.push(Term::False)?;
-    terms.push(Term::Null)?;
-    terms.push(Term::True)?;
-    push_objects(alloc, &mut terms)?;
-    push_arrays(alloc, &mut terms)?;
-    // By bytes the last but one comes before the last, and by UTF-16 units behind it.
-    for bytes in [
-        "", "1", "A", "Z", "a", "a\0", "aa", "ab", "b", "z", "é", "中", "\u{ffff}", "😀",
-    ] {
-        terms.push(text(alloc, bytes)?)?;
-    }
-    Ok(terms)
+    None
 }
 
 #[test]
 fn each_two_terms_compare_by_their_places(rt: HostRuntime) -> Result<(), Fail> {
-    let terms = rising(rt.alloc())?;
+    let Term::Array(terms) = read_term(rt.alloc(), RISING.as_bytes())? else {
+        return Err(Fail::from("no array"));
+    };
     assert_eq!(rt; terms.len(), 54);
-    for (i, a) in terms.iter().enumerate() {
-        for (j, b) in terms.iter().enumerate() {
-            assert_eq!(rt; raw_cmp(a, b), i.cmp(&j), "at {i} and {j}");
-        }
-    }
+    assert_eq!(rt; misplaced_terms(terms.as_slice()), None);
     Ok(())
 }
 
-fn row(alloc: Global, key: Term, id: &str, place: u32, value: i64) -> Result<Row, Fail> {
-    Ok(Row {
-        key,
-        id: Chars::from_text(alloc, id)?,
-        place,
-        value: Term::Int(value),
-    })
+/// Rows in rising order: key, id, place, and their number from 0 on, which is their value.
+const ROWS: &[(&str, &str, u32, i64)] = &[
+    ("-1", "z", 7, 0),
+    ("0", "doc-10", 5, 1),
+    ("0", "doc-9", 0, 2),
+    ("0", "doc-9", 2, 3),
+    ("0", "doc-9", 10, 4),
+    ("0", "doc-9", 10, 5),
+    ("1", "same", 0, 6),
+    ("false", "", 0, 7),
+    ("null", "same", 0, 8),
+    ("true", "same", 0, 9),
+    ("{}", "same", 0, 10),
+    ("{\"a\":1}", "same", 0, 11),
+    ("[]", "same", 0, 12),
+    ("[1]", "same", 0, 13),
+    ("[1,0]", "same", 0, 14),
+    ("\"\"", "same", 0, 15),
+    ("\"a\"", "same", 0, 16),
+];
+
+fn rising_rows(alloc: Global) -> Result<Vec<Row>, Fail> {
+    let mut rows = Vec::with_capacity(alloc, ROWS.len())?;
+    for (key, id, place, value) in ROWS {
+        let id = Chars::from_text(alloc, id)?;
+        let key = read_term(alloc, key.as_bytes())?;
+        rows.push(Row {
+            key,
+            id,
+            place: *place,
+            value: Term::Int(*value),
+        })?;
+    }
+    Ok(rows)
 }
 
-// The eleven keys in rising order.
-fn keys(alloc: Global) -> Result<Vec<Term>, Fail> {
-    let mut keys = Vec::new(alloc);
-    keys.push(Term::Int(1))?;
-    keys.push(Term::False)?;
-    keys.push(Term::Null)?;
-    keys.push(Term::True)?;
-    keys.push(empty_object(alloc))?;
-    keys.push(object(alloc, "a", Term::Int(1))?)?;
-    keys.push(array(alloc, Vec::new(alloc))?)?;
-    keys.push(array(alloc, vec![in alloc; Term::Int(1)]?)?)?;
-    keys.push(array(alloc, vec![in alloc; Term::Int(1), Term::Int(0)]?)?)?;
-    keys.push(text(alloc, "")?)?;
-    keys.push(text(alloc, "a")?)?;
-    Ok(keys)
+/// The first two rows whose order isn't that of their places.
+fn misplaced_rows(rows: &[Row]) -> Option<(usize, usize)> {
+    for i in 0..rows.len() {
+        for j in 0..rows.len() {
+            if row_cmp(&rows[i], &rows[j]) != i.cmp(&j) {
+                return Some((i, j));
+            }
+        }
+    }
+    None
 }
 
-// Checks that the values of the rows are 0, 1, 2 and so on.
+/// Whether the values of the rows are 0, 1, 2 and so on.
 fn values_count_up(rows: &[Row]) -> bool {
     rows.iter().enumerate().all(|(i, row)| match row.value {
         Term::Int(n) => u64::try_from(n) == Ok(i as u64),
@@ -150,40 +93,11 @@ fn values_count_up(rows: &[Row]) -> bool {
 }
 
 #[test]
-fn eleven_keys_are_sorted(rt: HostRuntime) -> Result<(), Fail> {
-    let alloc = rt.alloc();
-    let mut rows = Vec::new(alloc);
-    for key in keys(alloc)? {
-        let place_in_order = i64::try_from(rows.len())?;
-        rows.push(row(alloc, key, "same", 0, place_in_order)?)?;
-    }
-    rows.reverse();
-    assert!(rt; !values_count_up(&rows));
-    sort_rows(&mut rows);
-    assert_eq!(rt; rows.len(), 11);
-    assert!(rt; values_count_up(&rows));
-    Ok(())
-}
-
-#[test]
 fn rows_go_by_key_then_id_then_place_then_value(rt: HostRuntime) -> Result<(), Fail> {
-    let alloc = rt.alloc();
-    let mut rows = Vec::new(alloc);
-    rows.push(row(alloc, Term::Int(-1), "z", 7, 0)?)?;
-    rows.push(row(alloc, Term::Int(0), "doc-10", 5, 1)?)?;
-    rows.push(row(alloc, Term::Int(0), "doc-9", 0, 2)?)?;
-    rows.push(row(alloc, Term::Int(0), "doc-9", 2, 3)?)?;
-    rows.push(row(alloc, Term::Int(0), "doc-9", 10, 4)?)?;
-    rows.push(row(alloc, Term::Int(0), "doc-9", 10, 5)?)?;
-    rows.push(row(alloc, Term::False, "", 0, 6)?)?;
-    for (i, a) in rows.iter().enumerate() {
-        for (j, b) in rows.iter().enumerate() {
-            assert_eq!(rt; row_cmp(a, b), i.cmp(&j), "at {i} and {j}");
-        }
-    }
+    let mut rows = rising_rows(rt.alloc())?;
+    assert_eq!(rt; misplaced_rows(&rows), None);
     rows.reverse();
     sort_rows(&mut rows);
-    assert_eq!(rt; rows.len(), 7);
-    assert!(rt; values_count_up(&rows));
+    assert!(rt; rows.len() == 17 && values_count_up(&rows));
     Ok(())
 }

@@ -1,250 +1,298 @@
 // Servers in the process, servers of a script, and the commands that they are sent.
-use crate::texts::nested;
-use json_terms::{Chars, NoMemory, Term, write_term};
+use crate::texts::{assert_text, nested, text_of};
+use json_terms::{Chars, NoMemory, Row, Term, Terms, write_term};
 use std::alloc::Global;
+use std::process::Abort;
 use std::test::Fail;
 use view_ports::{
     Answer, Command, FieldServers, InProcess, ScriptServers, Servers, ServersFault, read_command,
 };
 
+/// A call on query servers. `Ask` sends the line and receives the answer.
+#[derive(Clone, Copy)]
+enum Call {
+    Start,
+    Send,
+    Receive,
+    Ask,
+    Stop,
+}
+
+use Call::{Ask, Receive, Send, Start, Stop};
+
+/// What the call gives: a line, or nothing.
+fn called(
+    servers: &mut FieldServers,
+    alloc: Global,
+    slot: u32,
+    call: Call,
+    line: &str,
+) -> Result<Vec<u8>, ServersFault> {
+    if slot >= 9 {
+        return Err(ServersFault::Failed);
+    }
+    match call {
+        Start => servers.start(alloc, slot, "any path")?,
+        Send => servers.send(alloc, slot, line.as_bytes())?,
+        Receive => return servers.receive(alloc, slot),
+        Ask => {
+            servers.send(alloc, slot, line.as_bytes())?;
+            return servers.receive(alloc, slot);
+        }
+        Stop => servers.stop(slot),
+    }
+    Ok(Vec::new(alloc))
+}
+
+/// The line that a call gave, or its fault.
+fn shown(alloc: Global, given: Result<Vec<u8>, ServersFault>) -> Result<String, Fail> {
+    match given {
+        Ok(line) => Ok(String::from_utf8(line)?),
+        Err(fault) => Ok(format!(in alloc; "{fault}")?),
+    }
+}
+
 const COMPLAINT: &str = r#"["error","compilation_error","source"]"#;
 
 const BAD_LINE: &str = r#"["error","bad_line","line"]"#;
 
-/// Sends the line to the child of slot 0, and receives its answer.
-fn ask(servers: &mut FieldServers, alloc: Global, line: &str) -> Result<Vec<u8>, ServersFault> {
-    servers.send(alloc, 0, line.as_bytes())?;
-    servers.receive(alloc, 0)
-}
+const FAILED: &str = "the query server failed";
 
-#[test]
-fn a_session_of_field_answers_each_line(rt: HostRuntime) -> Result<(), Fail> {
-    let alloc = rt.alloc();
-    let mut servers: FieldServers = InProcess::new(alloc, Vec::new(alloc))?;
-    servers.start(alloc, 0, "any path")?;
-    for (line, want) in [
-        (r#"["map_doc",{"name":1}]"#, "[]"),
-        (r#"["reset"]"#, "true"),
-        (r#"["add_fun","name"]"#, "true"),
-        (r#"["map_doc",{"_id":"a","name":"x"}]"#, r#"[[["x",null]]]"#),
-        (r#"["map_doc",{"_id":"a"}]"#, "[[]]"),
-        (r#"["map_doc",{"name":null}]"#, "[[[null,null]]]"),
-        (r#"["add_fun",""]"#, COMPLAINT),
-        (r#"["reduce",["name"],[[[1,"a"],2]]]"#, COMPLAINT),
-        (r#"["rereduce",["name"],[1,2]]"#, COMPLAINT),
-        (r#"["reduce",["name"],[]]"#, BAD_LINE),
-        (r#"["ddoc","_design/d"]"#, BAD_LINE),
-        ("", BAD_LINE),
-        (r#"["add_fun","_id"]"#, "true"),
-        (
-            r#"["map_doc",{"name":{"b":[2],"a":1},"_id":"a"}]"#,
-            r#"[[[{"a":1,"b":[2]},null]],[["a",null]]]"#,
-        ),
-        (r#"["reset",{"reduce_limit":false}]"#, "true"),
-        (r#"["map_doc",{"name":1}]"#, "[]"),
-    ] {
-        let got = ask(&mut servers, alloc, line)?;
-        assert_eq!(rt; got.as_slice(), want.as_bytes(), "{line}");
+const ADD: &str = r#"["add_fun","a"]"#;
+
+const MAP: &str = r#"["map_doc",{"a":7}]"#;
+
+/// Calls in one session, and what each gives.
+const SESSION: &[(u32, Call, &str, &str)] = &[
+    (0, Start, "", ""),
+    (0, Ask, r#"["map_doc",{"name":1}]"#, "[]"),
+    (0, Ask, r#"["reset"]"#, "true"),
+    (0, Ask, r#"["add_fun","name"]"#, "true"),
+    (
+        0,
+        Ask,
+        r#"["map_doc",{"_id":"a","name":"x"}]"#,
+        r#"[[["x",null]]]"#,
+    ),
+    (0, Ask, r#"["map_doc",{"_id":"a"}]"#, "[[]]"),
+    (0, Ask, r#"["map_doc",{"name":null}]"#, "[[[null,null]]]"),
+    (0, Ask, r#"["add_fun",""]"#, COMPLAINT),
+    (0, Ask, r#"["reduce",["name"],[[[1,"a"],2]]]"#, COMPLAINT),
+    (0, Ask, r#"["rereduce",["name"],[1,2]]"#, COMPLAINT),
+    (0, Ask, r#"["reduce",["name"],[]]"#, BAD_LINE),
+    (0, Ask, r#"["ddoc","_design/d"]"#, BAD_LINE),
+    (0, Ask, "", BAD_LINE),
+    (0, Ask, r#"["add_fun","_id"]"#, "true"),
+    (
+        0,
+        Ask,
+        r#"["map_doc",{"name":{"b":[2],"a":1},"_id":"a"}]"#,
+        r#"[[[{"a":1,"b":[2]},null]],[["a",null]]]"#,
+    ),
+    (0, Ask, r#"["reset",{"reduce_limit":false}]"#, "true"),
+    (0, Ask, r#"["map_doc",{"name":1}]"#, "[]"),
+];
+
+/// Slot 0 answers in the order of the lines, and then has nothing to say. Slot 8 never gets the function. A second start
+/// forgets the function, and a stop leaves nobody who answers.
+const SLOTS: &[(u32, Call, &str, &str)] = &[
+    (0, Start, "", ""),
+    (8, Start, "", ""),
+    (0, Send, ADD, ""),
+    (0, Send, MAP, ""),
+    (0, Receive, "", "true"),
+    (0, Receive, "", "[[[7,null]]]"),
+    (0, Receive, "", ""),
+    (8, Ask, MAP, "[]"),
+    (0, Start, "", ""),
+    (0, Ask, MAP, "[]"),
+    (0, Stop, "", ""),
+    (0, Send, MAP, ""),
+    (0, Receive, "", ""),
+];
+
+/// The calls 0, 3, 4 and 6 fail; a stop is no such call. The line that was sent waits still after a receive that fails,
+/// and the one that wasn't sent doesn't. A start that fails leaves no child.
+const FAILING: &[(u32, Call, &str, &str)] = &[
+    (0, Stop, "", ""),
+    (0, Start, "", FAILED),
+    (0, Start, "", ""),
+    (0, Send, ADD, ""),
+    (0, Send, MAP, FAILED),
+    (0, Receive, "", FAILED),
+    (0, Receive, "", "true"),
+    (0, Start, "", FAILED),
+    (0, Send, ADD, ""),
+    (0, Receive, "", ""),
+];
+
+/// Makes the calls on servers of which some calls fail, and compares what each gives.
+fn assert_calls(
+    rt: &impl Abort,
+    alloc: Global,
+    fail: &[u64],
+    calls: &[(u32, Call, &str, &str)],
+) -> Result<(), Fail> {
+    let mut servers: FieldServers = InProcess::new(alloc, fail.to_vec(alloc)?)?;
+    for (slot, call, line, want) in calls {
+        let given = called(&mut servers, alloc, *slot, *call, line);
+        assert_text(rt, shown(alloc, given), want, line)?;
     }
     Ok(())
 }
 
 #[test]
-fn each_slot_has_its_child(rt: HostRuntime) -> Result<(), Fail> {
-    let alloc = rt.alloc();
-    let mut servers: FieldServers = InProcess::new(alloc, Vec::new(alloc))?;
-    let document = br#"["map_doc",{"a":7}]"#;
-    // Slot 0 answers in the order of the lines, and then has nothing to say.
-    servers.start(alloc, 0, "x")?;
-    servers.start(alloc, 8, "x")?;
-    servers.send(alloc, 0, br#"["add_fun","a"]"#)?;
-    servers.send(alloc, 0, document)?;
-    assert_eq!(rt; servers.receive(alloc, 0)?.as_slice(), b"true".as_slice());
-    assert_eq!(rt;
-        servers.receive(alloc, 0)?.as_slice(),
-        b"[[[7,null]]]".as_slice()
-    );
-    assert_eq!(rt; servers.receive(alloc, 0)?.as_slice(), b"".as_slice());
-    // Slot 8 never got the function.
-    servers.send(alloc, 8, document)?;
-    assert_eq!(rt; servers.receive(alloc, 8)?.as_slice(), b"[]".as_slice());
-    // A second start forgets the function, and a stop leaves nobody who answers.
-    servers.start(alloc, 0, "x")?;
-    servers.send(alloc, 0, document)?;
-    assert_eq!(rt; servers.receive(alloc, 0)?.as_slice(), b"[]".as_slice());
-    servers.stop(0);
-    servers.send(alloc, 0, document)?;
-    assert_eq!(rt; servers.receive(alloc, 0)?.as_slice(), b"".as_slice());
-    Ok(())
+fn servers_in_the_process_answer_each_call(rt: HostRuntime) -> Result<(), Fail> {
+    assert_calls(&rt, rt.alloc(), &[], SESSION)?;
+    assert_calls(&rt, rt.alloc(), &[], SLOTS)?;
+    assert_calls(&rt, rt.alloc(), &[0, 3, 4, 6], FAILING)
 }
 
-#[test]
-fn calls_of_listed_numbers_fail(rt: HostRuntime) -> Result<(), Fail> {
-    let alloc = rt.alloc();
-    let failed = Some(ServersFault::Failed);
-    let line = br#"["reset"]"#;
-    let mut servers: FieldServers = InProcess::new(alloc, [0, 3, 4, 6].to_vec(alloc)?)?;
-    // A stop is no such call.
-    servers.stop(0);
-    assert_eq!(rt; servers.start(alloc, 0, "x").err(), failed);
-    assert_eq!(rt; servers.start(alloc, 0, "x"), Ok(()));
-    assert_eq!(rt; servers.send(alloc, 0, line), Ok(()));
-    assert_eq!(rt; servers.send(alloc, 0, line).err(), failed);
-    assert_eq!(rt; servers.receive(alloc, 0).err(), failed);
-    // The line that was sent waits still. The one that wasn't sent doesn't.
-    assert_eq!(rt; servers.receive(alloc, 0)?.as_slice(), b"true".as_slice());
-    // A start that fails leaves no child.
-    assert_eq!(rt; servers.start(alloc, 0, "x").err(), failed);
-    assert_eq!(rt; servers.send(alloc, 0, line), Ok(()));
-    assert_eq!(rt; servers.receive(alloc, 0)?.as_slice(), b"".as_slice());
-    assert_eq!(rt;
-        format!(in alloc; "{} {}", ServersFault::Failed, ServersFault::NoMemory)?.as_str(),
-        "the query server failed out of memory"
-    );
-    Ok(())
-}
-
-#[test]
-fn a_script_is_given_in_order(rt: HostRuntime) -> Result<(), Fail> {
-    let alloc = rt.alloc();
+/// A script of a line, a fault and an empty line.
+fn script(alloc: Global) -> Result<Vec<Answer>, NoMemory> {
     let mut answers = Vec::new(alloc);
     answers.push(Answer::Line(Chars::from_text(alloc, "true")?))?;
     answers.push(Answer::Fail)?;
     answers.push(Answer::Line(Chars::from_text(alloc, "")?))?;
-    let mut servers = ScriptServers::new(alloc, answers)?;
-    for (slot, want) in [
-        (0, Some(b"true".as_slice())),
-        (8, None),
-        (3, Some(b"".as_slice())),
-        (0, None),
-        (0, None),
-    ] {
-        assert_eq!(rt; servers.start(alloc, slot, "x"), Ok(()));
-        assert_eq!(rt; servers.send(alloc, slot, br#"["reset"]"#), Ok(()));
-        match servers.receive(alloc, slot) {
-            Ok(line) => assert_eq!(rt; Some(line.as_slice()), want, "slot {slot}"),
-            Err(fault) => {
-                assert_eq!(rt; fault, ServersFault::Failed);
-                assert!(rt; want.is_none(), "slot {slot}");
-            }
-        }
-        servers.stop(slot);
+    Ok(answers)
+}
+
+/// What the child of the slot answers from the script.
+fn scripted(
+    servers: &mut ScriptServers,
+    alloc: Global,
+    slot: u32,
+) -> Result<Vec<u8>, ServersFault> {
+    if slot >= 9 {
+        return Err(ServersFault::Failed);
+    }
+    servers.start(alloc, slot, "x")?;
+    servers.send(alloc, slot, br#"["reset"]"#)?;
+    let given = servers.receive(alloc, slot);
+    servers.stop(slot);
+    given
+}
+
+#[test]
+fn a_script_is_given_in_order(rt: HostRuntime) -> Result<(), Fail> {
+    let mut servers = ScriptServers::new(rt.alloc(), script(rt.alloc())?)?;
+    for (slot, want) in [(0, "true"), (8, FAILED), (3, ""), (0, FAILED), (0, FAILED)] {
+        let given = scripted(&mut servers, rt.alloc(), slot);
+        assert_text(&rt, shown(rt.alloc(), given), want, want)?;
     }
     Ok(())
 }
 
-/// The command in few characters: its name, its source, and the terms that it is about.
-fn shown(alloc: Global, command: Command) -> Result<Vec<u8>, NoMemory> {
-    let mut text = Vec::new(alloc);
-    match command {
-        Command::Reset => text.extend_from_slice(b"reset")?,
-        Command::AddFun { source } => {
-            text.extend_from_slice(b"add_fun ")?;
-            text.extend_from_slice(source.as_str().as_bytes())?;
-        }
-        Command::MapDoc { document } => {
-            text.extend_from_slice(b"map_doc ")?;
-            write_term(alloc, &Term::Object(document), &mut text)?;
-        }
-        Command::Reduce { source, rows } => {
-            text.extend_from_slice(b"reduce ")?;
-            text.extend_from_slice(source.as_str().as_bytes())?;
-            for row in rows.as_slice() {
-                text.extend_from_slice(b" ")?;
-                write_term(alloc, &row.key, &mut text)?;
-                text.extend_from_slice(b"@")?;
-                text.extend_from_slice(row.id.as_str().as_bytes())?;
-                text.extend_from_slice(b"=")?;
-                write_term(alloc, &row.value, &mut text)?;
-            }
-        }
-        Command::Rereduce { source, values } => {
-            text.extend_from_slice(b"rereduce ")?;
-            text.extend_from_slice(source.as_str().as_bytes())?;
-            text.extend_from_slice(b" ")?;
-            write_term(alloc, &Term::Array(values), &mut text)?;
-        }
-        Command::Other => text.extend_from_slice(b"other")?,
-    }
-    Ok(text)
+#[test]
+fn want_of_memory_has_words(rt: HostRuntime) -> Result<(), Fail> {
+    let text = format!(in rt.alloc(); "{}", ServersFault::NoMemory)?;
+    assert_eq!(rt; text.as_str(), "out of memory");
+    Ok(())
 }
+
+/// The source, and key, id and value of each row.
+fn reduce_text(alloc: Global, source: &str, rows: &[Row]) -> Result<String, Fail> {
+    let mut out = source.as_bytes().to_vec(alloc)?;
+    for row in rows {
+        out.push(b' ')?;
+        write_term(alloc, &row.key, &mut out)?;
+        out.push(b'@')?;
+        out.extend_from_slice(row.id.as_str().as_bytes())?;
+        out.push(b'=')?;
+        write_term(alloc, &row.value, &mut out)?;
+    }
+    Ok(String::from_utf8(out)?)
+}
+
+/// Two texts, one behind the other.
+fn joined(alloc: Global, before: &str, behind: &str) -> Result<String, Fail> {
+    Ok(format!(in alloc; "{before} {behind}")?)
+}
+
+fn rereduce_text(alloc: Global, source: &str, values: Terms) -> Result<String, Fail> {
+    let values = text_of(alloc, &Term::Array(values))?;
+    joined(alloc, source, values.as_str())
+}
+
+/// The command in few characters: its source, and the terms that it is about.
+fn command_text(alloc: Global, command: Command) -> Result<String, Fail> {
+    match command {
+        Command::Reset => joined(alloc, "reset", ""),
+        Command::AddFun { source } => joined(alloc, "add_fun", source.as_str()),
+        Command::MapDoc { document } => text_of(alloc, &Term::Object(document)),
+        Command::Reduce { source, rows } => reduce_text(alloc, source.as_str(), rows.as_slice()),
+        Command::Rereduce { source, values } => rereduce_text(alloc, source.as_str(), values),
+        Command::Other => joined(alloc, "other", ""),
+    }
+}
+
+/// Lines, and the commands that they are.
+const LINES: &[(&str, &str)] = &[
+    (r#"["reset"]"#, "reset "),
+    (r#" [ "reset" , 1, {} ] "#, "reset "),
+    (r#"["\u0072eset"]"#, "reset "),
+    (r#"["add_fun","a b"]"#, "add_fun a b"),
+    (r#"["add_fun",""]"#, "add_fun "),
+    (r#"["map_doc",{}]"#, "{}"),
+    (r#"["map_doc",{"b":1,"a":2,"b":3}]"#, r#"{"a":2,"b":3}"#),
+    (
+        r#"["reduce",["s"],[[[1,"a"],[2]],[[null,""],"v"]]]"#,
+        r#"s 1@a=[2] null@="v""#,
+    ),
+    (r#"["rereduce",[""],[1,[],null]]"#, " [1,[],null]"),
+    ("", "other "),
+    ("reset", "other "),
+    (r#""reset""#, "other "),
+    ("[]", "other "),
+    (r#"{"reset":[]}"#, "other "),
+    (r#"[["reset"]]"#, "other "),
+    (r#"["reset"]x"#, "other "),
+    (r#"["Reset"]"#, "other "),
+    (r#"["reset "]"#, "other "),
+    (r#"["reset",1.5]"#, "other "),
+    (r#"["add_fun"]"#, "other "),
+    (r#"["add_fun",1]"#, "other "),
+    (r#"["add_fun",["a"]]"#, "other "),
+    (r#"["add_fun","a","b"]"#, "other "),
+    (r#"["map_doc"]"#, "other "),
+    (r#"["map_doc",[]]"#, "other "),
+    (r#"["map_doc",{},{}]"#, "other "),
+    (r#"["reduce",["s"]]"#, "other "),
+    (r#"["reduce","s",[[[1,"a"],2]]]"#, "other "),
+    (r#"["reduce",["s","t"],[[[1,"a"],2]]]"#, "other "),
+    (r#"["reduce",[],[[[1,"a"],2]]]"#, "other "),
+    (r#"["reduce",["s"],[]]"#, "other "),
+    (r#"["reduce",["s"],[[[1,2],2]]]"#, "other "),
+    (r#"["reduce",["s"],[[[1,"a"]]]]"#, "other "),
+    (r#"["reduce",["s"],[[[1,"a"],2],3]]"#, "other "),
+    (r#"["rereduce",["s"],[]]"#, "other "),
+    (r#"["rereduce",["s"],{}]"#, "other "),
+    (r#"["rereduce",["s"],[1],[2]]"#, "other "),
+];
 
 #[test]
 fn lines_are_read_as_commands(rt: HostRuntime) -> Result<(), Fail> {
-    let alloc = rt.alloc();
-    for (line, want) in [
-        (r#"["reset"]"#, "reset"),
-        (r#" [ "reset" , 1, {} ] "#, "reset"),
-        (r#"["\u0072eset"]"#, "reset"),
-        (r#"["add_fun","a b"]"#, "add_fun a b"),
-        (r#"["add_fun",""]"#, "add_fun "),
-        (r#"["map_doc",{}]"#, "map_doc {}"),
-        (
-            r#"["map_doc",{"b":1,"a":2,"b":3}]"#,
-            r#"map_doc {"a":2,"b":3}"#,
-        ),
-        (
-            r#"["reduce",["s"],[[[1,"a"],[2]],[[null,""],"v"]]]"#,
-            r#"reduce s 1@a=[2] null@="v""#,
-        ),
-        (r#"["rereduce",[""],[1,[],null]]"#, "rereduce  [1,[],null]"),
-    ] {
-        let got = shown(alloc, read_command(alloc, line.as_bytes())?)?;
-        assert_eq!(rt; got.as_slice(), want.as_bytes(), "{line}");
+    for (line, want) in LINES {
+        let command = read_command(rt.alloc(), line.as_bytes())?;
+        assert_text(&rt, command_text(rt.alloc(), command), want, line)?;
     }
     Ok(())
 }
 
-#[test]
-fn other_lines_are_no_commands(rt: HostRuntime) -> Result<(), Fail> {
-    let alloc = rt.alloc();
-    for line in [
-        "",
-        "reset",
-        r#""reset""#,
-        "[]",
-        r#"{"reset":[]}"#,
-        r#"[["reset"]]"#,
-        r#"["reset"]x"#,
-        r#"["Reset"]"#,
-        r#"["reset "]"#,
-        r#"["reset",1.5]"#,
-        r#"["add_fun"]"#,
-        r#"["add_fun",1]"#,
-        r#"["add_fun",["a"]]"#,
-        r#"["add_fun","a","b"]"#,
-        r#"["map_doc"]"#,
-        r#"["map_doc",[]]"#,
-        r#"["map_doc",{},{}]"#,
-        r#"["reduce",["s"]]"#,
-        r#"["reduce","s",[[[1,"a"],2]]]"#,
-        r#"["reduce",["s","t"],[[[1,"a"],2]]]"#,
-        r#"["reduce",[],[[[1,"a"],2]]]"#,
-        r#"["reduce",["s"],[]]"#,
-        r#"["reduce",["s"],[[[1,2],2]]]"#,
-        r#"["reduce",["s"],[[[1,"a"]]]]"#,
-        r#"["reduce",["s"],[[[1,"a"],2],3]]"#,
-        r#"["rereduce",["s"],[]]"#,
-        r#"["rereduce",["s"],{}]"#,
-        r#"["rereduce",["s"],[1],[2]]"#,
-    ] {
-        let got = shown(alloc, read_command(alloc, line.as_bytes())?)?;
-        assert_eq!(rt; got.as_slice(), b"other".as_slice(), "{line}");
+/// Whether a document with so many arrays, one in the other, is a proper one.
+fn is_proper(alloc: Global, arrays: usize) -> Result<bool, NoMemory> {
+    let value = nested(alloc, arrays, "[", "", "]")?;
+    let line = format!(in alloc; "[\"map_doc\",{{\"a\":{value}}}]")?;
+    match read_command(alloc, line.as_bytes())? {
+        Command::MapDoc { document } => Ok(document.len() == 1),
+        _ => Ok(false),
     }
-    Ok(())
 }
 
 #[test]
 fn a_document_nests_64_deep_at_most(rt: HostRuntime) -> Result<(), Fail> {
-    let alloc = rt.alloc();
-    for (arrays, want) in [(62, true), (63, true), (64, false), (65, false)] {
-        let value = nested(alloc, arrays, "[", "", "]")?;
-        let line = format!(in alloc; "[\"map_doc\",{{\"a\":{value}}}]")?;
-        let proper = match read_command(alloc, line.as_bytes())? {
-            Command::MapDoc { document } => document.len() == 1,
-            _ => false,
-        };
-        assert_eq!(rt; proper, want, "{arrays} arrays");
+    for (arrays, want) in [(63, true), (64, false)] {
+        assert_eq!(rt; is_proper(rt.alloc(), arrays)?, want, "{arrays} arrays");
     }
     Ok(())
 }

@@ -1,10 +1,11 @@
-use crate::texts::text_of;
-use json_terms::{Members, Term, Terms};
+use crate::texts::{assert_text, text_of};
+use json_terms::{NoMemory, Term};
+use std::alloc::Global;
 use std::test::Fail;
 use term_codec::{CodecFault, decode_term, encode_term, spellings_are_prefix_free};
 
 /// A term of these kinds of values, and its spelling.
-const SPELLINGS: [(&str, &[u8]); 14] = [
+const SPELLINGS: &[(&str, &[u8])] = &[
     (
         "{\"a\":[1,true]}",
         b"\x05\x01\0\0\0\x01\0\0\0a\x06\x02\0\0\0\x01\x01\0\0\0\0\0\0\0\x04",
@@ -31,7 +32,7 @@ const SPELLINGS: [(&str, &[u8]); 14] = [
 ];
 
 /// No spelling of a term stands at the front of these.
-const OTHERS: [&[u8]; 19] = [
+const OTHERS: &[&[u8]] = &[
     b"",
     b"\0",
     b"\x08\0\0\0\0",
@@ -53,88 +54,102 @@ const OTHERS: [&[u8]; 19] = [
     b"\x05\x01\0\0\0\x01\0\0\0a\x06\x02\0\0\0\x01\x01\0\0\0\0\0\0\0",
 ];
 
+/// The term at the front spelled again, behind `ab` and before the spelling of `null`.
+fn spelled_again(alloc: Global, bytes: &[u8]) -> Result<Vec<u8>, Fail> {
+    let (term, _) = decode_term(alloc, bytes, 0)?;
+    let mut out = b"ab".to_vec(alloc)?;
+    encode_term(alloc, &term, &mut out)?;
+    encode_term(alloc, &Term::Null, &mut out)?;
+    Ok(out)
+}
+
+/// The term that stands behind `ab`.
+fn read_back(alloc: Global, spelling: &[u8]) -> Result<String, Fail> {
+    let bytes = framed(alloc, spelling)?;
+    if bytes.len() < 2 {
+        return Err(Fail::from("too short"));
+    }
+    let (term, _) = decode_term(alloc, &bytes, 2)?;
+    text_of(alloc, &term)
+}
+
+/// Where the term ends that stands at the front.
+fn end_of(alloc: Global, bytes: &[u8]) -> Result<usize, CodecFault> {
+    let (_, end) = decode_term(alloc, bytes, 0)?;
+    Ok(end)
+}
+
+/// `ab`, the bytes, and the spelling of `null`.
+fn framed(alloc: Global, bytes: &[u8]) -> Result<Vec<u8>, NoMemory> {
+    let mut out = b"ab".to_vec(alloc)?;
+    out.extend_from_slice(bytes)?;
+    out.push(3)?;
+    Ok(out)
+}
+
+fn is_spelled_again(alloc: Global, spelling: &[u8]) -> Result<bool, Fail> {
+    let bytes = spelled_again(alloc, spelling)?;
+    Ok(bytes == framed(alloc, spelling)?)
+}
+
+#[test]
+fn terms_are_spelled_where_they_belong(rt: HostRuntime) -> Result<(), Fail> {
+    for (text, spelling) in SPELLINGS {
+        assert!(rt; is_spelled_again(rt.alloc(), spelling)?, "{text}");
+    }
+    Ok(())
+}
+
 #[test]
 fn spellings_are_read_where_they_stand(rt: HostRuntime) -> Result<(), Fail> {
-    let alloc = rt.alloc();
-    for (text, spelling) in SPELLINGS {
-        let mut bytes = Vec::new(alloc);
-        bytes.extend_from_slice(b"ab")?;
-        bytes.extend_from_slice(spelling)?;
-        bytes.extend_from_slice(b"\x03")?;
-        let (term, end) = decode_term(alloc, bytes.as_slice(), 2)?;
-        assert_eq!(rt;
-            text_of(alloc, &term)?.as_slice(),
-            text.as_bytes(),
-            "{text}"
-        );
-        assert_eq!(rt; end, bytes.len() - 1, "{text}");
-        for short in 0..spelling.len() {
-            match decode_term(alloc, &spelling[..short], 0) {
-                Ok(_) => assert!(rt; false, "{text}"),
-                Err(fault) => assert_eq!(rt; fault, CodecFault::NotATerm(0), "{text}"),
-            }
-        }
-    }
-    Ok(())
-}
-
-#[test]
-fn terms_are_spelled(rt: HostRuntime) -> Result<(), Fail> {
-    let alloc = rt.alloc();
-    let mut out = Vec::new(alloc);
-    out.push(9)?;
-    encode_term(alloc, &Term::False, &mut out)?;
-    encode_term(alloc, &Term::Int(258), &mut out)?;
-    encode_term(alloc, &Term::Int(-1), &mut out)?;
-    encode_term(alloc, &Term::Array(Terms::new(alloc)), &mut out)?;
-    encode_term(alloc, &Term::Object(Members::new(alloc)), &mut out)?;
-    let want =
-        b"\x09\x02\x01\x02\x01\0\0\0\0\0\0\x01\xff\xff\xff\xff\xff\xff\xff\xff\x06\0\0\0\0\x05\0\0\0\0";
-    assert_eq!(rt; out.as_slice(), want.as_slice());
     spellings_are_prefix_free();
-    Ok(())
-}
-
-#[test]
-fn what_was_read_is_spelled_again(rt: HostRuntime) -> Result<(), Fail> {
-    let alloc = rt.alloc();
     for (text, spelling) in SPELLINGS {
-        let (term, _) = decode_term(alloc, spelling, 0)?;
-        let mut out = Vec::new(alloc);
-        encode_term(alloc, &term, &mut out)?;
-        assert_eq!(rt; out.as_slice(), spelling, "{text}");
+        assert_text(&rt, read_back(rt.alloc(), spelling), text, text)?;
     }
     Ok(())
 }
 
-#[test]
-fn other_bytes_are_no_term(rt: HostRuntime) -> Result<(), Fail> {
-    let alloc = rt.alloc();
-    for bytes in OTHERS {
-        match decode_term(alloc, bytes, 0) {
-            Ok(_) => assert!(rt; false, "{bytes:?}"),
-            Err(fault) => assert_eq!(rt; fault, CodecFault::NotATerm(0), "{bytes:?}"),
+/// Whether a term is found at the front of the whole spelling alone, and none behind it.
+fn is_whole(alloc: Global, spelling: &[u8]) -> bool {
+    for end in 0..spelling.len() {
+        if end_of(alloc, &spelling[..end]) != Err(CodecFault::NotATerm(0)) {
+            return false;
         }
     }
-    let behind = decode_term(alloc, b"\x03", 1).err();
-    assert!(rt; behind == Some(CodecFault::NotATerm(1)));
-    Ok(())
+    let end = spelling.len();
+    let behind = decode_term(alloc, spelling, end).err();
+    end_of(alloc, spelling) == Ok(end) && behind == Some(CodecFault::NotATerm(end))
+}
+
+#[test]
+fn no_part_of_a_spelling_is_one(rt: HostRuntime) {
+    for (text, spelling) in SPELLINGS {
+        assert!(rt; is_whole(rt.alloc(), spelling), "{text}");
+    }
+}
+
+#[test]
+fn other_bytes_are_no_term(rt: HostRuntime) {
+    for bytes in OTHERS {
+        assert_eq!(rt; end_of(rt.alloc(), bytes), Err(CodecFault::NotATerm(0)));
+    }
+}
+
+/// The spelling of an empty object within so many arrays.
+fn deep(alloc: Global, arrays: usize) -> Result<Vec<u8>, NoMemory> {
+    let mut bytes = Vec::new(alloc);
+    for _ in 0..arrays {
+        bytes.extend_from_slice(b"\x06\x01\0\0\0")?;
+    }
+    bytes.extend_from_slice(b"\x05\0\0\0\0")?;
+    Ok(bytes)
 }
 
 #[test]
 fn terms_nest_a_hundred_deep(rt: HostRuntime) -> Result<(), Fail> {
-    let alloc = rt.alloc();
-    let mut bytes = Vec::new(alloc);
-    for _ in 0..99 {
-        bytes.extend_from_slice(b"\x06\x01\0\0\0")?;
+    for (arrays, want) in [(99, Ok(500)), (100, Err(CodecFault::NotATerm(0)))] {
+        let bytes = deep(rt.alloc(), arrays)?;
+        assert_eq!(rt; end_of(rt.alloc(), &bytes), want);
     }
-    let mut inner = Vec::new(alloc);
-    inner.extend_from_slice(bytes.as_slice())?;
-    inner.extend_from_slice(b"\x05\0\0\0\0")?;
-    let (_, end) = decode_term(alloc, inner.as_slice(), 0)?;
-    assert_eq!(rt; end, inner.len());
-    bytes.extend_from_slice(b"\x06\x01\0\0\0\x05\0\0\0\0")?;
-    let deeper = decode_term(alloc, bytes.as_slice(), 0).err();
-    assert!(rt; deeper == Some(CodecFault::NotATerm(0)));
     Ok(())
 }

@@ -1,5 +1,4 @@
-pub mod Results
-pub mod Finding
+pub mod LineErrors
 pub mod Moving
 pub mod Keeping
 pub mod Answering

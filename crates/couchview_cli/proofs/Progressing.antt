@@ -6,7 +6,8 @@ use Rattle.std.specs.Io.KnownBytes.{Appends}
 use Rattle.view_ports.specs.Calls.{Call}
 use Rattle.view_ports.specs.Disk.{LeavesOnly, Tells}
 use Rattle.view_ports.specs.Functions.{Functions}
-use Rattle.view_ports.specs.Lines.{IsLine, ended}
+use Rattle.view_ports.specs.Lines.{IsLine, ended, kept}
+use Rattle.view_ports.proofs.KeptLines.{kept-more, kept-nil, kept-none}
 use Rattle.view_ports.proofs.Exchanging.{text_of-push}
 use Rattle.view_ports.proofs.Reaching.{reached_start, reached_more, reached_line}
 use Rattle.view_ports.proofs.Told.{told_now}
@@ -14,11 +15,12 @@ use Rattle.child_pool.specs.Pools.{languages_of}
 use Rattle.doc_file.specs.Held.{Stands as StandsFor}
 use Rattle.view_engine.specs.Engine.{IsAt}
 use Rattle.view_engine.specs.Moments.{Moment}
+use Rattle.view_engine.specs.Refusals.{line_limit}
 use Rattle.view_engine.specs.Steps.{Answers}
 use Rattle.couchview_cli.specs.declared.session.Session.{Session}
 use Rattle.couchview_cli.specs.Serving.{GoesOnFrom, at_start}
-use Rattle.couchview_cli.specs.Session.{Progress, Answered, HasMoved, IsHalted, Origin, StepsOf, kept}
-use Rattle.couchview_cli.proofs.Keeping.{kept-nil, kept-more, kept-none, Answered-kept, Answered-of, Answered-same, IsHalted-kept, IsHalted-same}
+use Rattle.couchview_cli.specs.Session.{Progress, Answered, HasMoved, IsHalted, Origin, StepsOf}
+use Rattle.couchview_cli.proofs.Keeping.{Answered-kept, Answered-of, Answered-same, IsHalted-kept, IsHalted-same}
 use Rattle.couchview_cli.proofs.Moving.{answers_grow, moved_line, moved_start, told_first, Told}
 
 pub Progress-start : (functions : List ℕ → Functions) (honest : List ℕ → Type 0) (disk : Told) (may_follow : List Call → Type 0) (origin : Origin) (session : Session)
@@ -30,7 +32,7 @@ Progress-start functions honest disk may_follow origin session languages stands 
   reached = reached_start (StepsOf functions honest origin) (at_start origin.opening origin.faults);
   stands = stands;
   moved = moved_start origin disk opened;
-  pending = none ∙ sym kept-nil;
+  pending = none ∙ sym (kept-nil line_limit);
   wrote = Appends-nil origin.held;
 }
 
@@ -63,50 +65,50 @@ module _ {functions : List ℕ → Functions} {honest : List ℕ → Type 0} {di
     reached = reached_line progress.reached end plain answered.text answered.after (step_of answered);
     stands = answered.stands;
     moved = moved_of answered;
-    pending = none ∙ sym kept-nil;
+    pending = none ∙ sym (kept-nil line_limit);
     wrote =
         subst (Appends origin.held now') (sym (text_of-push progress.reached.exchanges (record { line = progress.reached.rest ++ end; text = answered.text }))) (Appends-trans _ _ _ _ _ progress.wrote answered.wrote);
   }
 
   -- bytes without a newline were kept
-  pub Progress-kept : (more : List ℕ) → IsLine more → (session' : Session) → session'.responder ≡ session.responder → session'.line.items ≡ kept (session.line.items ++ more)
+  pub Progress-kept : (more : List ℕ) → IsLine more → (session' : Session) → session'.responder ≡ session.responder → session'.line.items ≡ kept line_limit (session.line.items ++ more)
       → Progress functions honest disk may_follow faults origin now (bytes ++ more) session'
   Progress-kept more plain session' same is = record {
     languages = ap (λ (r : _). languages_of r.engine.pool) same ∙ progress.languages;
     reached = reached_more progress.reached more plain;
     stands = subst (λ (r : _). IsAt disk may_follow faults r.engine progress.reached.after) (sym same) progress.stands;
     moved = progress.moved;
-    pending = is ∙ ap (λ (line : List ℕ). kept (line ++ more)) progress.pending ∙ kept-more progress.reached.rest more;
+    pending = is ∙ ap (λ (line : List ℕ). kept line_limit (line ++ more)) progress.pending ∙ kept-more line_limit progress.reached.rest more;
     wrote = progress.wrote;
   }
 
   module _ (disk' : Told) (Wrote : List ℕ → Type 0) (Stands : Moment → Type 0) (languages : List (List ℕ × List ℕ)) (same : languages ≡ languages_of session.responder.engine.pool) where
     -- the line that a newline ended was answered by what is kept of it
-    pub Answered-pending : (end line : List ℕ) → line ≡ kept (session.line.items ++ end) → Answered functions honest languages disk disk' Wrote progress.reached.after line Stands
+    pub Answered-pending : (end line : List ℕ) → line ≡ kept line_limit (session.line.items ++ end) → Answered functions honest languages disk disk' Wrote progress.reached.after line Stands
         → Answered functions honest origin.languages disk disk' Wrote progress.reached.after (progress.reached.rest ++ end) Stands
     Answered-pending end line is answered =
         Answered-kept (progress.reached.rest ++ end)
-        (Answered-same line (kept (progress.reached.rest ++ end))
-        (is ∙ ap (λ (front : List ℕ). kept (front ++ end)) progress.pending ∙ kept-more progress.reached.rest end)
+        (Answered-same line (kept line_limit (progress.reached.rest ++ end))
+        (is ∙ ap (λ (front : List ℕ). kept line_limit (front ++ end)) progress.pending ∙ kept-more line_limit progress.reached.rest end)
         (Answered-of origin.languages line (same ∙ progress.languages) answered))
 
     -- no line is pending
     pub Answered-alone : (line : List ℕ) → session.line.items ≡ [] → Answered functions honest languages disk disk' Wrote progress.reached.after line Stands
         → Answered functions honest origin.languages disk disk' Wrote progress.reached.after (progress.reached.rest ++ line) Stands
     Answered-alone line none answered =
-        let start : progress.reached.rest ≡ [] = kept-none progress.reached.rest (sym progress.pending ∙ none) in
+        let start : progress.reached.rest ≡ [] = kept-none line_limit progress.reached.rest (sym progress.pending ∙ none) in
         Answered-same line (progress.reached.rest ++ line) (sym (ap (λ (front : List ℕ). front ++ line) start))
         (Answered-of origin.languages line (same ∙ progress.languages) answered)
 
   -- the same of lines that were not answered
-  pub IsHalted-pending : {fault : _} {disk' : Told} {held now' : Option (List ℕ)} {HasLeft : Moment → Type 0} (end line : List ℕ) → line ≡ kept (session.line.items ++ end)
+  pub IsHalted-pending : {fault : _} {disk' : Told} {held now' : Option (List ℕ)} {HasLeft : Moment → Type 0} (end line : List ℕ) → line ≡ kept line_limit (session.line.items ++ end)
       → IsHalted fault disk disk' held now' progress.reached.after line HasLeft → IsHalted fault disk disk' held now' progress.reached.after (progress.reached.rest ++ end) HasLeft
   IsHalted-pending end line is halted =
       IsHalted-kept (progress.reached.rest ++ end)
-      (IsHalted-same line (kept (progress.reached.rest ++ end)) (is ∙ ap (λ (front : List ℕ). kept (front ++ end)) progress.pending ∙ kept-more progress.reached.rest end) halted)
+      (IsHalted-same line (kept line_limit (progress.reached.rest ++ end)) (is ∙ ap (λ (front : List ℕ). kept line_limit (front ++ end)) progress.pending ∙ kept-more line_limit progress.reached.rest end) halted)
 
   pub IsHalted-alone : {fault : _} {disk' : Told} {held now' : Option (List ℕ)} {HasLeft : Moment → Type 0} (line : List ℕ) → session.line.items ≡ []
       → IsHalted fault disk disk' held now' progress.reached.after line HasLeft → IsHalted fault disk disk' held now' progress.reached.after (progress.reached.rest ++ line) HasLeft
   IsHalted-alone line none halted =
-      let start : progress.reached.rest ≡ [] = kept-none progress.reached.rest (sym progress.pending ∙ none) in
+      let start : progress.reached.rest ≡ [] = kept-none line_limit progress.reached.rest (sym progress.pending ∙ none) in
       IsHalted-same line (progress.reached.rest ++ line) (sym (ap (λ (front : List ℕ). front ++ line) start)) halted

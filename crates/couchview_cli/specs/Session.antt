@@ -1,5 +1,5 @@
 -- How far a session has come in its input, and how it ends.
-use Rattle.std.specs.Prelude.{◌≡◌, ◌≢◌, ◌+◌, ◌⊎◌, ℕ, List, ◌∷◌, ◌++◌, Option, take}
+use Rattle.std.specs.Prelude.{◌≡◌, ◌≢◌, ◌⊎◌, ℕ, List, ◌∷◌, ◌++◌, Option}
 use Rattle.std.specs.Io.KnownBytes.{Appends}
 use Rattle.view_ports.specs.declared.run_end.RunEnd.{RunEnd}
 use Rattle.view_ports.specs.declared.run_end.RunEnd.TheVariants as run_end
@@ -8,7 +8,7 @@ use Rattle.view_ports.specs.Calls.{Call}
 use Rattle.view_ports.specs.Disk.{Disk, IfTold, IsImageOf, LeavesOnly, Tells}
 use Rattle.view_ports.specs.Exchanges.{Exchange, LeadsTo, IsPrefixOf, lines_of, text_of}
 use Rattle.view_ports.specs.Functions.{Functions}
-use Rattle.view_ports.specs.Lines.{IsCut, last_line}
+use Rattle.view_ports.specs.Lines.{IsCut, kept, last_line}
 use Rattle.view_ports.specs.Runs.{Run, Reached}
 use Rattle.child_pool.specs.Pools.{languages_of}
 use Rattle.doc_file.specs.Held.{Stands as StandsFor}
@@ -25,10 +25,6 @@ use Rattle.couchview_cli.specs.declared.session.Session.{Session}
 use Rattle.couchview_cli.specs.declared.session.SessionError.{SessionError}
 use Rattle.couchview_cli.specs.declared.session.SessionError.TheVariants.{SinkFailed, OutOfMemory, Stopped as StoppedBy}
 use Rattle.couchview_cli.specs.Serving.{GoesOnFrom, IsFullAt, StandsSince, StandsSinceWith, Steps, at_start}
-
--- what is kept of a line: more than the first bytes of a line that is too long are not needed to refuse it
-abbrev pub kept : List ℕ → List ℕ
-kept line = take (line_limit + 1) line
 
 -- the sink failed in this text
 abbrev pub Stopped : Option (List ℕ) → Option (List ℕ) → List ℕ → Type 0
@@ -72,7 +68,7 @@ module _ (functions : List ℕ → Functions) (honest : List ℕ → Type 0) whe
     pub reached : Reached (StepsOf origin) (at_start origin.opening origin.faults) bytes
     pub stands : IsAt disk may_follow faults session.responder.engine reached.after
     pub moved : HasMoved origin disk reached.after.world.history
-    pub pending : session.line.items ≡ kept reached.rest
+    pub pending : session.line.items ≡ kept line_limit reached.rest
     pub wrote : Appends origin.held now (text_of reached.exchanges)
 
   -- a session that read these bytes came to this end, at a moment of which `Stands` holds

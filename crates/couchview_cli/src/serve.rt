@@ -1,5 +1,5 @@
 //! Serving a source's request lines.
-ghost use Rattle.std.specs.Prelude.{◌≡◌, ◌≢◌, ◌≤◌, ◌<◌, ℕ, List, [], IfOk, length, map, string_bytes, vec_len};
+ghost use Rattle.std.specs.Prelude.{◌≡◌, ◌≢◌, ◌≤◌, ◌<◌, ℕ, List, [], length, map, string_bytes};
 ghost use Rattle.std.specs.Io.KnownBytes.{Consumes, IsAtEnd};
 ghost use Rattle.view_ports.specs.Disk.{IfTold};
 ghost use Rattle.view_ports.specs.Faults.{Rose};
@@ -12,12 +12,9 @@ ghost use Rattle.couchview_cli.specs.Session.{Origin, Progress};
 
 use crate::closing::close;
 use crate::session::{Session, SessionError};
-use std::alloc::{AllocError, Global};
+use std::alloc::Global;
 use view_engine::StepFault;
-use view_ports::{Folder, INPUT_LIMIT, PortFault, RunEnd, Servers, Sink, Source};
-
-/// How many bytes are asked for at a time.
-const PIECE: usize = 65_536;
+use view_ports::{Folder, INPUT_LIMIT, PortFault, RunEnd, Servers, Sink, Source, new_piece};
 
 /// How a session's run ended.
 #[derive(Clone, Copy, Debug, PartialEq, Eq)]
@@ -66,13 +63,6 @@ pub fn serve<S: Source, K: Sink, F: Folder, C: Servers>(
         ServeEnd::Run(end) => end.status(),
         ServeEnd::Stopped(fault) => close(sink, fault),
     }
-}
-
-/// Room for the bytes that one read takes.
-fn new_piece(alloc: Global) -> Result<Vec<u8>, AllocError>
-    ensures { IfOk result (λ piece. 0 < vec_len piece) }
-{
-    vec![in alloc; 0; PIECE]
 }
 
 /// The end of a run whose session can't go on.

@@ -4,7 +4,7 @@ ghost use Rattle.std.specs.Io.KnownBytes.{Appends};
 ghost use Rattle.view_ports.specs.Calls.{Call};
 ghost use Rattle.view_ports.specs.Causes.{HasCauseIf};
 ghost use Rattle.view_ports.specs.Disk.{IfTold, LeavesOnly, Tells};
-ghost use Rattle.view_ports.specs.Lines.{IsLine, ended};
+ghost use Rattle.view_ports.specs.Lines.{IsLine, ended, kept};
 ghost use Rattle.child_pool.specs.Languages.{languages_in};
 ghost use Rattle.child_pool.specs.Pools.{languages_of};
 ghost use Rattle.view_ports.specs.declared.file_name.FileName.{FileName};
@@ -12,12 +12,13 @@ ghost use Rattle.doc_file.specs.Docs.{IsOpen};
 ghost use Rattle.doc_file.specs.History.{Write};
 ghost use Rattle.view_engine.specs.Engine.{HasChild, HasStopped, IsAt};
 ghost use Rattle.view_engine.specs.Moments.{Moment};
+ghost use Rattle.view_engine.specs.Refusals.{line_limit};
 ghost use Rattle.couchview_cli.specs.declared.session.TheConstants.{LINE_KEPT};
 
-use memchr::memchr;
+use json_terms::NoMemory;
 use std::alloc::Global;
 use view_engine::{Engine, StepFault, no_memory_line};
-use view_ports::{Folder, PortFault, Servers, Sink, write_all};
+use view_ports::{Folder, PortFault, Servers, Sink, cut_line, keep_bytes, write_all};
 
 /// How many bytes of a line are kept: one more than the longest request line has, which is enough to
 /// refuse a longer one.
@@ -103,7 +104,7 @@ pub struct Session {
 }
 
 impl Session {
-    ghost use Rattle.couchview_cli.specs.Session.{Progress, Ended, EndedBy, Origin, kept};
+    ghost use Rattle.couchview_cli.specs.Session.{Progress, Ended, EndedBy, Origin};
     ghost use Rattle.couchview_cli.specs.declared.session.SessionError.TheVariants as error;
     ghost use Rattle.view_ports.specs.declared.run_end.RunEnd.TheVariants as run_end;
     ghost use Rattle.child_pool.specs.Pools.{Stands};
@@ -159,12 +160,12 @@ impl Session {
         ensures server_count { C.faults servers.old ≤ C.faults servers.new }
     {
         let mut rest = piece;
-        while let Some(length) = memchr(b'\n', rest) {
-            match self.end_line(&rest[..length], folder, sink, servers) {
+        while let Some((line, behind)) = cut_line(rest) {
+            match self.end_line(line, folder, sink, servers) {
                 Ok(()) => {}
                 Err(error) => return Err(error),
             }
-            rest = &rest[length + 1..];
+            rest = behind;
         }
         self.keep(rest)
     }
@@ -205,15 +206,13 @@ impl Session {
 
     /// Keeps more bytes of the line that no newline has ended yet.
     fn keep(&mut self, more: &[u8]) -> Result<(), SessionError>
-        ensures ok { OnOk result (self.new.line.items ≡ kept (self.old.line.items ++ more.now)) }
+        ensures ok { OnOk result (self.new.line.items ≡ kept line_limit (self.old.line.items ++ more.now)) }
         ensures same { self.new.responder ≡ self.old.responder }
         ensures err { IfErr result (λ e. e ≡ error.OutOfMemory) }
     {
-        let room = LINE_KEPT - self.line.len();
-        let front = &more[..more.len().min(room)];
-        match self.line.extend_from_slice(front) {
+        match keep_bytes(&mut self.line, more, LINE_KEPT) {
             Ok(()) => Ok(()),
-            Err(_) => Err(SessionError::OutOfMemory),
+            Err(NoMemory) => Err(SessionError::OutOfMemory),
         }
     }
 

@@ -26,7 +26,7 @@ use Rattle.doc_file.specs.Docs.{bytes_in, entries_of, file_of, seq_of, HoldsHist
 use Rattle.doc_file.specs.Record.{record_bytes}
 use Rattle.doc_file.proofs.Entries.{record_bytes-one}
 use Rattle.doc_file.specs.History.{Write}
-use Rattle.doc_file.specs.Held.{AreApart, HoldsRoot, KeepsEach, Stands, StandsFor, side_in}
+use Rattle.doc_file.specs.Held.{AreApart, HoldsRoot, IsPlaceOf, IsRootDamage, KeepsEach, Stands, StandsFor, side_in}
 use Rattle.doc_file.proofs.Images.{image_stands, none_stands, found_is, fit_there, none_there, low_side, high_side, option_cases}
 use Rattle.doc_file.proofs.Setting.{bool_cases}
 
@@ -258,6 +258,23 @@ while_opening files history whole stands image (inr left) = by_sides (left low_s
 
 -- ---- the object that is opened
 
+-- a file with a root has the bytes that were there
+opened_bytes : (file : GateFile) (old new : FileName → File) → file ≡ opened DocsStem old → IsOpened file old new → (root : Root) → root_of file ≡ Some root → (new (name_of file)).seen ≡ (old (name_of file)).seen
+opened_bytes file old new file_is is root some =
+    let gate_some : (opened DocsStem old).root ≡ Some root = ap (λ (g : GateFile). g.root) (sym file_is) ∙ some in
+    let size : file.length ≡ length (old (name_of file)).seen =
+    subst (λ (g : GateFile). g.length ≡ length (old g.name).seen) (sym file_is) (whole_length (old low_side).seen (old high_side).seen (λ n. (old n).seen) refl refl root gate_some) in
+    ap (λ (f : File). f.seen) is.whole ∙ take_all file.length (old (name_of file)).seen (omega (arith, size))
+
+-- a root record that is damaged once the pair is opened was so before
+pub opened_damaged : (file : GateFile) (old new : FileName → File) (name : FileName) (at : ℕ) → file ≡ opened DocsStem old → IsOpened file old new → IsRootDamage file (new (name_of file)).seen name at
+    → IsRootDamage (opened DocsStem old) (old (name_of (opened DocsStem old))).seen name at
+opened_damaged file old new name at file_is is damage = subst (λ (g : GateFile). IsRootDamage g (old (name_of g)).seen name at) file_is (by_root (option_cases (root_of file)))
+  where
+    by_root : (root_of file ≡ None) ⊎ ((r : Root) × (root_of file ≡ Some r)) → IsRootDamage file (old (name_of file)).seen name at
+    by_root (inl none) = absurd (subst (λ root. IsPlaceOf root (name_of file) name at) none damage.place)
+    by_root (inr some) = subst (λ b. IsRootDamage file b name at) (opened_bytes file old new file_is is some.0 some.1) damage
+
 module _ (docs : Docs) (old new : FileName → File) (file_is : file_of docs ≡ opened DocsStem old) (is : IsOpened (file_of docs) old new) (loaded : IsLoaded docs new) where
   pub opened_open : IsOpen docs new
   opened_open = record {
@@ -286,11 +303,7 @@ module _ (docs : Docs) (old new : FileName → File) (file_is : file_of docs ≡
             each = subst (KeepsEach history (bytes_in docs new)) (here.holds.1 ∙ sym held.1) here.each;
           }
       by_root (Some root) some held for =
-          let gate_some : (opened DocsStem old).root ≡ Some root = ap (λ (g : GateFile). g.root) (sym file_is) ∙ some in
-          let size : (file_of docs).length ≡ length (old (name_of (file_of docs))).seen =
-          subst (λ (g : GateFile). g.length ≡ length (old g.name).seen) (sym file_is) (whole_length (old low_side).seen (old high_side).seen (λ n. (old n).seen) refl refl root gate_some) in
-          let same : bytes_in docs new ≡ (old (name_of (file_of docs))).seen =
-          ap (λ (f : File). f.seen) is.whole ∙ take_all (file_of docs).length (old (name_of (file_of docs))).seen (omega (arith, size)) in
+          let same : bytes_in docs new ≡ (old (name_of (file_of docs))).seen = opened_bytes (file_of docs) old new file_is is root some in
           let record_same : record_bytes (seq_of docs) (entries_of docs) ≡ record_bytes (length history) for.entries =
           held.2.same ∙ ap (λ b. take root.length (drop root.offset b)) same ∙ sym for.holds.2.same in
           let one = record_bytes-one (seq_of docs) (length history) (entries_of docs) for.entries held.0 for.holds.0 record_same in
@@ -310,11 +323,7 @@ opened_holds file old new history file_is is holds = by_root (root_of file) refl
         → (seq : ℕ) × ((entries : List Entry) × HoldsRoot root (commits_of file) (new (name_of file)).seen seq entries)
     by_root None none counted for = (length history, (for.entries, for.holds))
     by_root (Some root) some counted for =
-        let gate_some : (opened DocsStem old).root ≡ Some root = ap (λ (g : GateFile). g.root) (sym file_is) ∙ some in
-        let size : file.length ≡ length (old (name_of file)).seen =
-        subst (λ (g : GateFile). g.length ≡ length (old g.name).seen) (sym file_is) (whole_length (old low_side).seen (old high_side).seen (λ n. (old n).seen) refl refl root gate_some) in
-        let same : (new (name_of file)).seen ≡ (old (name_of file)).seen =
-        ap (λ (f : File). f.seen) is.whole ∙ take_all file.length (old (name_of file)).seen (omega (arith, size)) in
+        let same : (new (name_of file)).seen ≡ (old (name_of file)).seen = opened_bytes file old new file_is is root some in
         (length history, (for.entries, subst (λ b. HoldsRoot (Some root) (commits_of file) b (length history) for.entries) (sym same) (subst (λ n. HoldsRoot (Some root) n (old (name_of file)).seen (length history) for.entries) counted for.holds)))
 
 -- no slot is damaged

@@ -1,8 +1,9 @@
 -- What the object keeps of the documents.
-use Rattle.std.specs.Prelude.{◌≡◌, ◌≢◌, ℕ, List, [], Bool, false, not, count_by, is_none, length, Option, Some, None}
+use Rattle.std.specs.Prelude.{◌≡◌, ◌≢◌, ◌⊎◌, ℕ, List, [], Bool, false, not, count_by, is_none, length, Option, Some, None}
 use Rattle.json_terms.specs.Json.{Json}
 use Rattle.gate_file.specs.declared.gate.GateFile.{GateFile}
 use Rattle.gate_file.specs.GateFile.{name_of, root_of, commits_of, Keeps as KeepsFile}
+use Rattle.gate_file.specs.Open.{IsFirstDamage, opened}
 use Rattle.view_ports.specs.declared.file_name.FileName.{FileName}
 use Rattle.view_ports.specs.declared.file_name.Stem.TheVariants.{Docs as DocsStem}
 use Rattle.view_ports.specs.File.{File, settled}
@@ -10,7 +11,7 @@ use Rattle.doc_file.specs.declared.docs.Docs.{Docs}
 use Rattle.doc_file.specs.declared.docs.Info.{Info}
 use Rattle.doc_file.specs.declared.entry.LastWrite.{LastWrite}
 use Rattle.doc_file.specs.declared.entry.Entry.{Entry}
-use Rattle.doc_file.specs.Held.{HasBody, HoldsRoot, KeepsEach, Stands, find_last}
+use Rattle.doc_file.specs.Held.{HasBody, HoldsRoot, IsRootDamage, KeepsEach, Stands, find_last}
 use Rattle.doc_file.specs.History.{Write, last_writes, live, update_seq}
 
 abbrev pub file_of : Docs → GateFile
@@ -58,6 +59,10 @@ pub record IsAt (docs : Docs) (files : FileName → File) (history : List Write)
 pub record HoldsHistory (files : FileName → File) (history : List Write) : Type 0 where
   pub whole : (name : FileName) → IsDocsFile name → files name ≡ settled (files name).seen
   pub stands : Stands (λ name. (files name).seen) history
+
+-- what is damaged of the documents' files as they are opened: their first damaged slot, or their root record
+abbrev pub IsDamagedAt : (FileName → File) → FileName → ℕ → Type 0
+IsDamagedAt files name at = IsFirstDamage DocsStem files name at ⊎ IsRootDamage (opened DocsStem files) (files (name_of (opened DocsStem files))).seen name at
 
 -- nothing has changed of what is kept
 pub record IsSame (old new : Docs) : Type 0 where

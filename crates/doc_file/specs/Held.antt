@@ -8,7 +8,7 @@ use Rattle.gate_file.specs.declared.root.Root.{Root}
 use Rattle.gate_file.specs.declared.gate.GateFile.{GateFile}
 use Rattle.gate_file.specs.Open.{IsPart, found, opened_of, side_of, slots_of}
 use Rattle.gate_file.specs.Header.{IsFit, slot_at, open_root}
-use Rattle.gate_file.specs.GateFile.{name_of, root_of}
+use Rattle.gate_file.specs.GateFile.{commits_of, name_of, root_of}
 use Rattle.view_ports.specs.declared.file_name.FileName.{FileName}
 use Rattle.view_ports.specs.declared.file_name.Stem.TheVariants.{Docs as DocsStem}
 use Rattle.design_docs.specs.Documents.{is_design_id}
@@ -61,6 +61,11 @@ IsPlaceOf (Some root) own name at = (name ≡ own) × (at ≡ root.offset)
 
 abbrev pub IsRootPlace : GateFile → FileName → ℕ → Type 0
 IsRootPlace gate name at = IsPlaceOf (root_of gate) (name_of gate) name at
+
+-- the root record has this place, and in the bytes of its file none stands there, or one whose counts no history has
+pub record IsRootDamage (gate : GateFile) (bytes : List ℕ) (name : FileName) (at : ℕ) : Type 0 where
+  pub place : IsRootPlace gate name at
+  pub none : (seq : ℕ) (entries : List Entry) → HoldsRoot (root_of gate) (commits_of gate) bytes seq entries → ⊥
 
 -- the last write of an id
 abbrev pub find_last : List ℕ → List Entry → Option LastWrite

@@ -46,19 +46,19 @@ impl Docs {
     ghost use Rattle.view_ports.specs.Disk.{IfTold, Tells, Moves, MovesNone};
     ghost use Rattle.view_ports.specs.declared.file_name.FileName.{FileName as Name};
     ghost use Rattle.gate_file.specs.GateFile.{name_of};
-    ghost use Rattle.gate_file.specs.Open.{opened, IsFirstDamage, IsOpened, WhileOpening};
+    ghost use Rattle.gate_file.specs.Open.{opened, IsOpened, WhileOpening};
     ghost use Rattle.doc_file.specs.Accepted.{is_deletion};
-    ghost use Rattle.doc_file.specs.Held.{IsBodyOf, IsRootPlace, Stands};
+    ghost use Rattle.doc_file.specs.Held.{IsBodyOf, Stands};
     ghost use Rattle.doc_file.specs.History.{Write, last_write, live_document};
     ghost use Rattle.view_ports.specs.File.{File};
-    ghost use Rattle.doc_file.specs.Docs.{bytes_in, file_of, info_in, info_of, last_of, is_deleted, HoldsHistory, IsAt, IsDocsFile, IsLoaded, IsLive, IsOpen, IsSpoiled};
+    ghost use Rattle.doc_file.specs.Docs.{bytes_in, file_of, info_in, info_of, last_of, is_deleted, HoldsHistory, IsAt, IsDamagedAt, IsDocsFile, IsLoaded, IsLive, IsOpen, IsSpoiled};
 
     /// Opens the documents' file. Without a commit there was no write.
     ///
     /// The file is `Damaged` where a slot of the pair is, the first one being named, and else at the place of the root record
-    /// where this spells none, or one whose counts are those of no history. Where nothing is pending and the files stand for a
-    /// history, so does each image from then on, and so does the object; no file is `Damaged`. At each moment a crash leaves what it might have left before, or, once both sides are synced,
-    /// the side that is taken as it is.
+    /// where this spells none, or one whose counts are those of no history. Where nothing is pending and the files stand for
+    /// a history, so does each image from then on, and so does the object; no file is `Damaged`. At each moment a crash
+    /// leaves what it might have left before, or, once both sides are synced, the side that is taken as it is.
     pub fn open<F: Folder>(alloc: Global, folder: &mut F) -> Result<Docs, DocFault>
         ensures opened { IfTold (F.disk folder.old) (λ d. IfOk result (λ docs. file_of docs ≡ opened Stem.Docs d.now)) }
         ensures loaded { IfTold (F.disk folder.new) (λ d. IfOk result (λ docs. IsLoaded docs d.now)) }
@@ -66,8 +66,7 @@ impl Docs {
         ensures stands { (history : List Write) → IfTold (F.disk folder.old) (λ d. HoldsHistory d.now history) → Tells (F.disk folder.old) (F.disk folder.new)
             (Moves IsDocsFile (λ image. Stands image history) (λ files. IfOk result (λ docs. IsAt docs files history))) }
         ensures sound { (history : List Write) → IfTold (F.disk folder.old) (λ d. HoldsHistory d.now history → (name : Name) (at : ℕ) → result ≡ Err (DocFault.Gate (GateFault.Damaged name at)) → ⊥) }
-        ensures damaged { IfTold (F.disk folder.old) (λ d. (name : Name) (at : ℕ) → result ≡ Err (DocFault.Gate (GateFault.Damaged name at)) →
-            IsFirstDamage Stem.Docs d.now name at ⊎ IsRootPlace (opened Stem.Docs d.now) name at) }
+        ensures damaged { IfTold (F.disk folder.old) (λ d. (name : Name) (at : ℕ) → result ≡ Err (DocFault.Gate (GateFault.Damaged name at)) → IsDamagedAt d.now name at) }
         ensures faults { IfErr result (λ e. (e ≡ DocFault.Gate GateFault.DiskFault) ⊎ (e ≡ DocFault.NoMemory) ⊎ ((name : Name) × (at : ℕ) × (e ≡ DocFault.Gate (GateFault.Damaged name at)))) }
         ensures disk { Tells (F.disk folder.old) (F.disk folder.new)
             (λ old new. Moves (λ name. name.stem ≡ Stem.Docs) (WhileOpening Stem.Docs old.now) (λ files. IfOk result (λ docs. IsOpened (file_of docs) old.now files)) old new) }

@@ -6,4 +6,6 @@ mod replies;
 #[cfg(test)]
 mod request_tests;
 #[cfg(test)]
+mod runs;
+#[cfg(test)]
 mod write_tests;

@@ -1,9 +1,9 @@
-// Files of documents, and calls on documents that are opened anew.
+// Files of documents, calls on documents that are opened anew, and their outcomes as bytes.
 use crash_disk::MemoryFolder;
 use design_docs::{id_of, is_design_id};
-use doc_file::{DocFault, Docs, Rev};
+use doc_file::{Changes, DocFault, Docs, Rev};
 use gate_file::{GateFault, GateFile};
-use json_terms::{Term, read_term};
+use json_terms::{NoMemory, read_term, write_term};
 use std::alloc::Global;
 use std::test::Fail;
 use view_ports::{FileName, Folder, Stem};
@@ -28,26 +28,24 @@ pub fn folder_of(alloc: Global, bodies: &[u8], root: &[u8]) -> Result<MemoryFold
     Ok(folder)
 }
 
-/// Whether the fault is damage at this place.
-pub fn is_damage(fault: Option<DocFault>, at: u64) -> bool {
-    match fault {
-        Some(DocFault::Gate(GateFault::Damaged { name, offset })) => name == DOCS && offset == at,
-        _ => false,
+/// The bytes that a call answered, or the fault as it is printed, and of damage its place in the file.
+pub fn told(alloc: Global, outcome: Result<Vec<u8>, DocFault>) -> Result<Vec<u8>, Fail> {
+    match outcome {
+        Ok(bytes) => Ok(bytes),
+        Err(DocFault::Gate(GateFault::Damaged { name, offset })) if name == DOCS => {
+            Ok(format!(in alloc; "damaged at {offset}")?.into_bytes())
+        }
+        Err(fault) => Ok(format!(in alloc; "{fault:?}")?.into_bytes()),
     }
 }
 
-/// Puts the document with this text, over documents that are opened anew.
-pub fn put<F: Folder>(
-    alloc: Global,
-    folder: &mut F,
-    text: &str,
-) -> Result<Result<Rev, DocFault>, Fail> {
-    let document = read_term(alloc, text.as_bytes())?;
-    if is_design_id(id_of(&document)) {
-        return Err(Fail::from("a design document"));
-    }
+/// Puts the document with this text. It is no design document.
+pub fn put<F: Folder>(alloc: Global, folder: &mut F, text: &str) -> Result<Rev, DocFault> {
     let mut docs = Docs::open(alloc, folder)?;
-    Ok(docs.put(alloc, folder, document))
+    match read_term(alloc, text.as_bytes()) {
+        Ok(document) if !is_design_id(id_of(&document)) => docs.put(alloc, folder, document),
+        _ => Err(DocFault::NoMemory),
+    }
 }
 
 pub fn delete<F: Folder>(
@@ -55,16 +53,32 @@ pub fn delete<F: Folder>(
     folder: &mut F,
     id: &str,
     rev: Option<&str>,
-) -> Result<Result<Rev, DocFault>, Fail> {
+) -> Result<Rev, DocFault> {
     let mut docs = Docs::open(alloc, folder)?;
-    Ok(docs.delete(alloc, folder, id, rev))
+    docs.delete(alloc, folder, id, rev)
 }
 
-pub fn get<F: Folder>(
+/// Each change as its number, its id, and its document or a dash.
+fn text_of(alloc: Global, changes: Changes) -> Result<Vec<u8>, NoMemory> {
+    let mut text = Vec::new(alloc);
+    for change in changes.as_slice() {
+        text.extend_from_slice(change.seq.to_string(alloc)?.as_bytes())?;
+        text.extend_from_slice(change.id.as_str().as_bytes())?;
+        match &change.doc {
+            Some(document) => write_term(alloc, document, &mut text)?,
+            None => text.push(b'-')?,
+        }
+    }
+    Ok(text)
+}
+
+/// The text of the next changes since a write.
+pub fn since<F: Folder>(
     alloc: Global,
     folder: &mut F,
-    id: &str,
-) -> Result<Result<Term, DocFault>, Fail> {
+    seq: u64,
+    n: u32,
+) -> Result<Vec<u8>, DocFault> {
     let docs = Docs::open(alloc, folder)?;
-    Ok(docs.get(alloc, folder, id))
+    Ok(text_of(alloc, docs.changed_since(alloc, folder, seq, n)?)?)
 }

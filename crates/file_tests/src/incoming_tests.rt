@@ -1,144 +1,148 @@
-// Documents that are put: what they must be, and what of them is stored.
-use crate::documents::{get, put};
+// Documents that are put and deleted: what they must be, what of them is stored, and what the last write of an id allows.
+use crate::documents::{delete, put, since, told};
 use crash_disk::MemoryFolder;
-use design_docs::id_of;
 use doc_file::DocFault;
-use json_terms::{read_term, write_term};
 use std::alloc::Global;
 use std::test::Fail;
+use view_ports::Folder;
 
-/// The text of what is stored under the id of the document with this text.
-fn stored_for(alloc: Global, folder: &mut MemoryFolder, text: &str) -> Result<String, Fail> {
-    let document = read_term(alloc, text.as_bytes())?;
-    match get(alloc, folder, id_of(&document))? {
-        Ok(stored) => {
-            let mut written = Vec::new(alloc);
-            write_term(alloc, &stored, &mut written)?;
-            Ok(String::from_utf8(written)?)
-        }
-        Err(fault) => Ok(format!(in alloc; "{fault}")?),
-    }
+/// A write: a document's text, or an id and a revision.
+#[derive(Clone, Copy)]
+enum Write<'a> {
+    Put(&'a str),
+    Delete(&'a str, Option<&'a str>),
 }
 
-/// What is stored when the document with this text is put after another, or its refusal.
-fn answer_to(alloc: Global, before: Option<&str>, text: &str) -> Result<String, Fail> {
-    let mut folder = MemoryFolder::new(alloc, Vec::new(alloc), false)?;
-    if let Some(before) = before {
-        put(alloc, &mut folder, before)??;
-    }
-    match put(alloc, &mut folder, text)? {
-        Ok(_rev) => stored_for(alloc, &mut folder, text),
-        Err(DocFault::BadMember(name)) => Ok(format!(in alloc; "bad member {}", name.as_str())?),
-        Err(fault) => Ok(format!(in alloc; "{fault}")?),
-    }
+use Write::{Delete, Put};
+
+/// The generation of a write and the change that it made, over documents that are opened anew.
+fn written<F: Folder>(alloc: Global, folder: &mut F, write: Write) -> Result<Vec<u8>, DocFault> {
+    let rev = match write {
+        Put(text) => put(alloc, folder, text)?,
+        Delete(id, rev) => delete(alloc, folder, id, rev)?,
+    };
+    let change = since(alloc, folder, rev.seq.saturating_sub(1), 1)?;
+    let mut text = format!(in alloc; "{} ", rev.generation)?.into_bytes();
+    text.extend_from_slice(&change)?;
+    Ok(text)
 }
+
+const FIRST: Option<&str> = Some("1-00000000000000000000000000000003");
+/// Writes to one file, each with what it answers: its generation, its number, the id, and what is stored, or its refusal.
+const WRITES: &[(Write<'static>, &str)] = &[
+    (Put("[]"), "BadId"),
+    (Put("{}"), "BadId"),
+    (Put("{\"_id\":1}"), "BadId"),
+    (Put("{\"_id\":\"\"}"), "BadId"),
+    (Put("{\"_id\":\"_x\"}"), "BadId"),
+    (
+        Put("{\"_id\":\"a\",\"_attachments\":{}}"),
+        "BadMember(Chars { text: \"_attachments\" })",
+    ),
+    (
+        Put("{\"_id\":\"a\",\"_deleted\":null,\"_rev\":1}"),
+        "BadMember(Chars { text: \"_deleted\" })",
+    ),
+    (
+        Put("{\"_id\":\"a\",\"_ids\":1,\"_deleted\":true,\"_\":1}"),
+        "BadMember(Chars { text: \"_\" })",
+    ),
+    (Put("{\"_id\":\"a\",\"_rev\":1}"), "BadRev"),
+    (Put("{\"_id\":\"a\",\"_rev\":\"1-x\"}"), "BadRev"),
+    (
+        Put("{\"_id\":\"a\",\"_deleted\":true,\"b\":null}"),
+        "Missing",
+    ),
+    (Delete("a", None), "Missing"),
+    (
+        Put("{\"_id\":\"a\"}"),
+        "1 1a{\"_id\":\"a\",\"_rev\":\"1-00000000000000000000000000000001\"}",
+    ),
+    (
+        Put(
+            "{\"_id\":\"a\",\"_rev\":\"1-00000000000000000000000000000001\",\"_deleted\":true,\"b\":null}",
+        ),
+        "2 2a-",
+    ),
+    (
+        Put("{\"_deleted\":false,\"n\":1,\"_id\":\"x\"}"),
+        "1 3x{\"_id\":\"x\",\"_rev\":\"1-00000000000000000000000000000003\",\"n\":1}",
+    ),
+    (Put("{\"_id\":\"x\"}"), "Conflict"),
+    (
+        Put(
+            "{\"z\":{\"_b\":1},\"_rev\":\"2-0123456789abcdef0123456789abcdef\",\"A\":[],\"_id\":\"x\",\"_deleted\":false}",
+        ),
+        "Conflict",
+    ),
+    (Delete("x", None), "Conflict"),
+    (Delete("x", Some("1-1")), "BadRev"),
+    (Delete("x", FIRST), "2 4x-"),
+    (Delete("x", FIRST), "Deleted"),
+    (
+        Put("{\"_id\":\"x\"}"),
+        "3 5x{\"_id\":\"x\",\"_rev\":\"3-00000000000000000000000000000005\"}",
+    ),
+    (
+        Put(
+            "{\"z\":{\"_b\":1},\"_rev\":\"3-00000000000000000000000000000005\",\"A\":[],\"_id\":\"x\",\"_deleted\":false}",
+        ),
+        "4 6x{\"A\":[],\"_id\":\"x\",\"_rev\":\"4-00000000000000000000000000000006\",\"z\":{\"_b\":1}}",
+    ),
+    (
+        Put("{\"_id\":\"y\",\"_rev\":\"1-00000000000000000000000000000001\"}"),
+        "Conflict",
+    ),
+];
 
 #[test]
-fn documents_are_stored_or_refused(rt: HostRuntime) -> Result<(), Fail> {
-    for (before, text, want) in [
-        (None, "[]", "bad id"),
-        (None, "{}", "bad id"),
-        (None, "{\"_id\":1}", "bad id"),
-        (None, "{\"_id\":\"\"}", "bad id"),
-        (None, "{\"_id\":\"_x\"}", "bad id"),
-        (
-            None,
-            "{\"_id\":\"a\",\"_attachments\":{}}",
-            "bad member _attachments",
-        ),
-        (
-            None,
-            "{\"_id\":\"a\",\"_deleted\":null,\"_rev\":1}",
-            "bad member _deleted",
-        ),
-        (
-            None,
-            "{\"_id\":\"a\",\"_ids\":1,\"_deleted\":true,\"_\":1}",
-            "bad member _",
-        ),
-        (None, "{\"_id\":\"a\",\"_rev\":1}", "bad revision"),
-        (None, "{\"_id\":\"a\",\"_rev\":\"1-x\"}", "bad revision"),
-        (
-            None,
-            "{\"_id\":\"a\"}",
-            "{\"_id\":\"a\",\"_rev\":\"1-00000000000000000000000000000001\"}",
-        ),
-        (
-            Some("{\"_id\":\"x\"}"),
-            "{\"z\":{\"_b\":1},\"_rev\":\"2-0123456789abcdef0123456789abcdef\",\"A\":[],\"_id\":\"x\",\"_deleted\":false}",
-            "conflict",
-        ),
-        (
-            Some("{\"_id\":\"x\"}"),
-            "{\"z\":{\"_b\":1},\"_rev\":\"1-00000000000000000000000000000001\",\"A\":[],\"_id\":\"x\",\"_deleted\":false}",
-            "{\"A\":[],\"_id\":\"x\",\"_rev\":\"2-00000000000000000000000000000002\",\"z\":{\"_b\":1}}",
-        ),
-        (
-            None,
-            "{\"_id\":\"a\",\"_deleted\":true,\"b\":null}",
-            "missing",
-        ),
-        (
-            Some("{\"_id\":\"a\"}"),
-            "{\"_id\":\"a\",\"_rev\":\"1-00000000000000000000000000000001\",\"_deleted\":true,\"b\":null}",
-            "deleted",
-        ),
-    ] {
-        let answer = answer_to(rt.alloc(), before, text)?;
-        assert_eq!(rt; answer.as_str(), want, "{text}");
+fn writes_are_stored_or_refused(rt: HostRuntime) -> Result<(), Fail> {
+    let alloc = rt.alloc();
+    let mut folder = MemoryFolder::new(alloc, Vec::new(alloc), false)?;
+    for &(write, want) in WRITES {
+        let answer = told(alloc, written(alloc, &mut folder, write))?;
+        assert!(rt; answer.as_slice() == want.as_bytes(), "{want}");
     }
     Ok(())
 }
 
 /// A document with these members, and a text of so many letters inside so many arrays.
-fn document_of(alloc: Global, members: &str, letters: u32, arrays: u32) -> Result<String, Fail> {
-    let mut text = String::from_str(alloc, members)?;
-    text.push_str(",\"t\":")?;
-    for _ in 0..arrays {
-        text.push_str("[")?;
-    }
-    text.push_str("\"")?;
-    for _ in 0..letters {
-        text.push_str("a")?;
-    }
-    text.push_str("\"")?;
-    for _ in 0..arrays {
-        text.push_str("]")?;
-    }
-    text.push_str("}")?;
-    Ok(text)
+fn document_of(
+    alloc: Global,
+    members: &str,
+    letters: usize,
+    arrays: usize,
+) -> Result<String, Fail> {
+    let (letters, before) = ("a".repeat(alloc, letters)?, "[".repeat(alloc, arrays)?);
+    let behind = "]".repeat(alloc, arrays)?;
+    Ok(format!(in alloc; "{{{members},\"t\":{before}\"{letters}\"{behind}}}")?)
 }
+/// Writes to one file: members, how many letters and arrays, and the refusal or the generation. A document without its letters
+/// has 18 bytes.
+const LIMITS: &[(&str, usize, usize, &str)] = &[
+    ("\"_id\":\"x\"", 524_271, 0, "TooLarge"),
+    ("\"_id\":\"x\",\"_rev\":\"\"", 524_271, 0, "BadRev"),
+    ("\"_id\":\"x\"", 524_271, 64, "TooLarge"),
+    ("\"_id\":\"x\"", 0, 64, "TooDeep"),
+    ("\"_id\":\"x\"", 524_270, 0, "1 1x{"),
+    (
+        "\"_id\":\"x\",\"_deleted\":false,\"_rev\":\"1-00000000000000000000000000000001\"",
+        524_270,
+        0,
+        "2 2x{",
+    ),
+    ("\"_id\":\"y\"", 0, 63, "1 3y{"),
+];
 
 #[test]
 fn documents_have_limits(rt: HostRuntime) -> Result<(), Fail> {
     let alloc = rt.alloc();
-    let first = "{\"_id\":\"x\",\"_rev\":\"1-00000000000000000000000000000001\",\"t\":";
-    let second = "{\"_id\":\"x\",\"_rev\":\"2-00000000000000000000000000000002\",\"t\":";
-    for (before, members, letters, arrays, want) in [
-        (None, "{\"_id\":\"x\"", 524_270, 0, first),
-        (
-            Some("{\"_id\":\"x\"}"),
-            "{\"_id\":\"x\",\"_deleted\":false,\"_rev\":\"1-00000000000000000000000000000001\"",
-            524_270,
-            0,
-            second,
-        ),
-        (None, "{\"_id\":\"x\"", 524_271, 0, "too large"),
-        (
-            None,
-            "{\"_id\":\"x\",\"_rev\":\"\"",
-            524_271,
-            0,
-            "bad revision",
-        ),
-        (None, "{\"_id\":\"x\"", 524_271, 64, "too large"),
-        (None, "{\"_id\":\"x\"", 0, 63, first),
-        (None, "{\"_id\":\"x\"", 0, 64, "too deep"),
-    ] {
+    let mut folder = MemoryFolder::new(alloc, Vec::new(alloc), false)?;
+    for &(members, letters, arrays, want) in LIMITS {
         let text = document_of(alloc, members, letters, arrays)?;
-        let answer = answer_to(alloc, before, text.as_str())?;
+        let answer = told(alloc, written(alloc, &mut folder, Put(text.as_str())))?;
         assert!(rt;
-            answer.as_str().starts_with(want),
+            answer.starts_with(want.as_bytes()),
             "{letters} letters, {arrays} arrays"
         );
     }

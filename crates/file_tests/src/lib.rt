@@ -4,8 +4,6 @@
 #[cfg(test)]
 mod changes_tests;
 #[cfg(test)]
-mod crash_tests;
-#[cfg(test)]
 mod doc_file_tests;
 #[cfg(test)]
 mod documents;

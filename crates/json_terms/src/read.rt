@@ -23,8 +23,8 @@ const DEPTH_LIMIT: u32 = 100;
 /// - `NotWhole`: the value holds another number, as `1.5`, `1.0`, `1e2` or `-0`;
 /// - `TooDeep`: objects and arrays nest more than 100 deep.
 ///
-/// `NoMemory` may come for any bytes but none. Time and memory grow as the bytes do: `serde_json` reads the text once,
-/// its texts and names are moved into the term, and each list is allocated once.
+/// The other error is want of memory. Time and memory grow as the bytes do: `serde_json` reads the text once, its texts
+/// and names are moved into the term, and each list is allocated once.
 pub fn read_term(alloc: Global, bytes: &[u8]) -> Result<Term, TermFault>
     ensures ok { IfOk result (λ t. reading bytes.now ≡ Ok (json t)) }
     ensures err { IfErr result (λ e. e ≢ TermFault.NoMemory → reading bytes.now ≡ Err e) }

@@ -1,7 +1,8 @@
 // Texts, and what programs give of documents.
-use json_terms::{RowLists, read_term, write_term};
+use json_terms::{NoMemory, RowLists, Term, read_term, write_term};
 use map_lang::{parse, run_map};
 use std::alloc::Global;
+use std::process::Abort;
 use std::test::Fail;
 
 // The text with so many copies of `open` before it and of `close` behind it.
@@ -11,7 +12,7 @@ pub fn nested(
     open: &str,
     inside: &str,
     close: &str,
-) -> Result<String, Fail> {
+) -> Result<String, NoMemory> {
     let mut text = String::new(alloc);
     for _ in 0..depth {
         text.push_str(open)?;
@@ -23,8 +24,15 @@ pub fn nested(
     Ok(text)
 }
 
+// The term as a text.
+pub fn text_of(alloc: Global, term: &Term) -> Result<String, Fail> {
+    let mut text = Vec::new(alloc);
+    write_term(alloc, term, &mut text)?;
+    Ok(String::from_utf8(text)?)
+}
+
 // The keys and values of the one list, as JSON.
-fn rows_text(alloc: Global, lists: &RowLists) -> Result<Vec<u8>, Fail> {
+fn rows_text(alloc: Global, lists: &RowLists) -> Result<String, Fail> {
     let mut text = Vec::new(alloc);
     for list in lists.as_slice() {
         for row in list.as_slice() {
@@ -35,13 +43,25 @@ fn rows_text(alloc: Global, lists: &RowLists) -> Result<Vec<u8>, Fail> {
             text.push(b']')?;
         }
     }
-    Ok(text)
+    Ok(String::from_utf8(text)?)
 }
 
 // What a source gives of a document.
-pub fn mapped(alloc: Global, source: &str, document: &str) -> Result<Vec<u8>, Fail> {
-    let program = parse(alloc, source)?;
+pub fn mapped(alloc: Global, source: &str, document: &str) -> Result<String, Fail> {
     let document = read_term(alloc, document.as_bytes())?;
+    let program = parse(alloc, source)?;
     let lists = run_map(alloc, &program, &document)?;
     rows_text(alloc, &lists)
+}
+
+// Asserts that this text was given for what stands at `at`.
+pub fn assert_text(
+    rt: &impl Abort,
+    given: Result<String, Fail>,
+    want: &str,
+    at: &str,
+) -> Result<(), Fail> {
+    let given = given?;
+    assert_eq!(rt; given.as_str(), want, "{at}");
+    Ok(())
 }

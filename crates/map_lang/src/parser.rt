@@ -13,9 +13,9 @@ use std::alloc::Global;
 // How deep blocks and arrays may nest.
 const NESTING: u32 = 16;
 
-/// The program that a source spells. `Refused` comes exactly where the source compiles as no program: it has another
-/// form, a variable stands outside the `for` that binds it, a `for` binds a name that is bound, or blocks and arrays nest
-/// more than 16 deep. The other error is want of memory.
+/// The program that a source spells. Want of memory aside, `Refused` comes exactly where the source compiles as no
+/// program: it has another form, a variable stands outside the `for` that binds it, a `for` binds a name that is bound, or
+/// blocks and arrays nest more than 16 deep.
 pub fn parse(alloc: Global, source: &str) -> Result<Program, ParseFault>
     ensures found { IfOk result (λ program. Compiles source.now program) }
     ensures refused { IfErr result (λ fault. fault ≡ ParseFault.Refused → (program : Stmts) → Compiles source.now program → ⊥) }

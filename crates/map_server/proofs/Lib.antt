@@ -2,8 +2,6 @@ pub mod Reducible
 pub mod Reducing
 pub mod Answering
 pub mod Mapping
-pub mod Results
-pub mod Finding
 pub mod Keeping
 pub mod Progressing
 pub mod Ending

@@ -1,19 +1,16 @@
 -- How far a dialogue has come in its input, and how it ends.
-use Rattle.std.specs.Prelude.{◌≡◌, ◌+◌, ℕ, List, [], Option, take}
+use Rattle.std.specs.Prelude.{◌≡◌, ℕ, List, [], Option}
 use Rattle.std.specs.Io.KnownBytes.{Appends}
 use Rattle.view_ports.specs.declared.run_end.RunEnd.{RunEnd}
 use Rattle.view_ports.specs.declared.run_end.RunEnd.TheVariants as run_end
 use Rattle.view_ports.specs.Exchanges.{text_of, IsPrefixOf}
 use Rattle.view_ports.specs.Functions.{line_limit}
+use Rattle.view_ports.specs.Lines.{kept}
 use Rattle.view_ports.specs.Runs.{Run, Reached}
 use Rattle.map_server.specs.Serving.{AnswersLine}
 use Rattle.map_server.specs.declared.dialogue.Dialogue.{Dialogue}
 use Rattle.map_server.specs.declared.dialogue.StopCause.{StopCause}
 use Rattle.map_server.specs.declared.dialogue.StopCause.TheVariants.{SinkFailed, OutOfMemory}
-
--- what is kept of a line: more than the first bytes of a line that is too long are not needed to refuse it
-unfoldable pub kept : List ℕ → List ℕ
-kept line = take (line_limit + 1) line
 
 -- a line was answered with a text, of which the sink got what it says
 pub record Answered (Wrote : List ℕ → Type 0) (sources : List (List ℕ)) (line : List ℕ) (after : List (List ℕ)) : Type 0 where
@@ -34,7 +31,7 @@ AnswerFails OutOfMemory before now sources line = now ≡ before
 pub record Progress (before now : Option (List ℕ)) (bytes : List ℕ) (dialogue : Dialogue) : Type 0 where
   pub reached : Reached AnswersLine [] bytes
   pub stands : dialogue.responder.session ≡ reached.after
-  pub pending : dialogue.line.items ≡ kept reached.rest
+  pub pending : dialogue.line.items ≡ kept line_limit reached.rest
   pub wrote : Appends before now (text_of reached.exchanges)
 
 -- a dialogue that read these bytes came to this end

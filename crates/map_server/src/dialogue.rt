@@ -3,14 +3,14 @@
 ghost use Rattle.std.specs.Prelude.{◌≡◌, ◌≤◌, ◌++◌, ℕ, List, [], Option, IfOk, IfErr, OnOk, vec_len};
 ghost use Rattle.std.specs.Io.KnownBytes.{Appends};
 ghost use Rattle.view_ports.specs.Faults.{Rose};
-ghost use Rattle.view_ports.specs.Lines.{IsLine, ended};
+ghost use Rattle.view_ports.specs.Functions.{line_limit};
+ghost use Rattle.view_ports.specs.Lines.{IsLine, ended, kept};
 ghost use Rattle.map_server.specs.declared.dialogue.TheConstants.{LINE_KEPT};
 
 use crate::session::Session;
 use json_terms::NoMemory;
-use memchr::memchr;
 use std::alloc::Global;
-use view_ports::{PortFault, RunEnd, Sink, write_all};
+use view_ports::{PortFault, RunEnd, Sink, cut_line, keep_bytes, write_all};
 
 /// How many bytes of a line are kept: one more than a line has at most, which is enough to refuse a longer one.
 const LINE_KEPT: usize = 134_217_729;
@@ -82,7 +82,7 @@ pub struct Dialogue {
 }
 
 impl Dialogue {
-    ghost use Rattle.map_server.specs.Dialogues.{Progress, Ended, end_of, kept};
+    ghost use Rattle.map_server.specs.Dialogues.{Progress, Ended, end_of};
     ghost use Rattle.view_ports.specs.declared.run_end.RunEnd.TheVariants as run_end;
 
     /// A dialogue that has read nothing.
@@ -107,12 +107,12 @@ impl Dialogue {
         ensures cause { IfErr result (λ e. e ≡ StopCause.SinkFailed → Rose (K.faults sink.old) (K.faults sink.new)) }
     {
         let mut rest = piece;
-        while let Some(length) = memchr(b'\n', rest) {
-            match self.end_line(&rest[..length], sink) {
+        while let Some((line, behind)) = cut_line(rest) {
+            match self.end_line(line, sink) {
                 Ok(()) => {}
                 Err(error) => return Err(error),
             }
-            rest = &rest[length + 1..];
+            rest = behind;
         }
         self.keep(rest)
     }
@@ -145,15 +145,13 @@ impl Dialogue {
 
     /// Keeps more bytes of the line that no newline has ended yet.
     fn keep(&mut self, more: &[u8]) -> Result<(), StopCause>
-        ensures ok { OnOk result (self.new.line.items ≡ kept (self.old.line.items ++ more.now)) }
+        ensures ok { OnOk result (self.new.line.items ≡ kept line_limit (self.old.line.items ++ more.now)) }
         ensures same { OnOk result (self.new.responder ≡ self.old.responder) }
         ensures err { IfErr result (λ e. e ≡ StopCause.OutOfMemory) }
     {
-        let room = LINE_KEPT - self.line.len();
-        let front = &more[..more.len().min(room)];
-        match self.line.extend_from_slice(front) {
+        match keep_bytes(&mut self.line, more, LINE_KEPT) {
             Ok(()) => Ok(()),
-            Err(_) => Err(StopCause::OutOfMemory),
+            Err(NoMemory) => Err(StopCause::OutOfMemory),
         }
     }
 

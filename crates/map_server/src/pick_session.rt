@@ -16,7 +16,7 @@ use crate::replies::{add, forget, reduce, rereduce};
 use json_terms::{Members, NoMemory, Term, Terms};
 use std::alloc::Global;
 use std::marker::Model;
-use view_ports::{Command, InProcess, ServerSession, answer_text, bad_line, read_command};
+use view_ports::{Command, InProcess, ServerSession, answer_text, bad_line_text, read_command};
 
 /// Query servers of the language `pick`.
 pub type PickServers = InProcess<PickSession>;
@@ -64,7 +64,7 @@ impl PickSession {
             Command::Rereduce { source, values } => {
                 Ok(Reply::kept(rereduce(alloc, source, values)?))
             }
-            Command::Other => Ok(Reply::kept(bad_line(alloc)?)),
+            Command::Other => Ok(Reply::kept(bad_line_text(alloc)?)),
         }
     }
 

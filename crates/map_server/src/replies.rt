@@ -14,14 +14,14 @@ use crate::map_function::MapFunction;
 use json_terms::{Chars, NoMemory, Term, Terms};
 use map_lang::{parse_reduce, run_reduce, run_rereduce};
 use std::alloc::Global;
-use view_ports::{ReduceRows, answer_text, complaint, yes};
+use view_ports::{ReduceRows, answer_text, compilation_error_text, true_text};
 
 /// The reply to `reset`.
 pub fn forget(alloc: Global) -> Result<Reply, NoMemory>
     ensures { IfOk result (λ reply. IsTextOf is_true reply.text.items × (reply.change ≡ change.Clear)) }
 {
     Ok(Reply {
-        text: yes(alloc)?,
+        text: true_text(alloc)?,
         change: Change::Clear,
     })
 }
@@ -33,11 +33,11 @@ pub fn add(alloc: Global, source: Chars) -> Result<Reply, NoMemory>
 {
     match MapFunction::compile(alloc, source)? {
         Some(function) => Ok(Reply {
-            text: yes(alloc)?,
+            text: true_text(alloc)?,
             change: Change::Add(function),
         }),
         None => Ok(Reply {
-            text: complaint(alloc)?,
+            text: compilation_error_text(alloc)?,
             change: Change::Nothing,
         }),
     }
@@ -49,7 +49,7 @@ pub fn reduce(alloc: Global, source: Chars, rows: ReduceRows) -> Result<Vec<u8>,
     ensures { IfOk result (λ text. (sources : List (List ℕ)) → IsTextOf (answer_of sources (command.Reduce source rows)) text.items) }
 {
     let Some(how) = parse_reduce(source.as_str()) else {
-        return complaint(alloc);
+        return compilation_error_text(alloc);
     };
     result_text(alloc, run_reduce(alloc, how, rows.as_slice())?)
 }
@@ -60,7 +60,7 @@ pub fn rereduce(alloc: Global, source: Chars, values: Terms) -> Result<Vec<u8>, 
     ensures { IfOk result (λ text. (sources : List (List ℕ)) → IsTextOf (answer_of sources (command.Rereduce source values)) text.items) }
 {
     let Some(how) = parse_reduce(source.as_str()) else {
-        return complaint(alloc);
+        return compilation_error_text(alloc);
     };
     result_text(alloc, run_rereduce(alloc, how, values.as_slice())?)
 }

@@ -1,6 +1,6 @@
 //! Serving the lines of a source.
 
-ghost use Rattle.std.specs.Prelude.{◌≡◌, ◌≤◌, ◌<◌, ◌⊎◌, [], IfOk, length, vec_len};
+ghost use Rattle.std.specs.Prelude.{◌≡◌, ◌≤◌, ◌<◌, ◌⊎◌, [], length};
 ghost use Rattle.std.specs.Io.KnownBytes.{IsAtEnd};
 ghost use Rattle.view_ports.specs.Faults.{Rose};
 ghost use Rattle.view_ports.specs.Runs.{status_of};
@@ -8,11 +8,8 @@ ghost use Rattle.map_server.specs.Serving.{Serves, StopsAtLimit, IsShort};
 ghost use Rattle.map_server.specs.Dialogues.{Progress};
 
 use crate::dialogue::Dialogue;
-use std::alloc::{AllocError, Global};
-use view_ports::{INPUT_LIMIT, PortFault, RunEnd, Sink, Source};
-
-/// How many bytes are asked for at a time.
-const PIECE: usize = 65_536;
+use std::alloc::Global;
+use view_ports::{INPUT_LIMIT, PortFault, RunEnd, Sink, Source, new_piece};
 
 /// Reads lines from the source, writes the answer to each and a newline to the sink, in order, and answers the exit
 /// status.
@@ -54,13 +51,6 @@ fn serve<S: Source, K: Sink>(alloc: Global, source: &mut S, sink: &mut K) -> Run
         return RunEnd::OutOfMemory;
     };
     run(&mut dialogue, &mut piece, source, sink)
-}
-
-/// Room for the bytes that one read takes.
-fn new_piece(alloc: Global) -> Result<Vec<u8>, AllocError>
-    ensures { IfOk result (λ piece. 0 < vec_len piece) }
-{
-    vec![in alloc; 0; PIECE]
 }
 
 /// Goes on with a dialogue that has read nothing. Bytes are read into the piece.

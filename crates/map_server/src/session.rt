@@ -9,7 +9,7 @@ use crate::pick_session::PickSession;
 use json_terms::NoMemory;
 use std::alloc::Global;
 use std::marker::Model;
-use view_ports::{ServerSession, bad_line};
+use view_ports::{ServerSession, bad_line_text};
 
 /// How many bytes a line has at most.
 pub const LINE_LIMIT: usize = 134_217_728;
@@ -51,7 +51,7 @@ impl Session {
         ensures unwritten { OnErr result (out.new.items ≡ out.old.items) }
     {
         if line.len() > LINE_LIMIT {
-            out.extend_from_slice(&bad_line(alloc)?)?;
+            out.extend_from_slice(&bad_line_text(alloc)?)?;
             return Ok(());
         }
         let Reply { text, change } = self.pick.reply(alloc, line)?;

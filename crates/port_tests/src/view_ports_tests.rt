@@ -1,5 +1,7 @@
 ghost use Rattle.std.specs.Io.{ReadsAtMost};
 
+use json_terms::NoMemory;
+use std::alloc::Global;
 use std::test::Fail;
 use view_ports::{
     INPUT_LIMIT, MemorySink, MemorySource, PortFault, RunEnd, Sink, Source, write_all,
@@ -15,51 +17,75 @@ fn write<K: Sink>(sink: &mut K, from: &[u8]) -> Result<usize, PortFault> {
     sink.write(from)
 }
 
-#[test]
-fn a_source_gives_its_bytes_in_pieces(rt: HostRuntime) -> Result<(), Fail> {
-    let alloc = rt.alloc();
-    let mut source = MemorySource::new(alloc, b"abcde", 2, [1, 4].to_vec(alloc)?)?;
+/// What reads give one after another, and the bytes at the front of the room then.
+const READS: &[(Result<usize, PortFault>, &[u8])] = &[
+    (Ok(2), b"ab"),
+    (Err(PortFault), b""),
+    (Ok(2), b"cd"),
+    (Ok(1), b"e"),
+    (Err(PortFault), b""),
+    (Ok(0), b""),
+];
+
+fn reads_so(source: &mut MemorySource, want: Result<usize, PortFault>, bytes: &[u8]) -> bool {
     let mut into = [0; 3];
-    let mut given = Vec::new(alloc);
-    for want in [Ok(2), Err(PortFault), Ok(2), Ok(1), Err(PortFault), Ok(0)] {
-        let got = read(&mut source, &mut into);
-        assert_eq!(rt; got, want);
-        if let Ok(count) = got {
-            given.extend_from_slice(&into[..count])?;
-        }
-    }
-    assert_eq!(rt; given.as_slice(), b"abcde".as_slice());
-    Ok(())
+    read(source, &mut into) == want && into.starts_with(bytes)
 }
 
 #[test]
+fn a_source_gives_its_bytes_in_pieces(rt: HostRuntime) -> Result<(), Fail> {
+    let fail = [1, 4].to_vec(rt.alloc())?;
+    let mut source = MemorySource::new(rt.alloc(), b"abcde", 2, fail)?;
+    for (want, bytes) in READS {
+        assert!(rt; reads_so(&mut source, *want, bytes));
+    }
+    Ok(())
+}
+
+/// What writes are given one after another, and what they answer.
+const WRITES: &[(&[u8], Result<usize, PortFault>)] = &[
+    (b"abcde", Ok(3)),
+    (b"x", Err(PortFault)),
+    (b"de", Ok(2)),
+    (b"", Ok(0)),
+];
+
+#[test]
 fn a_sink_takes_pieces(rt: HostRuntime) -> Result<(), Fail> {
-    let alloc = rt.alloc();
-    let mut sink = MemorySink::new(alloc, 3, [1].to_vec(alloc)?)?;
-    for (from, want) in [
-        (b"abcde".as_slice(), Ok(3)),
-        (b"x".as_slice(), Err(PortFault)),
-        (b"de".as_slice(), Ok(2)),
-        (b"".as_slice(), Ok(0)),
-    ] {
-        assert_eq!(rt; write(&mut sink, from), want);
+    let fail = [1].to_vec(rt.alloc())?;
+    let mut sink = MemorySink::new(rt.alloc(), 3, fail)?;
+    for (from, want) in WRITES {
+        assert!(rt; write(&mut sink, from) == *want);
     }
     assert_eq!(rt; sink.held(), b"abcde".as_slice());
     Ok(())
 }
 
+/// The most bytes that a call takes, the calls that fail, whether all of a reply is written, and what is held then.
+const TEXTS: &[(usize, &[u64], bool, &[u8])] = &[
+    (9, &[], true, b"reply\n"),
+    (1, &[6], true, b"reply\n"),
+    (9, &[0], false, b""),
+    (4, &[1], false, b"repl"),
+];
+
+fn is_written_so(
+    alloc: Global,
+    piece: usize,
+    fail: &[u64],
+    whole: bool,
+    held: &[u8],
+) -> Result<bool, NoMemory> {
+    let mut sink = MemorySink::new(alloc, piece.max(1), fail.to_vec(alloc)?)?;
+    let is_whole = write_all(&mut sink, b"reply\n").is_ok();
+    Ok(is_whole == whole && sink.held() == held)
+}
+
 #[test]
 fn a_text_is_written_up_to_the_fault(rt: HostRuntime) -> Result<(), Fail> {
-    let alloc = rt.alloc();
-    for (piece, fail, want, held) in [
-        (9, [].as_slice(), Ok(()), b"reply\n".as_slice()),
-        (1, [6].as_slice(), Ok(()), b"reply\n".as_slice()),
-        (9, [0].as_slice(), Err(PortFault), b"".as_slice()),
-        (4, [1].as_slice(), Err(PortFault), b"repl".as_slice()),
-    ] {
-        let mut sink = MemorySink::new(alloc, piece, fail.to_vec(alloc)?)?;
-        assert_eq!(rt; write_all(&mut sink, b"reply\n"), want, "piece {piece}");
-        assert_eq!(rt; sink.held(), held, "piece {piece}");
+    for (piece, fail, whole, held) in TEXTS {
+        let right = is_written_so(rt.alloc(), *piece, fail, *whole, held)?;
+        assert!(rt; right, "pieces of {piece}");
     }
     Ok(())
 }

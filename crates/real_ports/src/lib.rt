@@ -5,16 +5,12 @@
 mod child_lines;
 mod file_names;
 mod folder_files;
-#[cfg(test)]
-mod folder_tests;
 mod open_file;
 mod piped_child;
 mod real_folder;
 mod real_servers;
 mod streams;
 mod switch;
-#[cfg(test)]
-mod tests;
 
 pub use file_names::{FILE_TEXT_LIMIT, file_text, is_file_name, read_file_name};
 pub use real_folder::RealFolder;

@@ -33,18 +33,6 @@ impl RealFolder {
         }
     }
 
-    /// How many faults were counted.
-    #[cfg(test)]
-    pub fn faults(&self) -> u64 {
-        self.faults
-    }
-
-    /// How many reads were counted.
-    #[cfg(test)]
-    pub fn reads(&self) -> u64 {
-        self.reads
-    }
-
     // What a call gave. Where it failed one more fault is counted.
     fn counted<T>(&mut self, given: io::Result<T>) -> Result<T, PortFault>
         ensures value { IfOk result (λ value. given ≡ Ok value) }

@@ -49,12 +49,6 @@ impl RealServers {
         })
     }
 
-    /// How many faults were counted.
-    #[cfg(test)]
-    pub fn faults(&self) -> u64 {
-        self.faults
-    }
-
     /// Ends the child of the slot, and counts the fault, if it is one.
     fn give_up(&mut self, slot: u32, fault: ServersFault) -> ServersFault
         requires { slot < SLOT_COUNT }

@@ -17,10 +17,10 @@ const DEPTH_LIMIT: u32 = 100;
 
 /// The term whose spelling stands at the place `at`, and the place behind it. `at` isn't past the end.
 ///
-/// `NotATerm(at)` comes exactly where no spelling of a term stands there: where the bytes end too early, a kind is
-/// unknown, a text isn't UTF-8, the names of an object don't rise strictly by bytes, or objects and arrays nest more than
-/// 100 deep. `NoMemory` may come for a text, an array or an object. A count or a length is compared with the bytes that
-/// are left before memory is taken for it, so the memory and the time grow as the bytes do.
+/// Want of memory aside, `NotATerm(at)` comes exactly where no spelling of a term stands there: where the bytes end too
+/// early, a kind is unknown, a text isn't UTF-8, the names of an object don't rise strictly by bytes, or objects and
+/// arrays nest more than 100 deep. A count or a length is compared with the bytes that are left before memory is taken for
+/// it, so the memory and the time grow as the bytes do.
 pub fn decode_term(alloc: Global, bytes: &[u8], at: usize) -> Result<(Term, usize), CodecFault>
     requires { at ≤ length bytes.now }
     ensures ok { IfOk result (λ r. Stands (json r.0) bytes.now at r.1) }

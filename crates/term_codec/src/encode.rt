@@ -24,10 +24,12 @@ pub fn encode_term(alloc: Global, term: &Term, out: &mut Vec<u8>) -> Result<(), 
     Ok(())
 }
 
-/// Writes a count or a length below 2^32 behind what `out` holds, in 4 bytes.
+/// Writes a count or a length below 2^32 behind what `out` holds, in 4 bytes. Where memory runs out, `out` holds what it
+/// held.
 pub fn put_count(count: usize, out: &mut Vec<u8>) -> Result<(), NoMemory>
     requires { count < 2 ^ 32 }
-    ensures { OnOk result (out.new.items ≡ out.old.items ++ count_bytes count) }
+    ensures ok { OnOk result (out.new.items ≡ out.old.items ++ count_bytes count) }
+    ensures err { OnErr result (out.new.items ≡ out.old.items) }
 {
     out.extend_from_slice(&(count as u32).to_le_bytes())?;
     Ok(())
@@ -40,15 +42,22 @@ fn put_number(n: i64, out: &mut Vec<u8>) -> Result<(), NoMemory>
     Ok(())
 }
 
-/// Writes a text behind what `out` holds: its length, below 2^32, in 4 bytes, and then its bytes. Where memory runs out
-/// some of it may be written.
+/// Writes a text behind what `out` holds: its length, below 2^32, in 4 bytes, and then its bytes. Where memory runs out,
+/// `out` holds what it held.
 pub fn put_text(text: &str, out: &mut Vec<u8>) -> Result<(), NoMemory>
     requires { length text.now < 2 ^ 32 }
-    ensures { OnOk result (out.new.items ≡ out.old.items ++ text_bytes text.now) }
+    ensures ok { OnOk result (out.new.items ≡ out.old.items ++ text_bytes text.now) }
+    ensures err { OnErr result (out.new.items ≡ out.old.items) }
 {
+    let before = out.len();
     put_count(text.len(), out)?;
-    out.extend_from_slice(text.as_bytes())?;
-    Ok(())
+    match out.extend_from_slice(text.as_bytes()) {
+        Ok(()) => Ok(()),
+        Err(_) => {
+            out.truncate(before);
+            Err(NoMemory)
+        }
+    }
 }
 
 // The spelling of a term. Where memory runs out some of it may be written.

@@ -24,3 +24,4 @@ pub mod Performing
 pub mod Unread
 pub mod Stepping
 pub mod AcceptedWrites
+pub mod Still

@@ -4,6 +4,7 @@ use Rattle.std.proofs.Common.{refl, sym, ap, ◌∙◌, subst, arith, add-one, l
 use Rattle.std.proofs.lemmas.Bool.{lt-ltb, le-ltb}
 use Rattle.json_terms.specs.Reading.{reading}
 use Rattle.view_ports.specs.Functions.{Functions}
+use Rattle.view_ports.specs.Lines.{kept}
 use Rattle.view_engine.specs.Moments.{Moment}
 use Rattle.view_engine.specs.declared.request.Request.{Request}
 use Rattle.view_engine.specs.declared.refusal.Refusal.{Refusal}
@@ -42,7 +43,8 @@ request_of-unread line fault short reads = request_of-short line (rw line_limit-
 -- a line that is too long is answered as its first bytes are
 module _ (functions : List ℕ → Functions) (honest : List ℕ → Type 0) (languages : List (List ℕ × List ℕ)) where
   pub Answers-cut : (before : Moment) (line text : List ℕ) (after : Moment) → line_limit < length line
-      → Answers functions honest languages before (record { line = take (line_limit + 1) line; text = text }) after → Answers functions honest languages before (record { line = line; text = text }) after
+      → Answers functions honest languages before (record { line = kept line_limit line; text = text }) after → Answers functions honest languages before (record { line = line; text = text }) after
+  unfolding kept
   Answers-cut before [] text after long answers = absurd (omega arith)
   Answers-cut before (byte ∷ bytes) text after long answers =
       let front : take (line_limit + 1) (byte ∷ bytes) ≡ byte ∷ take line_limit bytes = rw add-one refl in

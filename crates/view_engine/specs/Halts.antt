@@ -2,7 +2,7 @@
 use Rattle.std.specs.Prelude.{◌≡◌, ℕ, ◌+◌, ◌^◌, ◌<◌, ◌≤◌, List, Option, Some, None, Result, Ok, Err}
 use Rattle.json_terms.specs.Json.{Json, object, members_of}
 use Rattle.design_docs.specs.Documents.{id_of}
-use Rattle.view_ports.specs.Disk.{Disk, IfTold}
+use Rattle.view_ports.specs.Disk.{Disk, IfTold, MovesNone, Tells}
 use Rattle.view_ports.specs.File.{File}
 use Rattle.view_ports.specs.declared.file_name.FileName.{FileName}
 use Rattle.gate_file.specs.declared.fault.GateFault.TheVariants as gate
@@ -108,3 +108,10 @@ IsFullOfWrite docs disk request halt = (name : FileName) (length : Option ℕ) �
 -- it names no full file
 abbrev pub IsNotFull : Halt → Type 0
 IsNotFull halt = (name : FileName) (length : Option ℕ) → halt ≡ Stopped (Full name length) → ⊥
+
+-- ---- what is written
+
+-- where the request isn't a write that is accepted at the end of the history, no file changes
+abbrev pub IsStill : Docs → Option (Disk FileName) → Option (Disk FileName) → Result Request Refusal → Type 0
+IsStill docs old new request =
+    (history : List Write) → IfTold old (λ d. IsAt docs d.now history) → ((write : Write) → IsWrite (record { history = history }) request write → ⊥) → Tells old new MovesNone

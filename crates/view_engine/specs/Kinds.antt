@@ -1,31 +1,11 @@
 -- A value of the kind that is asked for, or none.
 use Rattle.std.specs.Prelude.{ℕ, pos, negsuc, List, ◌&&◌, nat_le, length, Option, Some, None, if◌then◌else◌}
-use Rattle.json_terms.specs.Json.{Json, number, is_false, is_null, is_true, object, array, string, Members}
-
--- a text
-abbrev pub text_in : Json → Option (List ℕ)
-text_in (string s) = Some s
-text_in (number n) = None
-text_in is_false = None
-text_in is_null = None
-text_in is_true = None
-text_in (object ms) = None
-text_in (array ts) = None
+use Rattle.json_terms.specs.Json.{Json, number, is_false, is_null, is_true, object, array, string}
 
 -- a text of so many bytes at least and at most
 abbrev pub text_within : ℕ → ℕ → Option (List ℕ) → Option (List ℕ)
 text_within least most None = None
 text_within least most (Some s) = if nat_le least (length s) && nat_le (length s) most then Some s else None
-
--- an object, as its members
-abbrev pub members_in : Json → Option Members
-members_in (object ms) = Some ms
-members_in (number n) = None
-members_in is_false = None
-members_in is_null = None
-members_in is_true = None
-members_in (array ts) = None
-members_in (string s) = None
 
 -- a whole number from 1 to a greatest one
 abbrev pub from_one : ℕ → ℕ → Option ℕ

@@ -5,7 +5,8 @@ use Rattle.json_terms.specs.Json.{Json, is_true, object, array, no_items, item, 
 use Rattle.view_engine.specs.declared.request.Request.{Request}
 use Rattle.view_engine.specs.declared.request.Request.TheVariants.{Put, Delete, Get, View, Cursor, Next, Close, Compact, CompactStep, CompactDocs, Cleanup, Info, AllDocs}
 use Rattle.view_engine.specs.declared.request.ViewName.{ViewName}
-use Rattle.view_engine.specs.Kinds.{text_in, text_within, members_in, count_in}
+use Rattle.json_terms.specs.Kinds.{text_in, members_in}
+use Rattle.view_engine.specs.Kinds.{text_within, count_in}
 
 -- a design document's name and a view's, in an array
 abbrev pub view_name_in : Json → Option ViewName

@@ -7,13 +7,12 @@ ghost use Rattle.view_ports.specs.Lines.{ended};
 ghost use Rattle.view_ports.specs.declared.file_name.FileName.{FileName};
 ghost use Rattle.child_pool.specs.Languages.{languages_in};
 ghost use Rattle.child_pool.specs.Pools.{Stands, languages_of};
-ghost use Rattle.gate_file.specs.Open.{opened, IsFirstDamage};
-ghost use Rattle.doc_file.specs.Docs.{HoldsHistory, IsAt as AreAt, IsOpen};
-ghost use Rattle.doc_file.specs.Held.{IsRootPlace, Stands as StandsFor};
+ghost use Rattle.doc_file.specs.Docs.{HoldsHistory, IsAt as AreAt, IsDamagedAt, IsOpen};
+ghost use Rattle.doc_file.specs.Held.{Stands as StandsFor};
 ghost use Rattle.doc_file.specs.History.{Write};
 ghost use Rattle.view_engine.specs.Moments.{Moment};
 ghost use Rattle.view_engine.specs.Engine.{Appends, HasChild, HasStopped, IsAt, Leaves, StandsAround};
-ghost use Rattle.view_engine.specs.Halts.{fault_of, halted_as, GoesOn, HasGoneOn, IsDamage, IsDamageOf, IsDiskFault, IsFullFor, IsFullOf, IsFullOfWrite, IsNoDamage, WouldWrite};
+ghost use Rattle.view_engine.specs.Halts.{fault_of, halted_as, GoesOn, HasGoneOn, IsDamage, IsDamageOf, IsDiskFault, IsFullFor, IsFullOf, IsFullOfWrite, IsNoDamage, IsStill, WouldWrite};
 ghost use Rattle.view_engine.specs.Refusals.{request_of, refusal_text};
 ghost use Rattle.view_engine.specs.Steps.{Does, DoesRequest, DoesRequestText, MayHaveCalled};
 
@@ -29,7 +28,7 @@ use child_pool::Pool;
 use doc_file::{DocFault, Docs};
 use json_terms::NoMemory;
 use std::alloc::Global;
-use view_ports::{Folder, Servers, Stem};
+use view_ports::{Folder, Servers};
 
 /// A database of documents in a folder, with the query servers of its views, and what its requests do.
 #[derive(Drop)]
@@ -41,8 +40,9 @@ pub struct Engine {
 impl Engine {
     /// Opens the documents of a folder. There are no children yet. The words of the form LANG=PATH name the paths of languages.
     ///
-    /// The documents' file is `Damaged` where a slot of its pair is, and else at the place of its root record. Where nothing is
-    /// pending of the files and they stand for a history, so does each image from then on, and no file is `Damaged`.
+    /// The documents' file is `Damaged` where a slot of its pair is, and else at the place of its root record, where none
+    /// stands there. Where nothing is pending of the files and they stand for a history, so does each image from then on,
+    /// and no file is `Damaged`.
     pub fn open<F: Folder>(
         alloc: Global,
         folder: &mut F,
@@ -53,7 +53,7 @@ impl Engine {
         ensures open { IfTold (F.disk folder.new) (λ d. IfOk result (λ engine. IsOpen engine.docs d.now)) }
         ensures childless { IfOk result (λ engine. (calls : List Call) → Stands engine.pool calls) }
         ensures languages { IfOk result (λ engine. languages_of engine.pool ≡ languages_in (map string_bytes words.now)) }
-        ensures damaged { IfTold (F.disk folder.old) (λ d. (name : FileName) (at : ℕ) → result ≡ Err (StepFault.Damaged name at) → IsFirstDamage Stem.Docs d.now name at ⊎ IsRootPlace (opened Stem.Docs d.now) name at) }
+        ensures damaged { IfTold (F.disk folder.old) (λ d. (name : FileName) (at : ℕ) → result ≡ Err (StepFault.Damaged name at) → IsDamagedAt d.now name at) }
         ensures sound { (history : List Write) → IfTold (F.disk folder.old) (λ d. HoldsHistory d.now history → (name : FileName) (at : ℕ) → result ≡ Err (StepFault.Damaged name at) → ⊥) }
         ensures room { (name : FileName) (length : Option ℕ) → result ≡ Err (StepFault.Full name length) → ⊥ }
         ensures cause { HasCauseIf (λ fault. fault ≡ StepFault.DiskFault) (F.faults folder.old) (F.faults folder.new) result }
@@ -71,8 +71,8 @@ impl Engine {
     ///
     /// The line comes without its newline. Of a line of more than 2,097,152 bytes the first 2,097,153 are enough.
     /// On `NoMemory` nothing is appended and no document has changed. At each moment a crash leaves the documents before the
-    /// request or after it; once a write is answered those after it. After every other fault the engine is not to be used
-    /// again.
+    /// request or after it; once a write is answered those after it. Only a write that is accepted changes a file. After
+    /// every other fault the engine is not to be used again.
     pub fn step<F: Folder, C: Servers>(
         &mut self,
         alloc: Global,
@@ -90,6 +90,7 @@ impl Engine {
         ensures stopped { IfErr result (λ fault. fault ≢ StepFault.NoMemory → (before : Moment) → HasChild (C.may_follow servers.old) (C.faults servers.old) self.old.pool before → HasChild (C.may_follow servers.new) (C.faults servers.new) self.new.pool before) }
         ensures moments { (history : List Write) → IfTold (F.disk folder.old) (λ d. AreAt self.old.docs d.now history) → Tells (F.disk folder.old) (F.disk folder.new)
             (LeavesOnly (StandsAround (record { history = history }) (request_of line.now))) }
+        ensures still { IsStill self.old.docs (F.disk folder.old) (F.disk folder.new) (request_of line.now) }
         ensures unmoved { result ≡ Err StepFault.NoMemory → (history : List Write) → IfTold (F.disk folder.old) (λ d. AreAt self.old.docs d.now history) → Tells (F.disk folder.old) (F.disk folder.new) (LeavesOnly (λ image. StandsFor image history)) }
         ensures idle { line.now ≡ [] → folder.new ≡ folder.old }
         ensures silent { OnErr result (out.new.items ≡ out.old.items) }
@@ -142,6 +143,7 @@ impl Engine {
             → HasChild (C.may_follow servers.new) (C.faults servers.new) self.new.pool before) }
         ensures moments { (history : List Write) → IfTold (F.disk folder.old) (λ d. AreAt self.old.docs d.now history) → Tells (F.disk folder.old) (F.disk folder.new)
             (LeavesOnly (StandsAround (record { history = history }) (request_of line.now))) }
+        ensures still { IsStill self.old.docs (F.disk folder.old) (F.disk folder.new) (request_of line.now) }
         ensures unwritten { IfErr result (λ halt. GoesOn halt → (history : List Write) → IfTold (F.disk folder.old) (λ d. AreAt self.old.docs d.now history) → Tells (F.disk folder.old) (F.disk folder.new) (LeavesOnly (λ image. StandsFor image history))) }
         ensures silent { OnErr result (out.new.items ≡ out.old.items) }
         ensures open { OnOk result (IfTold (F.disk folder.new) (λ d. IsOpen self.new.docs d.now)) }
@@ -181,6 +183,7 @@ impl Engine {
             → HasChild (C.may_follow servers.new) (C.faults servers.new) self.new.pool before) }
         ensures moments { (history : List Write) → IfTold (F.disk folder.old) (λ d. AreAt self.old.docs d.now history) → Tells (F.disk folder.old) (F.disk folder.new)
             (LeavesOnly (StandsAround (record { history = history }) (Ok request))) }
+        ensures still { IsStill self.old.docs (F.disk folder.old) (F.disk folder.new) (Ok request) }
         ensures unwritten { IfErr result (λ halt. GoesOn halt → (history : List Write) → IfTold (F.disk folder.old) (λ d. AreAt self.old.docs d.now history) → Tells (F.disk folder.old) (F.disk folder.new) (LeavesOnly (λ image. StandsFor image history))) }
         ensures silent { OnErr result (out.new.items ≡ out.old.items) }
         ensures open { OnOk result (IfTold (F.disk folder.new) (λ d. IsOpen self.new.docs d.now)) }

@@ -2,7 +2,8 @@
 ghost use Rattle.std.specs.Prelude.{◌≡◌, ◌&&◌, ℕ, List, Option, option_map, unwrap_or, bytes_eq, length, vec_len, [], ◌∷◌, IfNone, IfSome, ◌≢◌};
 ghost use Rattle.json_terms.specs.Json.{Json, list_of_members};
 ghost use Rattle.json_terms.specs.Seen.{json};
-ghost use Rattle.view_engine.specs.Kinds.{text_in, members_in, count_in};
+ghost use Rattle.json_terms.specs.Kinds.{text_in, members_in};
+ghost use Rattle.view_engine.specs.Kinds.{count_in};
 ghost use Rattle.view_engine.specs.Requests.{object_in, cursor_name_in, view_name_in, on_true, form_of_one, form_of_two, form_of_three, form_of};
 
 use crate::request::{Request, ViewName};

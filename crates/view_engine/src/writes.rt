@@ -15,7 +15,7 @@ ghost use Rattle.doc_file.specs.Stored.{next_revision};
 ghost use Rattle.view_engine.specs.Answer.{write_text};
 ghost use Rattle.view_engine.specs.Delete.{delete_write, DoesDelete, IsDeleteRefused};
 ghost use Rattle.view_engine.specs.Engine.{StandsAround};
-ghost use Rattle.view_engine.specs.Halts.{GoesOn, IsDiskFault, IsFullOf, IsFullOfWrite, IsNoDamage};
+ghost use Rattle.view_engine.specs.Halts.{GoesOn, IsDiskFault, IsFullOf, IsFullOfWrite, IsNoDamage, IsStill};
 ghost use Rattle.view_engine.specs.Put as spec;
 ghost use Rattle.view_engine.specs.Replies.{accepted_reply};
 ghost use Rattle.view_engine.specs.World.{written};
@@ -54,6 +54,7 @@ pub(crate) fn put<F: Folder>(
     ensures open { IfTold (F.disk folder.new) (λ d. OnOk result (IsOpen docs.new d.now)) }
     ensures moments { (history : List Write) → IfTold (F.disk folder.old) (λ d. IsAt docs.old d.now history) → Tells (F.disk folder.old) (F.disk folder.new)
         (LeavesOnly (StandsAround (record { history = history }) (Ok (Request.Put document)))) }
+    ensures still { IsStill docs.old (F.disk folder.old) (F.disk folder.new) (Ok (Request.Put document)) }
     ensures whole { IfErr result IsNoDamage }
     ensures full { IfErr result (IsFullOf docs.old (Ok (Request.Put document))) }
     ensures reached { IfErr result (IsFullOfWrite docs.old (F.disk folder.old) (Ok (Request.Put document))) }
@@ -97,6 +98,7 @@ pub(crate) fn delete<F: Folder>(
     ensures open { IfTold (F.disk folder.new) (λ d. OnOk result (IsOpen docs.new d.now)) }
     ensures moments { (history : List Write) → IfTold (F.disk folder.old) (λ d. IsAt docs.old d.now history) → Tells (F.disk folder.old) (F.disk folder.new)
         (LeavesOnly (StandsAround (record { history = history }) (Ok (Request.Delete id rev)))) }
+    ensures still { IsStill docs.old (F.disk folder.old) (F.disk folder.new) (Ok (Request.Delete id rev)) }
     ensures whole { IfErr result IsNoDamage }
     ensures full { IfErr result (IsFullOf docs.old (Ok (Request.Delete id rev))) }
     ensures reached { IfErr result (IsFullOfWrite docs.old (F.disk folder.old) (Ok (Request.Delete id rev))) }

@@ -1,18 +1,17 @@
 -- What a session of the language `field` answers is what an honest server answers.
-use Rattle.std.proofs.Common.{◌≡◌, ◌+◌, ◌*◌, ◌≤◌, ℕ, List, [], ◌∷◌, map, length, Bool, true, false, Some, None, Option, Ok, refl, sym, ap, ◌∙◌, subst, arith, cond, codes}
-use Rattle.json_terms.specs.Json.{Json, is_true, is_null, object, array, string, no_items, item, items_of, members_of, depth, items_depth, members_depth}
+use Rattle.std.proofs.Common.{◌≡◌, ◌+◌, ◌≤◌, ℕ, List, [], ◌∷◌, map, length, false, Some, None, Option, Ok, refl, sym, ap, subst, arith, cond}
+use Rattle.json_terms.specs.Json.{Json, is_true, object, string, no_items, item, items_of, members_of, depth, items_depth, members_depth}
 use Rattle.json_terms.specs.Find.{find, member_of}
 use Rattle.json_terms.specs.Reading.{reading, depth_limit}
 use Rattle.json_terms.specs.Text.{text_of}
-use Rattle.json_terms.proofs.Parts.{depth-find, length-text_of-array, length-text_of-string, items_size}
-use Rattle.view_ports.specs.declared.command.Command.{Command}
-use Rattle.view_ports.specs.declared.command.Command.TheVariants.{Reset, AddFun, MapDoc, Reduce, Rereduce, Other}
+use Rattle.json_terms.proofs.Parts.{depth-find, length-text_of-array, length-text_of-string}
+use Rattle.view_ports.specs.declared.command.Command.TheVariants.{AddFun, MapDoc}
 use Rattle.view_ports.specs.Calls.{is_log, is_log_term, is_log_read, is_yes, is_yes_read, is_yes_term}
-use Rattle.view_ports.specs.Commands.{list3, three_strings}
-use Rattle.view_ports.specs.Functions.{line_limit, IsMappable, rows_term, lists_term, pair_term, source_limit}
+use Rattle.view_ports.specs.Commands.{three_strings}
+use Rattle.view_ports.specs.Functions.{line_limit, rows_term, lists_term}
 use Rattle.view_ports.specs.FieldRows.{emitted, field_map}
 use Rattle.view_ports.specs.Field.{field, is_member_name}
-use Rattle.view_ports.specs.Honest.{Answers, Complains, IsAnswerable, IsTextOf, Spells, no_compilation, rows_of}
+use Rattle.view_ports.specs.Honest.{Answers, IsAnswerable, IsTextOf, Spells, no_compilation, rows_of}
 
 -- ---- log lines
 

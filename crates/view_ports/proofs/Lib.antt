@@ -1,9 +1,11 @@
 pub mod Counted
 pub mod Counting
 pub mod Cutting
+pub mod KeptLines
 pub mod Exchanging
 pub mod Fields
 pub mod Reaching
+pub mod Results
 pub mod Scripts
 pub mod Slots
 pub mod Told

@@ -1,5 +1,5 @@
 -- Slots of children in the process, one call more.
-use Rattle.std.proofs.Common.{◌≡◌, ◌≢◌, ◌<◌, ℕ, List, ◌∷◌, Bool, true, false, Option, Some, None, length, get_or, set, nat_eq, refl, sym, ap, ◌∙◌, subst, arith, inl, inr, eq-eqb, get_or-set_same, get_or-set_other, if◌then◌else◌}
+use Rattle.std.proofs.Common.{◌≡◌, ◌<◌, ℕ, List, ◌∷◌, true, false, Option, Some, None, length, get_or, set, nat_eq, sym, ◌∙◌, subst, inl, inr, eq-eqb, get_or-set_same, get_or-set_other}
 use Rattle.std.proofs.lemmas.Bool.{cases_eq, ne_eqb}
 use Rattle.view_ports.specs.declared.in_process.Child.{Child}
 use Rattle.view_ports.specs.Calls.{Call, Session, slot_of, after, child, spoiled, send, receive}

@@ -1,6 +1,6 @@
 -- The calls on the query servers, and the session of each child after them.
-use Rattle.std.specs.Prelude.{◌≡◌, ◌+◌, ℕ, List, [], ◌∷◌, ◌++◌, length, Bool, true, false, nat_eq, nat_le, bytes_eq, codes, ◌&&◌, ◌||◌, if◌then◌else◌, Option, Some, None, option_and_then, Result, Ok, Err, is_ok}
-use Rattle.json_terms.specs.Json.{Json, number, is_false, is_null, is_true, object, array, string, Items, no_items, item}
+use Rattle.std.specs.Prelude.{◌+◌, ℕ, List, [], ◌∷◌, ◌++◌, length, Bool, true, false, nat_eq, nat_le, bytes_eq, codes, ◌&&◌, if◌then◌else◌, Option, Some, None, option_and_then, Result, Ok, Err}
+use Rattle.json_terms.specs.Json.{Json, number, is_false, is_null, is_true, object, array, string}
 use Rattle.json_terms.specs.Kinds.{text_in, items_in, two_in}
 use Rattle.json_terms.specs.Reading.{reading}
 use Rattle.json_terms.specs.declared.fault.TermFault.{TermFault}

@@ -1,6 +1,6 @@
 -- The lines that a query server is sent (CouchDB documentation, "Query Server Protocol"), and what each asks for.
-use Rattle.std.specs.Prelude.{◌≤◌, ℕ, List, [], ◌∷◌, map, codes, bytes_eq, nat_le, Bool, true, false, if◌then◌else◌, ◌&&◌, Option, Some, None, option_map, option_and_then, Result, Ok, Err}
-use Rattle.json_terms.specs.Json.{Json, number, is_false, is_null, is_true, object, array, string, Items, no_items, item, Members, no_members, member, items_of, members_of, list_of_members, list_of_items, depth}
+use Rattle.std.specs.Prelude.{◌≤◌, ℕ, List, [], ◌∷◌, map, codes, bytes_eq, nat_le, if◌then◌else◌, Option, Some, None, option_map, option_and_then, Result, Ok, Err}
+use Rattle.json_terms.specs.Json.{Json, is_false, is_null, object, array, string, Items, no_items, item, no_members, member, items_of, members_of, list_of_members, list_of_items, depth}
 use Rattle.json_terms.specs.Kinds.{text_in, members_in, items_in, one_in, two_in}
 use Rattle.json_terms.specs.Reading.{reading}
 use Rattle.json_terms.specs.declared.fault.TermFault.{TermFault}

@@ -1,10 +1,7 @@
 -- The language `field`: a map function is the name of a member, and emits the member's value. No reduce function compiles.
-use Rattle.std.specs.Prelude.{◌≡◌, ◌≤◌, ℕ, List, [], ◌∷◌, map, length, Bool, true, false, Option, Some, None, refl}
-use Rattle.std.specs.List.{AllByRecursion}
-use Rattle.json_terms.specs.Json.{Json, is_null, object, members_of}
-use Rattle.json_terms.specs.Find.{find}
-use Rattle.view_ports.specs.ReduceRow.{ReduceRow}
-use Rattle.view_ports.specs.Functions.{Functions, IsSomeList, IsReduceRowWithinBounds, IsWithinBounds, joined}
+use Rattle.std.specs.Prelude.{ℕ, List, [], ◌∷◌, Bool, true, false, refl}
+use Rattle.json_terms.specs.Json.{is_null}
+use Rattle.view_ports.specs.Functions.{Functions}
 use Rattle.view_ports.specs.FieldBounds.{null_is_bounded, field_maps_are_proper}
 use Rattle.view_ports.specs.FieldRows.{field_map}
 

@@ -1,13 +1,12 @@
 -- What the language `field` emits for a document within the bounds is within the bounds.
-use Rattle.std.specs.Prelude.{◌≡◌, ◌+◌, ◌*◌, ◌≤◌, ℕ, List, [], ◌∷◌, ◌++◌, map, length, Bool, true, false, Option, Some, None, refl}
+use Rattle.std.specs.Prelude.{◌≡◌, ◌*◌, ◌≤◌, ℕ, List, [], ◌∷◌, map, length, Option, Some, None, refl}
 use Rattle.std.specs.List.{AllByRecursion}
-use Rattle.std.proofs.Common.{arith, length-append}
-use Rattle.json_terms.specs.Json.{Json, is_null, object, array, Items, no_items, item, items_of, members_of, depth, members_depth}
-use Rattle.json_terms.specs.Text.{text_of, items_serde_of}
-use Rattle.json_terms.specs.Terms.{IsTerm}
+use Rattle.std.proofs.Common.{arith}
+use Rattle.json_terms.specs.Json.{Json, is_null, no_items, item, items_of, members_of}
+use Rattle.json_terms.specs.Text.{text_of}
 use Rattle.json_terms.specs.Find.{find}
 use Rattle.json_terms.proofs.Parts.{length-text_of-find, depth-find, IsTerm-find, items_size, length-text_of-array}
-use Rattle.view_ports.specs.Functions.{IsWithinBounds, IsRowWithinBounds, IsMappable, AreProper, source_limit, rows_term, lists_term, pair_term}
+use Rattle.view_ports.specs.Functions.{IsWithinBounds, IsRowWithinBounds, IsMappable, AreProper, source_limit, rows_term, pair_term}
 use Rattle.view_ports.specs.FieldRows.{emitted, field_map}
 
 pub null_is_bounded : IsWithinBounds is_null

@@ -1,5 +1,5 @@
 -- What a query server computes: fixed functions for each path that a child is started by.
-use Rattle.std.specs.Prelude.{◌≡◌, ◌≢◌, ◌≤◌, ℕ, List, [], ◌∷◌, ◌++◌, map, length, Bool}
+use Rattle.std.specs.Prelude.{◌≡◌, ◌≤◌, ℕ, List, [], ◌∷◌, map, length, Bool}
 use Rattle.std.specs.List.{flat_map, AllByRecursion}
 use Rattle.json_terms.specs.Json.{Json, object, array, no_items, item, items_of, members_of, depth}
 use Rattle.json_terms.specs.Text.{text_of}

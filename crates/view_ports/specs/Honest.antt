@@ -1,7 +1,7 @@
 -- What an honest query server answers (CouchDB documentation, "Query Server Protocol").
-use Rattle.std.specs.Prelude.{◌≡◌, ◌⊎◌, ◌<◌, ◌≤◌, ℕ, List, [], ◌∷◌, map, filter, length, Bool, true, false, bytes_eq, codes, ◌&&◌, ◌||◌, Option, Some, None, option_and_then, IsSome, Result, Ok, Err, MatchBool, IsTrue}
+use Rattle.std.specs.Prelude.{◌≡◌, ◌⊎◌, ◌<◌, ◌≤◌, ℕ, List, [], ◌∷◌, map, length, Bool, true, false, bytes_eq, codes, ◌&&◌, ◌||◌, Option, Some, None, Result, Ok, Err, MatchBool}
 use Rattle.std.specs.List.{AllByRecursion}
-use Rattle.json_terms.specs.Json.{Json, is_true, object, members_of, Items, no_items, item}
+use Rattle.json_terms.specs.Json.{Json, is_true, Items, no_items, item}
 use Rattle.json_terms.specs.Kinds.{text_in, items_in}
 use Rattle.json_terms.specs.Reading.{reading}
 use Rattle.json_terms.specs.Text.{text_of}
@@ -9,8 +9,8 @@ use Rattle.json_terms.specs.declared.fault.TermFault.{TermFault}
 use Rattle.view_ports.specs.declared.command.Command.{Command}
 use Rattle.view_ports.specs.declared.command.Command.TheVariants.{Reset, AddFun, MapDoc, Reduce, Rereduce, Other}
 use Rattle.view_ports.specs.Commands.{command, list1, list2, three_strings}
-use Rattle.view_ports.specs.Functions.{Functions, line_limit, source_limit, IsMappable, lists_term, IsSomeList, IsWithinBounds, IsReduceRowWithinBounds}
-use Rattle.view_ports.specs.Calls.{Call, Session, is_log}
+use Rattle.view_ports.specs.Functions.{Functions, line_limit, source_limit, IsMappable, lists_term, IsWithinBounds, IsReduceRowWithinBounds}
+use Rattle.view_ports.specs.Calls.{Session, is_log}
 
 -- A query server may print so many log lines before an answer.
 abbrev pub log_limit : ℕ

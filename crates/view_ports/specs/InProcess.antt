@@ -1,6 +1,5 @@
 -- Which calls query servers in the process may have had.
-use Rattle.std.specs.Prelude.{◌≡◌, ◌<◌, ◌↔◌, ℕ, IsTrue, Result, Err, List, map, Option, Some, None, slice_index_or, Vec, vec_items}
-use Rattle.std.specs.declared.alloc.Global.{Global}
+use Rattle.std.specs.Prelude.{◌≡◌, ◌<◌, ◌↔◌, ℕ, IsTrue, Result, Err, List, map, Option, Some, None, slice_index_or}
 use Rattle.view_ports.specs.declared.in_process.Child.{Child}
 use Rattle.view_ports.specs.declared.in_process.InProcess.{InProcess}
 use Rattle.view_ports.specs.declared.servers_fault.ServersFault.{ServersFault}

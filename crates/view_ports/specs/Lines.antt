@@ -1,5 +1,5 @@
 -- Bytes cut at newlines.
-use Rattle.std.specs.Prelude.{◌≡◌, ◌≢◌, ℕ, List, [], ◌∷◌, ◌++◌, All}
+use Rattle.std.specs.Prelude.{◌≡◌, ◌≢◌, ◌+◌, ℕ, List, [], ◌∷◌, ◌++◌, All, Option, Some, None, take}
 use Rattle.std.specs.List.{flat_map}
 
 abbrev pub newline : ℕ
@@ -23,3 +23,12 @@ pub record IsCut (bytes : List ℕ) (lines : List (List ℕ)) (rest : List ℕ) 
 abbrev pub last_line : List ℕ → List (List ℕ)
 last_line [] = []
 last_line (byte ∷ bytes) = (byte ∷ bytes) ∷ []
+
+-- the first line of the bytes, and what stands behind its newline, or none where there is no newline
+abbrev pub CutsLine : List ℕ → Option (List ℕ × List ℕ) → Type 0
+CutsLine bytes (Some (line, rest)) = IsLine line × (bytes ≡ ended line ++ rest)
+CutsLine bytes None = IsLine bytes
+
+-- what is kept of a line: one byte more than the longest line has is enough to refuse a longer one
+unfoldable pub kept : ℕ → List ℕ → List ℕ
+kept limit line = take (limit + 1) line

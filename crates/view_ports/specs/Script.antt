@@ -1,5 +1,5 @@
 -- Query servers that answer from a script.
-use Rattle.std.specs.Prelude.{◌≡◌, ℕ, List, [], ◌∷◌, ◌++◌, take, drop, Option, Some, None, Result, Ok, Err, Vec}
+use Rattle.std.specs.Prelude.{◌≡◌, ℕ, List, [], ◌∷◌, ◌++◌, take, drop, Some, None, Result, Ok, Err, Vec}
 use Rattle.std.specs.declared.alloc.Global.{Global}
 use Rattle.view_ports.specs.declared.script_servers.Answer.{Answer}
 use Rattle.view_ports.specs.declared.script_servers.Answer.TheVariants.{Line, Fail}

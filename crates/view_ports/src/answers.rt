@@ -11,7 +11,7 @@ use json_terms::{Chars, NoMemory, Term, Terms, write_term};
 use std::alloc::Global;
 
 /// `true`.
-pub fn yes(alloc: Global) -> Result<Vec<u8>, NoMemory>
+pub fn true_text(alloc: Global) -> Result<Vec<u8>, NoMemory>
     ensures text { IfOk result (λ text. IsTextOf is_true text.items) }
     ensures short { IfOk result (λ text. Spells text.items is_true) }
 {
@@ -19,7 +19,7 @@ pub fn yes(alloc: Global) -> Result<Vec<u8>, NoMemory>
 }
 
 /// The answer to a source that doesn't compile: `["error","compilation_error","source"]`.
-pub fn complaint(alloc: Global) -> Result<Vec<u8>, NoMemory>
+pub fn compilation_error_text(alloc: Global) -> Result<Vec<u8>, NoMemory>
     ensures text { IfOk result (λ text. IsTextOf no_compilation text.items) }
     ensures short { IfOk result (λ text. Spells text.items no_compilation) }
 {
@@ -27,7 +27,7 @@ pub fn complaint(alloc: Global) -> Result<Vec<u8>, NoMemory>
 }
 
 /// The answer to a line that is no proper command: `["error","bad_line","line"]`.
-pub fn bad_line(alloc: Global) -> Result<Vec<u8>, NoMemory>
+pub fn bad_line_text(alloc: Global) -> Result<Vec<u8>, NoMemory>
     ensures text { IfOk result (λ text. IsTextOf no_command text.items) }
     ensures short { IfOk result (λ text. Spells text.items no_command) }
 {

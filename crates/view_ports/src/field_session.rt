@@ -11,7 +11,7 @@ ghost use Rattle.view_ports.specs.FieldRows.{emitted};
 ghost use Rattle.view_ports.specs.Functions.{Functions, rows_term, lists_term};
 ghost use Rattle.view_ports.specs.Honest.{Answers, IsAnswerable, IsTextOf, Spells, no_compilation, rows_of};
 
-use crate::answers::{answer_text, bad_line, complaint, yes};
+use crate::answers::{answer_text, bad_line_text, compilation_error_text, true_text};
 use crate::command::{Command, read_command};
 use crate::in_process::InProcess;
 use crate::server_session::ServerSession;
@@ -47,12 +47,12 @@ impl ServerSession for FieldSession {
             Command::Reduce {
                 source: _source,
                 rows: _rows,
-            } => complaint(alloc),
+            } => compilation_error_text(alloc),
             Command::Rereduce {
                 source: _source,
                 values: _values,
-            } => complaint(alloc),
-            Command::Other => bad_line(alloc),
+            } => compilation_error_text(alloc),
+            Command::Other => bad_line_text(alloc),
         }
     }
 }
@@ -64,7 +64,7 @@ impl FieldSession {
         ensures ok { OnOk result (self.new.sources.items ≡ []) }
         ensures err { OnErr result (self.new.sources.items ≡ self.old.sources.items) }
     {
-        let text = yes(alloc)?;
+        let text = true_text(alloc)?;
         self.sources.clear();
         Ok(text)
     }
@@ -76,9 +76,9 @@ impl FieldSession {
         ensures err { OnErr result (self.new.sources.items ≡ self.old.sources.items) }
     {
         if source.as_str().is_empty() {
-            return complaint(alloc);
+            return compilation_error_text(alloc);
         }
-        let text = yes(alloc)?;
+        let text = true_text(alloc)?;
         self.sources.push(source)?;
         Ok(text)
     }

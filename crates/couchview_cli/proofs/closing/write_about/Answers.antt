@@ -5,7 +5,7 @@ use Rattle.std.proofs.KnownBytes.{Appends-trans}
 use Rattle.real_ports.specs.FileNames.{file_text}
 use Rattle.couchview_cli.specs.Session.{Stopped}
 use Rattle.couchview_cli.proofs.Pieces.{behind, in_front, on_err}
-use Rattle.couchview_cli.proofs.Results.{OnErr-map, OnOk-map}
+use Rattle.view_ports.proofs.Results.{OnErr-map, OnOk-map}
 use Rattle.couchview_cli.proofs.closing.write_about.Goals as goal
 
 pub returns-in_err-write_all-clause-err : goal.returns-in_err-write_all-clause-err

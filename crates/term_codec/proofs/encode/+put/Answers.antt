@@ -52,7 +52,7 @@ pub put_term-returns-in_ok-put_count-in-Object : goal.put_term-returns-in_ok-put
 put_term-returns-in_ok-put_count-in-Object t c =
     let old = c.args.out.now.items in
     let slice = map pair_of c.as_slice.result.now in
-    let written = ap (λ bs. bs ++ members_spelling (members_of slice)) (c.in_ok-put_count-in-Object.ensures ∙ ap (λ bs. bs ++ count_bytes c.len.result) c.in_ok-push-in-Object.ensures.items)
+    let written = ap (λ bs. bs ++ members_spelling (members_of slice)) (c.in_ok-put_count-in-Object.ensures.ok ∙ ap (λ bs. bs ++ count_bytes c.len.result) c.in_ok-push-in-Object.ensures.items)
     ∙ put_object old c.len.result c.in-Object.members slice c.as_slice.ensures c.len.ensures ∙ ap (λ u. old ++ spelling (json u)) (sym c.in-Object.is) in
     subst (λ bs. OnOk c.put_members.result (c.put_members.new.out.items ≡ bs)) written c.put_members.ensures
 
@@ -60,6 +60,6 @@ pub put_term-returns-in_ok-put_count-in-Array : goal.put_term-returns-in_ok-put_
 put_term-returns-in_ok-put_count-in-Array t c =
     let old = c.args.out.now.items in
     let slice = map json c.as_slice-in-Array.result.now in
-    let written = ap (λ bs. bs ++ items_spelling (items_of slice)) (c.in_ok-put_count-in-Array.ensures ∙ ap (λ bs. bs ++ count_bytes c.len-in-Array.result) c.in_ok-push-in-Array.ensures.items)
+    let written = ap (λ bs. bs ++ items_spelling (items_of slice)) (c.in_ok-put_count-in-Array.ensures.ok ∙ ap (λ bs. bs ++ count_bytes c.len-in-Array.result) c.in_ok-push-in-Array.ensures.items)
     ∙ put_array old c.len-in-Array.result c.in-Array.terms slice c.as_slice-in-Array.ensures c.len-in-Array.ensures ∙ ap (λ u. old ++ spelling (json u)) (sym c.in-Array.is) in
     subst (λ bs. OnOk c.put_terms.result (c.put_terms.new.out.items ≡ bs)) written c.put_terms.ensures

@@ -12,11 +12,12 @@ use Rattle.doc_file.specs.declared.fault.DocFault.TheVariants.{NoMemory}
 use Rattle.view_engine.specs.declared.request.Request.TheVariants.{Delete}
 use Rattle.view_engine.specs.Delete.{delete_write}
 use Rattle.view_engine.specs.Engine.{StandsAround}
-use Rattle.view_engine.specs.Halts.{IsFull}
+use Rattle.view_engine.specs.Halts.{IsFull, IsStill}
 use Rattle.view_engine.specs.Steps.{IsWrite}
 use Rattle.view_engine.specs.World.{World}
 use Rattle.view_engine.proofs.Around.{moves_around, stays_around}
 use Rattle.view_engine.proofs.FullFiles.{delete_not_of_file, full_of_file}
+use Rattle.view_engine.proofs.Still.{still_same, still_written}
 use Rattle.view_engine.proofs.Writing.{delete_does, delete_is_write, delete_refused, reply_to}
 use Rattle.view_engine.proofs.writes.delete.Goals as goal
 
@@ -114,3 +115,43 @@ returns-clause-reached g c = λ name length is history.
           (both (λ i given. IsAcceptedDelete (state_in (last_of docs i)) given) c.as_str-2.ensures c.text_of.ensures (c.in-Err.ensures.reached of_file))
           (reply_to docs d.now history at c.as_str.result.now c.args.id c.as_str.ensures (c.in_ok-reply.ensures.history d.now history at)),
     ))
+
+-- ---- what is still
+
+pub returns-in_err-reply-clause-still : goal.returns-in_err-reply-clause-still
+returns-in_err-reply-clause-still g c = still_same c.args.docs.now (g.F.Folder.disk c.args.folder.now) (Ok (Delete c.args.id c.args.rev))
+
+pub returns-in_err-extend_from_slice-clause-still : goal.returns-in_err-extend_from_slice-clause-still
+returns-in_err-extend_from_slice-clause-still g c = still_same c.args.docs.now (g.F.Folder.disk c.args.folder.now) (Ok (Delete c.args.id c.args.rev))
+
+pub returns-in-Ok-clause-still : goal.returns-in-Ok-clause-still
+returns-in-Ok-clause-still g c = λ history at never.
+    let docs = c.args.docs.now in
+    let before = g.F.Folder.disk c.args.folder.now in
+    let world : World = record { history = history } in
+    let write = delete_write world c.args.id in
+    still_written before (g.F.Folder.disk c.delete.new.folder) history (Ok (Delete c.args.id c.args.rev)) write _
+    (told_now before (λ d. IsAt docs d.now history) (λ d. IsWrite world (Ok (Delete c.args.id c.args.rev)) write)
+    (λ d is. delete_is_write docs d.now history is c.args.id c.args.rev
+    (both (λ i given. IsAcceptedDelete (state_in (last_of docs i)) given) c.as_str-2.ensures c.text_of.ensures c.in-Ok.ensures.accepted)
+    (reply_to docs d.now history is c.as_str.result.now c.args.id c.as_str.ensures (c.in_ok-reply.ensures.history d.now history is)))
+    at)
+    never (c.delete.ensures.stands history at)
+
+pub returns-clause-still : goal.returns-clause-still
+returns-clause-still g c =
+    let docs = c.args.docs.now in
+    let before = g.F.Folder.disk c.args.folder.now in
+    elim c.in-Err.ensures.kept [
+      | inl of_file ↦ λ history at never.
+          let world : World = record { history = history } in
+          let write = delete_write world c.args.id in
+          still_written before (g.F.Folder.disk c.delete.new.folder) history (Ok (Delete c.args.id c.args.rev)) write _
+          (told_now before (λ d. IsAt docs d.now history) (λ d. IsWrite world (Ok (Delete c.args.id c.args.rev)) write)
+          (λ d is. delete_is_write docs d.now history is c.args.id c.args.rev
+          (both (λ i given. IsAcceptedDelete (state_in (last_of docs i)) given) c.as_str-2.ensures c.text_of.ensures (c.in-Err.ensures.reached of_file))
+          (reply_to docs d.now history is c.as_str.result.now c.args.id c.as_str.ensures (c.in_ok-reply.ensures.history d.now history is)))
+          at)
+          never (c.delete.ensures.stands history at)
+      | inr same ↦ subst (λ folder. IsStill docs before (g.F.Folder.disk folder) (Ok (Delete c.args.id c.args.rev))) (sym same.1) (still_same docs before (Ok (Delete c.args.id c.args.rev)))
+    ]

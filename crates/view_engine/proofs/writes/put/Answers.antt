@@ -10,12 +10,14 @@ use Rattle.doc_file.specs.Held.{Stands}
 use Rattle.doc_file.specs.Writes.{IsFileFault, IsRefusedPut}
 use Rattle.view_engine.specs.declared.request.Request.TheVariants.{Put}
 use Rattle.view_engine.specs.Engine.{StandsAround}
+use Rattle.view_engine.specs.Halts.{IsStill}
 use Rattle.view_engine.specs.Put.{put_write}
 use Rattle.view_engine.specs.Steps.{IsWrite}
 use Rattle.view_engine.specs.World.{World}
 use Rattle.view_engine.proofs.Around.{moves_around, stays_around}
 use Rattle.view_engine.proofs.PlainPuts.{plain_where_built}
 use Rattle.view_engine.proofs.FullFiles.{full_of_file, put_not_of_file}
+use Rattle.view_engine.proofs.Still.{still_same, still_written}
 use Rattle.view_engine.proofs.Writing.{put_does, put_is_write, put_refused, reply_to}
 use Rattle.view_engine.proofs.writes.put.Goals as goal
 
@@ -104,3 +106,47 @@ returns-clause-reached g c = λ name length is history.
       put_is_write docs d.now history at c.args.document (sym c.in_ok-is_unbuilt.ensures ∙ c.if-branch.false) (c.in-Err.ensures.reached of_file)
           (reply_to docs d.now history at c.id_of.result.now (id_of document) c.id_of.ensures (c.in_ok-reply.ensures.history d.now history at)),
     ))
+
+-- ---- what is still
+
+pub returns-in_err-is_unbuilt-clause-still : goal.returns-in_err-is_unbuilt-clause-still
+returns-in_err-is_unbuilt-clause-still g c = still_same c.args.docs.now (g.F.Folder.disk c.args.folder.now) (Ok (Put c.args.document))
+
+pub returns-then-branch-clause-still : goal.returns-then-branch-clause-still
+returns-then-branch-clause-still g c = still_same c.args.docs.now (g.F.Folder.disk c.args.folder.now) (Ok (Put c.args.document))
+
+pub returns-in_err-reply-clause-still : goal.returns-in_err-reply-clause-still
+returns-in_err-reply-clause-still g c = still_same c.args.docs.now (g.F.Folder.disk c.args.folder.now) (Ok (Put c.args.document))
+
+pub returns-in_err-extend_from_slice-clause-still : goal.returns-in_err-extend_from_slice-clause-still
+returns-in_err-extend_from_slice-clause-still g c = still_same c.args.docs.now (g.F.Folder.disk c.args.folder.now) (Ok (Put c.args.document))
+
+pub returns-in-Ok-clause-still : goal.returns-in-Ok-clause-still
+returns-in-Ok-clause-still g c = λ history at never.
+    let docs = c.args.docs.now in
+    let before = g.F.Folder.disk c.args.folder.now in
+    let document = object (members_of c.args.document) in
+    let world : World = record { history = history } in
+    still_written before (g.F.Folder.disk c.put.new.folder) history (Ok (Put c.args.document)) (put_write world document) _
+    (told_now before (λ d. IsAt docs d.now history) (λ d. IsWrite world (Ok (Put c.args.document)) (put_write world document))
+    (λ d is. put_is_write docs d.now history is c.args.document (sym c.in_ok-is_unbuilt.ensures ∙ c.if-branch.false) c.in-Ok.ensures.accepted
+    (reply_to docs d.now history is c.id_of.result.now (id_of document) c.id_of.ensures (c.in_ok-reply.ensures.history d.now history is)))
+    at)
+    never (c.put.ensures.stands history at)
+
+pub returns-clause-still : goal.returns-clause-still
+returns-clause-still g c =
+    let docs = c.args.docs.now in
+    let before = g.F.Folder.disk c.args.folder.now in
+    let document = object (members_of c.args.document) in
+    elim c.in-Err.ensures.kept [
+      | inl of_file ↦ λ history at never.
+          let world : World = record { history = history } in
+          still_written before (g.F.Folder.disk c.put.new.folder) history (Ok (Put c.args.document)) (put_write world document) _
+          (told_now before (λ d. IsAt docs d.now history) (λ d. IsWrite world (Ok (Put c.args.document)) (put_write world document))
+          (λ d is. put_is_write docs d.now history is c.args.document (sym c.in_ok-is_unbuilt.ensures ∙ c.if-branch.false) (c.in-Err.ensures.reached of_file)
+          (reply_to docs d.now history is c.id_of.result.now (id_of document) c.id_of.ensures (c.in_ok-reply.ensures.history d.now history is)))
+          at)
+          never (c.put.ensures.stands history at)
+      | inr same ↦ subst (λ folder. IsStill docs before (g.F.Folder.disk folder) (Ok (Put c.args.document))) (sym same.1) (still_same docs before (Ok (Put c.args.document)))
+    ]

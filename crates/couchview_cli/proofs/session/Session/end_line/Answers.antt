@@ -10,7 +10,8 @@ use Rattle.couchview_cli.specs.declared.session.SessionError.{SessionError}
 use Rattle.couchview_cli.specs.Session.{EndedBy, Origin, Progress}
 use Rattle.couchview_cli.proofs.Progressing.{Progress-line, Answered-alone, Answered-pending, IsHalted-alone, IsHalted-pending}
 use Rattle.couchview_cli.proofs.Ending.{CutOff-line, Ended-line, Ended-out_of_memory, Ended-same}
-use Rattle.couchview_cli.proofs.Results.{OnOk-map, answer_err}
+use Rattle.view_ports.proofs.Results.{OnOk-map}
+use Rattle.couchview_cli.proofs.LineErrors.{answer_err}
 use Rattle.couchview_cli.proofs.session.Session.end_line.Goals as goal
 
 pub returns-then-is_empty-clause-ok : goal.returns-then-is_empty-clause-ok

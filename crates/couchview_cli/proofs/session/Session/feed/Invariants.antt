@@ -5,8 +5,8 @@ use Rattle.couchview_cli.specs.Session.{Origin, Progress}
 use Rattle.couchview_cli.proofs.session.Session.feed.Given as goal
 
 -- the lines that ended in the front of the piece are answered
-abbrev pub invariant-loop-length : goal.invariant-loop-length
-invariant-loop-length g l =
+abbrev pub invariant-loop-line : goal.invariant-loop-line
+invariant-loop-line g l =
     let functions = g.C.Servers.functions in
     let honest = g.C.Servers.honest in
     let may_follow = g.C.Servers.may_follow in
@@ -19,5 +19,5 @@ invariant-loop-length g l =
     IfTold (disk l.folder) (λ d. IsOpen l.self.responder.engine.docs d.now) ×
     (g.K.Sink.faults l.initial.sink ≤ g.K.Sink.faults l.sink) × (g.F.Folder.faults l.initial.folder ≤ g.F.Folder.faults l.folder) × (faults l.initial.servers ≤ faults l.servers)
 
-abbrev pub decreases-loop-length : goal.decreases-loop-length
-decreases-loop-length g l = length l.rest
+abbrev pub decreases-loop-line : goal.decreases-loop-line
+decreases-loop-line g l = length l.rest

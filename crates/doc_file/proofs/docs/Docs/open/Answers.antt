@@ -1,5 +1,5 @@
 -- The root record is read once the pair is opened, and a read changes nothing.
-use Rattle.std.proofs.Common.{◌≡◌, ◌⊎◌, ℕ, Option, inr, sym, Err, IfOk, subst, rules}
+use Rattle.std.proofs.Common.{◌≡◌, ℕ, Option, inr, sym, Err, IfOk, subst, rules}
 use Rattle.view_ports.specs.Disk.{Disk, IfTold, Moves, MovesNone, Tells}
 use Rattle.view_ports.specs.File.{File}
 use Rattle.gate_file.specs.declared.gate.GateFile.{GateFile}
@@ -9,24 +9,15 @@ use Rattle.view_ports.specs.declared.file_name.Stem.TheVariants.{Docs as DocsSte
 use Rattle.view_ports.proofs.Told.{told_after, told_back, told_given, told_now, told_pair, told_then}
 use Rattle.view_ports.proofs.DiskRuns.{none_same}
 use Rattle.gate_file.specs.declared.fault.GateFault.TheVariants.{Damaged}
-use Rattle.gate_file.specs.Open.{opened, IsFirstDamage, IsOpened, WhileOpening}
+use Rattle.gate_file.specs.Open.{opened, IsOpened, WhileOpening}
 use Rattle.gate_file.proofs.Openings.{failed_open}
 use Rattle.doc_file.specs.declared.fault.DocFault.TheVariants.{Gate}
 use Rattle.doc_file.specs.declared.record.RootRecord.{RootRecord}
-use Rattle.doc_file.specs.Docs.{file_of, HoldsHistory, IsDocsFile}
-use Rattle.doc_file.specs.Held.{HoldsRoot, IsRootPlace}
-use Rattle.doc_file.proofs.Opened.{opened_at, opened_holds, opened_open, opening_stands, told_end, undamaged}
+use Rattle.doc_file.specs.Docs.{file_of, HoldsHistory, IsDamagedAt, IsDocsFile}
+use Rattle.doc_file.specs.Held.{HoldsRoot}
+use Rattle.doc_file.proofs.Opened.{opened_at, opened_damaged, opened_holds, opened_open, opening_stands, told_end, undamaged}
 use Rattle.doc_file.proofs.Stretches.{moves_then_none, IsOpened-same}
 use Rattle.doc_file.proofs.docs.Docs.open.Goals as goal
-
-pub returns-in_err-root-clause-damaged : goal.returns-in_err-root-clause-damaged
-returns-in_err-root-clause-damaged g c =
-    told_now (g.F.Folder.disk c.args.folder.now) (λ d. c.in_ok-file.file ≡ opened DocsStem d.now)
-    (λ d. (n : FileName) (at : ℕ) → c.from_residual-in_err-root.result ≡ Err (Gate (Damaged n at)) → IsFirstDamage DocsStem d.now n at ⊎ IsRootPlace (opened DocsStem d.now) n at)
-    (λ d same n at failed.
-    let was : c.load_root.result ≡ Err (Gate (Damaged n at)) = search rules in
-    inr (subst (λ gate. IsRootPlace gate n at) same (c.load_root.ensures.place n at was)))
-    c.in_ok-file.ensures.opened
 
 pub returns-in_err-root-clause-disk : goal.returns-in_err-root-clause-disk
 returns-in_err-root-clause-disk g c =
@@ -51,6 +42,18 @@ returns-clause-disk g c =
 
 abbrev Opens : GateFile → (FileName → File) → Type 0
 Opens file old = file ≡ opened DocsStem old
+
+pub returns-in_err-root-clause-damaged : goal.returns-in_err-root-clause-damaged
+returns-in_err-root-clause-damaged g c =
+    let file = c.in_ok-file.file in
+    told_pair (g.F.Folder.disk c.args.folder.now) (λ d. Opens file d.now) (λ d. Opens file d.now → (n : FileName) (at : ℕ) → c.from_residual-in_err-root.result ≡ Err (Gate (Damaged n at)) → IsDamagedAt d.now n at) _
+    (λ d file_is found. found file_is)
+    c.in_ok-file.ensures.opened
+    (told_back (g.F.Folder.disk c.args.folder.now) (g.F.Folder.disk c.open.new.folder) (λ d. Opens file d.now → (n : FileName) (at : ℕ) → c.from_residual-in_err-root.result ≡ Err (Gate (Damaged n at)) → IsDamagedAt d.now n at) _ _
+    (λ a b moved lacks file_is n at failed.
+    let was : c.load_root.result ≡ Err (Gate (Damaged n at)) = search rules in
+    inr (opened_damaged file a.now b.now n at file_is (subst (λ r. IfOk r (λ gate. IsOpened gate a.now b.now)) c.in_ok-file.was moved.ended) (record { place = c.load_root.ensures.place n at was; none = lacks n at was })))
+    c.open.ensures.disk c.load_root.ensures.damaged)
 
 -- what the root record holds is held in the end
 held_end : (file : GateFile) (root : RootRecord) (mid new : Option (Disk FileName)) → IfTold mid (λ d. HoldsRoot (root_of file) (commits_of file) (d.now (name_of file)).seen root.seq root.entries.items) → Tells mid new MovesNone

@@ -7,11 +7,12 @@ use Rattle.view_engine.specs.declared.halt.Halt.TheVariants.{Refused}
 use Rattle.view_engine.specs.declared.request.Request.{Request}
 use Rattle.view_engine.specs.declared.refusal.Refusal.{Refusal}
 use Rattle.view_engine.specs.Engine.{Appends, IsAt, Leaves}
-use Rattle.view_engine.specs.Halts.{GoesOn}
+use Rattle.view_engine.specs.Halts.{GoesOn, IsStill}
 use Rattle.view_engine.specs.Moments.{Moment}
 use Rattle.view_engine.specs.Refusals.{request_of, refusal_text}
 use Rattle.view_engine.specs.Steps.{DoesRequest, DoesRequestText, MayHaveCalled}
 use Rattle.view_engine.proofs.Keeping.{moments_still, stands_still}
+use Rattle.view_engine.proofs.Still.{still_same}
 use Rattle.view_engine.proofs.Unread.{leaves_unread}
 use Rattle.view_engine.proofs.engine.Engine.answer.Goals as goal
 
@@ -49,3 +50,10 @@ returns-in-Err-clause-moments g c = moments_still c.args.self.now.docs (g.F.Fold
 
 pub returns-in-Err-clause-unwritten : goal.returns-in-Err-clause-unwritten
 returns-in-Err-clause-unwritten g c = λ goes_on history told. stands_still c.args.self.now.docs (g.F.Folder.disk c.args.folder.now) history told
+
+pub returns-in-Err-clause-still : goal.returns-in-Err-clause-still
+returns-in-Err-clause-still g c = still_same c.args.self.now.docs (g.F.Folder.disk c.args.folder.now) (request_of c.args.line.now)
+
+pub returns-in-Ok-clause-still : goal.returns-in-Ok-clause-still
+returns-in-Ok-clause-still g c =
+    subst (λ (request : Result Request Refusal). IsStill c.args.self.now.docs (g.F.Folder.disk c.args.folder.now) (g.F.Folder.disk c.perform.new.folder) request) (sym c.in-Ok.ensures.ok) c.perform.ensures.still

@@ -1,13 +1,11 @@
 -- An engine is opened as its documents are.
-use Rattle.std.proofs.Common.{◌≡◌, ◌∙◌, ◌⊎◌, ℕ, Err, IfOk, sym, ap}
+use Rattle.std.proofs.Common.{◌≡◌, ◌∙◌, ℕ, Err, IfOk, sym, ap}
 use Rattle.view_ports.specs.declared.file_name.FileName.{FileName}
-use Rattle.view_ports.specs.declared.file_name.Stem.TheVariants.{Docs as DocsStem}
 use Rattle.view_ports.proofs.Told.{told_now}
-use Rattle.gate_file.specs.Open.{opened, IsFirstDamage}
 use Rattle.gate_file.specs.declared.fault.GateFault.TheVariants as gate
 use Rattle.doc_file.specs.declared.fault.DocFault.TheVariants.{Gate}
-use Rattle.doc_file.specs.Docs.{HoldsHistory, IsAt}
-use Rattle.doc_file.specs.Held.{IsRootPlace, Stands}
+use Rattle.doc_file.specs.Docs.{HoldsHistory, IsAt, IsDamagedAt}
+use Rattle.doc_file.specs.Held.{Stands}
 use Rattle.view_engine.specs.declared.halt.StepFault.TheVariants.{Damaged}
 use Rattle.view_engine.proofs.Around.{inside}
 use Rattle.view_engine.proofs.Faults.{damage_is}
@@ -28,7 +26,7 @@ returns-in-Err-clause-moments g c = λ history held.
 pub returns-in-Err-clause-damaged : goal.returns-in-Err-clause-damaged
 returns-in-Err-clause-damaged g c =
     told_now (g.F.Folder.disk c.args.folder.now)
-    (λ d. (name : FileName) (at : ℕ) → c.open.result ≡ Err (Gate (gate.Damaged name at)) → IsFirstDamage DocsStem d.now name at ⊎ IsRootPlace (opened DocsStem d.now) name at)
+    (λ d. (name : FileName) (at : ℕ) → c.open.result ≡ Err (Gate (gate.Damaged name at)) → IsDamagedAt d.now name at)
     _
     (λ d told name at is. told name at (c.in-Err.is ∙ ap Err (damage_is c.in-Err.fault name at (sym c.open_fault.ensures ∙ (let fault : c.open_fault.result ≡ Damaged name at = cc in fault)))))
     c.open.ensures.damaged

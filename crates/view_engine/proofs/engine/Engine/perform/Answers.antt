@@ -20,7 +20,7 @@ use Rattle.view_engine.specs.Answer.{info_text}
 use Rattle.view_engine.specs.Delete.{delete_write, DoesDelete, IsDeleteRefused}
 use Rattle.view_engine.specs.Engine.{Appends, IsAt, Leaves}
 use Rattle.view_engine.specs.Get.{get_refusal}
-use Rattle.view_engine.specs.Halts.{GoesOn}
+use Rattle.view_engine.specs.Halts.{GoesOn, IsStill}
 use Rattle.view_engine.specs.Moments.{Moment, with_world}
 use Rattle.view_engine.specs.Put.{put_write, DoesPut, IsPutRefused}
 use Rattle.view_engine.specs.Refusals.{refusal_text}
@@ -29,6 +29,7 @@ use Rattle.view_engine.specs.Steps.{DoesRequest, DoesRequestText, IsRefusedAs, M
 use Rattle.view_engine.specs.World.{written}
 use Rattle.view_engine.proofs.Keeping.{all_kept, at_kept, at_none, moments_none, moments_still, open_none, stands_kept, stands_none, stands_still}
 use Rattle.view_engine.proofs.Performing.{appends_document, appends_told, appends_written, leaves_known, leaves_refused, unbuilt}
+use Rattle.view_engine.proofs.Still.{still_none, still_same}
 use Rattle.view_engine.proofs.engine.Engine.perform.Goals as goal
 
 -- ---- a put
@@ -238,3 +239,31 @@ returns-in-View-clause-unwritten g c = λ goes_on history told. stands_still c.a
 
 pub returns-clause-unwritten : goal.returns-clause-unwritten
 returns-clause-unwritten g c = λ goes_on history told. stands_still c.args.self.now.docs (g.F.Folder.disk c.args.folder.now) history told
+
+-- ---- what is still
+
+pub returns-in-Put-clause-still : goal.returns-in-Put-clause-still
+returns-in-Put-clause-still g c =
+    subst (λ (request : Request). IsStill c.args.self.now.docs (g.F.Folder.disk c.args.folder.now) (g.F.Folder.disk c.put.new.folder) (Ok request)) (sym c.in-Put.is) c.put.ensures.still
+
+pub returns-in-Delete-clause-still : goal.returns-in-Delete-clause-still
+returns-in-Delete-clause-still g c =
+    subst (λ (request : Request). IsStill c.args.self.now.docs (g.F.Folder.disk c.args.folder.now) (g.F.Folder.disk c.delete.new.folder) (Ok request)) (sym c.in-Delete.is) c.delete.ensures.still
+
+pub returns-in-Get-clause-still : goal.returns-in-Get-clause-still
+returns-in-Get-clause-still g c = still_none c.args.self.now.docs (g.F.Folder.disk c.args.folder.now) (g.F.Folder.disk c.get.new.folder) (Ok c.args.request) c.get.ensures.disk
+
+pub returns-in-None-clause-still : goal.returns-in-None-clause-still
+returns-in-None-clause-still g c = still_none c.args.self.now.docs (g.F.Folder.disk c.args.folder.now) (g.F.Folder.disk c.view.new.folder) (Ok c.args.request) c.view.ensures.disk
+
+pub returns-in-Ok-clause-still : goal.returns-in-Ok-clause-still
+returns-in-Ok-clause-still g c = still_same c.args.self.now.docs (g.F.Folder.disk c.args.folder.now) (Ok c.args.request)
+
+pub returns-in-Info-clause-still : goal.returns-in-Info-clause-still
+returns-in-Info-clause-still g c = still_same c.args.self.now.docs (g.F.Folder.disk c.args.folder.now) (Ok c.args.request)
+
+pub returns-in-View-clause-still : goal.returns-in-View-clause-still
+returns-in-View-clause-still g c = still_same c.args.self.now.docs (g.F.Folder.disk c.args.folder.now) (Ok c.args.request)
+
+pub returns-clause-still : goal.returns-clause-still
+returns-clause-still g c = still_same c.args.self.now.docs (g.F.Folder.disk c.args.folder.now) (Ok c.args.request)

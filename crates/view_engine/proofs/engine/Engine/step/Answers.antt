@@ -14,6 +14,7 @@ use Rattle.view_engine.specs.Halts.{GoesOn}
 use Rattle.view_engine.specs.Moments.{Moment}
 use Rattle.view_engine.specs.Refusals.{request_of}
 use Rattle.view_engine.proofs.Keeping.{moments_still}
+use Rattle.view_engine.proofs.Still.{still_same}
 use Rattle.view_engine.proofs.Stepping.{leaves_called, line_appended, nothing_appended, refusal_appended, Leaves-halted}
 use Rattle.view_engine.proofs.engine.Engine.step.Goals as goal
 
@@ -103,3 +104,8 @@ pub returns-in-Err-Stopped-clause-unmoved : goal.returns-in-Err-Stopped-clause-u
 returns-in-Err-Stopped-clause-unmoved g c = λ is.
     let fault_is : c.in-Err-Stopped.fault ≡ NoMemory = cc in
     c.in-Err-Stopped.ensures.unwritten (subst GoesOn (sym (c.in-Err-Stopped.field-0-is ∙ ap Stopped fault_is)) tt)
+
+-- ---- what is still
+
+pub returns-then-is_empty-clause-still : goal.returns-then-is_empty-clause-still
+returns-then-is_empty-clause-still g c = still_same c.args.self.now.docs (g.F.Folder.disk c.args.folder.now) (request_of c.args.line.now)

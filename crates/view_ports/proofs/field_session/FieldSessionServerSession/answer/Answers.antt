@@ -1,5 +1,5 @@
 -- The rows of a document are no log line.
-use Rattle.std.proofs.Common.{◌≡◌, ◌∙◌, ℕ, Vec, Global, sym, rules}
+use Rattle.std.proofs.Common.{◌∙◌, ℕ, Vec, Global, sym}
 use Rattle.std.proofs.lemmas.Result.{IfOk-weaker}
 use Rattle.view_ports.specs.Field.{field}
 use Rattle.view_ports.specs.Functions.{lists_term}

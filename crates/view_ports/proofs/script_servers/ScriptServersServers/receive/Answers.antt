@@ -1,5 +1,5 @@
 -- One answer more was given.
-use Rattle.std.proofs.Common.{◌≡◌, ◌<◌, ◌++◌, ◌∷◌, [], length, ap, ◌∙◌, sym, append-nil, take, arith}
+use Rattle.std.proofs.Common.{◌≡◌, ◌∷◌, [], ap, ◌∙◌, append-nil, take, arith}
 use Rattle.view_ports.specs.declared.script_servers.Answer.{Answer}
 use Rattle.view_ports.specs.Script.{lines_in}
 use Rattle.view_ports.proofs.Scripts.{lines_in-more}

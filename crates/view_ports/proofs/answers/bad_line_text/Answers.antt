@@ -2,7 +2,7 @@ use Rattle.std.proofs.Common.{ℕ, Vec, Global, codes, arith}
 use Rattle.std.proofs.lemmas.Result.{IfOk-weaker}
 use Rattle.view_ports.specs.Honest.{IsTextOf, no_command}
 use Rattle.view_ports.proofs.Fields.{Spells-strings}
-use Rattle.view_ports.proofs.answers.bad_line.Goals as goal
+use Rattle.view_ports.proofs.answers.bad_line_text.Goals as goal
 
 pub returns-clause-short : goal.returns-clause-short
 returns-clause-short c =

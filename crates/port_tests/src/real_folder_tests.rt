@@ -1,0 +1,172 @@
+//! What no contract says: what the files of the real folder hold, and which calls on it fail.
+use crate::folders::{DOCS, Step, bytes, read, run};
+use json_terms::NoMemory;
+use real_ports::{FILE_TEXT_LIMIT, RealFolder, file_text, read_file_name};
+use std::alloc::Global;
+use std::os::unix::fs::symlink;
+use std::test::Fail;
+use std::{fs, io};
+use view_ports::{FileName, Folder, FolderFault, Stem};
+
+const FULL: &str = "aaaaaaaaaaaaaaaaaaaaaaaaaaaaaaaa.1";
+
+const EMPTY: &str = "bbbbbbbbbbbbbbbbbbbbbbbbbbbbbbbb.1";
+
+const LINK: &str = "cccccccccccccccccccccccccccccccc.1";
+
+const LONG: &str = "dddddddddddddddddddddddddddddddd.1";
+
+/// A folder's name that is no text.
+const NO_TEXT: &[u8] = b"\xff";
+
+/// The file of a signature of one digit.
+fn view(digit: u8) -> FileName {
+    FileName {
+        stem: Stem::View([digit; 32]),
+        side: true,
+    }
+}
+
+/// Whether the text is read as a name, and is that name's text.
+fn is_name(text: &str) -> bool {
+    let mut room = [0; FILE_TEXT_LIMIT];
+    match read_file_name(text.as_bytes()) {
+        Some(name) => file_text(&name, &mut room) == text.as_bytes(),
+        None => false,
+    }
+}
+
+/// Texts, and whether they are those of names.
+const NAMES: &[(&str, bool)] = &[
+    ("docs.0", true),
+    ("docs.1", true),
+    ("0123456789abcdef0123456789abcdef.1", true),
+    ("docs", false),
+    ("docs.2", false),
+    (".0", false),
+    ("docs.0 ", false),
+    ("Docs.0", false),
+    ("0123456789ABCDEF0123456789ABCDEF.1", false),
+    ("0123456789abcdef.1", false),
+];
+
+#[test]
+fn names_have_their_texts(rt: HostRuntime) {
+    for (text, want) in NAMES {
+        assert!(rt; is_name(text) == *want, "{text}");
+    }
+}
+
+/// Whether all the steps are taken, and the file of documents holds these bytes then.
+fn leaves(
+    folder: &mut RealFolder,
+    alloc: Global,
+    steps: &[Step],
+    want: &[u8],
+) -> Result<bool, NoMemory> {
+    let refused = run(folder, steps);
+    let held = bytes(folder, alloc, DOCS)?;
+    Ok(refused == 0 && held.as_slice() == want)
+}
+
+const WRITTEN: &[Step] = &[
+    Step::Cut,
+    Step::Sync,
+    Step::Grow(5),
+    Step::Write(1, b"abc"),
+    Step::Sync,
+];
+
+#[test]
+fn a_file_holds_what_was_written(rt: HostRuntime) -> Result<(), Fail> {
+    let _ = fs::remove_file(&rt, "docs.0");
+    let mut folder = RealFolder::new(rt);
+    let mut later = RealFolder::new(rt);
+    assert!(rt; leaves(&mut folder, rt.alloc(), WRITTEN, b"\0abc\0")?);
+    assert!(rt; leaves(&mut later, rt.alloc(), &[], b"\0abc\0")?);
+    let mut part = [0; 2];
+    let count = read(&mut later, DOCS, 2, &mut part);
+    assert!(rt; count == Ok(2) && part == *b"bc" && read(&mut later, DOCS, 5, &mut part) == Ok(0));
+    let steps = [Step::Cut, Step::Grow(2), Step::Sync];
+    assert!(rt; leaves(&mut later, rt.alloc(), &steps, b"\0\0")?);
+    assert!(rt; leaves(&mut folder, rt.alloc(), &[], b"\0\0")?);
+    fs::remove_file(&rt, "docs.0")?;
+    Ok(())
+}
+
+/// Makes a link to a file of the folder, a file with another name, and a folder.
+fn put_strays(rt: &HostRuntime) -> io::Result<()> {
+    symlink(rt, FULL, LINK)?;
+    fs::write(rt, "docs.2", b"stray".as_slice())?;
+    os::mkdir(NO_TEXT);
+    Ok(())
+}
+
+/// Whether the file of a full signature is listed, that of an empty one, and that of a link.
+fn are_listed(folder: &mut RealFolder, alloc: Global) -> Result<[bool; 3], FolderFault> {
+    let names = folder.names(alloc)?;
+    Ok([
+        names.contains(&view(b'a')),
+        names.contains(&view(b'b')),
+        names.contains(&view(b'c')),
+    ])
+}
+
+#[test]
+fn only_files_with_bytes_are_listed(rt: HostRuntime) -> Result<(), Fail> {
+    for path in [FULL, EMPTY, LINK] {
+        let _ = fs::remove_file(&rt, path);
+    }
+    let mut folder = RealFolder::new(rt);
+    folder.grow(view(b'a'), 1)?;
+    folder.grow(view(b'b'), 0)?;
+    put_strays(&rt)?;
+    assert_eq!(rt; are_listed(&mut folder, rt.alloc())?, [true, false, false]);
+    assert_eq!(rt; os::rmdir(NO_TEXT), 0);
+    for path in [FULL, EMPTY, LINK, "docs.2"] {
+        fs::remove_file(&rt, path)?;
+    }
+    Ok(())
+}
+
+/// Whether each call on the file fails.
+fn all_fail(folder: &mut RealFolder, name: FileName) -> bool {
+    folder.len(name).is_err()
+        && folder.read_at(name, 0, &mut [0]).is_err()
+        && folder.write_at(name, 0, b"").is_err()
+        && folder.grow(name, 1).is_err()
+        && folder.cut_to_zero(name).is_err()
+        && folder.sync(name).is_err()
+}
+
+// A folder has the first name, and no file may have the second.
+#[test]
+fn no_call_succeeds_on_what_is_no_file(rt: HostRuntime) -> Result<(), Fail> {
+    let _ = fs::create_dir(&rt, "docs.1");
+    let taken = FileName {
+        stem: Stem::Docs,
+        side: true,
+    };
+    for name in [taken, view(b'/')] {
+        let mut folder = RealFolder::new(rt);
+        assert!(rt; all_fail(&mut folder, name), "{name:?}");
+    }
+    fs::remove_dir(&rt, "docs.1")?;
+    Ok(())
+}
+
+#[test]
+fn no_write_makes_a_file_longer(rt: HostRuntime) -> Result<(), Fail> {
+    let _ = fs::remove_file(&rt, LONG);
+    let mut folder = RealFolder::new(rt);
+    let name = view(b'd');
+    assert!(rt; folder.write_at(name, 0, b"x").is_err());
+    folder.grow(name, 2)?;
+    assert!(rt; folder.write_at(name, 1, b"xy").is_err());
+    assert_eq!(rt;
+        bytes(&mut folder, rt.alloc(), name)?.as_slice(),
+        b"\0\0".as_slice()
+    );
+    fs::remove_file(&rt, LONG)?;
+    Ok(())
+}
