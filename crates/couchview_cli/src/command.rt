@@ -22,7 +22,7 @@ use view_ports::{Folder, PortFault, RunEnd, Servers, Sink, Source, write_all};
 const USAGE_STATUS: u8 = 2;
 
 /// How many languages the command line may name.
-const LANGUAGES: usize = 8;
+pub const LANGUAGES: usize = 8;
 
 fn usage() -> &'static [u8]
     ensures { result.now ≡ usage_line }
@@ -31,7 +31,7 @@ fn usage() -> &'static [u8]
 }
 
 /// Whether a language may have this path.
-fn is_path(path: &str) -> bool
+pub fn is_path(path: &str) -> bool
     ensures { result ≡ spec.is_path path.now }
 {
     !path.as_bytes().starts_with(b"builtin:") || is_built_in(path)
@@ -65,7 +65,7 @@ fn names(word: &str, language: &str) -> bool
 }
 
 /// Whether one of the words is LANG=PATH with this language.
-fn is_named(words: &[String], language: &str) -> bool
+pub fn is_named(words: &[String], language: &str) -> bool
     ensures { result ≡ list_any (λ word. spec.names language.now (language_in (string_bytes word))) words.now }
 {
     words.iter().any(|word| names(word.as_str(), language))
@@ -98,7 +98,8 @@ fn are_languages(words: &[String]) -> bool
     words.len() <= LANGUAGES && all_languages(words) && are_apart(words)
 }
 
-fn is_serve(words: &[String]) -> bool
+/// Whether the words are the command `serve`.
+pub fn is_serve(words: &[String]) -> bool
     ensures { IsTrue result ↔ IsServe words.now }
 {
     match words.split_first() {

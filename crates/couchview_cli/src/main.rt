@@ -1,6 +1,7 @@
 //! couchview: CouchDB views over documents that request lines write.
 #![tactic(auto)]
 
+mod advice;
 mod built_in;
 mod closing;
 mod command;
@@ -8,34 +9,46 @@ mod serve;
 mod session;
 #[cfg(test)]
 mod tests;
+mod wrong_word;
 
+use advice::advice;
 use built_in::Mixed;
 pub use command::couchview;
 use json_terms::NoMemory;
-use real_ports::{RealFolder, RealServers, StdSink, StdSource};
+use real_ports::{Diagnostics, Program, RealFolder, RealServers, StdSink, StdSource};
 use std::alloc::AllocError;
 use std::env;
 use std::io::ErrorKind;
 use std::process::ExitCode;
 use view_ports::RunEnd;
+use wrong_word::wrong_word;
 
 /// The words after the program's name. None are given where one of them isn't UTF-8, since then
-/// they are no command.
-fn words(rt: HostRuntime) -> Result<Vec<String>, AllocError> {
+/// they are no command. Where they are none it is said why.
+fn words(rt: HostRuntime, diagnostics: Diagnostics) -> Result<Vec<String>, AllocError> {
     match env::args(&rt) {
-        Ok(all) => all.skip(1).collect(rt.alloc()),
+        Ok(all) => {
+            let words: Vec<String> = all.skip(1).collect(rt.alloc())?;
+            if let Some(wrong) = wrong_word(&words) {
+                diagnostics.say(wrong);
+            }
+            Ok(words)
+        }
         Err(error) if error.kind() == ErrorKind::OutOfMemory => Err(AllocError),
-        Err(_) => Ok(Vec::new(rt.alloc())),
+        Err(_) => {
+            diagnostics.say("a word is not UTF-8");
+            Ok(Vec::new(rt.alloc()))
+        }
     }
 }
 
 /// Does the command that the words name over the streams of the process and the folder in which it was started, and answers
 /// its exit status.
-fn run(rt: HostRuntime, words: &[String]) -> Result<u8, NoMemory> {
-    let mut source = StdSource::new(rt.stdin());
-    let mut sink = StdSink::new(rt.stdout());
-    let mut folder = RealFolder::new(rt);
-    let mut servers = Mixed::new(rt.alloc(), RealServers::new(rt)?)?;
+fn run(rt: HostRuntime, diagnostics: Diagnostics, words: &[String]) -> Result<u8, NoMemory> {
+    let mut source = StdSource::new(rt.stdin(), diagnostics);
+    let mut sink = StdSink::new(rt.stdout(), diagnostics);
+    let mut folder = RealFolder::new(rt, diagnostics);
+    let mut servers = Mixed::new(rt.alloc(), RealServers::new(rt, diagnostics)?)?;
     Ok(couchview(
         rt.alloc(),
         words,
@@ -47,9 +60,14 @@ fn run(rt: HostRuntime, words: &[String]) -> Result<u8, NoMemory> {
 }
 
 fn main(rt: HostRuntime) -> ExitCode {
-    let status = match words(rt) {
-        Ok(words) => run(rt, &words),
+    let diagnostics = Diagnostics::new(rt, Program::Couchview);
+    let status = match words(rt, diagnostics) {
+        Ok(words) => run(rt, diagnostics, &words),
         Err(AllocError) => Err(NoMemory),
     };
-    ExitCode::from(status.unwrap_or(RunEnd::OutOfMemory.status()))
+    let status = status.unwrap_or(RunEnd::OutOfMemory.status());
+    if let Some(advice) = advice(status) {
+        diagnostics.say(advice);
+    }
+    ExitCode::from(status)
 }

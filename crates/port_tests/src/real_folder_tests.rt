@@ -1,7 +1,7 @@
 //! What no contract says: what the files of the real folder hold, and which calls on it fail.
 use crate::folders::{DOCS, Step, bytes, read, run};
 use json_terms::NoMemory;
-use real_ports::{FILE_TEXT_LIMIT, RealFolder, file_text, read_file_name};
+use real_ports::{Diagnostics, FILE_TEXT_LIMIT, Program, RealFolder, file_text, read_file_name};
 use std::alloc::Global;
 use std::os::unix::fs::symlink;
 use std::test::Fail;
@@ -10,14 +10,23 @@ use view_ports::{FileName, Folder, FolderFault, Stem};
 
 const FULL: &str = "aaaaaaaaaaaaaaaaaaaaaaaaaaaaaaaa.1";
 
-const EMPTY: &str = "bbbbbbbbbbbbbbbbbbbbbbbbbbbbbbbb.1";
-
 const LINK: &str = "cccccccccccccccccccccccccccccccc.1";
-
-const LONG: &str = "dddddddddddddddddddddddddddddddd.1";
 
 /// A folder's name that is no text.
 const NO_TEXT: &[u8] = b"\xff";
+
+/// A folder of this name, which is made anew, and in which the test goes on.
+fn enter(rt: HostRuntime, name: &str) -> io::Result<RealFolder> {
+    let _ = fs::remove_dir_all(&rt, name);
+    fs::create_dir(&rt, name)?;
+    os::chdir(name.as_bytes());
+    Ok(folder_here(rt))
+}
+
+/// The folder in which the test is.
+fn folder_here(rt: HostRuntime) -> RealFolder {
+    RealFolder::new(rt, Diagnostics::new(rt, Program::Couchview))
+}
 
 /// The file of a signature of one digit.
 fn view(digit: u8) -> FileName {
@@ -72,25 +81,63 @@ fn leaves(
 const WRITTEN: &[Step] = &[
     Step::Cut,
     Step::Sync,
-    Step::Grow(5),
-    Step::Write(1, b"abc"),
+    Step::Grow(9),
+    Step::Write(0, b"CVIEW001"),
     Step::Sync,
 ];
 
 #[test]
 fn a_file_holds_what_was_written(rt: HostRuntime) -> Result<(), Fail> {
-    let _ = fs::remove_file(&rt, "docs.0");
-    let mut folder = RealFolder::new(rt);
-    let mut later = RealFolder::new(rt);
-    assert!(rt; leaves(&mut folder, rt.alloc(), WRITTEN, b"\0abc\0")?);
-    assert!(rt; leaves(&mut later, rt.alloc(), &[], b"\0abc\0")?);
+    let mut folder = enter(rt, "written")?;
+    assert!(rt; leaves(&mut folder, rt.alloc(), WRITTEN, b"CVIEW001\0")?);
+    drop(folder);
+    let mut later = folder_here(rt);
+    assert!(rt; leaves(&mut later, rt.alloc(), &[], b"CVIEW001\0")?);
     let mut part = [0; 2];
     let count = read(&mut later, DOCS, 2, &mut part);
-    assert!(rt; count == Ok(2) && part == *b"bc" && read(&mut later, DOCS, 5, &mut part) == Ok(0));
+    assert!(rt; count == Ok(2) && part == *b"IE" && read(&mut later, DOCS, 9, &mut part) == Ok(0));
     let steps = [Step::Cut, Step::Grow(2), Step::Sync];
     assert!(rt; leaves(&mut later, rt.alloc(), &steps, b"\0\0")?);
-    assert!(rt; leaves(&mut folder, rt.alloc(), &[], b"\0\0")?);
-    fs::remove_file(&rt, "docs.0")?;
+    drop(later);
+    assert!(rt; leaves(&mut folder_here(rt), rt.alloc(), &[], b"\0\0")?);
+    Ok(())
+}
+
+// The first call takes the lock, and it goes with the folder.
+#[test]
+fn a_folder_is_used_by_one_at_a_time(rt: HostRuntime) -> Result<(), Fail> {
+    let mut folder = enter(rt, "one")?;
+    let mut other = folder_here(rt);
+    assert!(rt; folder.len(DOCS) == Ok(0) && other.len(DOCS).is_err());
+    assert!(rt; other.names(rt.alloc()).is_err() && all_fail(&mut other, DOCS));
+    drop(folder);
+    assert!(rt; other.len(DOCS) == Ok(0));
+    Ok(())
+}
+
+/// The front of a file, and whether it is taken for one of a database.
+const FRONTS: &[(&[u8], bool)] = &[
+    (b"", true),
+    (b"\0", true),
+    (b"CVIEW001 and more", true),
+    (b"CVIEW00", false),
+    (b"a text\n", false),
+    (b"\0\0\0\x01", false),
+    (b" CVIEW001", false),
+];
+
+// No call on a file of another program succeeds, and it stays as it is.
+#[test]
+fn only_files_of_a_database_are_used(rt: HostRuntime) -> Result<(), Fail> {
+    let folder = enter(rt, "own")?;
+    drop(folder);
+    for (front, want) in FRONTS {
+        fs::write(&rt, "docs.0", *front)?;
+        let mut folder = folder_here(rt);
+        assert!(rt; folder.len(DOCS).is_ok() == *want, "{front:?}");
+        assert!(rt; *want || all_fail(&mut folder, DOCS), "{front:?}");
+        assert!(rt; fs::read(&rt, "docs.0")?.as_slice() == *front, "{front:?}");
+    }
     Ok(())
 }
 
@@ -114,18 +161,12 @@ fn are_listed(folder: &mut RealFolder, alloc: Global) -> Result<[bool; 3], Folde
 
 #[test]
 fn only_files_with_bytes_are_listed(rt: HostRuntime) -> Result<(), Fail> {
-    for path in [FULL, EMPTY, LINK] {
-        let _ = fs::remove_file(&rt, path);
-    }
-    let mut folder = RealFolder::new(rt);
+    let mut folder = enter(rt, "listed")?;
     folder.grow(view(b'a'), 1)?;
     folder.grow(view(b'b'), 0)?;
     put_strays(&rt)?;
     assert_eq!(rt; are_listed(&mut folder, rt.alloc())?, [true, false, false]);
     assert_eq!(rt; os::rmdir(NO_TEXT), 0);
-    for path in [FULL, EMPTY, LINK, "docs.2"] {
-        fs::remove_file(&rt, path)?;
-    }
     Ok(())
 }
 
@@ -142,23 +183,21 @@ fn all_fail(folder: &mut RealFolder, name: FileName) -> bool {
 // A folder has the first name, and no file may have the second.
 #[test]
 fn no_call_succeeds_on_what_is_no_file(rt: HostRuntime) -> Result<(), Fail> {
-    let _ = fs::create_dir(&rt, "docs.1");
+    let mut folder = enter(rt, "taken")?;
+    fs::create_dir(&rt, "docs.1")?;
     let taken = FileName {
         stem: Stem::Docs,
         side: true,
     };
     for name in [taken, view(b'/')] {
-        let mut folder = RealFolder::new(rt);
         assert!(rt; all_fail(&mut folder, name), "{name:?}");
     }
-    fs::remove_dir(&rt, "docs.1")?;
     Ok(())
 }
 
 #[test]
 fn no_write_makes_a_file_longer(rt: HostRuntime) -> Result<(), Fail> {
-    let _ = fs::remove_file(&rt, LONG);
-    let mut folder = RealFolder::new(rt);
+    let mut folder = enter(rt, "long")?;
     let name = view(b'd');
     assert!(rt; folder.write_at(name, 0, b"x").is_err());
     folder.grow(name, 2)?;
@@ -167,6 +206,5 @@ fn no_write_makes_a_file_longer(rt: HostRuntime) -> Result<(), Fail> {
         bytes(&mut folder, rt.alloc(), name)?.as_slice(),
         b"\0\0".as_slice()
     );
-    fs::remove_file(&rt, LONG)?;
     Ok(())
 }

@@ -3,7 +3,7 @@ ghost use Rattle.std.specs.Prelude.{◌≡◌, codes};
 
 use crate::texts::assert_text;
 use json_terms::{Chars, NoMemory};
-use real_ports::{BuiltInPath, RealServers, Switch};
+use real_ports::{BuiltInPath, Diagnostics, Program, RealServers, Switch};
 use std::alloc::Global;
 use std::test::Fail;
 use view_ports::{Answer, FieldServers, ScriptServers, Servers, ServersFault};
@@ -90,9 +90,13 @@ const CALLS: &[(u32, Call, &str, &str)] = &[
     (1, Stop, "", ""),
 ];
 
+fn servers(rt: HostRuntime) -> Result<RealServers, NoMemory> {
+    RealServers::new(rt, Diagnostics::new(rt, Program::Couchview))
+}
+
 #[test]
 fn children_answer_each_line(rt: HostRuntime) -> Result<(), Fail> {
-    let mut servers = RealServers::new(rt)?;
+    let mut servers = servers(rt)?;
     for (slot, call, line, want) in CALLS {
         let given = called(&mut servers, rt.alloc(), *slot, *call, line);
         assert_text(&rt, shown(rt.alloc(), given), want, line)?;
@@ -114,7 +118,7 @@ fn comes_back(
 // `cat` prints what it has read before it reads on, so both ends must be served.
 #[test]
 fn long_lines_come_back(rt: HostRuntime) -> Result<(), Fail> {
-    let mut servers = RealServers::new(rt)?;
+    let mut servers = servers(rt)?;
     servers.start(rt.alloc(), 3, CAT)?;
     for length in [65_535, 65_536, 500_000, 3_000_000] {
         assert!(rt; comes_back(&mut servers, rt.alloc(), length)?, "{length}");
@@ -126,7 +130,7 @@ fn long_lines_come_back(rt: HostRuntime) -> Result<(), Fail> {
 // The long line doesn't fit into the pipe, so it isn't sent, though a short one may be.
 #[test]
 fn a_child_that_has_ended_takes_no_line(rt: HostRuntime) -> Result<(), Fail> {
-    let mut servers = RealServers::new(rt)?;
+    let mut servers = servers(rt)?;
     servers.start(rt.alloc(), 3, SHELL)?;
     servers.send(rt.alloc(), 3, b"exit")?;
     let line = vec![in rt.alloc(); b'x'; 1_000_000]?;

@@ -5,12 +5,15 @@ ghost use Rattle.real_ports.specs.Printed.{IsThere, IsUnended};
 ghost use Rattle.real_ports.specs.declared.child_lines.TheConstants.{LINE_LIMIT, PIECE};
 ghost use Rattle.view_ports.specs.Lines.{IsLine};
 
+use crate::child_fault::ChildFault;
+use crate::child_name::ChildName;
+use libc::net::POLLIN;
+use libc::types::pollfd;
 use memchr::memchr;
 use std::alloc::Global;
 use std::io::{ErrorKind, Read};
-use std::os::fd::{AsRawFd, RawFd};
+use std::os::fd::AsRawFd;
 use std::process::ChildStdout;
-use view_ports::ServersFault;
 
 /// How many bytes a line has at most, its newline aside. A child that has printed more than this, unread and without an
 /// end of a line, or while it doesn't take what it is sent, is given up.
@@ -40,14 +43,23 @@ impl ChildLines {
         }
     }
 
-    /// The number of the pipe.
-    pub fn number(&self) -> RawFd {
-        self.pipe.as_raw_fd()
+    /// Asks whether there are bytes to be read.
+    pub fn asked(&self) -> pollfd {
+        pollfd {
+            fd: self.pipe.as_raw_fd(),
+            events: POLLIN,
+            revents: 0,
+        }
     }
 
-    /// The next line without its newline. It waits until there is one. `Failed` where the output ends or can't be read,
-    /// or the line is longer than `LINE_LIMIT`. Bytes are read through the piece.
-    pub fn next_line(&mut self, alloc: Global, piece: &mut [u8]) -> Result<Vec<u8>, ServersFault>
+    /// The next line of this child without its newline. It waits until there is one. It fails where the output ends or
+    /// can't be read, or the line is longer than `LINE_LIMIT`. Bytes are read through the piece.
+    pub fn next_line(
+        &mut self,
+        alloc: Global,
+        child: &ChildName,
+        piece: &mut [u8],
+    ) -> Result<Vec<u8>, ChildFault>
         requires { length piece.old ≤ PIECE }
         ensures short { IfOk result (λ line. vec_len line ≤ LINE_LIMIT) }
         ensures line { IfOk result (λ line. IsLine line.items) }
@@ -58,20 +70,21 @@ impl ChildLines {
                 return self.take_line(alloc, searched + at);
             }
             searched = self.kept.len() - self.taken;
+            child.wait_for(&mut [self.asked()]);
             self.read_more(piece)?;
         }
-        Err(ServersFault::Failed)
+        Err(ChildFault::LineTooLong)
     }
 
     /// Takes so many bytes and the newline behind them.
-    fn take_line(&mut self, alloc: Global, count: usize) -> Result<Vec<u8>, ServersFault>
+    fn take_line(&mut self, alloc: Global, count: usize) -> Result<Vec<u8>, ChildFault>
         requires within { self.old.taken + count < vec_len self.old.kept }
         requires unended { IsUnended self.old.kept.items self.old.taken count }
         ensures short { IfOk result (λ line. vec_len line ≤ LINE_LIMIT) }
         ensures line { IfOk result (λ line. IsLine line.items) }
     {
         if count > LINE_LIMIT {
-            return Err(ServersFault::Failed);
+            return Err(ChildFault::LineTooLong);
         }
         let end = self.taken + count;
         let line = Vec::from_slice(alloc, &self.kept[self.taken..end])?;
@@ -83,21 +96,21 @@ impl ChildLines {
         Ok(line)
     }
 
-    /// Reads some more bytes through the piece. It waits until there are some. `Failed` where the output ends or can't be
+    /// Reads some more bytes through the piece. It waits until there are some. It fails where the output ends or can't be
     /// read, or more than `LINE_LIMIT` bytes are kept already.
-    pub fn read_more(&mut self, piece: &mut [u8]) -> Result<(), ServersFault>
+    pub fn read_more(&mut self, piece: &mut [u8]) -> Result<(), ChildFault>
         requires { length piece.old ≤ PIECE }
         ensures grows { OnOk result (vec_len self.old.kept - self.old.taken ≤ vec_len self.new.kept - self.new.taken) }
         ensures kept { OnOk result (IsThere self.old.kept.items self.old.taken self.new.kept.items self.new.taken) }
     {
         if self.kept.len() - self.taken > LINE_LIMIT {
-            return Err(ServersFault::Failed);
+            return Err(ChildFault::LineTooLong);
         }
         let count = match self.pipe.read(piece) {
-            Ok(0) => return Err(ServersFault::Failed),
+            Ok(0) => return Err(ChildFault::OutputClosed),
             Ok(count) => count,
             Err(error) if error.kind() == ErrorKind::Interrupted => return Ok(()),
-            Err(_) => return Err(ServersFault::Failed),
+            Err(error) => return Err(ChildFault::Pipe(error)),
         };
         self.drop_taken();
         self.kept.extend_from_slice(&piece[..count])?;

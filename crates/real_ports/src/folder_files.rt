@@ -2,17 +2,24 @@
 
 ghost use Rattle.std.specs.Io.{ReadsAtMost};
 
+use crate::diagnostics::Diagnostics;
+use crate::file_fault::FileFault;
 use crate::file_names::read_file_name;
-use crate::open_file::{OpenFile, sync_folder};
+use crate::folder_lock::lock_folder;
+use crate::open_file::OpenFile;
 use std::alloc::Global;
-use std::fs::{self, DirEntry};
+use std::fs::{self, DirEntry, File};
 use std::io::{self, ErrorKind};
 use view_ports::FileName;
 
-/// The files of the folder in which the program was started. A file stays open once it was used.
+/// The files of the folder in which the program was started. The folder is locked at the first call, and a file stays open
+/// once it was used.
 #[derive(Drop)]
 pub struct FolderFiles {
     rt: HostRuntime,
+    diagnostics: Diagnostics,
+    // The folder, with the lock on it. None before the first call.
+    folder: Option<File>,
     open: Vec<OpenFile>,
     // A sync failed. What the disk has is unknown from then on, also where a later sync succeeds.
     is_lost: bool,
@@ -20,16 +27,18 @@ pub struct FolderFiles {
 
 impl FolderFiles {
     /// The files, none of which is open.
-    pub fn new(rt: HostRuntime) -> FolderFiles {
+    pub fn new(rt: HostRuntime, diagnostics: Diagnostics) -> FolderFiles {
         FolderFiles {
             rt,
+            diagnostics,
+            folder: None,
             open: Vec::new(rt.alloc()),
             is_lost: false,
         }
     }
 
     /// The length of the file in bytes, which is 0 where it isn't there.
-    pub fn len(&mut self, name: FileName) -> io::Result<u64> {
+    pub fn len(&mut self, name: FileName) -> Result<u64, FileFault> {
         match self.find(name)? {
             Some(file) => file.len(),
             None => Ok(0),
@@ -37,7 +46,7 @@ impl FolderFiles {
     }
 
     /// Reads the bytes from the place `at` on into the front of `into`, and answers how many.
-    pub fn read_at(&mut self, name: FileName, at: u64, into: &mut [u8]) -> io::Result<usize>
+    pub fn read_at(&mut self, name: FileName, at: u64, into: &mut [u8]) -> Result<usize, FileFault>
         ensures { ReadsAtMost result into.new }
     {
         match self.find(name)? {
@@ -47,16 +56,16 @@ impl FolderFiles {
     }
 
     /// Writes the bytes of `from` over those from the place `at` on. It fails where the file doesn't have these places.
-    pub fn write_at(&mut self, name: FileName, at: u64, from: &[u8]) -> io::Result<()> {
+    pub fn write_at(&mut self, name: FileName, at: u64, from: &[u8]) -> Result<(), FileFault> {
         match self.find(name)? {
             Some(file) => file.write_at(at, from),
             None if from.is_empty() && at == 0 => Ok(()),
-            None => Err(ErrorKind::UnexpectedEof.into()),
+            None => Err(FileFault::PastEnd),
         }
     }
 
     /// Adds so many zero bytes at the end of the file, which is made if it isn't there.
-    pub fn grow(&mut self, name: FileName, by: u64) -> io::Result<()> {
+    pub fn grow(&mut self, name: FileName, by: u64) -> Result<(), FileFault> {
         match self.find(name)? {
             Some(file) => file.grow(by),
             None => self.make(name, by),
@@ -64,7 +73,7 @@ impl FolderFiles {
     }
 
     /// Takes all bytes of the file away.
-    pub fn cut_to_zero(&mut self, name: FileName) -> io::Result<()> {
+    pub fn cut_to_zero(&mut self, name: FileName) -> Result<(), FileFault> {
         match self.find(name)? {
             Some(file) => file.cut_to_zero(),
             None => Ok(()),
@@ -72,57 +81,76 @@ impl FolderFiles {
     }
 
     /// Makes sure of the file as it is, also where it isn't there. Where the system fails to, every later call fails.
-    pub fn sync(&mut self, name: FileName) -> io::Result<()> {
-        let rt = self.rt;
-        let synced = match self.find(name)? {
-            Some(file) => file.sync(&rt),
-            None => sync_folder(&rt),
-        };
+    pub fn sync(&mut self, name: FileName) -> Result<(), FileFault> {
+        let open = self.place(name)?;
+        let synced = self.sync_found(open);
         self.is_lost = synced.is_err();
         synced
     }
 
+    fn sync_found(&mut self, open: Option<usize>) -> Result<(), FileFault> {
+        let Some(folder) = &self.folder else {
+            return Err(FileFault::Lost);
+        };
+        match open.and_then(|at| self.open.get_mut(at)) {
+            Some(file) => file.sync(folder),
+            None => Ok(folder.sync_all()?),
+        }
+    }
+
     /// The names of the files that have bytes, each once.
-    pub fn names(&self, alloc: Global) -> io::Result<Vec<FileName>> {
+    pub fn names(&mut self, alloc: Global) -> Result<Vec<FileName>, FileFault> {
         self.check()?;
         let mut names = Vec::new(alloc);
         for entry in fs::read_dir(&self.rt, ".")? {
             if let Some(name) = listed_name(entry)?
                 && !names.contains(&name)
             {
-                names.push(name)?;
+                names.push(name).map_err(|_| FileFault::NoMemory)?;
             }
         }
         Ok(names)
     }
 
     // The file, which is opened if it isn't open. `None` where it isn't there.
-    fn find(&mut self, name: FileName) -> io::Result<Option<&mut OpenFile>> {
+    fn find(&mut self, name: FileName) -> Result<Option<&mut OpenFile>, FileFault> {
+        match self.place(name)? {
+            Some(at) => Ok(self.open.get_mut(at)),
+            None => Ok(None),
+        }
+    }
+
+    // The same, by its place among the open files.
+    fn place(&mut self, name: FileName) -> Result<Option<usize>, FileFault> {
         self.check()?;
         let open = self.open.iter().position(|file| file.has_name(name));
-        if let Some(at) = open {
-            return Ok(self.open.get_mut(at));
+        if open.is_some() {
+            return Ok(open);
         }
         match OpenFile::open(&self.rt, name)? {
             Some(file) => {
-                self.open.push(file)?;
-                Ok(self.open.last_mut())
+                self.open.push(file).map_err(|_| FileFault::NoMemory)?;
+                Ok(self.open.len().checked_sub(1))
             }
             None => Ok(None),
         }
     }
 
     // Makes the file, of so many zero bytes.
-    fn make(&mut self, name: FileName, length: u64) -> io::Result<()> {
+    fn make(&mut self, name: FileName, length: u64) -> Result<(), FileFault> {
         let file = OpenFile::make(&self.rt, name)?;
         let grown = file.grow(length);
-        self.open.push(file)?;
+        self.open.push(file).map_err(|_| FileFault::NoMemory)?;
         grown
     }
 
-    fn check(&self) -> io::Result<()> {
+    // Locks the folder, if it isn't locked yet.
+    fn check(&mut self) -> Result<(), FileFault> {
         if self.is_lost {
-            return Err(ErrorKind::Other.into());
+            return Err(FileFault::Lost);
+        }
+        if self.folder.is_none() {
+            self.folder = Some(lock_folder(&self.rt, self.diagnostics)?);
         }
         Ok(())
     }

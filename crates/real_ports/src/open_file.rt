@@ -2,7 +2,9 @@
 
 ghost use Rattle.std.specs.Io.{ReadsAtMost};
 
+use crate::file_fault::FileFault;
 use crate::file_names::{FILE_TEXT_LIMIT, file_text, is_file_name};
+use crate::file_start::is_of_database;
 use std::fs::{self, File, OpenOptions};
 use std::io::{self, ErrorKind};
 use std::os::fd::AsRawFd;
@@ -27,44 +29,46 @@ pub struct OpenFile {
 
 impl OpenFile {
     /// Opens the file. `None` where it isn't there. It fails where no file may have the name, or what has it is no plain
-    /// file or can't be read and written.
-    pub fn open(rt: &HostRuntime, name: FileName) -> io::Result<Option<OpenFile>> {
+    /// file, is of no database, or can't be read and written.
+    pub fn open(rt: &HostRuntime, name: FileName) -> Result<Option<OpenFile>, FileFault> {
         let mut room = [0; FILE_TEXT_LIMIT];
         let path = path_of(&name, &mut room)?;
         match fs::symlink_metadata(rt, path) {
             Ok(found) if found.is_file() => {}
-            Ok(_) => return Err(ErrorKind::InvalidInput.into()),
+            Ok(found) if found.is_dir() => return Err(FileFault::Directory),
+            Ok(_) => return Err(FileFault::NotPlain),
             Err(error) if error.kind() == ErrorKind::NotFound => return Ok(None),
-            Err(error) => return Err(error),
+            Err(error) => return Err(FileFault::NotOpened(error)),
         }
-        let file = OpenOptions::new().read(true).write(true).open(rt, path)?;
+        let file = OpenOptions::new()
+            .read(true)
+            .write(true)
+            .open(rt, path)
+            .map_err(FileFault::NotOpened)?;
         forget_read_bytes(&file)?;
+        if !is_of_database(&file)? {
+            return Err(FileFault::Foreign);
+        }
         Ok(Some(OpenFile::over(name, file)?))
     }
 
     /// Makes the file, which has no bytes then. It fails where the name is taken.
-    pub fn make(rt: &HostRuntime, name: FileName) -> io::Result<OpenFile> {
+    pub fn make(rt: &HostRuntime, name: FileName) -> Result<OpenFile, FileFault> {
         let mut room = [0; FILE_TEXT_LIMIT];
         let path = path_of(&name, &mut room)?;
         let file = OpenOptions::new()
             .read(true)
             .write(true)
             .create_new(true)
-            .open(rt, path)?;
-        OpenFile::over(name, file)
+            .open(rt, path)
+            .map_err(FileFault::NotOpened)?;
+        Ok(OpenFile::over(name, file)?)
     }
 
-    // Where a standard stream was closed, the file may have got its number. It gets another one, so that it isn't taken for
-    // that stream.
     fn over(name: FileName, file: File) -> io::Result<OpenFile> {
-        let file = if file.as_raw_fd() <= STANDARD_ERROR {
-            file.try_clone()?
-        } else {
-            file
-        };
         Ok(OpenFile {
             name,
-            file,
+            file: above_streams(file)?,
             is_listed: false,
         })
     }
@@ -75,13 +79,13 @@ impl OpenFile {
     }
 
     /// The length in bytes.
-    pub fn len(&self) -> io::Result<u64> {
+    pub fn len(&self) -> Result<u64, FileFault> {
         Ok(self.file.metadata()?.len())
     }
 
     /// Reads the bytes from the place `at` on into the front of `into`, until it is full or the file ends, and answers how
     /// many.
-    pub fn read_at(&self, at: u64, into: &mut [u8]) -> io::Result<usize>
+    pub fn read_at(&self, at: u64, into: &mut [u8]) -> Result<usize, FileFault>
         ensures { ReadsAtMost result into.new }
     {
         let mut filled = 0;
@@ -110,50 +114,54 @@ impl OpenFile {
     }
 
     /// Writes the bytes of `from` over those from the place `at` on. It fails where the file doesn't have these places.
-    pub fn write_at(&self, at: u64, from: &[u8]) -> io::Result<()> {
+    pub fn write_at(&self, at: u64, from: &[u8]) -> Result<(), FileFault> {
         if at.saturating_add(from.len() as u64) > self.len()? {
-            return Err(ErrorKind::UnexpectedEof.into());
+            return Err(FileFault::PastEnd);
         }
-        self.file.write_all_at(from, at)
+        Ok(self.file.write_all_at(from, at)?)
     }
 
     /// Adds so many zero bytes at the end.
-    pub fn grow(&self, by: u64) -> io::Result<()> {
+    pub fn grow(&self, by: u64) -> Result<(), FileFault> {
         match self.len()?.checked_add(by) {
-            Some(length) => self.file.set_len(length),
-            None => Err(ErrorKind::FileTooLarge.into()),
+            Some(length) => Ok(self.file.set_len(length)?),
+            None => Err(io::Error::from(ErrorKind::FileTooLarge).into()),
         }
     }
 
     /// Takes all bytes away.
-    pub fn cut_to_zero(&self) -> io::Result<()> {
-        self.file.set_len(0)
+    pub fn cut_to_zero(&self) -> Result<(), FileFault> {
+        Ok(self.file.set_len(0)?)
     }
 
     /// Makes sure of the bytes and the length, and at the first time of the file's entry in the folder too, since the
     /// program that made it may have been stopped before it did.
-    pub fn sync(&mut self, rt: &HostRuntime) -> io::Result<()> {
+    pub fn sync(&mut self, folder: &File) -> Result<(), FileFault> {
         self.file.sync_data()?;
         if !self.is_listed {
-            sync_folder(rt)?;
+            folder.sync_all()?;
             self.is_listed = true;
         }
         Ok(())
     }
 }
 
-/// Makes sure of the entries of the folder: which files are there, and which aren't.
-pub fn sync_folder(rt: &HostRuntime) -> io::Result<()> {
-    File::open(rt, ".")?.sync_all()
+/// The file, under a number that is no standard stream's. Where such a stream was closed, the file may have got its number,
+/// and would be taken for it.
+pub fn above_streams(file: File) -> io::Result<File> {
+    if file.as_raw_fd() <= STANDARD_ERROR {
+        return file.try_clone();
+    }
+    Ok(file)
 }
 
-fn path_of<'a>(name: &FileName, room: &'a mut [u8; FILE_TEXT_LIMIT]) -> io::Result<&'a str> {
+fn path_of<'a>(name: &FileName, room: &'a mut [u8; FILE_TEXT_LIMIT]) -> Result<&'a str, FileFault> {
     if !is_file_name(name) {
-        return Err(ErrorKind::InvalidFilename.into());
+        return Err(FileFault::NoName);
     }
     match str::from_utf8(file_text(name, room)) {
         Ok(path) => Ok(path),
-        Err(_) => Err(ErrorKind::InvalidFilename.into()),
+        Err(_) => Err(FileFault::NoName),
     }
 }
 

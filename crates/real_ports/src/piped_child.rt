@@ -4,18 +4,25 @@ ghost use Rattle.std.specs.Prelude.{◌≤◌, IfOk, length, vec_len};
 ghost use Rattle.real_ports.specs.declared.child_lines.TheConstants.{PIECE};
 ghost use Rattle.view_ports.specs.Lines.{IsLine};
 
+use crate::child_fault::ChildFault;
 use crate::child_lines::{ChildLines, LINE_LIMIT, PIECE};
-use libc::net::{POLLIN, POLLOUT, poll};
+use crate::child_name::ChildName;
+use libc::net::{POLLOUT, poll};
 use libc::types::pollfd;
 use std::alloc::Global;
 use std::io::{ErrorKind, Write};
 use std::os::fd::AsRawFd;
-use std::process::{Child, ChildStdin, Command, Stdio};
-use view_ports::ServersFault;
+use std::process::{Child, ChildStdin, Command, ExitStatus, Stdio};
+
+/// How often it is looked whether a child ends that has closed a pipe, and how many milliseconds apart.
+const LOOKS: u32 = 20;
+
+const PAUSE: i32 = 5;
 
 /// A child process. It must be ended before it is let go.
 #[derive(Drop)]
 pub struct PipedChild {
+    name: ChildName,
     process: Child,
     // A write to it takes what there is room for, and doesn't wait.
     input: ChildStdin,
@@ -26,23 +33,28 @@ pub struct PipedChild {
 }
 
 impl PipedChild {
-    /// Starts the program, without arguments. Its standard error is ours. `Failed` where it can't be started.
-    pub fn start(rt: HostRuntime, alloc: Global, path: &str) -> Result<PipedChild, ServersFault> {
-        let mut command = Command::new(alloc, path)?;
+    /// Starts the program, without arguments. Its standard error is ours.
+    pub fn start(
+        rt: HostRuntime,
+        alloc: Global,
+        name: ChildName,
+    ) -> Result<PipedChild, ChildFault> {
+        let mut command = Command::new(alloc, name.path())?;
         command.stdin(Stdio::piped()).stdout(Stdio::piped());
         let mut process = match command.spawn(&rt) {
             Ok(process) => process,
             Err(error) if error.kind() == ErrorKind::OutOfMemory => {
-                return Err(ServersFault::NoMemory);
+                return Err(ChildFault::NoMemory);
             }
-            Err(_) => return Err(ServersFault::Failed),
+            Err(error) => return Err(name.failed(ChildFault::NotStarted(error))),
         };
         let (Some(input), Some(output)) = (process.stdin.take(), process.stdout.take()) else {
             end(process);
-            return Err(ServersFault::Failed);
+            return Err(name.failed(ChildFault::Gone));
         };
         os::set_nonblocking(input.as_raw_fd(), true);
         Ok(PipedChild {
+            name,
             process,
             input,
             output: ChildLines::new(alloc, output),
@@ -51,31 +63,64 @@ impl PipedChild {
     }
 
     /// Sends the line and a newline. What the child prints meanwhile is kept, so that it never waits for us while we wait
-    /// for it. `Failed` where it has ended, or prints too much without taking the line.
-    pub fn send(&mut self, line: &[u8], piece: &mut [u8]) -> Result<(), ServersFault>
+    /// for it. It fails where the child has ended, or prints too much without taking the line.
+    pub fn send(&mut self, line: &[u8], piece: &mut [u8]) -> Result<(), ChildFault>
         requires { length piece.old ≤ PIECE }
     {
+        let name = &self.name;
         if line.len() >= PIECE {
-            put(&mut self.input, &mut self.output, line, piece)?;
-            return put(&mut self.input, &mut self.output, b"\n", piece);
+            put(name, &mut self.input, &mut self.output, line, piece)?;
+            return put(name, &mut self.input, &mut self.output, b"\n", piece);
         }
         self.sending.clear();
         self.sending.extend_from_slice(line)?;
         self.sending.push(b'\n')?;
-        put(&mut self.input, &mut self.output, &self.sending, piece)
+        put(
+            name,
+            &mut self.input,
+            &mut self.output,
+            &self.sending,
+            piece,
+        )
     }
 
-    /// Receives the next line without its newline.
-    pub fn receive(&mut self, alloc: Global, piece: &mut [u8]) -> Result<Vec<u8>, ServersFault>
+    /// Receives the next line without its newline. A log line is said too.
+    pub fn receive(&mut self, alloc: Global, piece: &mut [u8]) -> Result<Vec<u8>, ChildFault>
         requires { length piece.old ≤ PIECE }
         ensures short { IfOk result (λ line. vec_len line ≤ LINE_LIMIT) }
         ensures line { IfOk result (λ line. IsLine line.items) }
     {
-        self.output.next_line(alloc, piece)
+        let line = self.output.next_line(alloc, &self.name, piece)?;
+        self.name.say_if_log(alloc, &line);
+        Ok(line)
     }
 
-    /// Kills the child, and waits until it is gone.
+    /// Says why a call on the child failed, and ends it. Where it closed a pipe because it ended, it is said how.
+    pub fn give_up(mut self, fault: ChildFault) {
+        let closed = matches!(fault, ChildFault::OutputClosed | ChildFault::InputClosed);
+        match if closed { self.ended() } else { None } {
+            Some(status) => self.name.say_ended(status),
+            None => {
+                let _fault = self.name.failed(fault);
+            }
+        }
+        self.end();
+    }
+
+    /// How the child ended, where it has ended or does within a tenth of a second.
+    fn ended(&mut self) -> Option<ExitStatus> {
+        for _ in 0..LOOKS {
+            if let Ok(Some(status)) = self.process.try_wait() {
+                return Some(status);
+            }
+            poll(&mut [], PAUSE);
+        }
+        None
+    }
+
+    /// Closes the input of the child, kills it, and waits until it is gone.
     pub fn end(self) {
+        drop(self.input);
         end(self.process);
     }
 }
@@ -88,11 +133,12 @@ fn end(mut process: Child) {
 
 /// Writes the bytes to the input, and keeps what comes from the output while there is no room.
 fn put(
+    name: &ChildName,
     input: &mut ChildStdin,
     output: &mut ChildLines,
     bytes: &[u8],
     piece: &mut [u8],
-) -> Result<(), ServersFault>
+) -> Result<(), ChildFault>
     requires { length piece.old ≤ PIECE }
 {
     let mut left = bytes;
@@ -101,37 +147,40 @@ fn put(
             return Ok(());
         }
         match input.write(left) {
-            Ok(0) => return Err(ServersFault::Failed),
+            Ok(0) => return Err(ChildFault::InputClosed),
             Ok(count) => left = &left[count..],
             Err(error) => match error.kind() {
-                ErrorKind::WouldBlock => wait(input, output, piece)?,
+                ErrorKind::WouldBlock => wait(name, input, output, piece)?,
                 ErrorKind::Interrupted => {}
-                _ => return Err(ServersFault::Failed),
+                ErrorKind::BrokenPipe => return Err(ChildFault::InputClosed),
+                _ => return Err(ChildFault::Pipe(error)),
             },
         }
     }
-    Err(ServersFault::Failed)
+    Err(ChildFault::InputClosed)
 }
 
 /// Waits until the input has room or the output has bytes, which are then read.
-fn wait(input: &ChildStdin, output: &mut ChildLines, piece: &mut [u8]) -> Result<(), ServersFault>
+fn wait(
+    name: &ChildName,
+    input: &ChildStdin,
+    output: &mut ChildLines,
+    piece: &mut [u8],
+) -> Result<(), ChildFault>
     requires { length piece.old ≤ PIECE }
 {
-    let mut asked = [
-        pollfd {
-            fd: input.as_raw_fd(),
-            events: POLLOUT,
-            revents: 0,
-        },
-        pollfd {
-            fd: output.number(),
-            events: POLLIN,
-            revents: 0,
-        },
-    ];
-    poll(&mut asked, -1);
+    let room = pollfd {
+        fd: input.as_raw_fd(),
+        events: POLLOUT,
+        revents: 0,
+    };
+    let mut asked = [room, output.asked()];
+    name.wait_for(&mut asked);
     if asked[1].revents != 0 {
-        output.read_more(piece)?;
+        match output.read_more(piece) {
+            Err(ChildFault::LineTooLong) => return Err(ChildFault::NotTaking),
+            read => read?,
+        }
     }
     Ok(())
 }

@@ -3,7 +3,10 @@
 ghost use Rattle.std.specs.Prelude.{◌≡◌, ◌≤◌, ◌<◌, vec_len};
 ghost use Rattle.real_ports.specs.declared.child_lines.TheConstants.{PIECE};
 
+use crate::child_fault::ChildFault;
 use crate::child_lines::{LINE_LIMIT, PIECE};
+use crate::child_name::ChildName;
+use crate::diagnostics::Diagnostics;
 use crate::piped_child::PipedChild;
 use json_terms::NoMemory;
 use std::alloc::Global;
@@ -15,9 +18,12 @@ use view_ports::{SLOT_COUNT, Servers, ServersFault};
 /// A call fails, and counts a fault, where the program can't be started, there is no child, the child has ended, or it
 /// prints more than 134,217,728 bytes without an end of a line or without taking what it is sent. A child is ended by a
 /// call on it that fails or finds no memory. It is not ended where the servers are let go: stop all slots before.
+///
+/// On standard error it is said why a call failed, that a child is waited for, and what a child wants in the log.
 #[derive(Drop)]
 pub struct RealServers {
     rt: HostRuntime,
+    diagnostics: Diagnostics,
     children: Vec<Option<PipedChild>>,
     // What is read from a child passes through it.
     piece: Vec<u8>,
@@ -32,7 +38,7 @@ impl RealServers {
     ghost use Rattle.view_ports.specs.Faults.{Rose};
 
     /// Servers without children.
-    pub fn new(rt: HostRuntime) -> Result<RealServers, NoMemory>
+    pub fn new(rt: HostRuntime, diagnostics: Diagnostics) -> Result<RealServers, NoMemory>
         ensures faults { IfOk result (λ servers. servers.faults ≡ 0) }
         ensures none { IfOk result (λ servers. (slot : ℕ) → has_child servers slot ≡ false) }
     {
@@ -43,26 +49,36 @@ impl RealServers {
         }
         Ok(RealServers {
             rt,
+            diagnostics,
             children,
             piece: vec![in alloc; 0; PIECE]?,
             faults: 0,
         })
     }
 
-    /// Ends the child of the slot, and counts the fault, if it is one.
-    fn give_up(&mut self, slot: u32, fault: ServersFault) -> ServersFault
+    /// Ends the child of the slot, of which it is said why, and counts the fault, if it is one.
+    fn give_up(&mut self, slot: u32, fault: ChildFault) -> ServersFault
         requires { slot < SLOT_COUNT }
-        ensures same { result ≡ fault }
         ensures later { self.old.faults ≤ self.new.faults }
-        ensures counted { fault ≡ ServersFault.Failed → Rose self.old.faults self.new.faults }
+        ensures counted { result ≡ ServersFault.Failed → Rose self.old.faults self.new.faults }
         ensures none { has_child self.new slot ≡ false }
         ensures elsewhere { SameElsewhere slot self.old self.new }
     {
-        self.stop(slot);
-        if fault == ServersFault::Failed {
-            self.faults = self.faults.saturating_add(1);
+        let given_up = self.children[slot as usize].take();
+        if let Some(child) = given_up {
+            child.give_up(fault);
         }
-        fault
+        if matches!(fault, ChildFault::NoMemory) {
+            return ServersFault::NoMemory;
+        }
+        self.faults = self.faults.saturating_add(1);
+        ServersFault::Failed
+    }
+
+    /// Starts a child, for a slot that has none.
+    fn started(&self, alloc: Global, path: &str) -> Result<PipedChild, ChildFault> {
+        let name = ChildName::new(alloc, path, self.diagnostics)?;
+        PipedChild::start(self.rt, alloc, name)
     }
 }
 
@@ -91,7 +107,7 @@ impl Servers for RealServers {
         ensures child { LeavesChild slot self.old self.new result }
     {
         self.stop(slot);
-        match PipedChild::start(self.rt, alloc, path) {
+        match self.started(alloc, path) {
             Ok(child) => {
                 self.children[slot as usize] = Some(child);
                 Ok(())
@@ -109,7 +125,7 @@ impl Servers for RealServers {
     {
         let sent = match &mut self.children[slot as usize] {
             Some(child) => child.send(line, &mut self.piece),
-            None => Err(ServersFault::Failed),
+            None => Err(ChildFault::Gone),
         };
         match sent {
             Ok(()) => Ok(()),
@@ -129,7 +145,7 @@ impl Servers for RealServers {
     {
         let received = match &mut self.children[slot as usize] {
             Some(child) => child.receive(alloc, &mut self.piece),
-            None => Err(ServersFault::Failed),
+            None => Err(ChildFault::Gone),
         };
         match received {
             Ok(line) => Ok(line),

@@ -1,25 +1,31 @@
 //! Ports over the streams of the process.
 ghost use Rattle.std.specs.Prelude.{◌≡◌};
 
-use std::io::{ErrorKind, Read, Write};
+use crate::diagnostics::Diagnostics;
+use std::io::{Error, ErrorKind, Read, Write};
 use view_ports::{PortFault, Sink, Source};
 
 /// How often a call is made that signals interrupt.
 const TRIES: u32 = 64;
 
-/// A source that reads from a stream.
+/// A source that reads from a stream. Why a read failed is said on standard error.
 #[derive(Drop)]
 pub struct StdSource<R> {
     input: R,
+    diagnostics: Diagnostics,
     faults: u64,
 }
 
 impl<R: Read> StdSource<R> {
-    pub fn new(input: R) -> StdSource<R>
+    pub fn new(input: R, diagnostics: Diagnostics) -> StdSource<R>
         ensures input { result.input ≡ input }
         ensures faults { result.faults ≡ 0 }
     {
-        StdSource { input, faults: 0 }
+        StdSource {
+            input,
+            diagnostics,
+            faults: 0,
+        }
     }
 }
 
@@ -29,31 +35,42 @@ impl<R: Read> Source for StdSource<R> {
     ghost faults = { λ s. s.faults };
 
     fn read(&mut self, into: &mut [u8]) -> Result<usize, PortFault> {
+        let mut why = Error::from(ErrorKind::Interrupted);
         for _ in 0..TRIES {
             match self.input.read(into) {
                 Ok(count) => return Ok(count),
                 Err(error) if error.kind() == ErrorKind::Interrupted => {}
-                Err(_) => break,
+                Err(error) => {
+                    why = error;
+                    break;
+                }
             }
         }
+        self.diagnostics
+            .say(format_args!("standard input can't be read: {why}"));
         self.faults = self.faults.saturating_add(1);
         Err(PortFault)
     }
 }
 
-/// A sink that writes to a stream.
+/// A sink that writes to a stream. Why a write failed is said on standard error.
 #[derive(Drop)]
 pub struct StdSink<W> {
     output: W,
+    diagnostics: Diagnostics,
     faults: u64,
 }
 
 impl<W: Write> StdSink<W> {
-    pub fn new(output: W) -> StdSink<W>
+    pub fn new(output: W, diagnostics: Diagnostics) -> StdSink<W>
         ensures output { result.output ≡ output }
         ensures faults { result.faults ≡ 0 }
     {
-        StdSink { output, faults: 0 }
+        StdSink {
+            output,
+            diagnostics,
+            faults: 0,
+        }
     }
 }
 
@@ -63,14 +80,20 @@ impl<W: Write> Sink for StdSink<W> {
     ghost faults = { λ s. s.faults };
 
     fn write(&mut self, from: &[u8]) -> Result<usize, PortFault> {
+        let mut why = Error::from(ErrorKind::WriteZero);
         for _ in 0..TRIES {
             match self.output.write(from) {
                 Ok(0) if !from.is_empty() => break,
                 Ok(count) => return Ok(count),
                 Err(error) if error.kind() == ErrorKind::Interrupted => {}
-                Err(_) => break,
+                Err(error) => {
+                    why = error;
+                    break;
+                }
             }
         }
+        self.diagnostics
+            .say(format_args!("standard output can't be written: {why}"));
         self.faults = self.faults.saturating_add(1);
         Err(PortFault)
     }

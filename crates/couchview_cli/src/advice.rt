@@ -1,0 +1,24 @@
+//! What to do after a run that ended before its input did.
+
+/// What to do after a run with this exit status, in a sentence or two. `None` where the status says all.
+pub fn advice(status: u8) -> Option<&'static str> {
+    match status {
+        3 => Some(
+            "a call on the folder failed, and the run ended; all that was answered is kept: mend what is named above, and \
+            start again in the same folder",
+        ),
+        6 => Some(
+            "memory ran out, and the run ended; all that was answered is kept: start again with more memory, or with \
+            shorter lines",
+        ),
+        7 => Some(
+            "a file is damaged, at the offset that the last line names, and the run ended: copy the whole folder before \
+            you try anything, and go back to a backup of the whole folder",
+        ),
+        9 => Some(
+            "the file of the documents is full, and the run ended; it can still be read: put the documents into a new \
+            folder",
+        ),
+        _ => None,
+    }
+}

@@ -1,0 +1,53 @@
+//! Why a call on the folder failed, as it is said on standard error.
+
+use std::io;
+use thiserror::Error;
+
+/// Why a call on the folder failed.
+#[derive(Clone, Copy, Debug, Error)]
+pub enum FileFault {
+    #[error("{0}")]
+    System(io::Error),
+    #[error("{0}")]
+    NotOpened(io::Error),
+    #[error("another program has the folder")]
+    InUse,
+    #[error("it is a directory")]
+    Directory,
+    #[error("it is no plain file")]
+    NotPlain,
+    #[error("it is not a file of couchview, and stays as it is")]
+    Foreign,
+    #[error("no file may have this name")]
+    NoName,
+    #[error("the file ends before that")]
+    PastEnd,
+    #[error("a sync failed before, so nothing is known of the disk")]
+    Lost,
+    #[error("out of memory")]
+    NoMemory,
+}
+
+impl FileFault {
+    /// What could not be done, where a call was to do this: to open the file, or that.
+    pub fn undone(self, task: &'static str) -> &'static str {
+        match self {
+            FileFault::NotOpened(_)
+            | FileFault::InUse
+            | FileFault::Directory
+            | FileFault::NotPlain
+            | FileFault::Foreign
+            | FileFault::NoName => "opened",
+            _ => task,
+        }
+    }
+}
+
+impl From<io::Error> for FileFault {
+    fn from(error: io::Error) -> FileFault {
+        if error.kind() == io::ErrorKind::OutOfMemory {
+            return FileFault::NoMemory;
+        }
+        FileFault::System(error)
+    }
+}
