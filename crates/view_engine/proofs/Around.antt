@@ -3,13 +3,11 @@ use Rattle.std.proofs.Common.{◌⊎◌, ℕ, List, ◌∷◌, Option, Result, i
 use Rattle.view_ports.specs.Disk.{Disk, Framed, IfTold, LeavesOnly, Moves, Tells}
 use Rattle.view_ports.specs.File.{File}
 use Rattle.view_ports.specs.declared.file_name.FileName.{FileName}
-use Rattle.view_ports.proofs.Moments.{started, weaker}
-use Rattle.view_ports.proofs.Told.{told_given, told_map, told_still}
-use Rattle.doc_file.specs.declared.docs.Docs.{Docs}
-use Rattle.doc_file.specs.Docs.{IsAt as AreAt, IsDocsFile}
+use Rattle.view_ports.proofs.Moments.{weaker}
+use Rattle.view_ports.proofs.Told.{told_given, told_map}
+use Rattle.doc_file.specs.Docs.{IsDocsFile}
 use Rattle.doc_file.specs.Held.{Stands}
 use Rattle.doc_file.specs.History.{Write}
-use Rattle.doc_file.proofs.Stores.{image_now}
 use Rattle.view_engine.specs.declared.request.Request.{Request}
 use Rattle.view_engine.specs.declared.refusal.Refusal.{Refusal}
 use Rattle.view_engine.specs.Engine.{StandsAround}
@@ -17,13 +15,6 @@ use Rattle.view_engine.specs.Steps.{IsWrite}
 
 abbrev Told : Type 0
 Told = Option (Disk FileName)
-
--- nothing was called
-pub stays_around : (docs : Docs) (disk : Told) (history : List Write) (request : Result Request Refusal) → IfTold disk (λ d. AreAt docs d.now history)
-    → Tells disk disk (LeavesOnly (StandsAround (record { history = history }) request))
-stays_around docs disk history request at =
-    told_still disk (λ d. AreAt docs d.now history) (LeavesOnly (StandsAround (record { history = history }) request))
-    (λ d is. started (StandsAround (record { history = history }) request) d (λ image here. inl (image_now docs d.now is.is_open history is image here))) at
 
 -- what the documents leave is what a crash leaves
 pub inside : (old new : Told) (P : (FileName → List ℕ) → Type 0) (ends : (FileName → File) → Type 0) → Tells old new (Moves IsDocsFile P ends) → Tells old new (LeavesOnly P)

@@ -1,28 +1,12 @@
 -- The halts of calls on documents, and the faults that they come from.
-use Rattle.std.proofs.Common.{◌≡◌, ℕ, List, Result, Err, sym, ap, ◌∙◌, subst}
+use Rattle.std.proofs.Common.{◌≡◌, ℕ, List, sym, subst}
 use Rattle.view_ports.specs.File.{File}
 use Rattle.view_ports.specs.declared.file_name.FileName.{FileName}
-use Rattle.gate_file.specs.declared.fault.GateFault.TheVariants as gate
 use Rattle.gate_file.specs.GateFile.{name_of}
 use Rattle.doc_file.specs.declared.docs.Docs.{Docs}
-use Rattle.doc_file.specs.declared.fault.DocFault.{DocFault}
-use Rattle.doc_file.specs.declared.fault.DocFault.TheVariants as doc
 use Rattle.doc_file.specs.Changes.{IsSpoiledAfter}
 use Rattle.doc_file.specs.Docs.{bytes_in, file_of, last_of, IsSpoiled}
-use Rattle.view_engine.specs.declared.halt.Halt.{Halt}
-use Rattle.view_engine.specs.declared.halt.Halt.TheVariants.{Stopped}
-use Rattle.view_engine.specs.declared.halt.StepFault.TheVariants.{Damaged}
-use Rattle.view_engine.specs.Halts.{fault_of, halted_as, IsDamage}
-use Rattle.view_engine.proofs.Faults.{damage_is}
-
--- a damaged file comes of a damaged file
-damaged_back : (fault : DocFault) (name : FileName) (at : ℕ) → halted_as fault ≡ Stopped (Damaged name at) → fault ≡ doc.Gate (gate.Damaged name at)
-damaged_back fault name at is = damage_is fault name at (ap fault_of is)
-
--- the same of a call's result and what it is taken for
-pub damaged_from : {T : Type 0} (result : Result T DocFault) (fault : DocFault) (halt : Halt) (name : FileName) (at : ℕ) → result ≡ Err fault → halt ≡ halted_as fault → halt ≡ Stopped (Damaged name at)
-    → result ≡ Err (doc.Gate (gate.Damaged name at))
-damaged_from result fault halt name at was is damaged = was ∙ ap Err (damaged_back fault name at (sym is ∙ damaged))
+use Rattle.view_engine.specs.Halts.{IsDamage}
 
 -- ---- where the damage is
 

@@ -16,12 +16,16 @@ pub mod HaltedAs
 pub mod SameFiles
 pub mod Plans
 pub mod Viewed
+pub mod Viewing
 pub mod Unasked
 pub mod SameDocs
 pub mod Unmoved
 pub mod Keeping
 pub mod Performing
-pub mod Unread
 pub mod Stepping
 pub mod AcceptedWrites
 pub mod Still
+pub mod OnDisk
+pub mod Acting
+pub mod Stored
+pub mod Reading

@@ -1,85 +1,154 @@
--- A step does what its line asks for, and appends what it answers.
-use Rattle.std.specs.Prelude.{OnOk}
-use Rattle.std.proofs.Common.{◌≡◌, ◌≢◌, ◌∙◌, ◌++◌, ℕ, List, [], ◌∷◌, Result, Ok, Err, Option, refl, sym, ap, append-nil}
-use Rattle.view_ports.specs.Calls.{Call}
-use Rattle.view_ports.specs.Disk.{Disk, IfTold}
+-- A step is the performing of its line's request, told as its halt is told.
+use Rattle.std.proofs.Common.{◌≡◌, ◌≢◌, ◌∙◌, ◌++◌, ℕ, List, [], ◌∷◌, Result, Ok, Err, refl, sym, ap, subst, append-nil, arith}
 use Rattle.view_ports.specs.Functions.{Functions}
 use Rattle.view_ports.specs.Lines.{ended}
-use Rattle.view_ports.specs.declared.file_name.FileName.{FileName}
+use Rattle.view_ports.specs.declared.folder.Folder.{Ghosts as Folders}
+use Rattle.view_ports.specs.declared.servers.Servers.{Ghosts as Servers}
 use Rattle.view_ports.proofs.Told.{told_all, told_now}
-use Rattle.view_engine.specs.declared.engine.Engine.{Engine}
+use Rattle.child_pool.specs.Pools.{languages_of}
 use Rattle.view_engine.specs.declared.halt.Halt.{Halt}
-use Rattle.view_engine.specs.declared.halt.Halt.TheVariants.{Refused}
+use Rattle.view_engine.specs.declared.halt.Halt.TheVariants.{Refused, Stopped}
 use Rattle.view_engine.specs.declared.halt.StepFault.{StepFault}
+use Rattle.view_engine.specs.declared.halt.StepFault.TheVariants.{DiskFault, Damaged, Full, NoMemory}
 use Rattle.view_engine.specs.declared.refusal.Refusal.{Refusal}
-use Rattle.view_engine.specs.Engine.{Appends, IsAt, Leaves}
+use Rattle.view_engine.specs.declared.refusal.Refusal.TheVariants as refusal
+use Rattle.view_engine.specs.declared.request.Request.{Request}
+use Rattle.view_engine.specs.Calls.{DoesBy, KeepsChild, IsStep, IsToldAs, Performed, Scene, StepsBy}
+use Rattle.view_engine.specs.Disks.{AreOpen}
+use Rattle.view_engine.specs.Halts.{halted_by, GoesOn}
 use Rattle.view_engine.specs.Moments.{Moment}
 use Rattle.view_engine.specs.Refusals.{request_of, refusal_text}
 use Rattle.view_engine.specs.Steps.{Does, DoesRequest, DoesRequestText, MayHaveCalled}
+use Rattle.view_engine.proofs.Acting.{refused_at_once, spent_at_once}
+use Rattle.view_engine.proofs.OnDisk.{disk_ends, disk_still}
 
-module _ (functions : List ℕ → Functions) (honest : List ℕ → Type 0) (languages : List (List ℕ × List ℕ)) where
-  -- an empty line is answered with nothing
-  does_nothing : (before : Moment) (line : List ℕ) → line ≡ [] → Does functions honest languages before line [] before
-  does_nothing before [] is = (refl, refl)
-  does_nothing before (byte ∷ bytes) is = absurd (cc)
+does_text : (functions : List ℕ → Functions) (honest : List ℕ → Type 0) (languages : List (List ℕ × List ℕ)) (before : Moment) (line text : List ℕ) (after : Moment) → line ≢ []
+    → DoesRequestText functions honest languages before (request_of line) text after → Does functions honest languages before line text after
+does_text functions honest languages before [] text after some does = absurd (some refl)
+does_text functions honest languages before (byte ∷ bytes) text after some does = does
 
-  pub nothing_appended : (before : Moment) (may_follow : List Call → Type 0) (faults : ℕ) (disk : Option (Disk FileName)) (engine : Engine) (line out : List ℕ) → line ≡ []
-      → IsAt disk may_follow faults engine before → Appends disk may_follow faults engine (λ text after. IfTold disk (λ d. Does functions honest languages before line text after)) out out
-  nothing_appended before may_follow faults disk engine line out is at = record {
-    text = [];
-    after = before;
-    is_at = at;
-    allowed = told_all disk (λ d. Does functions honest languages before line [] before) (λ d. does_nothing before line is);
-    appended = sym (append-nil out);
+no_ok : (done : Unit {0}) (fault : StepFault) → Ok done ≡ Err fault → ⊥
+no_ok done fault is = cc
+
+steps_by : {F C : Type 0} (f : Folders F) (s : Servers C) (old new : Scene F C) (line out mid out' : List ℕ) (fault : StepFault) → DoesBy f s old new (request_of line) out mid (Err (Stopped fault))
+    → StepsBy f s old new line out out' (Err fault)
+steps_by f s old new line out mid out' DiskFault does = does
+steps_by f s old new line out mid out' (Damaged name at) does = does
+steps_by f s old new line out mid out' (Full name length) does = does
+steps_by f s old new line out mid out' NoMemory does = does
+
+module _ {F C : Type 0} {f : Folders F} {s : Servers C} where
+  -- an empty line
+  pub step_nothing : {now : Scene F C} {out : List ℕ} → AreOpen f now.engine.docs now.folder → IsStep f s now now [] out out (Ok tt)
+  step_nothing {now} {out} is_open = record {
+    does = λ before at. record {
+      text = [];
+      after = before;
+      is_at = at;
+      allowed = told_all (f.disk now.folder) (λ d. Does s.functions s.honest (languages_of now.engine.pool) before [] [] before) (λ d. (refl, refl));
+      appended = sym (append-nil out);
+    };
+    silent = tt;
+    asked = tt;
+    idle = λ none. refl;
+    disk = disk_still is_open;
+    why = tt;
+    stays = record { languages = refl; disk_faults = omega arith; server_faults = omega arith };
   }
 
-  does_text : (before : Moment) (line text : List ℕ) (after : Moment) → line ≢ [] → DoesRequestText functions honest languages before (request_of line) text after
-      → Does functions honest languages before line text after
-  does_text before [] text after some does = absurd (some refl)
-  does_text before (byte ∷ bytes) text after some does = does
-
-  module _ (may_follow : List Call → Type 0) (faults : ℕ) (old disk : Option (Disk FileName)) (engine : Engine) (line : List ℕ) where
-    -- what a request leaves that is refused, or for which memory ran out
-    abbrev pub Leaves-halted : Halt → Moment → Type 0
-    Leaves-halted halt before = Leaves disk may_follow faults engine (λ after. IfTold old (λ d.
-        ((refusal : Refusal) → halt ≡ Refused refusal → DoesRequest functions honest languages before (request_of line) (refusal_text refusal) after)
-        × MayHaveCalled languages before (request_of line) after))
-
-    pub leaves_called : (halt : Halt) (before : Moment) → Leaves-halted halt before → Leaves disk may_follow faults engine (λ after. IfTold old (λ d. MayHaveCalled languages before (request_of line) after))
-    leaves_called halt before left = record {
-      after = left.after;
-      is_at = left.is_at;
-      allowed = told_now old (λ d. ((refusal : Refusal) → halt ≡ Refused refusal → DoesRequest functions honest languages before (request_of line) (refusal_text refusal) left.after)
-          × MayHaveCalled languages before (request_of line) left.after) (λ d. MayHaveCalled languages before (request_of line) left.after) (λ d both. both.1) left.allowed;
+  module _ {old new : Scene F C} {line out : List ℕ} (some : line ≢ []) where
+    -- the request was done
+    pub step_done : {out' : List ℕ} → Performed f s old new (request_of line) out out' (Ok tt) → IsStep f s old new line out out' (Ok tt)
+    step_done {out'} performed = record {
+      does = λ before at.
+          let done = performed.does before at in
+          record {
+            text = done.text;
+            after = done.after;
+            is_at = done.is_at;
+            allowed = told_now (f.disk old.folder) (λ d. DoesRequestText s.functions s.honest (languages_of old.engine.pool) before (request_of line) done.text done.after)
+                (λ d. Does s.functions s.honest (languages_of old.engine.pool) before line done.text done.after)
+                (λ d does. does_text s.functions s.honest (languages_of old.engine.pool) before line done.text done.after some does) done.allowed;
+            appended = done.appended;
+          };
+      silent = tt;
+      asked = tt;
+      idle = λ none. absurd (some none);
+      disk = disk_ends (λ is. no_ok tt NoMemory is) (λ goes. tt) performed.disk;
+      why = tt;
+      stays = performed.stays;
     }
 
-    module _ (some : line ≢ []) where
-      -- the reply line of a request that was done
-      pub line_appended : (before : Moment) (out out' : List ℕ)
-          → Appends disk may_follow faults engine (λ text after. IfTold old (λ d. DoesRequestText functions honest languages before (request_of line) text after)) out out'
-          → Appends disk may_follow faults engine (λ text after. IfTold old (λ d. Does functions honest languages before line text after)) out out'
-      line_appended before out out' done = record {
-        text = done.text;
-        after = done.after;
-        is_at = done.is_at;
-        allowed = told_now old (λ d. DoesRequestText functions honest languages before (request_of line) done.text done.after) (λ d. Does functions honest languages before line done.text done.after)
-            (λ d does. does_text before line done.text done.after some does) done.allowed;
-        appended = done.appended;
-      }
-
-      -- the reply line of a refusal
-      pub refusal_appended : (result : Result (Unit {0}) StepFault) (refusal : Refusal) (Before : Moment → Type 0) (out out' out'' : List ℕ) → out' ≡ out
-          → OnOk result (out'' ≡ out' ++ ended (refusal_text refusal)) → ((before : Moment) → Before before → Leaves-halted (Refused refusal) before)
-          → OnOk result ((before : Moment) → Before before → Appends disk may_follow faults engine (λ text after. IfTold old (λ d. Does functions honest languages before line text after)) out out'')
-      refusal_appended (Err fault) refusal Before out out' out'' silent appended leaves = tt
-      refusal_appended (Ok done) refusal Before out out' out'' silent appended leaves = λ before at.
-          let left : Leaves-halted (Refused refusal) before = leaves before at in
+    -- it was halted, and that was told
+    pub step_told : {mid out' : List ℕ} (halt : Halt) (told : Result (Unit {0}) StepFault) → Performed f s old new (request_of line) out mid (Err halt) → IsToldAs halt mid out' told → IsStep f s old new line out out' told
+    step_told {mid} {out'} (Refused refusal) (Ok done) performed is = record {
+      does = λ before at.
+          let left = performed.does before at in
           record {
             text = ended (refusal_text refusal);
             after = left.after;
             is_at = left.is_at;
-            allowed = told_now old (λ d. ((r : Refusal) → Refused refusal ≡ Refused r → DoesRequest functions honest languages before (request_of line) (refusal_text r) left.after)
-                × MayHaveCalled languages before (request_of line) left.after) (λ d. Does functions honest languages before line (ended (refusal_text refusal)) left.after)
-                (λ d both. does_text before line (ended (refusal_text refusal)) left.after some (refusal_text refusal, both.0 refusal refl, refl)) left.allowed;
-            appended = appended ∙ ap (λ (o : List ℕ). o ++ ended (refusal_text refusal)) silent;
-          }
+            allowed = told_now (f.disk old.folder) (λ d. DoesRequest s.functions s.honest (languages_of old.engine.pool) before (request_of line) (refusal_text refusal) left.after
+                × MayHaveCalled (languages_of old.engine.pool) before (request_of line) left.after)
+                (λ d. Does s.functions s.honest (languages_of old.engine.pool) before line (ended (refusal_text refusal)) left.after)
+                (λ d both. does_text s.functions s.honest (languages_of old.engine.pool) before line (ended (refusal_text refusal)) left.after some (refusal_text refusal, both.0, refl)) left.allowed;
+            appended = is.0 ∙ ap (λ (o : List ℕ). o ++ ended (refusal_text refusal)) performed.silent;
+          };
+      silent = tt;
+      asked = tt;
+      idle = λ none. absurd (some none);
+      disk = disk_ends (λ is. tt) (λ goes. tt) performed.disk;
+      why = tt;
+      stays = performed.stays;
+    }
+    step_told {mid} {out'} (Refused refusal) (Err fault) performed is =
+        subst (λ (e : StepFault). IsStep f s old new line out out' (Err e)) (sym is.2) (record {
+          does = λ before at.
+              let left = performed.does before at in
+              record {
+                after = left.after;
+                is_at = left.is_at;
+                allowed = told_now (f.disk old.folder) (λ d. DoesRequest s.functions s.honest (languages_of old.engine.pool) before (request_of line) (refusal_text refusal) left.after
+                    × MayHaveCalled (languages_of old.engine.pool) before (request_of line) left.after)
+                    (λ d. MayHaveCalled (languages_of old.engine.pool) before (request_of line) left.after) (λ d both. both.1) left.allowed;
+              };
+          silent = is.1 ∙ performed.silent;
+          asked = some;
+          idle = λ none. absurd (some none);
+          disk = disk_ends (λ given. tt) (λ goes. tt) performed.disk;
+          why = tt;
+          stays = performed.stays;
+        })
+    step_told {mid} {out'} (Stopped fault) told performed is =
+        subst (λ (r : Result (Unit {0}) StepFault). IsStep f s old new line out out' r) (sym is.0) (record {
+          does = steps_by f s old new line out mid out' fault performed.does;
+          silent = is.1 ∙ performed.silent;
+          asked = some;
+          idle = λ none. absurd (some none);
+          disk = disk_ends (λ same. let spent : fault ≡ NoMemory = cc in subst (λ (e : StepFault). GoesOn (Stopped e)) (sym spent) tt) (λ goes. goes) performed.disk;
+          why = performed.why;
+          stays = performed.stays;
+        })
+
+  -- a line that is no request
+  pub unread : {now : Scene F C} {request : Result Request Refusal} {out : List ℕ} (refused : Refusal) → (refused ≢ refusal.NoMemory → request ≡ Err refused) → AreOpen f now.engine.docs now.folder
+      → Performed f s now now request out out (Err (halted_by refused))
+  unread refusal.NoMemory is is_open = spent_at_once is_open
+  unread {now = now} {request = request} other is is_open =
+      refused_at_once (λ before. subst (λ (r : Result Request Refusal). DoesRequest s.functions s.honest (languages_of now.engine.pool) before r (refusal_text other) before)
+      (sym (is (λ same. let never : ⊥ = cc in never))) (refl, refl)) is_open
+
+-- the same request
+pub for_request : {F C : Type 0} {f : Folders F} {s : Servers C} {old new : Scene F C} {request made : Result Request Refusal} {out out' : List ℕ} {result : Result (Unit {0}) Halt} → request ≡ made
+    → Performed f s old new made out out' result → Performed f s old new request out out' result
+for_request {f = f} {s = s} {old = old} {new = new} {out = out} {out' = out'} {result = result} is = subst (λ (r : Result Request Refusal). Performed f s old new r out out' result) (sym is)
+
+-- ---- what a caller takes out of a step
+
+-- the child after a fault
+pub step_stopped : {F C : Type 0} (f : Folders F) (s : Servers C) (old new : Scene F C) (line out out' : List ℕ) (fault : StepFault) → fault ≢ NoMemory → StepsBy f s old new line out out' (Err fault)
+    → (before : Moment) → KeepsChild f s old before → KeepsChild f s new before
+step_stopped f s old new line out out' DiskFault other does = does
+step_stopped f s old new line out out' (Damaged name at) other does = does
+step_stopped f s old new line out out' (Full name length) other does = does
+step_stopped f s old new line out out' NoMemory other does = absurd (other refl)

@@ -19,10 +19,6 @@ Told = Option (Disk FileName)
 pub still_same : (docs : Docs) (disk : Told) (request : Result Request Refusal) → IsStill docs disk disk request
 still_same docs disk request = λ history at never. told_still disk (λ d. IsAt docs d.now history) MovesNone (λ d is. none_refl d) at
 
--- files were only read
-pub still_none : (docs : Docs) (old new : Told) (request : Result Request Refusal) → Tells old new MovesNone → IsStill docs old new request
-still_none docs old new request none = λ history at never. none
-
 -- the request is a write that is accepted
 pub still_written : (old new : Told) (history : List Write) (request : Result Request Refusal) (write : Write) (Moved : Disk FileName → Disk FileName → Type 0)
     → IfTold old (λ d. IsWrite (record { history = history }) request write) → ((write : Write) → IsWrite (record { history = history }) request write → ⊥) → Tells old new Moved → Tells old new MovesNone

@@ -80,34 +80,9 @@ IsFullFor docs (Ok (Put document)) name length = IsFull docs (id_of (object (mem
 IsFullFor docs (Ok (Delete id given)) name length = IsFull docs id None name length
 IsFullFor docs other name length = ⊥
 
--- ---- what a halt says of the documents' file
-
-abbrev pub IsDiskFault : Halt → Type 0
-IsDiskFault halt = halt ≡ Stopped DiskFault
-
--- where it names a damaged place, the place is one
-abbrev pub IsDamageOf : Docs → (FileName → File) → Halt → Type 0
-IsDamageOf docs files halt = (name : FileName) (at : ℕ) → halt ≡ Stopped (Damaged name at) → IsDamage docs files name at
-
--- it names no damaged place
-abbrev pub IsNoDamage : Halt → Type 0
-IsNoDamage halt = (name : FileName) (at : ℕ) → halt ≡ Stopped (Damaged name at) → ⊥
-
--- where it names a full file, the request would make it too long, or has one commit too many for it
-abbrev pub IsFullOf : Docs → Result Request Refusal → Halt → Type 0
-IsFullOf docs request halt = (name : FileName) (length : Option ℕ) → halt ≡ Stopped (Full name length) → IsFullFor docs request name length
-
 -- the request is a write that is accepted at the end of the history
 abbrev pub WouldWrite : Docs → Option (Disk FileName) → Result Request Refusal → Type 0
 WouldWrite docs disk request = (history : List Write) → IfTold disk (λ d. IsAt docs d.now history → (write : Write) × IsWrite (record { history = history }) request write)
-
--- where it names a full file, the request is such a write
-abbrev pub IsFullOfWrite : Docs → Option (Disk FileName) → Result Request Refusal → Halt → Type 0
-IsFullOfWrite docs disk request halt = (name : FileName) (length : Option ℕ) → halt ≡ Stopped (Full name length) → WouldWrite docs disk request
-
--- it names no full file
-abbrev pub IsNotFull : Halt → Type 0
-IsNotFull halt = (name : FileName) (length : Option ℕ) → halt ≡ Stopped (Full name length) → ⊥
 
 -- ---- what is written
 

@@ -15,5 +15,7 @@ pub mod Replies
 pub mod Mapped
 pub mod Halts
 pub mod Engine
+pub mod Disks
+pub mod Calls
 pub mod Accepted
 pub mod Laws

@@ -1,5 +1,5 @@
 // The engine: the documents, the query servers, and one request line at a time.
-ghost use Rattle.std.specs.Prelude.{◌≡◌, ◌≢◌, ◌++◌, ◌≤◌, ◌⊎◌, ℕ, List, [], IfOk, IfErr, OnOk, OnErr, Option, map, string_bytes, Err, Ok};
+ghost use Rattle.std.specs.Prelude.{◌≡◌, ◌++◌, ℕ, List, IfOk, IfErr, OnOk, OnErr, Option, map, string_bytes, Err, Ok};
 ghost use Rattle.view_ports.specs.Calls.{Call};
 ghost use Rattle.view_ports.specs.Causes.{HasCauseIf};
 ghost use Rattle.view_ports.specs.Disk.{IfTold, LeavesOnly, Tells};
@@ -10,11 +10,11 @@ ghost use Rattle.child_pool.specs.Pools.{Stands, languages_of};
 ghost use Rattle.doc_file.specs.Docs.{HoldsHistory, IsAt as AreAt, IsDamagedAt, IsOpen};
 ghost use Rattle.doc_file.specs.Held.{Stands as StandsFor};
 ghost use Rattle.doc_file.specs.History.{Write};
-ghost use Rattle.view_engine.specs.Moments.{Moment};
-ghost use Rattle.view_engine.specs.Engine.{Appends, HasChild, HasStopped, IsAt, Leaves, StandsAround};
-ghost use Rattle.view_engine.specs.Halts.{fault_of, halted_as, GoesOn, HasGoneOn, IsDamage, IsDamageOf, IsDiskFault, IsFullFor, IsFullOf, IsFullOfWrite, IsNoDamage, IsStill, WouldWrite};
-ghost use Rattle.view_engine.specs.Refusals.{request_of, refusal_text};
-ghost use Rattle.view_engine.specs.Steps.{Does, DoesRequest, DoesRequestText, MayHaveCalled};
+ghost use Rattle.view_engine.specs.Calls.{scene, IsStep, IsToldAs, Performed};
+ghost use Rattle.view_engine.specs.Disks.{AreOpen};
+ghost use Rattle.view_engine.specs.Engine.{HasStopped};
+ghost use Rattle.view_engine.specs.Halts.{fault_of, halted_as};
+ghost use Rattle.view_engine.specs.Refusals.{refusal_text};
 
 mod view;
 
@@ -81,36 +81,19 @@ impl Engine {
         line: &[u8],
         out: &mut Vec<u8>,
     ) -> Result<(), StepFault>
-        requires open { IfTold (F.disk folder.old) (λ d. IsOpen self.old.docs d.now) }
-        ensures done { OnOk result ((before : Moment) → IsAt (F.disk folder.old) (C.may_follow servers.old) (C.faults servers.old) self.old before
-            → Appends (F.disk folder.new) (C.may_follow servers.new) (C.faults servers.new) self.new (λ text after. IfTold (F.disk folder.old) (λ d.
-            Does C.functions C.honest (languages_of self.old.pool) before line.now text after)) out.old.items out.new.items) }
-        ensures gave_up { result ≡ Err StepFault.NoMemory → (before : Moment) → IsAt (F.disk folder.old) (C.may_follow servers.old) (C.faults servers.old) self.old before
-            → Leaves (F.disk folder.new) (C.may_follow servers.new) (C.faults servers.new) self.new (λ after. IfTold (F.disk folder.old) (λ d. MayHaveCalled (languages_of self.old.pool) before (request_of line.now) after)) }
-        ensures stopped { IfErr result (λ fault. fault ≢ StepFault.NoMemory → (before : Moment) → HasChild (C.may_follow servers.old) (C.faults servers.old) self.old.pool before → HasChild (C.may_follow servers.new) (C.faults servers.new) self.new.pool before) }
-        ensures moments { (history : List Write) → IfTold (F.disk folder.old) (λ d. AreAt self.old.docs d.now history) → Tells (F.disk folder.old) (F.disk folder.new)
-            (LeavesOnly (StandsAround (record { history = history }) (request_of line.now))) }
-        ensures still { IsStill self.old.docs (F.disk folder.old) (F.disk folder.new) (request_of line.now) }
-        ensures unmoved { result ≡ Err StepFault.NoMemory → (history : List Write) → IfTold (F.disk folder.old) (λ d. AreAt self.old.docs d.now history) → Tells (F.disk folder.old) (F.disk folder.new) (LeavesOnly (λ image. StandsFor image history)) }
-        ensures idle { line.now ≡ [] → folder.new ≡ folder.old }
-        ensures silent { OnErr result (out.new.items ≡ out.old.items) }
-        ensures asked { OnErr result (line.now ≢ []) }
-        ensures open { HasGoneOn result → IfTold (F.disk folder.new) (λ d. IsOpen self.new.docs d.now) }
-        ensures damaged { IfTold (F.disk folder.old) (λ d. (name : FileName) (at : ℕ) → result ≡ Err (StepFault.Damaged name at) → IsDamage self.old.docs d.now name at) }
-        ensures sound { (history : List Write) → IfTold (F.disk folder.old) (λ d. AreAt self.old.docs d.now history → (name : FileName) (at : ℕ) → result ≡ Err (StepFault.Damaged name at) → ⊥) }
-        ensures full { (name : FileName) (length : Option ℕ) → result ≡ Err (StepFault.Full name length) → IsFullFor self.old.docs (request_of line.now) name length }
-        ensures reached { (name : FileName) (length : Option ℕ) → result ≡ Err (StepFault.Full name length) → WouldWrite self.old.docs (F.disk folder.old) (request_of line.now) }
-        ensures cause { HasCauseIf (λ fault. fault ≡ StepFault.DiskFault) (F.faults folder.old) (F.faults folder.new) result }
-        ensures languages { languages_of self.new.pool ≡ languages_of self.old.pool }
-        ensures later { C.faults servers.old ≤ C.faults servers.new }
+        requires open { AreOpen F.Folder self.old.docs folder.old }
+        ensures { IsStep F.Folder C.Servers (scene self.old folder.old servers.old)
+            (scene self.new folder.new servers.new) line.now out.old.items out.new.items result }
     {
         if line.is_empty() {
             return Ok(());
         }
-        match self.answer(alloc, folder, servers, line, out) {
-            Ok(()) => Ok(()),
-            Err(Halt::Refused(refusal)) => append_refusal(alloc, &refusal, out),
-            Err(Halt::Stopped(fault)) => Err(fault),
+        match read_request(alloc, line) {
+            Ok(request) => match self.perform(alloc, folder, servers, request, out) {
+                Ok(()) => Ok(()),
+                Err(halt) => tell(alloc, halt, out),
+            },
+            Err(refusal) => tell(alloc, Halt::from(refusal), out),
         }
     }
 
@@ -122,46 +105,6 @@ impl Engine {
         self.pool.stop_all(servers);
     }
 
-    /// Does the request of a line that isn't empty and appends the reply line, unless it is refused.
-    fn answer<F: Folder, C: Servers>(
-        &mut self,
-        alloc: Global,
-        folder: &mut F,
-        servers: &mut C,
-        line: &[u8],
-        out: &mut Vec<u8>,
-    ) -> Result<(), Halt>
-        requires open { IfTold (F.disk folder.old) (λ d. IsOpen self.old.docs d.now) }
-        ensures done { OnOk result ((before : Moment) → IsAt (F.disk folder.old) (C.may_follow servers.old) (C.faults servers.old) self.old before
-            → Appends (F.disk folder.new) (C.may_follow servers.new) (C.faults servers.new) self.new (λ text after. IfTold (F.disk folder.old) (λ d.
-            DoesRequestText C.functions C.honest (languages_of self.old.pool) before (request_of line.now) text after)) out.old.items out.new.items) }
-        ensures refused { IfErr result (λ halt. GoesOn halt → (before : Moment) → IsAt (F.disk folder.old) (C.may_follow servers.old) (C.faults servers.old) self.old before
-            → Leaves (F.disk folder.new) (C.may_follow servers.new) (C.faults servers.new) self.new (λ after. IfTold (F.disk folder.old) (λ d.
-            ((refusal : Refusal) → halt ≡ Halt.Refused refusal → DoesRequest C.functions C.honest (languages_of self.old.pool) before (request_of line.now) (refusal_text refusal) after)
-            × MayHaveCalled (languages_of self.old.pool) before (request_of line.now) after))) }
-        ensures stopped { IfErr result (λ halt. (fault : StepFault) → halt ≡ Halt.Stopped fault → fault ≢ StepFault.NoMemory → (before : Moment) → HasChild (C.may_follow servers.old) (C.faults servers.old) self.old.pool before
-            → HasChild (C.may_follow servers.new) (C.faults servers.new) self.new.pool before) }
-        ensures moments { (history : List Write) → IfTold (F.disk folder.old) (λ d. AreAt self.old.docs d.now history) → Tells (F.disk folder.old) (F.disk folder.new)
-            (LeavesOnly (StandsAround (record { history = history }) (request_of line.now))) }
-        ensures still { IsStill self.old.docs (F.disk folder.old) (F.disk folder.new) (request_of line.now) }
-        ensures unwritten { IfErr result (λ halt. GoesOn halt → (history : List Write) → IfTold (F.disk folder.old) (λ d. AreAt self.old.docs d.now history) → Tells (F.disk folder.old) (F.disk folder.new) (LeavesOnly (λ image. StandsFor image history))) }
-        ensures silent { OnErr result (out.new.items ≡ out.old.items) }
-        ensures open { OnOk result (IfTold (F.disk folder.new) (λ d. IsOpen self.new.docs d.now)) }
-        ensures still_open { IfErr result (λ halt. GoesOn halt → IfTold (F.disk folder.new) (λ d. IsOpen self.new.docs d.now)) }
-        ensures damaged { IfTold (F.disk folder.old) (λ d. IfErr result (IsDamageOf self.old.docs d.now)) }
-        ensures sound { (history : List Write) → IfTold (F.disk folder.old) (λ d. AreAt self.old.docs d.now history → IfErr result IsNoDamage) }
-        ensures full { IfErr result (IsFullOf self.old.docs (request_of line.now)) }
-        ensures reached { IfErr result (IsFullOfWrite self.old.docs (F.disk folder.old) (request_of line.now)) }
-        ensures cause { HasCauseIf IsDiskFault (F.faults folder.old) (F.faults folder.new) result }
-        ensures languages { languages_of self.new.pool ≡ languages_of self.old.pool }
-        ensures later { C.faults servers.old ≤ C.faults servers.new }
-    {
-        match read_request(alloc, line) {
-            Ok(request) => self.perform(alloc, folder, servers, request, out),
-            Err(refusal) => Err(Halt::from(refusal)),
-        }
-    }
-
     /// Does a request and appends the reply line, unless it is refused.
     fn perform<F: Folder, C: Servers>(
         &mut self,
@@ -171,30 +114,9 @@ impl Engine {
         request: Request,
         out: &mut Vec<u8>,
     ) -> Result<(), Halt>
-        requires open { IfTold (F.disk folder.old) (λ d. IsOpen self.old.docs d.now) }
-        ensures done { OnOk result ((before : Moment) → IsAt (F.disk folder.old) (C.may_follow servers.old) (C.faults servers.old) self.old before
-            → Appends (F.disk folder.new) (C.may_follow servers.new) (C.faults servers.new) self.new (λ text after. IfTold (F.disk folder.old) (λ d.
-            DoesRequestText C.functions C.honest (languages_of self.old.pool) before (Ok request) text after)) out.old.items out.new.items) }
-        ensures refused { IfErr result (λ halt. GoesOn halt → (before : Moment) → IsAt (F.disk folder.old) (C.may_follow servers.old) (C.faults servers.old) self.old before
-            → Leaves (F.disk folder.new) (C.may_follow servers.new) (C.faults servers.new) self.new (λ after. IfTold (F.disk folder.old) (λ d.
-            ((refusal : Refusal) → halt ≡ Halt.Refused refusal → DoesRequest C.functions C.honest (languages_of self.old.pool) before (Ok request) (refusal_text refusal) after)
-            × MayHaveCalled (languages_of self.old.pool) before (Ok request) after))) }
-        ensures stopped { IfErr result (λ halt. (fault : StepFault) → halt ≡ Halt.Stopped fault → fault ≢ StepFault.NoMemory → (before : Moment) → HasChild (C.may_follow servers.old) (C.faults servers.old) self.old.pool before
-            → HasChild (C.may_follow servers.new) (C.faults servers.new) self.new.pool before) }
-        ensures moments { (history : List Write) → IfTold (F.disk folder.old) (λ d. AreAt self.old.docs d.now history) → Tells (F.disk folder.old) (F.disk folder.new)
-            (LeavesOnly (StandsAround (record { history = history }) (Ok request))) }
-        ensures still { IsStill self.old.docs (F.disk folder.old) (F.disk folder.new) (Ok request) }
-        ensures unwritten { IfErr result (λ halt. GoesOn halt → (history : List Write) → IfTold (F.disk folder.old) (λ d. AreAt self.old.docs d.now history) → Tells (F.disk folder.old) (F.disk folder.new) (LeavesOnly (λ image. StandsFor image history))) }
-        ensures silent { OnErr result (out.new.items ≡ out.old.items) }
-        ensures open { OnOk result (IfTold (F.disk folder.new) (λ d. IsOpen self.new.docs d.now)) }
-        ensures still_open { IfErr result (λ halt. GoesOn halt → IfTold (F.disk folder.new) (λ d. IsOpen self.new.docs d.now)) }
-        ensures damaged { IfTold (F.disk folder.old) (λ d. IfErr result (IsDamageOf self.old.docs d.now)) }
-        ensures sound { (history : List Write) → IfTold (F.disk folder.old) (λ d. AreAt self.old.docs d.now history → IfErr result IsNoDamage) }
-        ensures full { IfErr result (IsFullOf self.old.docs (Ok request)) }
-        ensures reached { IfErr result (IsFullOfWrite self.old.docs (F.disk folder.old) (Ok request)) }
-        ensures cause { HasCauseIf IsDiskFault (F.faults folder.old) (F.faults folder.new) result }
-        ensures languages { languages_of self.new.pool ≡ languages_of self.old.pool }
-        ensures later { C.faults servers.old ≤ C.faults servers.new }
+        requires open { AreOpen F.Folder self.old.docs folder.old }
+        ensures { Performed F.Folder C.Servers (scene self.old folder.old servers.old)
+            (scene self.new folder.new servers.new) (Ok request) out.old.items out.new.items result }
     {
         match request {
             Request::Put { document } => put(alloc, &mut self.docs, folder, document, out),
@@ -220,6 +142,16 @@ fn open_fault(fault: DocFault) -> StepFault
     match Halt::from(fault) {
         Halt::Stopped(fault) => fault,
         Halt::Refused(_) => StepFault::NoMemory,
+    }
+}
+
+/// Tells why a request isn't done: appends the reply line of a refusal, or answers the fault.
+fn tell(alloc: Global, halt: Halt, out: &mut Vec<u8>) -> Result<(), StepFault>
+    ensures { IsToldAs halt out.old.items out.new.items result }
+{
+    match halt {
+        Halt::Refused(refusal) => append_refusal(alloc, &refusal, out),
+        Halt::Stopped(fault) => Err(fault),
     }
 }
 

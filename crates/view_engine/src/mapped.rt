@@ -1,12 +1,10 @@
 // The documents that views map, read from their file.
-ghost use Rattle.std.specs.Prelude.{◌≡◌, ℕ, List, All, IfErr, IfOk, map, Option, IsTrue};
-ghost use Rattle.view_ports.specs.Causes.{HasCauseIf};
-ghost use Rattle.view_ports.specs.Disk.{IfTold, MovesNone, Tells};
-ghost use Rattle.view_ports.specs.declared.file_name.FileName.{FileName};
+ghost use Rattle.std.specs.Prelude.{◌≡◌, List, All, IfErr, IfOk, map};
+ghost use Rattle.view_ports.specs.Disk.{IfTold};
 ghost use Rattle.doc_file.specs.Changes.{numbered, HasDocument};
-ghost use Rattle.doc_file.specs.Docs.{IsAt, IsOpen};
+ghost use Rattle.doc_file.specs.Docs.{IsAt};
 ghost use Rattle.doc_file.specs.History.{Write};
-ghost use Rattle.view_engine.specs.Halts.{IsDamageOf, IsDiskFault, IsNoDamage, IsNotFull};
+ghost use Rattle.view_engine.specs.Disks.{AreOpen, Reads};
 ghost use Rattle.view_engine.specs.Mapped.{AreMapped, AreMappedOf};
 ghost use Rattle.view_engine.specs.declared.refusal.Refusal.{Refusal};
 
@@ -34,13 +32,10 @@ pub(crate) fn load_mapped<F: Folder>(
     docs: &Docs,
     folder: &mut F,
 ) -> Result<Mapped, Halt>
+    requires open { AreOpen F.Folder docs.now folder.old }
     ensures mapped { (history : List Write) → IfTold (F.disk folder.old) (λ d. IsAt docs.now d.now history → IfOk result (AreMapped history)) }
     ensures refused { IfErr result (λ halt. (refusal : Refusal) → halt ≡ Halt.Refused refusal → ⊥) }
-    ensures disk { Tells (F.disk folder.old) (F.disk folder.new) MovesNone }
-    ensures damaged { IfTold (F.disk folder.old) (λ d. IsOpen docs.now d.now → IfErr result (IsDamageOf docs.now d.now)) }
-    ensures sound { (history : List Write) → IfTold (F.disk folder.old) (λ d. IsAt docs.now d.now history → IfErr result IsNoDamage) }
-    ensures room { IfErr result IsNotFull }
-    ensures cause { HasCauseIf IsDiskFault (F.faults folder.old) (F.faults folder.new) result }
+    ensures reads { Reads F.Folder docs.now folder.old folder.new result }
 {
     match docs.changed_since(alloc, folder, 0, MOST) {
         Ok(changes) => {

@@ -1,21 +1,20 @@
 // The requests that read documents alone: `get` and `info`.
-ghost use Rattle.std.specs.Prelude.{◌≡◌, ◌++◌, ℕ, List, IfErr, OnErr, OnOk, Option, Some};
+ghost use Rattle.std.specs.Prelude.{◌≡◌, ◌++◌, List, OnErr, OnOk};
 ghost use Rattle.json_terms.specs.Json.{Json};
 ghost use Rattle.json_terms.specs.Text.{text_of};
-ghost use Rattle.view_ports.specs.Causes.{HasCauseIf};
-ghost use Rattle.view_ports.specs.Disk.{IfTold, MovesNone, Tells};
 ghost use Rattle.view_ports.specs.Lines.{ended};
 ghost use Rattle.view_ports.specs.File.{File};
 ghost use Rattle.view_ports.specs.declared.file_name.FileName.{FileName};
 ghost use Rattle.doc_file.specs.Docs.{info_of, IsAt};
-ghost use Rattle.doc_file.specs.History.{Write, live_document};
+ghost use Rattle.doc_file.specs.History.{Write};
 ghost use Rattle.view_engine.specs.Answer.{info_text};
-ghost use Rattle.view_engine.specs.Get.{get_refusal, DoesInfo};
-ghost use Rattle.view_engine.specs.Halts.{IsDamageOf, IsDiskFault, IsNoDamage, IsNotFull};
+ghost use Rattle.view_engine.specs.Calls.{ActsHere};
+ghost use Rattle.view_engine.specs.Disks.{AreOpen};
+ghost use Rattle.view_engine.specs.Get.{DoesInfo};
 
 use crate::answer::write_info;
 use crate::halt::Halt;
-use crate::refusal::Refusal;
+use crate::request::Request;
 use doc_file::Docs;
 use json_terms::{NoMemory, write_term};
 use std::alloc::Global;
@@ -29,16 +28,10 @@ pub(crate) fn get<F: Folder>(
     id: &str,
     out: &mut Vec<u8>,
 ) -> Result<(), Halt>
-    ensures done { OnOk result ((document : Json) × (out.new.items ≡ out.old.items ++ ended (text_of document))
-        × ((history : List Write) → IfTold (F.disk folder.old) (λ d. IsAt docs.now d.now history → live_document history id.now ≡ Some document))) }
-    ensures refused { IfErr result (λ halt. (refusal : Refusal) → halt ≡ Halt.Refused refusal → (history : List Write) → IfTold (F.disk folder.old) (λ d. IsAt docs.now d.now history
-        → get_refusal (record { history = history }) id.now ≡ Some refusal)) }
-    ensures silent { OnErr result (out.new.items ≡ out.old.items) }
-    ensures disk { Tells (F.disk folder.old) (F.disk folder.new) MovesNone }
-    ensures damaged { IfTold (F.disk folder.old) (λ d. IfErr result (IsDamageOf docs.now d.now)) }
-    ensures sound { (history : List Write) → IfTold (F.disk folder.old) (λ d. IsAt docs.now d.now history → IfErr result IsNoDamage) }
-    ensures room { IfErr result IsNotFull }
-    ensures cause { HasCauseIf IsDiskFault (F.faults folder.old) (F.faults folder.new) result }
+    requires open { AreOpen F.Folder docs.now folder.old }
+    ensures acts { ActsHere F.Folder docs.now docs.now folder.old folder.new
+        (Request.Get id.now) out.old.items out.new.items result }
+    ensures printed { OnOk result ((document : Json) × (out.new.items ≡ out.old.items ++ ended (text_of document))) }
 {
     match docs.get(alloc, folder, id) {
         Ok(document) => {

@@ -1,24 +1,21 @@
 // The requests that write a document: `put` and `delete`. The reply is made first, so that want of memory writes nothing.
-ghost use Rattle.std.specs.Prelude.{◌≡◌, ◌++◌, ◌∷◌, ℕ, List, IfErr, IfOk, IsTrue, None, Ok, OnErr, OnOk, Option, option_map};
+ghost use Rattle.std.specs.Prelude.{◌≡◌, ◌++◌, ℕ, List, IfErr, IfOk, OnOk, option_map};
 ghost use Rattle.json_terms.specs.Json.{object, members_of};
 ghost use Rattle.json_terms.specs.Seen.{json};
 ghost use Rattle.design_docs.specs.Documents.{id_of as id_in};
-ghost use Rattle.view_ports.specs.Causes.{HasCauseIf};
-ghost use Rattle.view_ports.specs.Disk.{IfTold, LeavesOnly, Tells};
 ghost use Rattle.view_ports.specs.File.{File};
 ghost use Rattle.view_ports.specs.Lines.{ended};
 ghost use Rattle.view_ports.specs.declared.file_name.FileName.{FileName};
-ghost use Rattle.doc_file.specs.Docs.{IsAt, IsOpen, IsSame};
+ghost use Rattle.doc_file.specs.Docs.{IsAt, IsSame};
 ghost use Rattle.doc_file.specs.History.{Write};
 ghost use Rattle.doc_file.specs.Incoming.{deletes as deletes_json};
 ghost use Rattle.doc_file.specs.Stored.{next_revision};
 ghost use Rattle.view_engine.specs.Answer.{write_text};
-ghost use Rattle.view_engine.specs.Delete.{delete_write, DoesDelete, IsDeleteRefused};
-ghost use Rattle.view_engine.specs.Engine.{StandsAround};
-ghost use Rattle.view_engine.specs.Halts.{GoesOn, IsDiskFault, IsFullOf, IsFullOfWrite, IsNoDamage, IsStill};
+ghost use Rattle.view_engine.specs.Calls.{ActsHere};
+ghost use Rattle.view_engine.specs.Disks.{AreOpen};
+ghost use Rattle.view_engine.specs.Halts.{GoesOn};
 ghost use Rattle.view_engine.specs.Put as spec;
 ghost use Rattle.view_engine.specs.Replies.{accepted_reply};
-ghost use Rattle.view_engine.specs.World.{written};
 
 use crate::answer::write_accepted;
 use crate::halt::Halt;
@@ -41,24 +38,12 @@ pub(crate) fn put<F: Folder>(
     document: Members,
     out: &mut Vec<u8>,
 ) -> Result<(), Halt>
-    requires open { IfTold (F.disk folder.old) (λ d. IsOpen docs.old d.now) }
-    ensures appended { OnOk result (out.new.items ≡ out.old.items ++ ended (accepted_reply docs.old (id_in (object (members_of document))))) }
-    ensures done { OnOk result ((history : List Write) → IfTold (F.disk folder.old) (λ d. IsAt docs.old d.now history
-        → spec.DoesPut (record { history = history }) (object (members_of document)) (accepted_reply docs.old (id_in (object (members_of document)))) (written (record { history = history }) (spec.put_write (record { history = history }) (object (members_of document)))))) }
-    ensures stored { OnOk result ((history : List Write) → IfTold (F.disk folder.old) (λ d. IsAt docs.old d.now history)
-        → IfTold (F.disk folder.new) (λ d. IsAt docs.new d.now (spec.put_write (record { history = history }) (object (members_of document)) ∷ history))) }
-    ensures refused { IfErr result (λ halt. (refusal : Refusal) → halt ≡ Halt.Refused refusal → (history : List Write) → IfTold (F.disk folder.old) (λ d. IsAt docs.old d.now history
-        → spec.IsPutRefused (record { history = history }) (object (members_of document)) refusal)) }
+    requires open { AreOpen F.Folder docs.old folder.old }
+    ensures acts { ActsHere F.Folder docs.old docs.new folder.old folder.new
+        (Request.Put document) out.old.items out.new.items result }
+    ensures appended { OnOk result (out.new.items ≡ out.old.items
+        ++ ended (accepted_reply docs.old (id_in (object (members_of document))))) }
     ensures kept { IfErr result (λ halt. GoesOn halt → IsSame docs.old docs.new × (folder.new ≡ folder.old)) }
-    ensures silent { OnErr result (out.new.items ≡ out.old.items) }
-    ensures open { IfTold (F.disk folder.new) (λ d. OnOk result (IsOpen docs.new d.now)) }
-    ensures moments { (history : List Write) → IfTold (F.disk folder.old) (λ d. IsAt docs.old d.now history) → Tells (F.disk folder.old) (F.disk folder.new)
-        (LeavesOnly (StandsAround (record { history = history }) (Ok (Request.Put document)))) }
-    ensures still { IsStill docs.old (F.disk folder.old) (F.disk folder.new) (Ok (Request.Put document)) }
-    ensures whole { IfErr result IsNoDamage }
-    ensures full { IfErr result (IsFullOf docs.old (Ok (Request.Put document))) }
-    ensures reached { IfErr result (IsFullOfWrite docs.old (F.disk folder.old) (Ok (Request.Put document))) }
-    ensures cause { HasCauseIf IsDiskFault (F.faults folder.old) (F.faults folder.new) result }
 {
     let document = Term::Object(document);
     if is_unbuilt(alloc, &document)? {
@@ -85,24 +70,11 @@ pub(crate) fn delete<F: Folder>(
     rev: Option<Chars>,
     out: &mut Vec<u8>,
 ) -> Result<(), Halt>
-    requires open { IfTold (F.disk folder.old) (λ d. IsOpen docs.old d.now) }
+    requires open { AreOpen F.Folder docs.old folder.old }
+    ensures acts { ActsHere F.Folder docs.old docs.new folder.old folder.new
+        (Request.Delete id rev) out.old.items out.new.items result }
     ensures appended { OnOk result (out.new.items ≡ out.old.items ++ ended (accepted_reply docs.old id)) }
-    ensures done { OnOk result ((history : List Write) → IfTold (F.disk folder.old) (λ d. IsAt docs.old d.now history
-        → DoesDelete (record { history = history }) id rev (accepted_reply docs.old id) (written (record { history = history }) (delete_write (record { history = history }) id)))) }
-    ensures stored { OnOk result ((history : List Write) → IfTold (F.disk folder.old) (λ d. IsAt docs.old d.now history)
-        → IfTold (F.disk folder.new) (λ d. IsAt docs.new d.now (delete_write (record { history = history }) id ∷ history))) }
-    ensures refused { IfErr result (λ halt. (refusal : Refusal) → halt ≡ Halt.Refused refusal → (history : List Write) → IfTold (F.disk folder.old) (λ d. IsAt docs.old d.now history
-        → IsDeleteRefused (record { history = history }) id rev refusal)) }
     ensures kept { IfErr result (λ halt. GoesOn halt → IsSame docs.old docs.new × (folder.new ≡ folder.old)) }
-    ensures silent { OnErr result (out.new.items ≡ out.old.items) }
-    ensures open { IfTold (F.disk folder.new) (λ d. OnOk result (IsOpen docs.new d.now)) }
-    ensures moments { (history : List Write) → IfTold (F.disk folder.old) (λ d. IsAt docs.old d.now history) → Tells (F.disk folder.old) (F.disk folder.new)
-        (LeavesOnly (StandsAround (record { history = history }) (Ok (Request.Delete id rev)))) }
-    ensures still { IsStill docs.old (F.disk folder.old) (F.disk folder.new) (Ok (Request.Delete id rev)) }
-    ensures whole { IfErr result IsNoDamage }
-    ensures full { IfErr result (IsFullOf docs.old (Ok (Request.Delete id rev))) }
-    ensures reached { IfErr result (IsFullOfWrite docs.old (F.disk folder.old) (Ok (Request.Delete id rev))) }
-    ensures cause { HasCauseIf IsDiskFault (F.faults folder.old) (F.faults folder.new) result }
 {
     let reply = accepted_line(alloc, docs, id.as_str())?;
     let start = out.len();

@@ -1,23 +1,18 @@
 // The request `view`.
-ghost use Rattle.std.specs.Prelude.{◌≡◌, ◌≢◌, ◌++◌, ◌≤◌, ◌<◌, ◌^◌, bytes_eq, ℕ, List, IfOk, IfErr, OnErr, OnOk, None, Some, Ok, Option, IfSome, option_map, map, length};
+ghost use Rattle.std.specs.Prelude.{◌≡◌, ◌≢◌, ◌++◌, ◌<◌, ◌^◌, bytes_eq, ℕ, List, IfErr, IfOk, OnErr, OnOk, None, Some, Ok, IfSome, option_map, map, length};
 ghost use Rattle.std.specs.Map.{lookup};
-ghost use Rattle.view_ports.specs.Causes.{HasCauseIf};
-ghost use Rattle.view_ports.specs.Disk.{IfTold, MovesNone, Tells};
+ghost use Rattle.view_ports.specs.Disk.{IfTold};
 ghost use Rattle.view_ports.specs.Lines.{ended};
-ghost use Rattle.view_ports.specs.declared.file_name.FileName.{FileName};
 ghost use Rattle.raw_collation.specs.Sorting.{sorted_rows};
 ghost use Rattle.design_docs.specs.Laws.{entry_of as named};
 ghost use Rattle.child_pool.specs.Languages.{path_in};
 ghost use Rattle.child_pool.specs.Pools.{languages_of};
-ghost use Rattle.doc_file.specs.Docs.{IsAt as AreAt, IsOpen};
+ghost use Rattle.doc_file.specs.Docs.{IsAt as AreAt};
 ghost use Rattle.doc_file.specs.History.{Write};
 ghost use Rattle.view_engine.specs.Answer.{answer};
-ghost use Rattle.view_engine.specs.Engine.{Appends, HasChild, IsAt, Leaves};
-ghost use Rattle.view_engine.specs.Halts.{GoesOn, IsDamageOf, IsDiskFault, IsNoDamage, IsNotFull};
-ghost use Rattle.view_engine.specs.Moments.{Moment};
-ghost use Rattle.view_engine.specs.Refusals.{refusal_text};
+ghost use Rattle.view_engine.specs.Calls.{scene, Performed};
+ghost use Rattle.view_engine.specs.Disks.{AreOpen, Reads};
 ghost use Rattle.view_engine.specs.Rows.{emitted_by, emitted_rows};
-ghost use Rattle.view_engine.specs.Steps.{DoesRequest, DoesRequestText, MayHaveCalled};
 ghost use Rattle.view_engine.specs.View as spec;
 ghost use Rattle.view_engine.specs.ViewPlan.{IsPlan, met_by, source_at};
 
@@ -53,24 +48,9 @@ impl Engine {
         name: ViewName,
         out: &mut Vec<u8>,
     ) -> Result<(), Halt>
-        ensures done { OnOk result ((before : Moment) → IsAt (F.disk folder.old) (C.may_follow servers.old) (C.faults servers.old) self.old before
-            → Appends (F.disk folder.new) (C.may_follow servers.new) (C.faults servers.new) self.new (λ text after. IfTold (F.disk folder.old) (λ d.
-            DoesRequestText C.functions C.honest (languages_of self.old.pool) before (Ok (Request.View name None)) text after)) out.old.items out.new.items) }
-        ensures refused { IfErr result (λ halt. GoesOn halt → (before : Moment) → IsAt (F.disk folder.old) (C.may_follow servers.old) (C.faults servers.old) self.old before
-            → Leaves (F.disk folder.new) (C.may_follow servers.new) (C.faults servers.new) self.new (λ after. IfTold (F.disk folder.old) (λ d.
-            ((refusal : Refusal) → halt ≡ Halt.Refused refusal → DoesRequest C.functions C.honest (languages_of self.old.pool) before (Ok (Request.View name None)) (refusal_text refusal) after)
-            × MayHaveCalled (languages_of self.old.pool) before (Ok (Request.View name None)) after))) }
-        ensures stopped { IfErr result (λ halt. (fault : StepFault) → halt ≡ Halt.Stopped fault → fault ≢ StepFault.NoMemory → (before : Moment) → HasChild (C.may_follow servers.old) (C.faults servers.old) self.old.pool before
-            → HasChild (C.may_follow servers.new) (C.faults servers.new) self.new.pool before) }
-        ensures silent { OnErr result (out.new.items ≡ out.old.items) }
-        ensures docs { self.new.docs ≡ self.old.docs }
-        ensures disk { Tells (F.disk folder.old) (F.disk folder.new) MovesNone }
-        ensures damaged { IfTold (F.disk folder.old) (λ d. IsOpen self.old.docs d.now → IfErr result (IsDamageOf self.old.docs d.now)) }
-        ensures sound { (history : List Write) → IfTold (F.disk folder.old) (λ d. AreAt self.old.docs d.now history → IfErr result IsNoDamage) }
-        ensures room { IfErr result IsNotFull }
-        ensures cause { HasCauseIf IsDiskFault (F.faults folder.old) (F.faults folder.new) result }
-        ensures languages { languages_of self.new.pool ≡ languages_of self.old.pool }
-        ensures later { C.faults servers.old ≤ C.faults servers.new }
+        requires open { AreOpen F.Folder self.old.docs folder.old }
+        ensures { Performed F.Folder C.Servers (scene self.old folder.old servers.old)
+            (scene self.new folder.new servers.new) (Ok (Request.View name None)) out.old.items out.new.items result }
     {
         let plan = match self.plan(alloc, folder, &name) {
             Ok(plan) => plan,
@@ -104,11 +84,7 @@ impl Engine {
         ensures known { IfOk result (λ plan. (path : List ℕ) × (path_in (languages_of self.now.pool) plan.design.language ≡ Some path)) }
         ensures refused { IfErr result (λ halt. (refusal : Refusal) → halt ≡ Halt.Refused refusal → (history : List Write) → IfTold (F.disk folder.old) (λ d. AreAt self.now.docs d.now history
             → spec.view_refusal (languages_of self.now.pool) (record { history = history }) name.now ≡ Some refusal)) }
-        ensures disk { Tells (F.disk folder.old) (F.disk folder.new) MovesNone }
-        ensures damaged { IfTold (F.disk folder.old) (λ d. IfErr result (IsDamageOf self.now.docs d.now)) }
-        ensures sound { (history : List Write) → IfTold (F.disk folder.old) (λ d. AreAt self.now.docs d.now history → IfErr result IsNoDamage) }
-        ensures room { IfErr result IsNotFull }
-        ensures cause { HasCauseIf IsDiskFault (F.faults folder.old) (F.faults folder.new) result }
+        ensures reads { Reads F.Folder self.now.docs folder.old folder.new result }
     {
         let id = design_id(alloc, name.design.as_str())?;
         let document = match self.docs.get(alloc, folder, id.as_str()) {

@@ -1,32 +1,40 @@
--- A fault says what the documents' fault said.
-use Rattle.std.proofs.Common.{◌≡◌, ℕ, Err}
-use Rattle.view_ports.specs.declared.file_name.FileName.{FileName}
+-- The document that is printed is the live one, and a fault says what the documents' fault said.
+use Rattle.std.proofs.Common.{◌≡◌, ◌++◌, Some, refl, rules}
+use Rattle.json_terms.specs.Seen.{json}
+use Rattle.json_terms.specs.Text.{text_of}
+use Rattle.view_ports.specs.Lines.{ended}
 use Rattle.view_ports.proofs.Told.{told_now}
-use Rattle.gate_file.specs.GateFile.{name_of}
-use Rattle.gate_file.specs.declared.fault.GateFault.TheVariants.{Damaged as GateDamaged}
-use Rattle.doc_file.specs.declared.fault.DocFault.TheVariants.{Gate}
-use Rattle.doc_file.specs.Docs.{bytes_in, file_of, last_of, IsAt, IsSpoiled}
-use Rattle.view_engine.specs.declared.halt.Halt.TheVariants.{Stopped}
-use Rattle.view_engine.specs.declared.halt.StepFault.TheVariants.{Damaged}
-use Rattle.view_engine.specs.Halts.{IsDamage}
-use Rattle.view_engine.proofs.HaltedAs.{damaged_from, spoiled_damage}
+use Rattle.doc_file.specs.Docs.{IsAt}
+use Rattle.doc_file.specs.History.{live_document}
+use Rattle.view_engine.specs.declared.refusal.Refusal.{Refusal}
+use Rattle.view_engine.specs.declared.halt.Halt.TheVariants.{Refused}
+use Rattle.view_engine.specs.Disks.{world_of}
+use Rattle.view_engine.specs.Get.{get_refusal}
+use Rattle.view_engine.specs.Halts.{halted_as}
+use Rattle.view_engine.proofs.Reading.{read_done, read_spent, read_stopped, why_of_get, IsMetIn}
 use Rattle.view_engine.proofs.reads.get.Goals as goal
 
-pub returns-in-Err-clause-damaged : goal.returns-in-Err-clause-damaged
-returns-in-Err-clause-damaged g c =
-    let docs = c.args.docs.now in
-    let id = c.args.id.now in
-    told_now (g.F.Folder.disk c.args.folder.now)
-    (λ d. (n : FileName) (at : ℕ) → c.get.result ≡ Err (Gate (GateDamaged n at)) → (n ≡ name_of (file_of docs)) × IsSpoiled id (bytes_in docs d.now) (last_of docs id) at)
-    (λ d. (n : FileName) (at : ℕ) → c.from.result ≡ Stopped (Damaged n at) → IsDamage docs d.now n at)
-    (λ d is n at damaged. spoiled_damage docs d.now n id at (is n at (damaged_from c.get.result c.in-Err.fault c.from.result n at c.in-Err.is c.from.ensures damaged)))
-    c.get.ensures.damaged
+pub returns-in_err-write_term-in-Ok-clause-acts : goal.returns-in_err-write_term-in-Ok-clause-acts
+returns-in_err-write_term-in-Ok-clause-acts g c = read_spent c.requires.open c.in-Ok.ensures.disk c.in-Ok.ensures.cause.later tt refl c.from_residual.ensures.1
 
-pub returns-in-Err-clause-sound : goal.returns-in-Err-clause-sound
-returns-in-Err-clause-sound g c = λ history.
+pub returns-in_err-push-in-Ok-clause-acts : goal.returns-in_err-push-in-Ok-clause-acts
+returns-in_err-push-in-Ok-clause-acts g c = read_spent c.requires.open c.in-Ok.ensures.disk c.in-Ok.ensures.cause.later tt refl c.from_residual-in_err-push-in-Ok.ensures.1
+
+pub returns-in_err-extend_from_slice-in-Ok-clause-acts : goal.returns-in_err-extend_from_slice-in-Ok-clause-acts
+returns-in_err-extend_from_slice-in-Ok-clause-acts g c =
+    read_spent c.requires.open c.in-Ok.ensures.disk c.in-Ok.ensures.cause.later tt c.in_err-extend_from_slice-in-Ok.ensures.items c.from_residual-in_err-extend_from_slice-in-Ok.ensures.1
+
+pub returns-in_ok-extend_from_slice-in-Ok-clause-acts : goal.returns-in_ok-extend_from_slice-in-Ok-clause-acts
+returns-in_ok-extend_from_slice-in-Ok-clause-acts g c =
+    let document = json c.in-Ok.document in
     let docs = c.args.docs.now in
-    told_now (g.F.Folder.disk c.args.folder.now)
-    (λ d. IsAt docs d.now history → (n : FileName) (at : ℕ) → c.get.result ≡ Err (Gate (GateDamaged n at)) → ⊥)
-    (λ d. IsAt docs d.now history → (n : FileName) (at : ℕ) → c.from.result ≡ Stopped (Damaged n at) → ⊥)
-    (λ d is stands n at damaged. is stands n at (damaged_from c.get.result c.in-Err.fault c.from.result n at c.in-Err.is c.from.ensures damaged))
-    (c.get.ensures.sound history)
+    let appended : c.extend_from_slice.new.self.items ≡ c.args.out.now.items ++ ended (text_of document) = search rules in
+    read_done c.requires.open c.in-Ok.ensures.disk c.in-Ok.ensures.cause.later (text_of document) appended (λ history.
+    told_now (g.F.Folder.disk c.args.folder.now) (λ d. IsAt docs d.now history → live_document history c.args.id.now ≡ Some document) _ (λ d live at. ((document, live at, refl), refl))
+    (c.in-Ok.ensures.document history))
+
+pub returns-in-Err-clause-acts : goal.returns-in-Err-clause-acts
+returns-in-Err-clause-acts g c =
+    let refused : (refusal : Refusal) → halted_as c.in-Err.fault ≡ Refused refusal → IsMetIn g.F.Folder c.args.docs.now c.args.folder.now (λ history. get_refusal (world_of history) c.args.id.now ≡ Some refusal) = search rules in
+    rw c.from.ensures (read_stopped c.requires.open c.in-Err.ensures.disk c.in-Err.ensures.cause.later tt refl refused
+    (why_of_get _ g.F.Folder c.args.docs.now c.args.folder.now c.get.new.folder c.args.id.now c.in-Err.fault c.in-Err.ensures.cause c.in-Err.ensures.damaged c.in-Err.ensures.sound c.in-Err.ensures.faults))

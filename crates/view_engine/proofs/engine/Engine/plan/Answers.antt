@@ -1,47 +1,24 @@
 -- The design that is read is that of the live document.
-use Rattle.std.proofs.Common.{◌≡◌, ◌∙◌, ◌≤◌, ℕ, List, length, map, bytes_eq, Some, None, Err, sym, ap, subst, arith}
+use Rattle.std.proofs.Common.{◌≡◌, ◌∙◌, ◌≤◌, ℕ, List, length, map, bytes_eq, Some, None, sym, ap, subst, arith}
 use Rattle.std.specs.Map.{lookup}
 use Rattle.json_terms.specs.Seen.{json}
-use Rattle.view_ports.specs.declared.file_name.FileName.{FileName}
 use Rattle.view_ports.proofs.Told.{told_now}
-use Rattle.gate_file.specs.GateFile.{name_of}
-use Rattle.gate_file.specs.declared.fault.GateFault.TheVariants.{Damaged as GateDamaged}
 use Rattle.design_docs.specs.declared.design.View.{View}
 use Rattle.design_docs.specs.Laws.{entry_of as named}
 use Rattle.design_docs.proofs.ViewOrder.{views_are_few}
 use Rattle.child_pool.specs.Languages.{path_in}
 use Rattle.child_pool.specs.Pools.{languages_of}
-use Rattle.doc_file.specs.declared.fault.DocFault.TheVariants.{Gate}
-use Rattle.doc_file.specs.Docs.{bytes_in, file_of, last_of, IsAt, IsSpoiled}
+use Rattle.doc_file.specs.Docs.{IsAt}
 use Rattle.doc_file.specs.History.{live_document}
-use Rattle.view_engine.specs.declared.halt.Halt.TheVariants.{Stopped}
-use Rattle.view_engine.specs.declared.halt.StepFault.TheVariants.{Damaged}
 use Rattle.view_engine.specs.declared.refusal.Refusal.TheVariants.{MissingNamedView, UnknownLanguage}
-use Rattle.view_engine.specs.Halts.{IsDamage}
 use Rattle.view_engine.specs.View.{design_id, view_refusal}
 use Rattle.view_engine.specs.ViewPlan.{source_at, IsPlan}
-use Rattle.view_engine.proofs.HaltedAs.{damaged_from, spoiled_damage}
+use Rattle.view_engine.proofs.Reading.{read_of_get}
 use Rattle.view_engine.proofs.Plans.{plain_design, planned, refused_language, refused_same, refused_view}
 use Rattle.view_engine.proofs.engine.Engine.plan.Goals as goal
 
-pub returns-in-Err-clause-damaged : goal.returns-in-Err-clause-damaged
-returns-in-Err-clause-damaged g c =
-    let docs = c.args.self.now.docs in
-    let id = c.as_str-2.result.now in
-    told_now (g.F.Folder.disk c.args.folder.now)
-    (λ d. (n : FileName) (at : ℕ) → c.get.result ≡ Err (Gate (GateDamaged n at)) → (n ≡ name_of (file_of docs)) × IsSpoiled id (bytes_in docs d.now) (last_of docs id) at)
-    (λ d. (n : FileName) (at : ℕ) → c.from.result ≡ Stopped (Damaged n at) → IsDamage docs d.now n at)
-    (λ d is n at damaged. spoiled_damage docs d.now n id at (is n at (damaged_from c.get.result c.in-Err.fault c.from.result n at c.in-Err.is c.from.ensures damaged)))
-    c.get.ensures.damaged
-
-pub returns-in-Err-clause-sound : goal.returns-in-Err-clause-sound
-returns-in-Err-clause-sound g c = λ history.
-    let docs = c.args.self.now.docs in
-    told_now (g.F.Folder.disk c.args.folder.now)
-    (λ d. IsAt docs d.now history → (n : FileName) (at : ℕ) → c.get.result ≡ Err (Gate (GateDamaged n at)) → ⊥)
-    (λ d. IsAt docs d.now history → (n : FileName) (at : ℕ) → c.from.result ≡ Stopped (Damaged n at) → ⊥)
-    (λ d is stands n at damaged. is stands n at (damaged_from c.get.result c.in-Err.fault c.from.result n at c.in-Err.is c.from.ensures damaged))
-    (c.get.ensures.sound history)
+pub returns-in-Err-clause-reads : goal.returns-in-Err-clause-reads
+returns-in-Err-clause-reads g c = rw c.from.ensures (read_of_get c.as_str-2.result.now c.in-Err.fault c.in-Err.ensures.disk c.in-Err.ensures.cause c.in-Err.ensures.damaged c.in-Err.ensures.sound c.in-Err.ensures.faults)
 
 pub returns-in_default-clause-refused : goal.returns-in_default-clause-refused
 returns-in_default-clause-refused g c = λ refusal is_refusal history.

@@ -1,0 +1,235 @@
+-- A write, as the documents stored it or refused it, is what the request does.
+use Rattle.std.specs.Prelude.{IfErr, OnOk}
+use Rattle.std.specs.Result.{IsErrAnd}
+use Rattle.std.proofs.lemmas.Result.{err_from_is_err_and}
+use Rattle.std.proofs.Common.{◌≡◌, ◌⊎◌, ◌+◌, ◌<◌, ◌≤◌, ◌^◌, ◌++◌, ℕ, List, ◌∷◌, inl, inr, Result, Ok, Err, Option, Some, None, refl, sym, ap, ◌∙◌, subst, arith}
+use Rattle.json_terms.specs.Json.{Json}
+use Rattle.view_ports.specs.Disk.{IfTold, Moves, Tells}
+use Rattle.view_ports.specs.Faults.{Rose}
+use Rattle.view_ports.specs.File.{File}
+use Rattle.view_ports.specs.Lines.{ended}
+use Rattle.view_ports.specs.declared.file_name.FileName.{FileName}
+use Rattle.view_ports.specs.declared.folder.Folder.{Ghosts as Folders}
+use Rattle.view_ports.proofs.Told.{told_after, told_all, told_now}
+use Rattle.gate_file.specs.declared.fault.GateFault.{GateFault}
+use Rattle.gate_file.specs.declared.fault.GateFault.TheVariants as gate
+use Rattle.gate_file.specs.GateFile.{commits_of, length_of, name_of, start_of}
+use Rattle.doc_file.specs.declared.docs.Docs.{Docs}
+use Rattle.doc_file.specs.declared.fault.DocFault.{DocFault}
+use Rattle.doc_file.specs.declared.fault.DocFault.TheVariants as doc
+use Rattle.doc_file.specs.declared.rev.Rev.{Rev}
+use Rattle.doc_file.specs.Docs.{entries_of, file_of, seq_of, IsAt as AreAt, IsDocsFile, IsOpen, IsSame}
+use Rattle.doc_file.specs.Held.{Stands}
+use Rattle.doc_file.specs.History.{Write}
+use Rattle.doc_file.specs.Stored.{size_of, write_of}
+use Rattle.doc_file.specs.Writes.{IsFileFault}
+use Rattle.view_engine.specs.declared.halt.Halt.{Halt}
+use Rattle.view_engine.specs.declared.halt.Halt.TheVariants.{Refused, Stopped}
+use Rattle.view_engine.specs.declared.halt.StepFault.TheVariants.{DiskFault, Damaged, Full, NoMemory}
+use Rattle.view_engine.specs.declared.refusal.Refusal.{Refusal}
+use Rattle.view_engine.specs.declared.request.Request.{Request}
+use Rattle.view_engine.specs.Calls.{ActsHere, DoesHere, DoesHereBy, IsRefusedHere, LeavesWorld}
+use Rattle.view_engine.specs.Disks.{world_of, AreOpen, IfStopped, IsReason, KeepsDisk, OverHistory}
+use Rattle.view_engine.specs.Halts.{halted_as, GoesOn, IsFull, IsFullFor}
+use Rattle.view_engine.specs.Steps.{IsWrite}
+use Rattle.view_engine.specs.World.{written, World}
+use Rattle.view_engine.proofs.Around.{moves_around}
+use Rattle.view_engine.proofs.OnDisk.{disk_same, disk_still}
+use Rattle.view_engine.proofs.SameDocs.{IsAt-same}
+use Rattle.view_engine.proofs.Still.{still_written}
+
+-- what the documents promise of a write of an id
+pub record Stored {F : Type 0} (f : Folders F) (docs docs' : Docs) (old new : F) (id : List ℕ) (content : Option Json) (Accepted : Type 0) (IsRefused : DocFault → Type 0) (result : Result Rev DocFault) : Type 0 where
+  pub accepted : OnOk result Accepted
+  pub refused : IfErr result (λ e. IsRefused e ⊎ IsFileFault (file_of docs) e ⊎ (e ≡ doc.NoMemory))
+  pub is_open : IfTold (f.disk new) (λ d. OnOk result (IsOpen docs' d.now))
+  pub stands : OverHistory f docs old (λ history. Tells (f.disk old) (f.disk new)
+      (Moves IsDocsFile (λ image. Stands image history ⊎ Stands image (write_of history id content ∷ history)) (λ files. OnOk result (AreAt docs' files (write_of history id content ∷ history)))))
+  pub kept : IfErr result (λ e. IsFileFault (file_of docs) e ⊎ (IsSame docs docs' × (new ≡ old)))
+  pub reached : IfErr result (λ e. IsFileFault (file_of docs) e → Accepted)
+  pub long : result ≡ Err (doc.Gate (gate.Full (name_of (file_of docs)) (Some (length_of (file_of docs)))))
+      → 2 ^ 40 < start_of (file_of docs) + size_of (start_of (file_of docs)) (seq_of docs) (entries_of docs) id content
+  pub spent : result ≡ Err (doc.Gate (gate.Full (name_of (file_of docs)) None)) → 2 ^ 50 ≤ commits_of (file_of docs)
+  pub later : f.faults old ≤ f.faults new
+  pub failed : IfErr result (λ e. e ≡ doc.Gate gate.DiskFault → Rose (f.faults old) (f.faults new))
+
+-- memory ran out before anything was called
+pub spent_here : {F : Type 0} {f : Folders F} {docs : Docs} {old : F} {request : Request} {out out' : List ℕ} {result : Result (Unit {0}) Halt}
+    → AreOpen f docs old → out' ≡ out → IsErrAnd result (λ halt. halt ≡ Stopped NoMemory) → ActsHere f docs docs old old request out out' result
+spent_here {f = f} {docs = docs} {old = old} {request = request} {out = out} {out' = out'} {result = result} is_open silent is =
+    let err = err_from_is_err_and result is in
+    let spent : result ≡ Err (Stopped NoMemory) = err.1 ∙ ap Err err.2 in
+    subst (λ (r : Result (Unit {0}) Halt). ActsHere f docs docs old old request out out' r) (sym spent) (record {
+      does = λ history at. record { after = world_of history; is_at = at; allowed = told_all (f.disk old) (λ d. world_of history ≡ world_of history) (λ d. refl) };
+      silent = silent;
+      disk = disk_still is_open;
+      why = tt;
+      later = omega arith;
+    })
+
+module _ {F : Type 0} {f : Folders F} {docs : Docs} {old : F} {request : Request} {out : List ℕ} where
+  -- it is refused before anything was called
+  pub refused_here_at_once : {refusal : Refusal} → AreOpen f docs old → ((world : World) → IsRefusedHere world request refusal) → ActsHere f docs docs old old request out out (Err (Refused refusal))
+  refused_here_at_once {refusal} is_open is = record {
+    does = λ history at. record {
+      after = world_of history;
+      is_at = at;
+      allowed = told_all (f.disk old) (λ d. (world_of history ≡ world_of history) × IsRefusedHere (world_of history) request refusal) (λ d. (refl, is (world_of history)));
+    };
+    silent = refl;
+    disk = disk_still is_open;
+    why = tt;
+    later = omega arith;
+  }
+
+module _ {F : Type 0} (f : Folders F) (docs docs' : Docs) (old new : F) (request : Request) (out out' : List ℕ) where
+  -- what a halt is answered by
+  halted_here : (halt : Halt)
+      → ((refusal : Refusal) → halt ≡ Refused refusal → OverHistory f docs old (λ history. LeavesWorld f docs' old new (λ after. (after ≡ world_of history) × IsRefusedHere (world_of history) request refusal)))
+      → (halt ≡ Stopped NoMemory → OverHistory f docs old (λ history. LeavesWorld f docs' old new (λ after. after ≡ world_of history)))
+      → DoesHereBy f docs docs' old new request out out' (Err halt)
+  halted_here (Refused refusal) refused spent = refused refusal refl
+  halted_here (Stopped NoMemory) refused spent = spent refl
+  halted_here (Stopped DiskFault) refused spent = tt
+  halted_here (Stopped (Damaged name at)) refused spent = tt
+  halted_here (Stopped (Full name length)) refused spent = tt
+
+  full_of : (id : List ℕ) (content : Option Json) (fault : DocFault) (Accepted : Type 0) (IsRefused : DocFault → Type 0) (name : FileName) (length : Option ℕ) → fault ≡ doc.Gate (gate.Full name length)
+      → IsFileFault (file_of docs) fault → Stored f docs docs' old new id content Accepted IsRefused (Err fault) → IsFull docs id content name length
+  full_of id content fault Accepted IsRefused name None is (inl failed) stored = absurd (let never : ⊥ = cc in never)
+  full_of id content fault Accepted IsRefused name (Some length) is (inl failed) stored = absurd (let never : ⊥ = cc in never)
+  full_of id content fault Accepted IsRefused name None is (inr (inl full)) stored = absurd (let never : ⊥ = cc in never)
+  full_of id content fault Accepted IsRefused name (Some length) is (inr (inl full)) stored =
+      (let same : name ≡ name_of (file_of docs) = cc in same, let same : length ≡ length_of (file_of docs) = cc in same, stored.long (ap Err full))
+  full_of id content fault Accepted IsRefused name None is (inr (inr full)) stored = (let same : name ≡ name_of (file_of docs) = cc in same, stored.spent (ap Err full))
+  full_of id content fault Accepted IsRefused name (Some length) is (inr (inr full)) stored = absurd (let never : ⊥ = cc in never)
+
+  module _ (id : List ℕ) (content : Option Json) (Accepted : Type 0) (IsRefused : DocFault → Type 0) (reply : List ℕ)
+      (does : (files : FileName → File) (history : List Write) → AreAt docs files history → Accepted → DoesHere (world_of history) request reply (written (world_of history) (write_of history id content)))
+      (writes : (files : FileName → File) (history : List Write) → AreAt docs files history → Accepted → IsWrite (world_of history) (Ok request) (write_of history id content)) where
+    abbrev Side : Result Rev DocFault → Type 0
+    Side = Stored f docs docs' old new id content Accepted IsRefused
+
+    disk_moved : {GivenUp GoesOn : Type 0} (result : Result Rev DocFault) → Accepted → (GivenUp → ⊥) → (GoesOn → AreOpen f docs' new) → Side result → KeepsDisk f docs docs' old new (Ok request) GivenUp GoesOn
+    disk_moved result accepted ungiven opens stored = record {
+      moments = λ history at. moves_around history (Ok request) (write_of history id content) (λ files. OnOk result (AreAt docs' files (write_of history id content ∷ history))) (f.disk old) (f.disk new)
+          (told_now (f.disk old) (λ d. AreAt docs d.now history) (λ d. IsWrite (world_of history) (Ok request) (write_of history id content)) (λ d is. writes d.now history is accepted) at) (stored.stands history at);
+      unmoved = λ given. absurd (ungiven given);
+      unwritten = λ given. absurd (ungiven given);
+      still = λ history at never. still_written (f.disk old) (f.disk new) history (Ok request) (write_of history id content) _
+          (told_now (f.disk old) (λ d. AreAt docs d.now history) (λ d. IsWrite (world_of history) (Ok request) (write_of history id content)) (λ d is. writes d.now history is accepted) at)
+          never (stored.stands history at);
+      is_open = opens;
+    }
+
+    -- an accepted write
+    pub stored_done : (rev : Rev) → out' ≡ out ++ ended reply → Side (Ok rev) → ActsHere f docs docs' old new request out out' (Ok tt)
+    stored_done rev appended stored = record {
+      does = record {
+        reply = reply;
+        appended = appended;
+        does = λ history at. record {
+          after = written (world_of history) (write_of history id content);
+          is_at = told_after (f.disk old) (f.disk new) (λ d. AreAt docs d.now history) (λ d. AreAt docs' d.now (write_of history id content ∷ history)) _ (λ a b is moves. moves.ended) at (stored.stands history at);
+          allowed = told_now (f.disk old) (λ d. AreAt docs d.now history) (λ d. DoesHere (world_of history) request reply (written (world_of history) (write_of history id content)))
+              (λ d is. does d.now history is stored.accepted) at;
+        };
+      };
+      silent = tt;
+      disk = disk_moved (Ok rev) stored.accepted (λ never. never) (λ goes. stored.is_open) stored;
+      why = tt;
+      later = stored.later;
+    }
+
+    module _ (not_of_file : (fault : GateFault) → IsRefused (doc.Gate fault) → ⊥)
+        (refused : (files : FileName → File) (history : List Write) → AreAt docs files history → (fault : DocFault) → IsRefused fault ⊎ IsFileFault (file_of docs) fault ⊎ (fault ≡ doc.NoMemory)
+        → (refusal : Refusal) → halted_as fault ≡ Refused refusal → IsRefusedHere (world_of history) request refusal)
+        (full : (name : FileName) (length : Option ℕ) → IsFull docs id content name length → IsFullFor docs (Ok request) name length) where
+      of_file : (fault : DocFault) (g : GateFault) → fault ≡ doc.Gate g → IsRefused fault ⊎ IsFileFault (file_of docs) fault ⊎ (fault ≡ doc.NoMemory) → IsFileFault (file_of docs) fault
+      of_file fault g is (inl refused_so) = absurd (not_of_file g (subst IsRefused is refused_so))
+      of_file fault g is (inr (inl so)) = so
+      of_file fault g is (inr (inr spent)) = absurd (let never : ⊥ = cc in never)
+
+      no_damage : (name : FileName) (at : ℕ) → IsFileFault (file_of docs) (doc.Gate (gate.Damaged name at)) → ⊥
+      no_damage name at (inl is) = cc
+      no_damage name at (inr (inl is)) = cc
+      no_damage name at (inr (inr is)) = cc
+
+      why_halted : (fault : DocFault) → Side (Err fault) → IfStopped (IsReason f docs old new (Ok request)) (halted_as fault)
+      why_halted (doc.Gate gate.DiskFault) stored = stored.failed refl
+      why_halted (doc.Gate (gate.Damaged name at)) stored = absurd (no_damage name at (of_file (doc.Gate (gate.Damaged name at)) (gate.Damaged name at) refl stored.refused))
+      why_halted (doc.Gate (gate.Full name length)) stored =
+          let so = of_file (doc.Gate (gate.Full name length)) (gate.Full name length) refl stored.refused in (
+            full name length (full_of id content (doc.Gate (gate.Full name length)) Accepted IsRefused name length refl so stored),
+            λ history. told_all (f.disk old) (λ d. AreAt docs d.now history → (write : Write) × IsWrite (world_of history) (Ok request) write)
+                (λ d at. (write_of history id content, writes d.now history at (stored.reached so))),
+          )
+      why_halted (doc.Gate gate.NoMemory) stored = tt
+      why_halted doc.NoMemory stored = tt
+      why_halted doc.BadId stored = tt
+      why_halted (doc.BadMember name) stored = tt
+      why_halted doc.BadRev stored = tt
+      why_halted doc.TooLarge stored = tt
+      why_halted doc.TooDeep stored = tt
+      why_halted doc.Conflict stored = tt
+      why_halted doc.Missing stored = tt
+      why_halted doc.Deleted stored = tt
+
+      no_going_on : (fault : DocFault) → IsFileFault (file_of docs) fault → GoesOn (halted_as fault) → ⊥
+      no_going_on fault (inl is) goes = subst (λ (e : DocFault). GoesOn (halted_as e)) is goes
+      no_going_on fault (inr (inl is)) goes = subst (λ (e : DocFault). GoesOn (halted_as e)) is goes
+      no_going_on fault (inr (inr is)) goes = subst (λ (e : DocFault). GoesOn (halted_as e)) is goes
+
+      goes_on : (halt going : Halt) → halt ≡ going → GoesOn going → GoesOn halt
+      goes_on halt going is = subst GoesOn (sym is)
+
+      abbrev stands_still_at : (same : IsSame docs docs' × (new ≡ old)) (history : List Write) → IfTold (f.disk old) (λ d. AreAt docs d.now history) → IfTold (f.disk new) (λ d. AreAt docs' d.now history)
+      stands_still_at same history at = subst (λ (folder : F). IfTold (f.disk folder) (λ d. AreAt docs' d.now history)) (sym same.1)
+          (told_now (f.disk old) (λ d. AreAt docs d.now history) (λ d. AreAt docs' d.now history) (λ d is. IsAt-same docs docs' d.now same.0 history is) at)
+
+      -- a write that the documents refused, or that failed
+      pub stored_halted : (fault : DocFault) → out' ≡ out → AreOpen f docs old → Side (Err fault) → ActsHere f docs docs' old new request out out' (Err (halted_as fault))
+      stored_halted fault silent is_open stored = elim stored.kept [
+        | inl so ↦ record {
+          does = halted_here (halted_as fault) (λ refusal is. absurd (no_going_on fault so (goes_on (halted_as fault) (Refused refusal) is tt)))
+              (λ is. absurd (no_going_on fault so (goes_on (halted_as fault) (Stopped NoMemory) is tt)));
+          silent = silent;
+          disk = disk_moved (Err fault) (stored.reached so) (no_going_on fault so) (λ goes. absurd (no_going_on fault so goes)) stored;
+          why = why_halted fault stored;
+          later = stored.later;
+        }
+        | inr same ↦ record {
+          does = halted_here (halted_as fault)
+              (λ refusal is history at. record {
+                after = world_of history;
+                is_at = stands_still_at same history at;
+                allowed = told_now (f.disk old) (λ d. AreAt docs d.now history) (λ d. (world_of history ≡ world_of history) × IsRefusedHere (world_of history) request refusal)
+                    (λ d here. (refl, refused d.now history here fault stored.refused refusal is)) at;
+              })
+              (λ is history at. record {
+                after = world_of history;
+                is_at = stands_still_at same history at;
+                allowed = told_all (f.disk old) (λ d. world_of history ≡ world_of history) (λ d. refl);
+              });
+          silent = silent;
+          disk = disk_same same is_open;
+          why = why_halted fault stored;
+          later = stored.later;
+        }
+      ]
+
+-- ---- as the request functions cite them
+
+module _ {F : Type 0} {f : Folders F} {docs docs' : Docs} {old new : F} {request : Request} {out out' : List ℕ} {id : List ℕ} {content : Option Json} {Accepted : Type 0} {IsRefused : DocFault → Type 0}
+    (reply : List ℕ)
+    (does : (files : FileName → File) (history : List Write) → AreAt docs files history → Accepted → DoesHere (world_of history) request reply (written (world_of history) (write_of history id content)))
+    (writes : (files : FileName → File) (history : List Write) → AreAt docs files history → Accepted → IsWrite (world_of history) (Ok request) (write_of history id content)) where
+  pub wrote_here : {rev : Rev} → out' ≡ out ++ ended reply → Stored f docs docs' old new id content Accepted IsRefused (Ok rev) → ActsHere f docs docs' old new request out out' (Ok tt)
+  wrote_here {rev} = stored_done f docs docs' old new request out out' id content Accepted IsRefused reply does writes rev
+
+  pub unwritten_here : {fault : DocFault} → ((g : GateFault) → IsRefused (doc.Gate g) → ⊥)
+      → ((files : FileName → File) (history : List Write) → AreAt docs files history → (e : DocFault) → IsRefused e ⊎ IsFileFault (file_of docs) e ⊎ (e ≡ doc.NoMemory)
+      → (refusal : Refusal) → halted_as e ≡ Refused refusal → IsRefusedHere (world_of history) request refusal)
+      → ((name : FileName) (length : Option ℕ) → IsFull docs id content name length → IsFullFor docs (Ok request) name length)
+      → out' ≡ out → AreOpen f docs old → Stored f docs docs' old new id content Accepted IsRefused (Err fault) → ActsHere f docs docs' old new request out out' (Err (halted_as fault))
+  unwritten_here {fault} not_of_file refused full = stored_halted f docs docs' old new request out out' id content Accepted IsRefused reply does writes not_of_file refused full fault

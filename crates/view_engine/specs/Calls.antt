@@ -1,0 +1,157 @@
+-- What a request promises, whole: over the documents alone, over the engine, and as the step of a line.
+use Rattle.std.specs.Prelude.{◌≡◌, ◌≢◌, ◌≤◌, ◌++◌, ℕ, List, [], Result, Ok, Err, IfErr, OnErr, OnOk, Some}
+use Rattle.json_terms.specs.Json.{object, members_of}
+use Rattle.view_ports.specs.Disk.{IfTold}
+use Rattle.view_ports.specs.Lines.{ended}
+use Rattle.view_ports.specs.declared.folder.Folder.{Ghosts as Folders}
+use Rattle.view_ports.specs.declared.servers.Servers.{Ghosts as Servers}
+use Rattle.child_pool.specs.Pools.{languages_of}
+use Rattle.doc_file.specs.declared.docs.Docs.{Docs}
+use Rattle.doc_file.specs.Docs.{IsAt as AreAt}
+use Rattle.view_engine.specs.declared.engine.Engine.{Engine}
+use Rattle.view_engine.specs.declared.halt.Halt.{Halt}
+use Rattle.view_engine.specs.declared.halt.Halt.TheVariants.{Refused, Stopped}
+use Rattle.view_engine.specs.declared.halt.StepFault.{StepFault}
+use Rattle.view_engine.specs.declared.halt.StepFault.TheVariants.{NoMemory}
+use Rattle.view_engine.specs.declared.refusal.Refusal.{Refusal}
+use Rattle.view_engine.specs.declared.request.Request.{Request}
+use Rattle.view_engine.specs.declared.request.Request.TheVariants.{Put, Delete, Get, Info}
+use Rattle.view_engine.specs.Delete.{DoesDelete, IsDeleteRefused}
+use Rattle.view_engine.specs.Disks.{world_of, HasGivenUp, IfStopped, IsReason, KeepsDisk, MayGoOn, OverHistory}
+use Rattle.view_engine.specs.Engine.{Appends, HasChild, IsAt, Leaves}
+use Rattle.view_engine.specs.Get.{get_refusal, DoesGet, DoesInfo}
+use Rattle.view_engine.specs.Halts.{HasGoneOn}
+use Rattle.view_engine.specs.Moments.{Moment}
+use Rattle.view_engine.specs.Put.{DoesPut, IsPutRefused}
+use Rattle.view_engine.specs.Refusals.{request_of, refusal_text}
+use Rattle.view_engine.specs.Steps.{Does, DoesRequest, DoesRequestText, MayHaveCalled}
+use Rattle.view_engine.specs.World.{World}
+
+-- ---- a request on the documents alone
+
+-- what it does
+abbrev pub DoesHere : World → Request → List ℕ → World → Type 0
+DoesHere world (Put document) reply new = DoesPut world (object (members_of document)) reply new
+DoesHere world (Delete id given) reply new = DoesDelete world id given reply new
+DoesHere world (Get id) reply new = DoesGet world id reply × (new ≡ world)
+DoesHere world Info reply new = DoesInfo world reply × (new ≡ world)
+DoesHere world other reply new = ⊥
+
+-- and why it is refused
+abbrev pub IsRefusedHere : World → Request → Refusal → Type 0
+IsRefusedHere world (Put document) refusal = IsPutRefused world (object (members_of document)) refusal
+IsRefusedHere world (Delete id given) refusal = IsDeleteRefused world id given refusal
+IsRefusedHere world (Get id) refusal = get_refusal world id ≡ Some refusal
+IsRefusedHere world other refusal = ⊥
+
+module _ {F : Type 0} (f : Folders F) where
+  -- the documents are at a world that the definition allows
+  pub record LeavesWorld (docs' : Docs) (old new : F) (Allows : World → Type 0) : Type 0 where
+    pub after : World
+    pub is_at : IfTold (f.disk new) (λ d. AreAt docs' d.now after.history)
+    pub allowed : IfTold (f.disk old) (λ d. Allows after)
+
+  module _ (docs docs' : Docs) (old new : F) (request : Request) (out out' : List ℕ) where
+    -- it was done, and its reply line appended
+    pub record IsDoneHere : Type 0 where
+      pub reply : List ℕ
+      pub appended : out' ≡ out ++ ended reply
+      pub does : OverHistory f docs old (λ history. LeavesWorld docs' old new (DoesHere (world_of history) request reply))
+
+    -- what it does, by how it ends
+    abbrev pub DoesHereBy : Result (Unit {0}) Halt → Type 0
+    DoesHereBy (Ok done) = IsDoneHere
+    DoesHereBy (Err (Refused refusal)) = OverHistory f docs old
+        (λ history. LeavesWorld docs' old new (λ after. (after ≡ world_of history) × IsRefusedHere (world_of history) request refusal))
+    DoesHereBy (Err (Stopped NoMemory)) = OverHistory f docs old
+        (λ history. LeavesWorld docs' old new (λ after. after ≡ world_of history))
+    DoesHereBy (Err (Stopped fault)) = Unit {0}
+
+    pub record ActsHere (result : Result (Unit {0}) Halt) : Type 0 where
+      pub does : DoesHereBy result
+      pub silent : OnErr result (out' ≡ out)
+      pub disk : KeepsDisk f docs docs' old new (Ok request) (HasGivenUp result) (MayGoOn result)
+      pub why : IfErr result (IfStopped (IsReason f docs old new (Ok request)))
+      pub later : f.faults old ≤ f.faults new
+
+-- ---- a request on the engine
+
+-- an engine between its ports
+pub record Scene (F C : Type 0) : Type 0 where
+  pub engine : Engine
+  pub folder : F
+  pub servers : C
+
+abbrev pub scene : {F C : Type 0} → Engine → F → C → Scene F C
+scene engine folder servers = record { engine = engine; folder = folder; servers = servers }
+
+module _ {F C : Type 0} (f : Folders F) (s : Servers C) where
+  abbrev pub StandsAt : Scene F C → Moment → Type 0
+  StandsAt now = IsAt (f.disk now.folder) (s.may_follow now.servers) (s.faults now.servers) now.engine
+
+  abbrev pub KeepsChild : Scene F C → Moment → Type 0
+  KeepsChild now = HasChild (s.may_follow now.servers) (s.faults now.servers) now.engine.pool
+
+  -- what the two scenes have in common
+  pub record Stays (old new : Scene F C) : Type 0 where
+    pub languages : languages_of new.engine.pool ≡ languages_of old.engine.pool
+    pub disk_faults : f.faults old.folder ≤ f.faults new.folder
+    pub server_faults : s.faults old.servers ≤ s.faults new.servers
+
+  module _ (old new : Scene F C) where
+    -- where the disk is told, the engine is left at a moment that the definition allows
+    abbrev pub LeavesMoment : (Moment → Type 0) → Type 0
+    LeavesMoment Allows = Leaves (f.disk new.folder) (s.may_follow new.servers) (s.faults new.servers) new.engine
+        (λ after. IfTold (f.disk old.folder) (λ d. Allows after))
+
+    -- and so much text is appended
+    abbrev pub AppendsText : (List ℕ → Moment → Type 0) → List ℕ → List ℕ → Type 0
+    AppendsText Allows = Appends (f.disk new.folder) (s.may_follow new.servers) (s.faults new.servers) new.engine
+        (λ text after. IfTold (f.disk old.folder) (λ d. Allows text after))
+
+    -- what a request does, by how it ends
+    abbrev pub DoesBy : Result Request Refusal → List ℕ → List ℕ → Result (Unit {0}) Halt → Type 0
+    DoesBy request out out' (Ok done) = (before : Moment) → StandsAt old before
+        → AppendsText (DoesRequestText s.functions s.honest (languages_of old.engine.pool) before request) out out'
+    DoesBy request out out' (Err (Refused refusal)) = (before : Moment) → StandsAt old before
+        → LeavesMoment (λ after. DoesRequest s.functions s.honest (languages_of old.engine.pool) before request (refusal_text refusal) after
+        × MayHaveCalled (languages_of old.engine.pool) before request after)
+    DoesBy request out out' (Err (Stopped NoMemory)) = (before : Moment) → StandsAt old before
+        → LeavesMoment (MayHaveCalled (languages_of old.engine.pool) before request)
+    DoesBy request out out' (Err (Stopped fault)) = (before : Moment) → KeepsChild old before → KeepsChild new before
+
+    -- a request, done or not
+    pub record Performed (request : Result Request Refusal) (out out' : List ℕ) (result : Result (Unit {0}) Halt) : Type 0 where
+      pub does : DoesBy request out out' result
+      -- where it isn't done nothing is appended
+      pub silent : OnErr result (out' ≡ out)
+      pub disk : KeepsDisk f old.engine.docs new.engine.docs old.folder new.folder request (HasGivenUp result) (MayGoOn result)
+      pub why : IfErr result (IfStopped (IsReason f old.engine.docs old.folder new.folder request))
+      pub stays : Stays old new
+
+    -- what a line does
+    abbrev pub StepsBy : List ℕ → List ℕ → List ℕ → Result (Unit {0}) StepFault → Type 0
+    StepsBy line out out' (Ok done) = (before : Moment) → StandsAt old before
+        → AppendsText (Does s.functions s.honest (languages_of old.engine.pool) before line) out out'
+    StepsBy line out out' (Err NoMemory) = (before : Moment) → StandsAt old before
+        → LeavesMoment (MayHaveCalled (languages_of old.engine.pool) before (request_of line))
+    StepsBy line out out' (Err fault) = (before : Moment) → KeepsChild old before → KeepsChild new before
+
+    -- a line, answered or not
+    pub record IsStep (line out out' : List ℕ) (result : Result (Unit {0}) StepFault) : Type 0 where
+      pub does : StepsBy line out out' result
+      pub silent : OnErr result (out' ≡ out)
+      -- an empty line asks for nothing
+      pub asked : OnErr result (line ≢ [])
+      pub idle : line ≡ [] → new.folder ≡ old.folder
+      pub disk : KeepsDisk f old.engine.docs new.engine.docs old.folder new.folder (request_of line) (result ≡ Err NoMemory) (HasGoneOn result)
+      pub why : IfErr result (IsReason f old.engine.docs old.folder new.folder (request_of line))
+      pub stays : Stays old new
+
+-- ---- what is told of a halt
+
+-- a refusal is told by its line, and a fault by itself
+abbrev pub IsToldAs : Halt → List ℕ → List ℕ → Result (Unit {0}) StepFault → Type 0
+IsToldAs (Refused refusal) out out' result =
+    OnOk result (out' ≡ out ++ ended (refusal_text refusal)) × OnErr result (out' ≡ out) × IfErr result (λ fault. fault ≡ NoMemory)
+IsToldAs (Stopped fault) out out' result = (result ≡ Err fault) × (out' ≡ out)

@@ -1,0 +1,93 @@
+-- What a request promises of the documents and their disk, and why it meets a fault.
+use Rattle.std.specs.Prelude.{◌≤◌, ℕ, List, Result, Ok, Err, IfErr}
+use Rattle.view_ports.specs.Disk.{IfTold, LeavesOnly, MovesNone, Tells}
+use Rattle.view_ports.specs.Faults.{Rose}
+use Rattle.view_ports.specs.declared.file_name.FileName.{FileName}
+use Rattle.view_ports.specs.declared.folder.Folder.{Ghosts as Folders}
+use Rattle.doc_file.specs.declared.docs.Docs.{Docs}
+use Rattle.doc_file.specs.Docs.{IsAt as AreAt, IsOpen}
+use Rattle.doc_file.specs.Held.{Stands as StandsFor}
+use Rattle.doc_file.specs.History.{Write}
+use Rattle.view_engine.specs.declared.halt.Halt.{Halt}
+use Rattle.view_engine.specs.declared.halt.Halt.TheVariants.{Refused, Stopped}
+use Rattle.view_engine.specs.declared.halt.StepFault.{StepFault}
+use Rattle.view_engine.specs.declared.halt.StepFault.TheVariants.{DiskFault, Damaged, Full, NoMemory}
+use Rattle.view_engine.specs.declared.refusal.Refusal.{Refusal}
+use Rattle.view_engine.specs.declared.request.Request.{Request}
+use Rattle.view_engine.specs.declared.request.Request.TheVariants.{Get, View}
+use Rattle.view_engine.specs.Engine.{StandsAround}
+use Rattle.view_engine.specs.Halts.{GoesOn, IsDamage, IsFullFor, IsStill, WouldWrite}
+use Rattle.view_engine.specs.World.{World}
+
+-- ---- how a request ends
+
+-- it was refused, or memory ran out
+abbrev pub HasGivenUp : {T : Type 0} → Result T Halt → Type 0
+HasGivenUp (Ok done) = ⊥
+HasGivenUp (Err halt) = GoesOn halt
+
+-- the engine may go on
+abbrev pub MayGoOn : {T : Type 0} → Result T Halt → Type 0
+MayGoOn (Ok done) = Unit {0}
+MayGoOn (Err halt) = GoesOn halt
+
+-- what is said of its fault, where it is stopped by one
+abbrev pub IfStopped : (StepFault → Type 0) → Halt → Type 0
+IfStopped P (Refused refusal) = Unit {0}
+IfStopped P (Stopped fault) = P fault
+
+-- a request that reads documents from their file
+abbrev pub ReadsDocuments : Result Request Refusal → Type 0
+ReadsDocuments (Ok (Get id)) = Unit {0}
+ReadsDocuments (Ok (View name limits)) = Unit {0}
+ReadsDocuments other = ⊥
+
+abbrev pub world_of : List Write → World
+world_of history = record { history = history }
+
+module _ {F : Type 0} (f : Folders F) where
+  -- for each history that the documents and the disk, where it is told, are at
+  abbrev pub OverHistory : Docs → F → (List Write → Type 0) → Type 0
+  OverHistory docs folder P = (history : List Write) → IfTold (f.disk folder) (λ d. AreAt docs d.now history) → P history
+
+  abbrev pub AreOpen : Docs → F → Type 0
+  AreOpen docs folder = IfTold (f.disk folder) (λ d. IsOpen docs d.now)
+
+  -- a crash at any moment of the call leaves only what has P
+  abbrev pub CrashLeaves : F → F → ((FileName → List ℕ) → Type 0) → Type 0
+  CrashLeaves old new P = Tells (f.disk old) (f.disk new) (LeavesOnly P)
+
+  -- what the disk may hold at each moment of a request, and where the documents are after it
+  pub record KeepsDisk (docs docs' : Docs) (old new : F) (request : Result Request Refusal) (HasGivenUp GoesOn : Type 0) : Type 0 where
+    -- a crash leaves the history before the request, or the one with the write that the request makes
+    pub moments : OverHistory docs old (λ history. CrashLeaves old new (StandsAround (world_of history) request))
+    -- where it is refused or memory runs out, no file changes, and a crash leaves the history before it
+    pub unmoved : HasGivenUp → Tells (f.disk old) (f.disk new) MovesNone
+    pub unwritten : HasGivenUp → OverHistory docs old (λ history. CrashLeaves old new (λ image. StandsFor image history))
+    -- only a write that is accepted changes a file
+    pub still : IsStill docs (f.disk old) (f.disk new) request
+    -- where the engine may go on, its documents are open
+    pub is_open : GoesOn → AreOpen docs' new
+
+  -- the cause of a fault of a call that only reads: the folder's, or a damaged place, which there is under no history
+  abbrev pub IsReadReason : Docs → F → F → StepFault → Type 0
+  IsReadReason docs old new DiskFault = Rose (f.faults old) (f.faults new)
+  IsReadReason docs old new (Damaged name at) =
+      IfTold (f.disk old) (λ d. IsDamage docs d.now name at)
+      × ((history : List Write) → IfTold (f.disk old) (λ d. AreAt docs d.now history → ⊥))
+  IsReadReason docs old new (Full name length) = ⊥
+  IsReadReason docs old new NoMemory = Unit {0}
+
+  -- the same of a request, which meets a damaged place only where it reads documents, and a full file only by a write
+  -- that is accepted and passes the file's limits
+  abbrev pub IsReason : Docs → F → F → Result Request Refusal → StepFault → Type 0
+  IsReason docs old new request (Full name length) = IsFullFor docs request name length × WouldWrite docs (f.disk old) request
+  IsReason docs old new request DiskFault = IsReadReason docs old new DiskFault
+  IsReason docs old new request (Damaged name at) = ReadsDocuments request × IsReadReason docs old new (Damaged name at)
+  IsReason docs old new request NoMemory = Unit {0}
+
+  -- a call that only reads
+  pub record Reads {T : Type 0} (docs : Docs) (old new : F) (result : Result T Halt) : Type 0 where
+    pub disk : Tells (f.disk old) (f.disk new) MovesNone
+    pub why : IfErr result (IfStopped (IsReadReason docs old new))
+    pub later : f.faults old ≤ f.faults new
