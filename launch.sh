@@ -15,6 +15,7 @@ stop() {
     exit 1
 }
 
+[ -d "$here/crates/$crate" ] || stop "there is no folder crates/$crate beside this launcher, which belongs to its repository"
 why=
 if [ ! -x "$program" ]; then
     why="it isn't built"

@@ -115,7 +115,14 @@ for line in lines: pass
     check("long_log", server("long_log", does), ROW, ["log: " + "m" * 16_000 + "..."])
 
 
+def complaints():
+    does = "next(lines)\nwrite(b'true\\n')\nnext(lines)\nwrite(b'[\"error\",\"compilation_error\",\"line 1: no end\"]\\n')\ntime.sleep(60)"
+    reply = '{"error":"compilation_error","reason":"_design/d"}'
+    check("complains", server("complains", does), reply, ["compilation_error: line 1: no end"])
+
+
 failing()
 slow()
 logs()
+complaints()
 print("folder: %d failures of a child are told of, a slow one, and log lines" % (len(FAILING) + 2))

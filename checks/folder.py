@@ -81,7 +81,7 @@ def second_program(step, folder, request):
     status, output, error = run(folder, request)
     want(step, (status, output), (3, DISK_FAULT))
     want(step, bytes_of(folder), before)
-    if "another program has the folder" not in error:
+    if "the folder can't be opened: another program has it" not in error:
         fail(step, "the second program says %r" % error)
     first.stdin.write(put("last"))
     first.stdin.close()
@@ -106,7 +106,7 @@ def both_at_once(step, folder, requests):
     for status, output, error in results:
         if status == 3:
             want(step, output, DISK_FAULT)
-            if "another program has the folder" not in error:
+            if "the folder can't be opened: another program has it" not in error:
                 fail(step, "it is said %r" % error)
         else:
             want(step, status, 0)
@@ -170,7 +170,28 @@ FOREIGN = {
     "zeros with a byte in the second slot": b"\0" * 5000 + b"\x01" + b"\0" * 5000,
     "a header at another place": b" CVIEW001" + b"\0" * 9000,
     "a long binary": bytes(range(256)) * 64,
+    "a text behind the first bytes of a header": b"CVIEW001 is how they begin.\n",
 }
+
+
+def damaged_gates():
+    """A database whose gates were closed or that was written over with zeros is left alone, and so is a file with a second name."""
+    closed = new_folder("closed")
+    run(closed, put("a") + put("b"))
+    path = os.path.join(closed, "docs.0")
+    with open(path, "r+b") as file:
+        for gate in (64, 4096 + 64):
+            file.seek(gate)
+            file.write(b"\0")
+    before = bytes_of(closed)
+    faulty("closed gates", closed, "docs.0 can't be opened: it is not as couchview leaves a file, and stays as it is")
+    want("closed gates", bytes_of(closed), before)
+    linked = new_folder("linked")
+    run(linked, put("a"))
+    os.link(os.path.join(linked, "docs.0"), os.path.join(linked, "docs.1"))
+    before = bytes_of(linked)
+    faulty("a hard link", linked, "docs.0 can't be opened: it has another name too (a hard link), and stays as it is")
+    want("a hard link", bytes_of(linked), before)
 
 
 def foreign_files():
@@ -182,7 +203,7 @@ def foreign_files():
             status, output, error = run(folder, put("a"))
             want(kind, (status, output), (3, DISK_FAULT))
             want(kind, bytes_of(folder), {name: content})
-            if "couchview: %s can't be opened: " % name not in error or "not a file of couchview" not in error:
+            if "couchview: %s can't be opened: " % name not in error or "not as couchview leaves a file" not in error:
                 fail(kind, "it is said %r" % error)
 
 
@@ -301,6 +322,7 @@ wrong_words()
 streams()
 without_locks()
 foreign_files()
+damaged_gates()
 in_the_way()
 killed_programs()
 stops()

@@ -78,24 +78,27 @@ fn leaves(
     Ok(refused == 0 && held.as_slice() == want)
 }
 
+/// A slot in which a commit stands.
+const COMMITTED: &[u8] = b"CVIEW001........................................................\x01";
+
 const WRITTEN: &[Step] = &[
     Step::Cut,
     Step::Sync,
-    Step::Grow(9),
-    Step::Write(0, b"CVIEW001"),
+    Step::Grow(65),
+    Step::Write(0, COMMITTED),
     Step::Sync,
 ];
 
 #[test]
 fn a_file_holds_what_was_written(rt: HostRuntime) -> Result<(), Fail> {
     let mut folder = enter(rt, "written")?;
-    assert!(rt; leaves(&mut folder, rt.alloc(), WRITTEN, b"CVIEW001\0")?);
+    assert!(rt; leaves(&mut folder, rt.alloc(), WRITTEN, &COMMITTED[..16])?);
     drop(folder);
     let mut later = folder_here(rt);
-    assert!(rt; leaves(&mut later, rt.alloc(), &[], b"CVIEW001\0")?);
+    assert!(rt; leaves(&mut later, rt.alloc(), &[], &COMMITTED[..16])?);
     let mut part = [0; 2];
     let count = read(&mut later, DOCS, 2, &mut part);
-    assert!(rt; count == Ok(2) && part == *b"IE" && read(&mut later, DOCS, 9, &mut part) == Ok(0));
+    assert!(rt; count == Ok(2) && part == *b"IE" && read(&mut later, DOCS, 65, &mut part) == Ok(0));
     let steps = [Step::Cut, Step::Grow(2), Step::Sync];
     assert!(rt; leaves(&mut later, rt.alloc(), &steps, b"\0\0")?);
     drop(later);
@@ -119,12 +122,25 @@ fn a_folder_is_used_by_one_at_a_time(rt: HostRuntime) -> Result<(), Fail> {
 const FRONTS: &[(&[u8], bool)] = &[
     (b"", true),
     (b"\0", true),
-    (b"CVIEW001 and more", true),
+    (COMMITTED, true),
+    (b"CVIEW001 and more", false),
     (b"CVIEW00", false),
     (b"a text\n", false),
     (b"\0\0\0\x01", false),
     (b" CVIEW001", false),
 ];
+
+// A file that has another name too isn't used, since a cut would take its bytes there as well.
+#[test]
+fn only_files_of_one_name_are_used(rt: HostRuntime) -> Result<(), Fail> {
+    let mut folder = enter(rt, "linked")?;
+    fs::write(&rt, "docs.0", COMMITTED)?;
+    fs::hard_link(&rt, "docs.0", "other")?;
+    assert!(rt; all_fail(&mut folder, DOCS));
+    fs::remove_file(&rt, "other")?;
+    assert!(rt; folder.len(DOCS) == Ok(65));
+    Ok(())
+}
 
 // No call on a file of another program succeeds, and it stays as it is.
 #[test]

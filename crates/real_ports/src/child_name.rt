@@ -4,7 +4,7 @@ ghost use Rattle.std.specs.Prelude.{◌≡◌};
 
 use crate::child_fault::ChildFault;
 use crate::diagnostics::{Diagnostics, Shown};
-use crate::log_line::log_message;
+use crate::remark::remark;
 use json_terms::NoMemory;
 use libc::net::poll;
 use libc::types::pollfd;
@@ -64,12 +64,13 @@ impl ChildName {
         self.diagnostics.say(format_args!("{path}: {what}"));
     }
 
-    /// Says what the child wants in the log, where the line is a log line (CouchDB documentation, "Query Server Protocol",
-    /// "log").
-    pub fn say_if_log(&self, alloc: Global, line: &[u8]) {
-        if let Some(message) = log_message(alloc, line) {
+    /// Says what the child wants in the log, or why it complains, where the line does so (CouchDB documentation, "Query
+    /// Server Protocol", "log" and "Raising errors").
+    pub fn say_if_remark(&self, alloc: Global, line: &[u8]) {
+        if let Some((name, message)) = remark(alloc, line) {
+            let name = Shown(name.as_str());
             let message = Shown(message.as_str());
-            self.say(format_args!("log: {message}"));
+            self.say(format_args!("{name}: {message}"));
         }
     }
 

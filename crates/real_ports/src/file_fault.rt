@@ -10,13 +10,15 @@ pub enum FileFault {
     System(io::Error),
     #[error("{0}")]
     NotOpened(io::Error),
-    #[error("another program has the folder")]
+    #[error("another program has it")]
     InUse,
     #[error("it is a directory")]
     Directory,
     #[error("it is no plain file")]
     NotPlain,
-    #[error("it is not a file of couchview, and stays as it is")]
+    #[error("it has another name too (a hard link), and stays as it is")]
+    Linked,
+    #[error("it is not as couchview leaves a file, and stays as it is")]
     Foreign,
     #[error("no file may have this name")]
     NoName,
@@ -36,6 +38,7 @@ impl FileFault {
             | FileFault::InUse
             | FileFault::Directory
             | FileFault::NotPlain
+            | FileFault::Linked
             | FileFault::Foreign
             | FileFault::NoName => "opened",
             _ => task,

@@ -12,11 +12,11 @@ mod file_names;
 mod file_start;
 mod folder_files;
 mod folder_lock;
-mod log_line;
 mod open_file;
 mod piped_child;
 mod real_folder;
 mod real_servers;
+mod remark;
 mod streams;
 mod switch;
 

@@ -8,7 +8,7 @@ use crate::file_start::is_of_database;
 use std::fs::{self, File, OpenOptions};
 use std::io::{self, ErrorKind};
 use std::os::fd::AsRawFd;
-use std::os::unix::fs::FileExt;
+use std::os::unix::fs::{FileExt, MetadataExt};
 use std::str;
 use view_ports::FileName;
 
@@ -29,11 +29,12 @@ pub struct OpenFile {
 
 impl OpenFile {
     /// Opens the file. `None` where it isn't there. It fails where no file may have the name, or what has it is no plain
-    /// file, is of no database, or can't be read and written.
+    /// file, has another name too, is of no database, or can't be read and written.
     pub fn open(rt: &HostRuntime, name: FileName) -> Result<Option<OpenFile>, FileFault> {
         let mut room = [0; FILE_TEXT_LIMIT];
         let path = path_of(&name, &mut room)?;
         match fs::symlink_metadata(rt, path) {
+            Ok(found) if found.is_file() && found.nlink() > 1 => return Err(FileFault::Linked),
             Ok(found) if found.is_file() => {}
             Ok(found) if found.is_dir() => return Err(FileFault::Directory),
             Ok(_) => return Err(FileFault::NotPlain),

@@ -84,14 +84,14 @@ impl PipedChild {
         )
     }
 
-    /// Receives the next line without its newline. A log line is said too.
+    /// Receives the next line without its newline. A log line and an error are said too.
     pub fn receive(&mut self, alloc: Global, piece: &mut [u8]) -> Result<Vec<u8>, ChildFault>
         requires { length piece.old ≤ PIECE }
         ensures short { IfOk result (λ line. vec_len line ≤ LINE_LIMIT) }
         ensures line { IfOk result (λ line. IsLine line.items) }
     {
         let line = self.output.next_line(alloc, &self.name, piece)?;
-        self.name.say_if_log(alloc, &line);
+        self.name.say_if_remark(alloc, &line);
         Ok(line)
     }
 

@@ -15,7 +15,7 @@ use view_ports::{FileName, Folder, FolderFault, PortFault};
 ///
 /// Each call that fails counts one fault, and says on standard error of which file and why. A call fails where the system
 /// fails, another program has the folder, a file finds no memory to be opened, no file may have the name, or what has it is
-/// no plain file or a file of no database; a `write_at` also past the end of the file. Once a `sync` has failed every later
+/// no plain file, one with another name too or one of no database; a `write_at` also past the end of the file. Once a `sync` has failed every later
 /// call fails, since nothing is known of the disk from then on.
 #[derive(Drop)]
 pub struct RealFolder {
@@ -58,7 +58,8 @@ impl RealFolder {
             Ok(value) => Ok(value),
             Err(fault) => {
                 let mut room = [0; FILE_TEXT_LIMIT];
-                let what = shown(name, &mut room);
+                let file = name.filter(|_| !matches!(fault, FileFault::InUse));
+                let what = shown(file, &mut room);
                 let undone = fault.undone(task);
                 self.diagnostics
                     .say(format_args!("{what} can't be {undone}: {fault}"));

@@ -19,7 +19,8 @@ use view_ports::{SLOT_COUNT, Servers, ServersFault};
 /// prints more than 134,217,728 bytes without an end of a line or without taking what it is sent. A child is ended by a
 /// call on it that fails or finds no memory. It is not ended where the servers are let go: stop all slots before.
 ///
-/// On standard error it is said why a call failed, that a child is waited for, and what a child wants in the log.
+/// On standard error it is said why a call failed, that a child is waited for, and what a child wants in the log
+/// or complains of.
 #[derive(Drop)]
 pub struct RealServers {
     rt: HostRuntime,
