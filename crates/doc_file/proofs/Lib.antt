@@ -17,6 +17,8 @@ mod Left
 mod Contents
 pub mod Stores
 mod Storing
+mod Written
+pub mod NotOfFile
 mod Storable
 mod Opened
 mod Nexts

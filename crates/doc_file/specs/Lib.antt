@@ -13,5 +13,6 @@ pub mod Drafts
 pub mod Writes
 pub mod Faults
 pub mod Docs
+pub mod Calls
 pub mod Laws
 pub mod Changes

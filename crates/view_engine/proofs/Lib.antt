@@ -10,7 +10,6 @@ pub mod Around
 pub mod Writing
 pub mod Faults
 pub mod Exclusive
-mod FullFiles
 pub mod MappedSoFar
 pub mod HaltedAs
 pub mod SameFiles

@@ -1,11 +1,10 @@
 -- A write, as the documents stored it or refused it, is what the request does.
-use Rattle.std.specs.Prelude.{IfErr, OnOk}
+use Rattle.std.specs.Prelude.{OnOk}
 use Rattle.std.specs.Result.{IsErrAnd}
 use Rattle.std.proofs.lemmas.Result.{err_from_is_err_and}
-use Rattle.std.proofs.Common.{◌≡◌, ◌⊎◌, ◌+◌, ◌<◌, ◌≤◌, ◌^◌, ◌++◌, ℕ, List, ◌∷◌, inl, inr, Result, Ok, Err, Option, Some, None, refl, sym, ap, ◌∙◌, subst, arith}
+use Rattle.std.proofs.Common.{◌≡◌, ◌⊎◌, ◌++◌, ℕ, List, ◌∷◌, inl, inr, Result, Ok, Err, Option, Some, None, refl, sym, ap, ◌∙◌, subst, arith}
 use Rattle.json_terms.specs.Json.{Json}
-use Rattle.view_ports.specs.Disk.{IfTold, Moves, Tells}
-use Rattle.view_ports.specs.Faults.{Rose}
+use Rattle.view_ports.specs.Disk.{IfTold}
 use Rattle.view_ports.specs.File.{File}
 use Rattle.view_ports.specs.Lines.{ended}
 use Rattle.view_ports.specs.declared.file_name.FileName.{FileName}
@@ -13,15 +12,15 @@ use Rattle.view_ports.specs.declared.folder.Folder.{Ghosts as Folders}
 use Rattle.view_ports.proofs.Told.{told_after, told_all, told_now}
 use Rattle.gate_file.specs.declared.fault.GateFault.{GateFault}
 use Rattle.gate_file.specs.declared.fault.GateFault.TheVariants as gate
-use Rattle.gate_file.specs.GateFile.{commits_of, length_of, name_of, start_of}
+use Rattle.gate_file.specs.GateFile.{length_of, name_of}
 use Rattle.doc_file.specs.declared.docs.Docs.{Docs}
 use Rattle.doc_file.specs.declared.fault.DocFault.{DocFault}
 use Rattle.doc_file.specs.declared.fault.DocFault.TheVariants as doc
 use Rattle.doc_file.specs.declared.rev.Rev.{Rev}
-use Rattle.doc_file.specs.Docs.{entries_of, file_of, seq_of, IsAt as AreAt, IsDocsFile, IsOpen, IsSame}
-use Rattle.doc_file.specs.Held.{Stands}
+use Rattle.doc_file.specs.Calls.{Writes}
+use Rattle.doc_file.specs.Docs.{file_of, IsAt as AreAt, IsSame}
 use Rattle.doc_file.specs.History.{Write}
-use Rattle.doc_file.specs.Stored.{size_of, write_of}
+use Rattle.doc_file.specs.Stored.{write_of}
 use Rattle.doc_file.specs.Writes.{IsFileFault}
 use Rattle.view_engine.specs.declared.halt.Halt.{Halt}
 use Rattle.view_engine.specs.declared.halt.Halt.TheVariants.{Refused, Stopped}
@@ -37,21 +36,6 @@ use Rattle.view_engine.proofs.Around.{moves_around}
 use Rattle.view_engine.proofs.OnDisk.{disk_same, disk_still}
 use Rattle.view_engine.proofs.SameDocs.{IsAt-same}
 use Rattle.view_engine.proofs.Still.{still_written}
-
--- what the documents promise of a write of an id
-pub record Stored {F : Type 0} (f : Folders F) (docs docs' : Docs) (old new : F) (id : List ℕ) (content : Option Json) (Accepted : Type 0) (IsRefused : DocFault → Type 0) (result : Result Rev DocFault) : Type 0 where
-  pub accepted : OnOk result Accepted
-  pub refused : IfErr result (λ e. IsRefused e ⊎ IsFileFault (file_of docs) e ⊎ (e ≡ doc.NoMemory))
-  pub is_open : IfTold (f.disk new) (λ d. OnOk result (IsOpen docs' d.now))
-  pub stands : OverHistory f docs old (λ history. Tells (f.disk old) (f.disk new)
-      (Moves IsDocsFile (λ image. Stands image history ⊎ Stands image (write_of history id content ∷ history)) (λ files. OnOk result (AreAt docs' files (write_of history id content ∷ history)))))
-  pub kept : IfErr result (λ e. IsFileFault (file_of docs) e ⊎ (IsSame docs docs' × (new ≡ old)))
-  pub reached : IfErr result (λ e. IsFileFault (file_of docs) e → Accepted)
-  pub long : result ≡ Err (doc.Gate (gate.Full (name_of (file_of docs)) (Some (length_of (file_of docs)))))
-      → 2 ^ 40 < start_of (file_of docs) + size_of (start_of (file_of docs)) (seq_of docs) (entries_of docs) id content
-  pub spent : result ≡ Err (doc.Gate (gate.Full (name_of (file_of docs)) None)) → 2 ^ 50 ≤ commits_of (file_of docs)
-  pub later : f.faults old ≤ f.faults new
-  pub failed : IfErr result (λ e. e ≡ doc.Gate gate.DiskFault → Rose (f.faults old) (f.faults new))
 
 -- memory ran out before anything was called
 pub spent_here : {F : Type 0} {f : Folders F} {docs : Docs} {old : F} {request : Request} {out out' : List ℕ} {result : Result (Unit {0}) Halt}
@@ -95,30 +79,30 @@ module _ {F : Type 0} (f : Folders F) (docs docs' : Docs) (old new : F) (request
   halted_here (Stopped (Full name length)) refused spent = tt
 
   full_of : (id : List ℕ) (content : Option Json) (fault : DocFault) (Accepted : Type 0) (IsRefused : DocFault → Type 0) (name : FileName) (length : Option ℕ) → fault ≡ doc.Gate (gate.Full name length)
-      → IsFileFault (file_of docs) fault → Stored f docs docs' old new id content Accepted IsRefused (Err fault) → IsFull docs id content name length
+      → IsFileFault (file_of docs) fault → Writes f docs docs' old new id content Accepted IsRefused (Err fault) → IsFull docs id content name length
   full_of id content fault Accepted IsRefused name None is (inl failed) stored = absurd (let never : ⊥ = cc in never)
   full_of id content fault Accepted IsRefused name (Some length) is (inl failed) stored = absurd (let never : ⊥ = cc in never)
   full_of id content fault Accepted IsRefused name None is (inr (inl full)) stored = absurd (let never : ⊥ = cc in never)
   full_of id content fault Accepted IsRefused name (Some length) is (inr (inl full)) stored =
-      (let same : name ≡ name_of (file_of docs) = cc in same, let same : length ≡ length_of (file_of docs) = cc in same, stored.long (ap Err full))
-  full_of id content fault Accepted IsRefused name None is (inr (inr full)) stored = (let same : name ≡ name_of (file_of docs) = cc in same, stored.spent (ap Err full))
+      (let same : name ≡ name_of (file_of docs) = cc in same, let same : length ≡ length_of (file_of docs) = cc in same, stored.stored.long (ap Err full))
+  full_of id content fault Accepted IsRefused name None is (inr (inr full)) stored = (let same : name ≡ name_of (file_of docs) = cc in same, stored.stored.spent (ap Err full))
   full_of id content fault Accepted IsRefused name (Some length) is (inr (inr full)) stored = absurd (let never : ⊥ = cc in never)
 
   module _ (id : List ℕ) (content : Option Json) (Accepted : Type 0) (IsRefused : DocFault → Type 0) (reply : List ℕ)
       (does : (files : FileName → File) (history : List Write) → AreAt docs files history → Accepted → DoesHere (world_of history) request reply (written (world_of history) (write_of history id content)))
       (writes : (files : FileName → File) (history : List Write) → AreAt docs files history → Accepted → IsWrite (world_of history) (Ok request) (write_of history id content)) where
     abbrev Side : Result Rev DocFault → Type 0
-    Side = Stored f docs docs' old new id content Accepted IsRefused
+    Side = Writes f docs docs' old new id content Accepted IsRefused
 
     disk_moved : {GivenUp GoesOn : Type 0} (result : Result Rev DocFault) → Accepted → (GivenUp → ⊥) → (GoesOn → AreOpen f docs' new) → Side result → KeepsDisk f docs docs' old new (Ok request) GivenUp GoesOn
     disk_moved result accepted ungiven opens stored = record {
       moments = λ history at. moves_around history (Ok request) (write_of history id content) (λ files. OnOk result (AreAt docs' files (write_of history id content ∷ history))) (f.disk old) (f.disk new)
-          (told_now (f.disk old) (λ d. AreAt docs d.now history) (λ d. IsWrite (world_of history) (Ok request) (write_of history id content)) (λ d is. writes d.now history is accepted) at) (stored.stands history at);
+          (told_now (f.disk old) (λ d. AreAt docs d.now history) (λ d. IsWrite (world_of history) (Ok request) (write_of history id content)) (λ d is. writes d.now history is accepted) at) (stored.stored.stands history at);
       unmoved = λ given. absurd (ungiven given);
       unwritten = λ given. absurd (ungiven given);
       still = λ history at never. still_written (f.disk old) (f.disk new) history (Ok request) (write_of history id content) _
           (told_now (f.disk old) (λ d. AreAt docs d.now history) (λ d. IsWrite (world_of history) (Ok request) (write_of history id content)) (λ d is. writes d.now history is accepted) at)
-          never (stored.stands history at);
+          never (stored.stored.stands history at);
       is_open = opens;
     }
 
@@ -130,15 +114,15 @@ module _ {F : Type 0} (f : Folders F) (docs docs' : Docs) (old new : F) (request
         appended = appended;
         does = λ history at. record {
           after = written (world_of history) (write_of history id content);
-          is_at = told_after (f.disk old) (f.disk new) (λ d. AreAt docs d.now history) (λ d. AreAt docs' d.now (write_of history id content ∷ history)) _ (λ a b is moves. moves.ended) at (stored.stands history at);
+          is_at = told_after (f.disk old) (f.disk new) (λ d. AreAt docs d.now history) (λ d. AreAt docs' d.now (write_of history id content ∷ history)) _ (λ a b is moves. moves.ended) at (stored.stored.stands history at);
           allowed = told_now (f.disk old) (λ d. AreAt docs d.now history) (λ d. DoesHere (world_of history) request reply (written (world_of history) (write_of history id content)))
               (λ d is. does d.now history is stored.accepted) at;
         };
       };
       silent = tt;
-      disk = disk_moved (Ok rev) stored.accepted (λ never. never) (λ goes. stored.is_open) stored;
+      disk = disk_moved (Ok rev) stored.accepted (λ never. never) (λ goes. stored.stored.is_open) stored;
       why = tt;
-      later = stored.later;
+      later = stored.stored.cause.later;
     }
 
     module _ (not_of_file : (fault : GateFault) → IsRefused (doc.Gate fault) → ⊥)
@@ -156,7 +140,7 @@ module _ {F : Type 0} (f : Folders F) (docs docs' : Docs) (old new : F) (request
       no_damage name at (inr (inr is)) = cc
 
       why_halted : (fault : DocFault) → Side (Err fault) → IfStopped (IsReason f docs old new (Ok request)) (halted_as fault)
-      why_halted (doc.Gate gate.DiskFault) stored = stored.failed refl
+      why_halted (doc.Gate gate.DiskFault) stored = stored.stored.cause.failed refl
       why_halted (doc.Gate (gate.Damaged name at)) stored = absurd (no_damage name at (of_file (doc.Gate (gate.Damaged name at)) (gate.Damaged name at) refl stored.refused))
       why_halted (doc.Gate (gate.Full name length)) stored =
           let so = of_file (doc.Gate (gate.Full name length)) (gate.Full name length) refl stored.refused in (
@@ -196,7 +180,7 @@ module _ {F : Type 0} (f : Folders F) (docs docs' : Docs) (old new : F) (request
           silent = silent;
           disk = disk_moved (Err fault) (stored.reached so) (no_going_on fault so) (λ goes. absurd (no_going_on fault so goes)) stored;
           why = why_halted fault stored;
-          later = stored.later;
+          later = stored.stored.cause.later;
         }
         | inr same ↦ record {
           does = halted_here (halted_as fault)
@@ -214,7 +198,7 @@ module _ {F : Type 0} (f : Folders F) (docs docs' : Docs) (old new : F) (request
           silent = silent;
           disk = disk_same same is_open;
           why = why_halted fault stored;
-          later = stored.later;
+          later = stored.stored.cause.later;
         }
       ]
 
@@ -224,12 +208,12 @@ module _ {F : Type 0} {f : Folders F} {docs docs' : Docs} {old new : F} {request
     (reply : List ℕ)
     (does : (files : FileName → File) (history : List Write) → AreAt docs files history → Accepted → DoesHere (world_of history) request reply (written (world_of history) (write_of history id content)))
     (writes : (files : FileName → File) (history : List Write) → AreAt docs files history → Accepted → IsWrite (world_of history) (Ok request) (write_of history id content)) where
-  pub wrote_here : {rev : Rev} → out' ≡ out ++ ended reply → Stored f docs docs' old new id content Accepted IsRefused (Ok rev) → ActsHere f docs docs' old new request out out' (Ok tt)
+  pub wrote_here : {rev : Rev} → out' ≡ out ++ ended reply → Writes f docs docs' old new id content Accepted IsRefused (Ok rev) → ActsHere f docs docs' old new request out out' (Ok tt)
   wrote_here {rev} = stored_done f docs docs' old new request out out' id content Accepted IsRefused reply does writes rev
 
   pub unwritten_here : {fault : DocFault} → ((g : GateFault) → IsRefused (doc.Gate g) → ⊥)
       → ((files : FileName → File) (history : List Write) → AreAt docs files history → (e : DocFault) → IsRefused e ⊎ IsFileFault (file_of docs) e ⊎ (e ≡ doc.NoMemory)
       → (refusal : Refusal) → halted_as e ≡ Refused refusal → IsRefusedHere (world_of history) request refusal)
       → ((name : FileName) (length : Option ℕ) → IsFull docs id content name length → IsFullFor docs (Ok request) name length)
-      → out' ≡ out → AreOpen f docs old → Stored f docs docs' old new id content Accepted IsRefused (Err fault) → ActsHere f docs docs' old new request out out' (Err (halted_as fault))
+      → out' ≡ out → AreOpen f docs old → Writes f docs docs' old new id content Accepted IsRefused (Err fault) → ActsHere f docs docs' old new request out out' (Err (halted_as fault))
   unwritten_here {fault} not_of_file refused full = stored_halted f docs docs' old new request out out' id content Accepted IsRefused reply does writes not_of_file refused full fault

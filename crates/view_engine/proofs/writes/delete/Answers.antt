@@ -1,17 +1,16 @@
 -- A deletion is what the documents make of it.
 use Rattle.std.specs.Prelude.{option_map}
-use Rattle.std.proofs.Common.{◌≡◌, ◌∙◌, ◌++◌, ℕ, List, Option, None, Ok, Err, refl, sym, subst, arith, rules}
+use Rattle.std.proofs.Common.{◌≡◌, ◌∙◌, ◌++◌, ℕ, List, Option, Ok, Err, refl, sym, subst, arith, rules}
 use Rattle.std.proofs.lemmas.Grind.{common_steps}
 use Rattle.view_ports.specs.Lines.{ended}
 use Rattle.doc_file.specs.Accepted.{state_in}
 use Rattle.doc_file.specs.Docs.{last_of}
-use Rattle.doc_file.specs.Writes.{IsAcceptedDelete, IsRefusedDelete}
 use Rattle.view_engine.specs.declared.request.Request.TheVariants.{Delete}
 use Rattle.view_engine.specs.Calls.{ActsHere}
 use Rattle.view_engine.specs.Halts.{halted_as}
 use Rattle.view_engine.specs.Replies.{accepted_reply}
-use Rattle.view_engine.proofs.FullFiles.{delete_not_of_file}
-use Rattle.view_engine.proofs.Stored.{spent_here, unwritten_here, wrote_here, Stored}
+use Rattle.doc_file.proofs.NotOfFile.{delete_not_of_file}
+use Rattle.view_engine.proofs.Stored.{spent_here, unwritten_here, wrote_here}
 use Rattle.view_engine.proofs.Writing.{delete_does, delete_is_write, delete_refused, reply_to}
 use Rattle.view_engine.proofs.writes.delete.Goals as goal
 
@@ -30,45 +29,19 @@ returns-in-Ok-clause-acts g c =
     let docs = c.args.docs.now in
     let id = c.as_str-2.result.now in
     let given = option_map (λ text. text.now) c.text_of.result in
-    let stored : Stored g.F.Folder docs c.delete.new.self c.args.folder.now c.delete.new.folder id None
-    (IsAcceptedDelete (state_in (last_of docs id)) given) (IsRefusedDelete (state_in (last_of docs id)) given) (Ok c.in-Ok._rev) = record {
-      accepted = c.in-Ok.ensures.accepted;
-      refused = tt;
-      is_open = c.in-Ok.ensures.open;
-      stands = c.in-Ok.ensures.stands;
-      kept = tt;
-      reached = tt;
-      long = c.in-Ok.ensures.long;
-      spent = c.in-Ok.ensures.spent;
-      later = c.in-Ok.ensures.cause.later;
-      failed = tt;
-    } in
     let appended : c.extend_from_slice.new.self.items ≡ c.args.out.now.items ++ ended (accepted_reply docs id) = search rules in
     both (λ i rev. ActsHere g.F.Folder docs c.delete.new.self c.args.folder.now c.delete.new.folder (Delete i rev) c.args.out.now.items c.extend_from_slice.new.self.items (Ok tt)) c.as_str-2.ensures c.text_of.ensures
     (wrote_here (accepted_reply docs id) (λ files history at accepted. delete_does docs files history at id given accepted (reply_to docs files history at c.as_str.result.now id (c.as_str.ensures ∙ sym c.as_str-2.ensures) (c.in_ok-reply.ensures.history files history at)))
-    (λ files history at accepted. delete_is_write docs files history at id given accepted (reply_to docs files history at c.as_str.result.now id (c.as_str.ensures ∙ sym c.as_str-2.ensures) (c.in_ok-reply.ensures.history files history at))) appended stored)
+    (λ files history at accepted. delete_is_write docs files history at id given accepted (reply_to docs files history at c.as_str.result.now id (c.as_str.ensures ∙ sym c.as_str-2.ensures) (c.in_ok-reply.ensures.history files history at))) appended c.in-Ok.ensures)
 
 pub returns-clause-acts : goal.returns-clause-acts
 returns-clause-acts g c =
     let docs = c.args.docs.now in
     let id = c.as_str-2.result.now in
     let given = option_map (λ text. text.now) c.text_of.result in
-    let stored : Stored g.F.Folder docs c.delete.new.self c.args.folder.now c.delete.new.folder id None
-    (IsAcceptedDelete (state_in (last_of docs id)) given) (IsRefusedDelete (state_in (last_of docs id)) given) (Err c.in-Err.fault) = record {
-      accepted = tt;
-      refused = c.in-Err.ensures.refused;
-      is_open = c.in-Err.ensures.open;
-      stands = c.in-Err.ensures.stands;
-      kept = c.in-Err.ensures.kept;
-      reached = c.in-Err.ensures.reached;
-      long = c.in-Err.ensures.long;
-      spent = c.in-Err.ensures.spent;
-      later = c.in-Err.ensures.cause.later;
-      failed = c.in-Err.ensures.cause.failed;
-    } in
     let silent : c.truncate.new.self.items ≡ c.args.out.now.items = grind (arith, common_steps) in
     rw c.from.ensures (both (λ i rev. ActsHere g.F.Folder docs c.delete.new.self c.args.folder.now c.delete.new.folder (Delete i rev) c.args.out.now.items c.truncate.new.self.items (Err (halted_as c.in-Err.fault)))
     c.as_str-2.ensures c.text_of.ensures (unwritten_here (accepted_reply docs id) (λ files history at accepted. delete_does docs files history at id given accepted (reply_to docs files history at c.as_str.result.now id (c.as_str.ensures ∙ sym c.as_str-2.ensures) (c.in_ok-reply.ensures.history files history at)))
     (λ files history at accepted. delete_is_write docs files history at id given accepted (reply_to docs files history at c.as_str.result.now id (c.as_str.ensures ∙ sym c.as_str-2.ensures) (c.in_ok-reply.ensures.history files history at)))
     (delete_not_of_file (state_in (last_of docs id)) given)
-    (λ files history at fault is refusal met. delete_refused docs files history at docs.file id given fault refusal is met) (λ name length full. full) silent c.requires.open stored))
+    (λ files history at fault is refusal met. delete_refused docs files history at docs.file id given fault refusal is met) (λ name length full. full) silent c.requires.open c.in-Err.ensures))

@@ -1,16 +1,15 @@
 -- A put is what the documents make of it.
-use Rattle.std.proofs.Common.{◌≡◌, ◌∙◌, ◌++◌, Ok, Err, inl, refl, sym, arith, rules}
+use Rattle.std.proofs.Common.{◌≡◌, ◌∙◌, ◌++◌, inl, refl, sym, arith, rules}
 use Rattle.json_terms.specs.Json.{Json, object, members_of}
 use Rattle.std.proofs.lemmas.Grind.{common_steps}
 use Rattle.view_ports.specs.Lines.{ended}
 use Rattle.design_docs.specs.Documents.{id_of}
 use Rattle.doc_file.specs.Accepted.{state_in}
 use Rattle.doc_file.specs.Docs.{last_of}
-use Rattle.doc_file.specs.Writes.{content_of, IsAcceptedPut, IsRefusedPut}
 use Rattle.view_engine.specs.Replies.{accepted_reply}
-use Rattle.view_engine.proofs.FullFiles.{put_not_of_file}
+use Rattle.doc_file.proofs.NotOfFile.{put_not_of_file}
 use Rattle.view_engine.proofs.PlainPuts.{plain_where_built}
-use Rattle.view_engine.proofs.Stored.{refused_here_at_once, spent_here, unwritten_here, wrote_here, Stored}
+use Rattle.view_engine.proofs.Stored.{refused_here_at_once, spent_here, unwritten_here, wrote_here}
 use Rattle.view_engine.proofs.Writing.{put_does, put_is_write, put_refused, reply_to}
 use Rattle.view_engine.proofs.writes.put.Goals as goal
 
@@ -34,43 +33,17 @@ returns-in-Ok-clause-acts g c =
     let docs = c.args.docs.now in
     let json : Json = object (members_of c.args.document) in
     let built = sym c.in_ok-is_unbuilt.ensures ∙ c.if-branch.false in
-    let stored : Stored g.F.Folder docs c.put.new.self c.args.folder.now c.put.new.folder (id_of json) (content_of json)
-    (IsAcceptedPut (state_in (last_of docs (id_of json))) json) (IsRefusedPut (state_in (last_of docs (id_of json))) json) (Ok c.in-Ok._rev) = record {
-      accepted = c.in-Ok.ensures.accepted;
-      refused = tt;
-      is_open = c.in-Ok.ensures.open;
-      stands = c.in-Ok.ensures.stands;
-      kept = tt;
-      reached = tt;
-      long = c.in-Ok.ensures.long;
-      spent = c.in-Ok.ensures.spent;
-      later = c.in-Ok.ensures.cause.later;
-      failed = tt;
-    } in
     let appended : c.extend_from_slice.new.self.items ≡ c.args.out.now.items ++ ended (accepted_reply docs (id_of json)) = search rules in
     wrote_here (accepted_reply docs (id_of json)) (λ files history at accepted. put_does docs files history at json built accepted (reply_to docs files history at c.id_of.result.now (id_of json) c.id_of.ensures (c.in_ok-reply.ensures.history files history at)))
-    (λ files history at accepted. put_is_write docs files history at c.args.document built accepted (reply_to docs files history at c.id_of.result.now (id_of json) c.id_of.ensures (c.in_ok-reply.ensures.history files history at))) appended stored
+    (λ files history at accepted. put_is_write docs files history at c.args.document built accepted (reply_to docs files history at c.id_of.result.now (id_of json) c.id_of.ensures (c.in_ok-reply.ensures.history files history at))) appended c.in-Ok.ensures
 
 pub returns-clause-acts : goal.returns-clause-acts
 returns-clause-acts g c =
     let docs = c.args.docs.now in
     let json : Json = object (members_of c.args.document) in
     let built = sym c.in_ok-is_unbuilt.ensures ∙ c.if-branch.false in
-    let stored : Stored g.F.Folder docs c.put.new.self c.args.folder.now c.put.new.folder (id_of json) (content_of json)
-    (IsAcceptedPut (state_in (last_of docs (id_of json))) json) (IsRefusedPut (state_in (last_of docs (id_of json))) json) (Err c.in-Err.fault) = record {
-      accepted = tt;
-      refused = c.in-Err.ensures.refused;
-      is_open = c.in-Err.ensures.open;
-      stands = c.in-Err.ensures.stands;
-      kept = c.in-Err.ensures.kept;
-      reached = c.in-Err.ensures.reached;
-      long = c.in-Err.ensures.long;
-      spent = c.in-Err.ensures.spent;
-      later = c.in-Err.ensures.cause.later;
-      failed = c.in-Err.ensures.cause.failed;
-    } in
     let silent : c.truncate.new.self.items ≡ c.args.out.now.items = grind (arith, common_steps) in
     rw c.from.ensures (unwritten_here (accepted_reply docs (id_of json)) (λ files history at accepted. put_does docs files history at json built accepted (reply_to docs files history at c.id_of.result.now (id_of json) c.id_of.ensures (c.in_ok-reply.ensures.history files history at)))
     (λ files history at accepted. put_is_write docs files history at c.args.document built accepted (reply_to docs files history at c.id_of.result.now (id_of json) c.id_of.ensures (c.in_ok-reply.ensures.history files history at)))
     (put_not_of_file (state_in (last_of docs (id_of json))) json)
-    (λ files history at fault is refusal met. put_refused docs files history at docs.file json fault refusal built is met) (λ name length full. full) silent c.requires.open stored)
+    (λ files history at fault is refusal met. put_refused docs files history at docs.file json fault refusal built is met) (λ name length full. full) silent c.requires.open c.in-Err.ensures)

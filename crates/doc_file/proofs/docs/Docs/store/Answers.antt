@@ -1,5 +1,5 @@
 -- All that takes memory is done before the disk is asked, and then the draft is published.
-use Rattle.std.proofs.Common.{◌≤◌, ◌∷◌, OnOk, length, option_map, refl, sym, ap, subst}
+use Rattle.std.proofs.Common.{◌≤◌, ◌∷◌, OnOk, length, option_map, refl, sym, ap, subst, rules}
 use Rattle.json_terms.specs.Seen.{json}
 use Rattle.gate_file.specs.GateFile.{commits_of}
 use Rattle.gate_file.proofs.Stepped.{ended_err}
@@ -16,19 +16,39 @@ make_draft-requires-clause-counted g c =
     subst (λ es. generation_in (find_last c.args.id es) ≤ c.args.self.now.seq) (sym c.as_slice.ensures.value)
     (generation_room (commits_of c.args.self.now.file) c.args.self.now.seq c.args.self.now.entries.items c.args.id c.args.self.now.counted)
 
-pub returns-in_err-rev-clause-stands : goal.returns-in_err-rev-clause-stands
-returns-in_err-rev-clause-stands g c = λ history at.
-    let write = write_of history c.args.id (option_map json c.args.content) in
-    stays_at c.args.self.now (g.F.Folder.disk c.args.folder.now) history write (λ files. OnOk c.from_residual.result (IsAt c.args.self.now files (write ∷ history)))
-    (λ files. ended_err c.from_residual.result (IsAt c.args.self.now files (write ∷ history)) c.from_residual.ensures.0) at
+pub returns-in_err-rev-clause-stored : goal.returns-in_err-rev-clause-stored
+returns-in_err-rev-clause-stored g c = record {
+  revision = search rules;
+  is_open = search rules;
+  stands = λ history at.
+      let write = write_of history c.args.id (option_map json c.args.content) in
+      stays_at c.args.self.now (g.F.Folder.disk c.args.folder.now) history write (λ files. OnOk c.from_residual.result (IsAt c.args.self.now files (write ∷ history)))
+      (λ files. ended_err c.from_residual.result (IsAt c.args.self.now files (write ∷ history)) c.from_residual.ensures.0) at;
+  long = search rules;
+  short = search rules;
+  spent = search rules;
+  few = search rules;
+  cause = search rules;
+  reads = search rules;
+}
 
-pub returns-in_err-publish-clause-stands : goal.returns-in_err-publish-clause-stands
-returns-in_err-publish-clause-stands g c = λ history at.
-    publishes c.args.self.now c.args.id (option_map json c.args.content) c.in_ok-rev.field-0 c.next_place-start.result c.next_place-start.ensures c.as_slice.result.now c.as_slice.ensures.value c.in_ok-rev.ensures
-    c.requires.room c.requires.storable c.as_slice-2.result.now c.as_slice-2.ensures.value c.in_ok-rev.field-0.body refl
-    (g.F.Folder.disk c.args.folder.now) (g.F.Folder.disk c.publish.new.folder) history
-    (λ f n. OnOk c.publish.result (IsPublished (published c.args.self.now.file (length c.as_slice-2.result.now) c.in_ok-rev.field-0.body) c.as_slice-2.result.now f n)) _
-    (λ a b is_at others ended. ended_err c.from_residual-in_err-publish.result _ c.from_residual-in_err-publish.ensures.0) at c.publish.ensures.disk
+pub returns-in_err-publish-clause-stored : goal.returns-in_err-publish-clause-stored
+returns-in_err-publish-clause-stored g c = record {
+  revision = search rules;
+  is_open = search rules;
+  stands = λ history at.
+      publishes c.args.self.now c.args.id (option_map json c.args.content) c.in_ok-rev.field-0 c.next_place-start.result c.next_place-start.ensures c.as_slice.result.now c.as_slice.ensures.value c.in_ok-rev.ensures
+      c.requires.room c.requires.storable c.as_slice-2.result.now c.as_slice-2.ensures.value c.in_ok-rev.field-0.body refl
+      (g.F.Folder.disk c.args.folder.now) (g.F.Folder.disk c.publish.new.folder) history
+      (λ f n. OnOk c.publish.result (IsPublished (published c.args.self.now.file (length c.as_slice-2.result.now) c.in_ok-rev.field-0.body) c.as_slice-2.result.now f n)) _
+      (λ a b is_at others ended. ended_err c.from_residual-in_err-publish.result _ c.from_residual-in_err-publish.ensures.0) at c.publish.ensures.disk;
+  long = search rules;
+  short = search rules;
+  spent = search rules;
+  few = search rules;
+  cause = search rules;
+  reads = search rules;
+}
 
 pub invariant_of-self-2-clause-counted : goal.invariant_of-self-2-clause-counted
 invariant_of-self-2-clause-counted g c =
@@ -40,16 +60,23 @@ invariant_of-self-2-clause-room g c =
     room_now c.args.self.now c.args.id (option_map json c.args.content) c.in_ok-rev.field-0 c.next_place-start.result c.next_place-start.ensures c.as_slice.result.now c.as_slice.ensures.value c.in_ok-rev.ensures
     c.requires.room c.requires.storable c.as_slice-2.result.now c.as_slice-2.ensures.value c.in_ok-rev.field-0.body refl
 
-pub returns-clause-open : goal.returns-clause-open
-returns-clause-open g c =
-    told_open c.args.self.now c.args.id (option_map json c.args.content) c.in_ok-rev.field-0 c.next_place-start.result c.next_place-start.ensures c.as_slice.result.now c.as_slice.ensures.value c.in_ok-rev.ensures
-    c.requires.room c.requires.storable c.as_slice-2.result.now c.as_slice-2.ensures.value c.in_ok-rev.field-0.body refl
-    c.in_ok-publish.ensures.few _ c.in_ok-publish.ensures.done (ap (λ (r : Rev). r.seq) c.in_ok-rev.ensures.rev) refl
-    c.publish.result c.in_ok-publish.field-0 c.in_ok-publish.was (g.F.Folder.disk c.args.folder.now) (g.F.Folder.disk c.publish.new.folder) c.requires.open c.publish.ensures.disk
-
-pub returns-clause-stands : goal.returns-clause-stands
-returns-clause-stands g c = λ history at.
-    told_at c.args.self.now c.args.id (option_map json c.args.content) c.in_ok-rev.field-0 c.next_place-start.result c.next_place-start.ensures c.as_slice.result.now c.as_slice.ensures.value c.in_ok-rev.ensures
-    c.requires.room c.requires.storable c.as_slice-2.result.now c.as_slice-2.ensures.value c.in_ok-rev.field-0.body refl
-    c.in_ok-publish.ensures.few _ c.in_ok-publish.ensures.done (ap (λ (r : Rev). r.seq) c.in_ok-rev.ensures.rev) refl
-    c.publish.result c.in_ok-publish.field-0 c.in_ok-publish.was (g.F.Folder.disk c.args.folder.now) (g.F.Folder.disk c.publish.new.folder) history at c.publish.ensures.disk
+pub returns-clause-stored : goal.returns-clause-stored
+returns-clause-stored g c = record {
+  revision = search rules;
+  is_open =
+      told_open c.args.self.now c.args.id (option_map json c.args.content) c.in_ok-rev.field-0 c.next_place-start.result c.next_place-start.ensures c.as_slice.result.now c.as_slice.ensures.value c.in_ok-rev.ensures
+      c.requires.room c.requires.storable c.as_slice-2.result.now c.as_slice-2.ensures.value c.in_ok-rev.field-0.body refl
+      c.in_ok-publish.ensures.few _ c.in_ok-publish.ensures.done (ap (λ (r : Rev). r.seq) c.in_ok-rev.ensures.rev) refl
+      c.publish.result c.in_ok-publish.field-0 c.in_ok-publish.was (g.F.Folder.disk c.args.folder.now) (g.F.Folder.disk c.publish.new.folder) c.requires.open c.publish.ensures.disk;
+  stands = λ history at.
+      told_at c.args.self.now c.args.id (option_map json c.args.content) c.in_ok-rev.field-0 c.next_place-start.result c.next_place-start.ensures c.as_slice.result.now c.as_slice.ensures.value c.in_ok-rev.ensures
+      c.requires.room c.requires.storable c.as_slice-2.result.now c.as_slice-2.ensures.value c.in_ok-rev.field-0.body refl
+      c.in_ok-publish.ensures.few _ c.in_ok-publish.ensures.done (ap (λ (r : Rev). r.seq) c.in_ok-rev.ensures.rev) refl
+      c.publish.result c.in_ok-publish.field-0 c.in_ok-publish.was (g.F.Folder.disk c.args.folder.now) (g.F.Folder.disk c.publish.new.folder) history at c.publish.ensures.disk;
+  long = search rules;
+  short = search rules;
+  spent = search rules;
+  few = search rules;
+  cause = search rules;
+  reads = search rules;
+}

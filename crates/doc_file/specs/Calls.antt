@@ -1,0 +1,60 @@
+-- What a write of the documents promises, whole: the next write of an id is stored, or refused, or a fault came.
+use Rattle.std.specs.Prelude.{◌≡◌, ◌⊎◌, ◌+◌, ◌<◌, ◌≤◌, ◌^◌, ◌∷◌, ℕ, List, Result, Err, Option, Some, None, IfErr, IfOk, OnOk}
+use Rattle.json_terms.specs.Json.{Json}
+use Rattle.view_ports.specs.Causes.{HasCauseIf}
+use Rattle.view_ports.specs.Disk.{IfTold, Moves, Tells}
+use Rattle.view_ports.specs.declared.folder.Folder.{Ghosts as Folders}
+use Rattle.gate_file.specs.declared.fault.GateFault.TheVariants.{DiskFault, Full}
+use Rattle.gate_file.specs.GateFile.{commits_of, length_of, name_of, start_of}
+use Rattle.design_docs.specs.Documents.{id_of}
+use Rattle.doc_file.specs.declared.docs.Docs.{Docs}
+use Rattle.doc_file.specs.declared.fault.DocFault.{DocFault}
+use Rattle.doc_file.specs.declared.fault.DocFault.TheVariants.{Gate, NoMemory}
+use Rattle.doc_file.specs.declared.rev.Rev.{Rev}
+use Rattle.doc_file.specs.Accepted.{state_in}
+use Rattle.doc_file.specs.Docs.{entries_of, file_of, last_of, seq_of, IsAt, IsDocsFile, IsOpen, IsSame}
+use Rattle.doc_file.specs.Held.{Stands}
+use Rattle.doc_file.specs.History.{Write}
+use Rattle.doc_file.specs.Stored.{next_rev, size_of, write_of}
+use Rattle.doc_file.specs.Writes.{content_of, IsAcceptedDelete, IsAcceptedPut, IsFileFault, IsRefusedDelete, IsRefusedPut}
+
+-- the length of the documents' file with the next write of an id
+abbrev pub length_with : Docs → List ℕ → Option Json → ℕ
+length_with docs id content = start_of (file_of docs) + size_of (start_of (file_of docs)) (seq_of docs) (entries_of docs) id content
+
+-- the documents and the folder are as they were
+abbrev pub IsUntouched : {F : Type 0} → Docs → Docs → F → F → Type 0
+IsUntouched docs docs' old new = IsSame docs docs' × (new ≡ old)
+
+module _ {F : Type 0} (f : Folders F) (docs docs' : Docs) (old new : F) where
+  -- the next write of an id, stored or not
+  pub record Stores (id : List ℕ) (content : Option Json) (result : Result Rev DocFault) : Type 0 where
+    pub revision : IfOk result (λ rev. rev ≡ next_rev (seq_of docs) (entries_of docs) id)
+    pub is_open : IfTold (f.disk new) (λ d. OnOk result (IsOpen docs' d.now))
+    -- a crash leaves the history before the write or with it, and once the revision is answered the latter
+    pub stands : (history : List Write) → IfTold (f.disk old) (λ d. IsAt docs d.now history) → Tells (f.disk old) (f.disk new)
+        (Moves IsDocsFile (λ image. Stands image history ⊎ Stands image (write_of history id content ∷ history))
+        (λ files. OnOk result (IsAt docs' files (write_of history id content ∷ history))))
+    -- the file is full exactly where it would be too long, and where it has all of its commits
+    pub long : result ≡ Err (Gate (Full (name_of (file_of docs)) (Some (length_of (file_of docs))))) → 2 ^ 40 < length_with docs id content
+    pub short : OnOk result (length_with docs id content ≤ 2 ^ 40)
+    pub spent : result ≡ Err (Gate (Full (name_of (file_of docs)) None)) → 2 ^ 50 ≤ commits_of (file_of docs)
+    pub few : OnOk result (commits_of (file_of docs) < 2 ^ 50)
+    pub cause : HasCauseIf (λ e. e ≡ Gate DiskFault) (f.faults old) (f.faults new) result
+    pub reads : f.reads new ≡ f.reads old
+
+  -- a put or a deletion, by the rules that accept and refuse it
+  pub record Writes (id : List ℕ) (content : Option Json) (Accepted : Type 0) (IsRefused : DocFault → Type 0) (result : Result Rev DocFault) : Type 0 where
+    pub accepted : OnOk result Accepted
+    pub refused : IfErr result (λ e. IsRefused e ⊎ IsFileFault (file_of docs) e ⊎ (e ≡ NoMemory))
+    -- a refusal and want of memory leave all as it was, and a fault of the file comes only of an accepted write
+    pub kept : IfErr result (λ e. IsFileFault (file_of docs) e ⊎ IsUntouched docs docs' old new)
+    pub reached : IfErr result (λ e. IsFileFault (file_of docs) e → Accepted)
+    pub stored : Stores id content result
+
+  abbrev pub Puts : Json → Result Rev DocFault → Type 0
+  Puts document = Writes (id_of document) (content_of document)
+      (IsAcceptedPut (state_in (last_of docs (id_of document))) document) (IsRefusedPut (state_in (last_of docs (id_of document))) document)
+
+  abbrev pub Deletes : List ℕ → Option (List ℕ) → Result Rev DocFault → Type 0
+  Deletes id given = Writes id None (IsAcceptedDelete (state_in (last_of docs id)) given) (IsRefusedDelete (state_in (last_of docs id)) given)
