@@ -10,7 +10,7 @@ use Rattle.doc_file.specs.Held.{Stands}
 use Rattle.doc_file.specs.History.{Write}
 use Rattle.view_engine.specs.declared.request.Request.{Request}
 use Rattle.view_engine.specs.declared.refusal.Refusal.{Refusal}
-use Rattle.view_engine.specs.Engine.{StandsAround}
+use Rattle.view_engine.specs.Worlds.{StandsAround}
 use Rattle.view_engine.specs.Steps.{IsWrite}
 
 abbrev Told : Type 0

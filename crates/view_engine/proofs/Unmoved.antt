@@ -11,7 +11,7 @@ use Rattle.doc_file.specs.History.{Write}
 use Rattle.doc_file.proofs.Stores.{image_now}
 use Rattle.view_engine.specs.declared.request.Request.{Request}
 use Rattle.view_engine.specs.declared.refusal.Refusal.{Refusal}
-use Rattle.view_engine.specs.Engine.{StandsAround}
+use Rattle.view_engine.specs.Worlds.{StandsAround}
 
 -- the files as one value
 files_same : (old new : FileName → File) → ((name : FileName) → new name ≡ old name) → old ≡ new

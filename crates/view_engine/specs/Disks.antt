@@ -15,7 +15,7 @@ use Rattle.view_engine.specs.declared.halt.StepFault.TheVariants.{DiskFault, Dam
 use Rattle.view_engine.specs.declared.refusal.Refusal.{Refusal}
 use Rattle.view_engine.specs.declared.request.Request.{Request}
 use Rattle.view_engine.specs.declared.request.Request.TheVariants.{Get, View}
-use Rattle.view_engine.specs.Engine.{StandsAround}
+use Rattle.view_engine.specs.Worlds.{StandsAround}
 use Rattle.view_engine.specs.Halts.{GoesOn, IsDamage, IsFullFor, IsStill, WouldWrite}
 use Rattle.view_engine.specs.World.{World}
 
