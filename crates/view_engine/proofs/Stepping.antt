@@ -172,19 +172,19 @@ told_full : (disk : Option (Disk FileName)) (docs : Docs) (world : World) (reque
 told_full None docs world request P full known = tt
 told_full (Some d) docs world request P full known = λ name length is.
     let met = full name length is in
-    let made = met.1 world.history known in
+    let made = met.1 world known in
     record { docs = docs; files = d.now; at = known; full = met.0; write = made.0; accepted = made.1 }
 
 module _ {F C : Type 0} {f : Folders F} {s : Servers C} {old new : Scene F C} {line out out' : List ℕ} where
   -- at each moment a crash leaves the world before the line or the one with its write
   pub step_around : {result : Result (Unit {0}) StepFault} → IsStep f s old new line out out' result → (before : Moment) → StandsAt f s old before
       → Tells (f.disk old.folder) (f.disk new.folder) (LeavesOnly (StandsAround before.world (request_of line)))
-  step_around step before at = step.disk.moments before.world.history at.documents
+  step_around step before at = step.disk.moments before.world at.documents
 
   -- and where memory ran out, the world before it
   pub step_unwritten : IsStep f s old new line out out' (Err NoMemory) → (before : Moment) → StandsAt f s old before
       → Tells (f.disk old.folder) (f.disk new.folder) (LeavesOnly (λ image. StandsFor image before.world))
-  step_unwritten step before at = step.disk.unwritten refl before.world.history at.documents
+  step_unwritten step before at = step.disk.unwritten refl before.world at.documents
 
   module _ {fault : StepFault} (step : IsStep f s old new line out out' (Err fault)) (before : Moment) (at : StandsAt f s old before) where
     -- the engine keeps the child that the calls left
@@ -195,7 +195,7 @@ module _ {F C : Type 0} {f : Folders F} {s : Servers C} {old new : Scene F C} {l
     pub step_sound : IfTold (f.disk old.folder) (λ d. (name : FileName) (at : ℕ) → fault ≡ Damaged name at → ⊥)
     step_sound =
         told_never (f.disk old.folder) (λ d. AreAt old.engine.docs d.now before.world.history) (λ name at. fault ≡ Damaged name at)
-        (λ name at is. (subst (IsReason f old.engine.docs old.folder new.folder (request_of line)) is step.why).1.1 before.world.history) at.documents
+        (λ name at is. (subst (IsReason f old.engine.docs old.folder new.folder (request_of line)) is step.why).1.1 before.world) at.documents
 
     -- a full file is one with the write of the line
     pub step_full : IfTold (f.disk old.folder) (λ d. (name : FileName) (length : Option ℕ) → fault ≡ Full name length → IsFullAt before.world (request_of line) name length)

@@ -39,7 +39,7 @@ returns-in-Ok-clause-acts g c =
       accepted = c.in-Ok.ensures.accepted;
       refused = tt;
       is_open = c.in-Ok.ensures.open;
-      stands = c.in-Ok.ensures.stands;
+      stands = λ world. c.in-Ok.ensures.stands world.history;
       kept = tt;
       reached = tt;
       long = c.in-Ok.ensures.long;
@@ -48,8 +48,8 @@ returns-in-Ok-clause-acts g c =
       failed = tt;
     } in
     let appended : c.extend_from_slice.new.self.items ≡ c.args.out.now.items ++ ended (accepted_reply docs (id_of json)) = search rules in
-    wrote_here (accepted_reply docs (id_of json)) (λ files history at accepted. put_does docs files history at json built accepted (reply_to docs files history at c.id_of.result.now (id_of json) c.id_of.ensures (c.in_ok-reply.ensures.history files history at)))
-    (λ files history at accepted. put_is_write docs files history at c.args.document built accepted (reply_to docs files history at c.id_of.result.now (id_of json) c.id_of.ensures (c.in_ok-reply.ensures.history files history at))) appended stored
+    wrote_here (accepted_reply docs (id_of json)) (λ files world at accepted. put_does docs files world at json built accepted (reply_to docs files world at c.id_of.result.now (id_of json) c.id_of.ensures (c.in_ok-reply.ensures.history files world.history at)))
+    (λ files world at accepted. put_is_write docs files world at c.args.document built accepted (reply_to docs files world at c.id_of.result.now (id_of json) c.id_of.ensures (c.in_ok-reply.ensures.history files world.history at))) appended stored
 
 pub returns-clause-acts : goal.returns-clause-acts
 returns-clause-acts g c =
@@ -61,7 +61,7 @@ returns-clause-acts g c =
       accepted = tt;
       refused = c.in-Err.ensures.refused;
       is_open = c.in-Err.ensures.open;
-      stands = c.in-Err.ensures.stands;
+      stands = λ world. c.in-Err.ensures.stands world.history;
       kept = c.in-Err.ensures.kept;
       reached = c.in-Err.ensures.reached;
       long = c.in-Err.ensures.long;
@@ -70,7 +70,7 @@ returns-clause-acts g c =
       failed = c.in-Err.ensures.cause.failed;
     } in
     let silent : c.truncate.new.self.items ≡ c.args.out.now.items = grind (arith, common_steps) in
-    rw c.from.ensures (unwritten_here (accepted_reply docs (id_of json)) (λ files history at accepted. put_does docs files history at json built accepted (reply_to docs files history at c.id_of.result.now (id_of json) c.id_of.ensures (c.in_ok-reply.ensures.history files history at)))
-    (λ files history at accepted. put_is_write docs files history at c.args.document built accepted (reply_to docs files history at c.id_of.result.now (id_of json) c.id_of.ensures (c.in_ok-reply.ensures.history files history at)))
+    rw c.from.ensures (unwritten_here (accepted_reply docs (id_of json)) (λ files world at accepted. put_does docs files world at json built accepted (reply_to docs files world at c.id_of.result.now (id_of json) c.id_of.ensures (c.in_ok-reply.ensures.history files world.history at)))
+    (λ files world at accepted. put_is_write docs files world at c.args.document built accepted (reply_to docs files world at c.id_of.result.now (id_of json) c.id_of.ensures (c.in_ok-reply.ensures.history files world.history at)))
     (put_not_of_file (state_in (last_of docs (id_of json))) json)
-    (λ files history at fault is refusal met. put_refused docs files history at docs.file json fault refusal built is met) (λ name length full. full) silent c.requires.open stored)
+    (λ files world at fault is refusal met. put_refused docs files world at docs.file json fault refusal built is met) (λ name length full. full) silent c.requires.open stored)
