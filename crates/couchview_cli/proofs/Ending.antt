@@ -19,11 +19,11 @@ use Rattle.view_ports.proofs.Told.{told_after, told_all}
 use Rattle.view_engine.specs.declared.engine.Engine.{Engine}
 use Rattle.view_engine.specs.declared.halt.StepFault.{StepFault}
 use Rattle.view_engine.specs.declared.halt.StepFault.TheVariants.{Damaged, Full}
-use Rattle.view_engine.specs.Engine.{IsAt, StandsAround}
+use Rattle.view_engine.specs.Engine.{IsAt}
 use Rattle.view_engine.specs.Moments.{Moment}
 use Rattle.view_engine.specs.Refusals.{request_of}
+use Rattle.view_engine.specs.Worlds.{IsFullAt, StandsAround}
 use Rattle.couchview_cli.specs.declared.session.Session.{Session}
-use Rattle.couchview_cli.specs.Serving.{IsFullAt}
 use Rattle.couchview_cli.specs.Session.{Progress, Answered, CutOff, Ended, IsHalted, Origin, Stopped}
 use Rattle.couchview_cli.proofs.Moving.{moved_halted, told_first, Told}
 use Rattle.couchview_cli.proofs.Progressing.{moved_of, step_of}
@@ -160,7 +160,7 @@ module _ {functions : List ℕ → Functions} {honest : List ℕ → Type 0} {di
       images = images_around;
       halts = halted.halts;
       whole = told_first origin disk disk' (progress.reached.after).world progress.moved ((name : FileName) (at : ℕ) → fault ≡ Damaged name at → ⊥) halted.whole;
-      full = told_first origin disk disk' (progress.reached.after).world progress.moved ((name : FileName) (length : Option ℕ) → fault ≡ Full name length → IsFullAt (progress.reached.after).world line name length) halted.full;
+      full = told_first origin disk disk' (progress.reached.after).world progress.moved ((name : FileName) (length : Option ℕ) → fault ≡ Full name length → IsFullAt (progress.reached.after).world (request_of line) name length) halted.full;
       left = halted.left;
       wrote = subst (λ (held : Option (List ℕ)). Appends origin.held held (text_of progress.reached.exchanges)) (sym halted.silent) progress.wrote;
     }

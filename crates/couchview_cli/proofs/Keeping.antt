@@ -7,16 +7,14 @@ use Rattle.view_engine.specs.declared.refusal.Refusal.TheVariants.{NoMemory}
 use Rattle.view_engine.specs.Refusals.{line_limit, refusal_text, request_of}
 use Rattle.view_ports.specs.Lines.{ended, kept}
 use Rattle.view_ports.proofs.KeptLines.{kept-cases}
-use Rattle.view_engine.specs.Steps.{Answers, IsWrite, MayHaveCalled}
+use Rattle.view_engine.specs.Steps.{Answers, MayHaveCalled}
 use Rattle.view_ports.specs.Disk.{LeavesOnly, Tells}
 use Rattle.view_ports.specs.declared.file_name.FileName.{FileName}
 use Rattle.view_ports.proofs.Told.{told_now}
 use Rattle.view_engine.specs.declared.halt.StepFault.{StepFault}
 use Rattle.view_engine.specs.declared.halt.StepFault.TheVariants.{Full}
-use Rattle.view_engine.specs.Engine.{StandsAround}
-use Rattle.view_engine.specs.Halts.{IsFullFor}
+use Rattle.view_engine.specs.Worlds.{IsFullAt, StandsAround}
 use Rattle.view_engine.proofs.LineLimit.{Answers-cut, request_of-long}
-use Rattle.couchview_cli.specs.Serving.{IsFullAt}
 use Rattle.couchview_cli.specs.Session.{Answered, IsHalted}
 use Rattle.couchview_cli.proofs.Moving.{Told}
 
@@ -72,8 +70,8 @@ module _ {fault : StepFault} {old new : Told} {held now : Option (List ℕ)} {be
     moments = subst (λ r. Tells old new (LeavesOnly (StandsAround before.world r))) (request_kept line) halted.moments;
     halts = halted.halts;
     whole = halted.whole;
-    full = told_now old (λ d. (name : FileName) (length : Option ℕ) → fault ≡ Full name length → IsFullAt before.world (kept line_limit line) name length) (λ d. (name : FileName) (length : Option ℕ) → fault ≡ Full name length → IsFullAt before.world line name length)
-        (λ d full name length is. let found = full name length is in record { docs = found.docs; files = found.files; at = found.at; full = subst (λ r. IsFullFor found.docs r name length) (request_kept line) found.full; write = found.write; accepted = subst (λ r. IsWrite before.world r found.write) (request_kept line) found.accepted }) halted.full;
+    full = told_now old (λ d. (name : FileName) (length : Option ℕ) → fault ≡ Full name length → IsFullAt before.world (request_of (kept line_limit line)) name length) (λ d. (name : FileName) (length : Option ℕ) → fault ≡ Full name length → IsFullAt before.world (request_of line) name length)
+        (λ d full name length is. subst (λ r. IsFullAt before.world r name length) (request_kept line) (full name length is)) halted.full;
     left = halted.left;
     silent = halted.silent;
   }

@@ -11,20 +11,19 @@ use Rattle.view_ports.proofs.KeptLines.{kept-more, kept-nil, kept-none}
 use Rattle.view_ports.proofs.Exchanging.{text_of-push}
 use Rattle.view_ports.proofs.Reaching.{reached_start, reached_more, reached_line}
 use Rattle.view_ports.proofs.Told.{told_now}
-use Rattle.child_pool.specs.Pools.{languages_of}
-use Rattle.doc_file.specs.Held.{Stands as StandsFor}
 use Rattle.view_engine.specs.Engine.{IsAt}
 use Rattle.view_engine.specs.Moments.{Moment}
 use Rattle.view_engine.specs.Refusals.{line_limit}
 use Rattle.view_engine.specs.Steps.{Answers}
+use Rattle.view_engine.specs.Worlds.{at_start, GoesOnFrom, StandsFor, languages as languages_of}
 use Rattle.couchview_cli.specs.declared.session.Session.{Session}
-use Rattle.couchview_cli.specs.Serving.{GoesOnFrom, at_start}
 use Rattle.couchview_cli.specs.Session.{Progress, Answered, HasMoved, IsHalted, Origin, StepsOf}
 use Rattle.couchview_cli.proofs.Keeping.{Answered-kept, Answered-of, Answered-same, IsHalted-kept, IsHalted-same}
-use Rattle.couchview_cli.proofs.Moving.{answers_grow, moved_line, moved_start, told_first, Told}
+use Rattle.view_engine.proofs.Worlds.{answers_grow}
+use Rattle.couchview_cli.proofs.Moving.{moved_line, moved_start, told_first, Told}
 
 pub Progress-start : (functions : List ℕ → Functions) (honest : List ℕ → Type 0) (disk : Told) (may_follow : List Call → Type 0) (origin : Origin) (session : Session)
-    → languages_of session.responder.engine.pool ≡ origin.languages → IsAt disk may_follow origin.faults session.responder.engine (at_start origin.opening origin.faults)
+    → languages_of session.responder.engine ≡ origin.languages → IsAt disk may_follow origin.faults session.responder.engine (at_start origin.opening origin.faults)
     → Tells origin.disk disk (LeavesOnly (λ image. StandsFor image origin.opening)) → session.line.items ≡ []
     → Progress functions honest disk may_follow origin.faults origin origin.held [] session
 Progress-start functions honest disk may_follow origin session languages stands opened none = record {
@@ -48,16 +47,16 @@ module _ {functions : List ℕ → Functions} {honest : List ℕ → Type 0} {di
       told_first origin disk disk' (progress.reached.after).world progress.moved (Answers functions honest origin.languages progress.reached.after (record { line = line; text = answered.text }) answered.after) answered.answers
 
   pub moved_of : {disk' : Told} {Wrote : List ℕ → Type 0} {line : List ℕ} {Stands : Moment → Type 0} (answered : Answered functions honest origin.languages disk disk' Wrote progress.reached.after line Stands)
-      → HasMoved origin disk' (answered.after).world.history
+      → HasMoved origin disk' (answered.after).world
   moved_of {disk'} {Wrote} {line} answered =
       moved_line origin disk disk' (progress.reached.after).world progress.moved (answered.after).world
-      (told_now disk (λ d. Answers functions honest origin.languages progress.reached.after (record { line = line; text = answered.text }) answered.after) (λ d. GoesOnFrom (progress.reached.after).world.history (answered.after).world.history)
+      (told_now disk (λ d. Answers functions honest origin.languages progress.reached.after (record { line = line; text = answered.text }) answered.after) (λ d. GoesOnFrom (progress.reached.after).world (answered.after).world)
       (λ d answers. answers_grow functions honest origin.languages progress.reached.after (record { line = line; text = answered.text }) answered.after answers) answered.answers)
       answered.moments
 
   -- a line ended and was answered
   pub Progress-line : (end : List ℕ) → IsLine end → (disk' : Told) (may_follow' : List Call → Type 0) (faults' : ℕ) (now' : Option (List ℕ)) (session' : Session)
-      → languages_of session'.responder.engine.pool ≡ languages_of session.responder.engine.pool
+      → languages_of session'.responder.engine ≡ languages_of session.responder.engine
       → Answered functions honest origin.languages disk disk' (Appends now now') progress.reached.after (progress.reached.rest ++ end) (IsAt disk' may_follow' faults' session'.responder.engine)
       → session'.line.items ≡ [] → Progress functions honest disk' may_follow' faults' origin now' (bytes ++ ended end) session'
   Progress-line end plain disk' may_follow' faults' now' session' languages answered none = record {
@@ -74,7 +73,7 @@ module _ {functions : List ℕ → Functions} {honest : List ℕ → Type 0} {di
   pub Progress-kept : (more : List ℕ) → IsLine more → (session' : Session) → session'.responder ≡ session.responder → session'.line.items ≡ kept line_limit (session.line.items ++ more)
       → Progress functions honest disk may_follow faults origin now (bytes ++ more) session'
   Progress-kept more plain session' same is = record {
-    languages = ap (λ (r : _). languages_of r.engine.pool) same ∙ progress.languages;
+    languages = ap (λ (r : _). languages_of r.engine) same ∙ progress.languages;
     reached = reached_more progress.reached more plain;
     stands = subst (λ (r : _). IsAt disk may_follow faults r.engine progress.reached.after) (sym same) progress.stands;
     moved = progress.moved;
@@ -82,7 +81,7 @@ module _ {functions : List ℕ → Functions} {honest : List ℕ → Type 0} {di
     wrote = progress.wrote;
   }
 
-  module _ (disk' : Told) (Wrote : List ℕ → Type 0) (Stands : Moment → Type 0) (languages : List (List ℕ × List ℕ)) (same : languages ≡ languages_of session.responder.engine.pool) where
+  module _ (disk' : Told) (Wrote : List ℕ → Type 0) (Stands : Moment → Type 0) (languages : List (List ℕ × List ℕ)) (same : languages ≡ languages_of session.responder.engine) where
     -- the line that a newline ended was answered by what is kept of it
     pub Answered-pending : (end line : List ℕ) → line ≡ kept line_limit (session.line.items ++ end) → Answered functions honest languages disk disk' Wrote progress.reached.after line Stands
         → Answered functions honest origin.languages disk disk' Wrote progress.reached.after (progress.reached.rest ++ end) Stands

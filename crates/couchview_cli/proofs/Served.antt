@@ -14,26 +14,24 @@ use Rattle.view_ports.specs.Functions.{Functions}
 use Rattle.view_ports.specs.Runs.{HasRead, status_of, input_limit}
 use Rattle.view_ports.proofs.Moments.{at_end}
 use Rattle.view_ports.proofs.Reaching.{reached_start, Run-out_of_memory}
-use Rattle.view_ports.proofs.Told.{told_after, told_all, told_now}
-use Rattle.child_pool.specs.declared.pool.Pool.{Pool}
-use Rattle.doc_file.specs.Docs.{IsAt as AreAt}
-use Rattle.doc_file.specs.Held.{Stands}
-use Rattle.doc_file.specs.History.{Write}
-use Rattle.doc_file.proofs.Stores.{image_now}
+use Rattle.view_ports.proofs.Told.{told_after, told_all}
 use Rattle.view_engine.specs.declared.engine.Engine.{Engine}
 use Rattle.view_engine.specs.declared.halt.StepFault.{StepFault}
 use Rattle.view_engine.specs.declared.halt.StepFault.TheVariants.{Damaged, DiskFault, Full}
-use Rattle.view_engine.specs.Engine.{HasChild, HasStopped, IsAt}
+use Rattle.view_engine.specs.Engine.{HasStopped, IsAt, KeepsChild}
 use Rattle.view_engine.specs.Moments.{Moment}
 use Rattle.view_engine.specs.Accepted.{accepted}
+use Rattle.view_engine.specs.World.{World}
+use Rattle.view_engine.specs.Worlds.{at_start, StandsFor}
 use Rattle.view_engine.proofs.AcceptedWrites.{LeadsTo-accepted}
+use Rattle.view_engine.proofs.Worlds.{images_at}
 use Rattle.couchview_cli.specs.Closing.{Closes}
-use Rattle.couchview_cli.specs.Serving.{AreLeft, Finishes, IsCutShort, IsUnopened, Outside, Steps, at_start}
+use Rattle.couchview_cli.specs.Serving.{AreLeft, Finishes, IsCutShort, IsUnopened, Outside, Steps}
 use Rattle.couchview_cli.specs.Session.{CutOff, Ended, Origin}
 use Rattle.couchview_cli.proofs.Moving.{moved_start, Told}
 
 -- where a session began
-abbrev pub origin_of : List (List ℕ × List ℕ) → List Write → Outside → Origin
+abbrev pub origin_of : List (List ℕ × List ℕ) → World → Outside → Origin
 origin_of languages opening before = record { languages = languages; opening = opening; held = before.held; disk = before.disk; faults = before.faults }
 
 -- what was written before the last line
@@ -41,13 +39,13 @@ pub closes_after : (before mid after : Option (List ℕ)) (text : List ℕ) (fau
 closes_after before mid after text fault status wrote (inl whole) = inl (whole.0, Appends-trans before mid after text _ wrote whole.1)
 closes_after before mid after text fault status wrote (inr failed) = inr (failed.0, ((failed.1).0, (failed.1).1, Appends-trans before mid after text _ wrote (failed.1).2))
 
-module _ (functions : List ℕ → Functions) (honest : List ℕ → Type 0) (languages : List (List ℕ × List ℕ)) (opening : List Write) where
+module _ (functions : List ℕ → Functions) (honest : List ℕ → Type 0) (languages : List (List ℕ × List ℕ)) (opening : World) where
   leads_accepted : (disk : Told) (start : Moment) (exchanges : List Exchange) (moment : Moment) → LeadsTo (Steps functions honest languages disk) start exchanges moment → IfTold disk (λ d. moment.world ≡ accepted start.world exchanges)
   leads_accepted None start exchanges moment leads = tt
   leads_accepted (Some d) start exchanges moment leads = LeadsTo-accepted functions honest languages start exchanges moment leads
 
-  module _ (before : Outside) (left held : Option (List ℕ)) (disk : Told) (disk_faults : ℕ) (may_follow may_follow' : List Call → Type 0) (faults faults' : ℕ) (engine : Engine) (pool : Pool)
-      (stops : (calls : List Call) → may_follow calls → HasStopped may_follow' pool calls) (same : faults' ≡ faults) where
+  module _ (before : Outside) (left held : Option (List ℕ)) (disk : Told) (disk_faults : ℕ) (may_follow may_follow' : List Call → Type 0) (faults faults' : ℕ) (engine stopped : Engine)
+      (stops : (calls : List Call) → may_follow calls → HasStopped may_follow' stopped calls) (same : faults' ≡ faults) where
     abbrev after : Outside
     after = record { left = left; held = held; disk = disk; disk_faults = disk_faults; faults = faults' }
 
@@ -70,15 +68,14 @@ module _ (functions : List ℕ → Functions) (honest : List ℕ → Type 0) (la
       runs = ended.run;
       keeps = leads_accepted before.disk (at_start opening before.faults) ended.run.exchanges ended.moment ended.run.leads;
       moments = ended.moved.moments;
-      images = told_now disk (λ d. AreAt engine.docs d.now (ended.moment).world.history) (λ d. (image : FileName → List ℕ) → IsImageOf d.now image → Stands image (ended.moment).world.history)
-          (λ d at image is. image_now engine.docs d.now at.is_open (ended.moment).world.history at image is) ended.stands.documents;
+      images = images_at disk may_follow faults engine ended.moment ended.stands;
       faulted = same ∙ ended.stands.child.counts;
       at_end = are_left ended.moment ended.stands.child.follows;
     }
 
     -- a session that was cut short, and then the children were ended and the last line was written
     pub cut_short : (mid : Option (List ℕ)) (bytes : List ℕ) (fault : StepFault) (status : ℕ) → Consumes before.left left bytes → length bytes ≤ input_limit
-        → (fault ≡ DiskFault → Rose before.disk_faults disk_faults) → CutOff functions honest fault (origin_of languages opening before) mid disk bytes (HasChild may_follow faults engine.pool) → Closes mid held [] fault status
+        → (fault ≡ DiskFault → Rose before.disk_faults disk_faults) → CutOff functions honest fault (origin_of languages opening before) mid disk bytes (KeepsChild may_follow faults engine) → Closes mid held [] fault status
         → IsCutShort functions honest languages opening before after (AreLeft may_follow') status
     cut_short mid bytes fault status reads counts cause off closes = record {
       bytes = bytes;
@@ -106,7 +103,7 @@ module _ (functions : List ℕ → Functions) (honest : List ℕ → Type 0) (la
       at_end = are_left off.moment off.left.follows;
     }
 
-  module _ (before : Outside) (held : Option (List ℕ)) (disk : Told) (disk_faults : ℕ) (may_follow : List Call → Type 0) (follows : may_follow []) (opened : Tells before.disk disk (LeavesOnly (λ image. Stands image opening))) where
+  module _ (before : Outside) (held : Option (List ℕ)) (disk : Told) (disk_faults : ℕ) (may_follow : List Call → Type 0) (follows : may_follow []) (opened : Tells before.disk disk (LeavesOnly (λ image. StandsFor image opening))) where
     abbrev now : Outside
     now = record { left = before.left; held = held; disk = disk; disk_faults = disk_faults; faults = before.faults }
 
@@ -145,8 +142,8 @@ module _ (functions : List ℕ → Functions) (honest : List ℕ → Type 0) (la
           runs = run;
           keeps = leads_accepted before.disk (at_start opening before.faults) run.exchanges (at_start opening before.faults) run.leads;
           moments = moved.moments;
-          images = told_after before.disk disk (λ d. Unit {0}) (λ d. (image : FileName → List ℕ) → IsImageOf d.now image → Stands image opening) (LeavesOnly (λ image. Stands image opening))
-              (λ a b known leaves. at_end (λ image. Stands image opening) a b leaves) (told_all before.disk (λ d. Unit {0}) (λ d. tt)) opened;
+          images = told_after before.disk disk (λ d. Unit {0}) (λ d. (image : FileName → List ℕ) → IsImageOf d.now image → StandsFor image opening) (LeavesOnly (λ image. StandsFor image opening))
+              (λ a b known leaves. at_end (λ image. StandsFor image opening) a b leaves) (told_all before.disk (λ d. Unit {0}) (λ d. tt)) opened;
           faulted = refl;
           at_end = none_left;
         }

@@ -12,9 +12,9 @@ use Rattle.view_ports.specs.Exchanges.{text_of}
 use Rattle.view_ports.specs.Functions.{Functions}
 use Rattle.view_ports.specs.Runs.{HasRead, status_of, input_limit}
 use Rattle.view_ports.proofs.Told.{told_all, told_now}
-use Rattle.doc_file.specs.History.{Write}
 use Rattle.view_engine.specs.declared.halt.StepFault.{StepFault}
 use Rattle.view_engine.specs.declared.halt.StepFault.TheVariants.{DiskFault, Damaged, Full, NoMemory}
+use Rattle.view_engine.specs.World.{World}
 use Rattle.couchview_cli.specs.Closing.{Closes, fault_status}
 use Rattle.couchview_cli.specs.Serving.{Outside, Serves, StopsAtLimit, IsShort}
 
@@ -95,7 +95,7 @@ closed : (before after : Option (List ℕ)) (text : List ℕ) (fault : StepFault
 closed before after text fault status (inl written) whole disk sink = faulted fault status written.0 whole disk
 closed before after text fault status (inr failed) whole disk sink = absurd (sink failed.0)
 
-module _ {functions : List ℕ → Functions} {honest : List ℕ → Type 0} {languages : List (List ℕ × List ℕ)} {opening : List Write} {AtEnd : List Call → Type 0} (before after : Outside) (status : ℕ) where
+module _ {functions : List ℕ → Functions} {honest : List ℕ → Type 0} {languages : List (List ℕ × List ℕ)} {opening : World} {AtEnd : List Call → Type 0} (before after : Outside) (status : ℕ) where
   -- input that is short enough is read to its end, unless a port fails, memory runs out or a file is full
   pub Serves-complete : Serves functions honest languages opening before after AtEnd status → IsShort before.left → (status ≡ 3 → ⊥) → (status ≡ 4 → ⊥) → (status ≡ 5 → ⊥)
       → IfTold before.disk (λ d. (status ≡ 0) ⊎ ((status ≡ 6) ⊎ (status ≡ 9)))

@@ -10,19 +10,13 @@ use Rattle.view_ports.specs.Exchanges.{Exchange, LeadsTo, lines_of, text_of}
 use Rattle.view_ports.specs.Functions.{Functions}
 use Rattle.view_ports.specs.Lines.{IsCut, last_line}
 use Rattle.view_ports.specs.Runs.{Run, HasRead, status_of, input_limit}
-use Rattle.view_ports.specs.File.{File}
-use Rattle.doc_file.specs.declared.docs.Docs.{Docs}
-use Rattle.doc_file.specs.Docs.{IsAt as AreAt}
-use Rattle.doc_file.specs.Held.{Stands}
-use Rattle.doc_file.specs.History.{Write}
 use Rattle.view_engine.specs.declared.halt.StepFault.{StepFault}
 use Rattle.view_engine.specs.declared.halt.StepFault.TheVariants.{Damaged, DiskFault, Full, NoMemory}
-use Rattle.view_engine.specs.Halts.{IsFullFor}
 use Rattle.view_engine.specs.World.{World}
 use Rattle.view_engine.specs.Moments.{Moment}
-use Rattle.view_engine.specs.Engine.{StandsAround}
+use Rattle.view_engine.specs.Worlds.{at_start, GoesOnFrom, IsFullAt, StandsAfter, StandsAround, StandsFor}
 use Rattle.view_engine.specs.Refusals.{request_of}
-use Rattle.view_engine.specs.Steps.{Answers, IsWrite}
+use Rattle.view_engine.specs.Steps.{Answers}
 use Rattle.view_engine.specs.Accepted.{accepted}
 use Rattle.couchview_cli.specs.Closing.{Closes}
 
@@ -35,49 +29,27 @@ pub record Outside : Type 0 where
   pub disk_faults : ℕ
   pub faults : ℕ
 
-abbrev pub world_of : List Write → World
-world_of history = record { history = history }
-
--- the end of a history, and query servers that had so many faults, before any call
-abbrev pub at_start : List Write → ℕ → Moment
-at_start history faults = record { world = world_of history; calls = []; faults = faults }
-
 -- more calls may have been made on the query servers, which left no child in slot 0, the one slot that is used
 pub record AreLeft (may_follow : List Call → Type 0) (calls : List Call) : Type 0 where
   pub added : List Call
   pub follows : may_follow (added ++ calls)
   pub stopped : child 0 (added ++ calls) ≡ None
 
--- one history goes on from another
-abbrev pub GoesOnFrom : List Write → List Write → Type 0
-GoesOnFrom before after = (newer : List Write) × (after ≡ newer ++ before)
+-- an image stands for some first part of the world, which has all that was there at the opening
+abbrev pub StandsSince : World → World → (FileName → List ℕ) → Type 0
+StandsSince opening world image = (first : World) × (GoesOnFrom opening first × GoesOnFrom first world × StandsFor image first)
 
--- an image stands for some first part of the history, at least as long as at the opening
-abbrev pub StandsSince : List Write → List Write → (FileName → List ℕ) → Type 0
-StandsSince opening history image = (first : List Write) × (GoesOnFrom opening first × GoesOnFrom first history × Stands image first)
-
--- the same, or the image stands for the history with the write of the request in hand
-abbrev pub StandsSinceWith : List Write → World → List ℕ → (FileName → List ℕ) → Type 0
-StandsSinceWith opening world line image = StandsSince opening world.history image
-    ⊎ ((write : Write) × IsWrite world (request_of line) write × Stands image (write ∷ world.history))
-
--- the request of a line is a write that is accepted at the end of this history, and with it a file of the documents there would
--- be too long, or has one commit too many
-pub record IsFullAt (world : World) (line : List ℕ) (name : FileName) (length : Option ℕ) : Type 0 where
-  pub docs : Docs
-  pub files : FileName → File
-  pub at : AreAt docs files world.history
-  pub full : IsFullFor docs (request_of line) name length
-  pub write : Write
-  pub accepted : IsWrite world (request_of line) write
+-- the same, or the image stands for the world with the write of the request in hand
+abbrev pub StandsSinceWith : World → World → List ℕ → (FileName → List ℕ) → Type 0
+StandsSinceWith opening world line image = StandsSince opening world image ⊎ StandsAfter world (request_of line) image
 
 -- a step of a run, where the disk is told
 abbrev pub Steps : (List ℕ → Functions) → (List ℕ → Type 0) → List (List ℕ × List ℕ) → Option (Disk FileName) → Moment → Exchange → Moment → Type 0
 Steps functions honest languages disk before exchange after = IfTold disk (λ d. Answers functions honest languages before exchange after)
 
-module _ (functions : List ℕ → Functions) (honest : List ℕ → Type 0) (languages : List (List ℕ × List ℕ)) (opening : List Write) where
+module _ (functions : List ℕ → Functions) (honest : List ℕ → Type 0) (languages : List (List ℕ × List ℕ)) (opening : World) where
   -- A run that read the bytes that the source lost, that wrote what the sink gained, and that ended with this status. The
-  -- history at its end has the writes of the opening and exactly those that were answered `ok`. Each image since the start
+  -- world at its end has the writes of the opening and exactly those that were answered `ok`. Each image since the start
   -- stands for a first part of it, and each image now for the whole of it.
   pub record Finishes (before after : Outside) (AtEnd : List Call → Type 0) (status : ℕ) : Type 0 where
     pub bytes : List ℕ
@@ -89,9 +61,9 @@ module _ (functions : List ℕ → Functions) (honest : List ℕ → Type 0) (la
     pub counts : HasRead end (length bytes)
     pub writes : Appends before.held after.held gained
     pub runs : Run (Steps functions honest languages before.disk) (at_start opening before.faults) bytes gained end moment
-    pub keeps : IfTold before.disk (λ d. moment.world ≡ accepted (world_of opening) runs.exchanges)
-    pub moments : Tells before.disk after.disk (LeavesOnly (StandsSince opening moment.world.history))
-    pub images : IfTold after.disk (λ d. (image : FileName → List ℕ) → IsImageOf d.now image → Stands image moment.world.history)
+    pub keeps : IfTold before.disk (λ d. moment.world ≡ accepted opening runs.exchanges)
+    pub moments : Tells before.disk after.disk (LeavesOnly (StandsSince opening moment.world))
+    pub images : IfTold after.disk (λ d. (image : FileName → List ℕ) → IsImageOf d.now image → StandsFor image moment.world)
     pub faulted : after.faults ≡ moment.faults
     pub at_end : AtEnd moment.calls
 
@@ -112,12 +84,12 @@ module _ (functions : List ℕ → Functions) (honest : List ℕ → Type 0) (la
     pub cut : IsCut bytes lines rest
     pub answered : lines ++ last_line rest ≡ lines_of exchanges ++ line ∷ more
     pub leads : LeadsTo (Steps functions honest languages before.disk) (at_start opening before.faults) exchanges moment
-    pub keeps : IfTold before.disk (λ d. moment.world ≡ accepted (world_of opening) exchanges)
+    pub keeps : IfTold before.disk (λ d. moment.world ≡ accepted opening exchanges)
     pub closes : Closes before.held after.held (text_of exchanges) fault status
     pub halts : fault ≢ NoMemory
     pub cause : fault ≡ DiskFault → Rose before.disk_faults after.disk_faults
     pub whole : IfTold before.disk (λ d. (name : FileName) (at : ℕ) → fault ≡ Damaged name at → ⊥)
-    pub full : IfTold before.disk (λ d. (name : FileName) (length : Option ℕ) → fault ≡ Full name length → IsFullAt moment.world line name length)
+    pub full : IfTold before.disk (λ d. (name : FileName) (length : Option ℕ) → fault ≡ Full name length → IsFullAt moment.world (request_of line) name length)
     pub moments : Tells before.disk after.disk (LeavesOnly (StandsSinceWith opening moment.world line))
     pub images : IfTold after.disk (λ d. (image : FileName → List ℕ) → IsImageOf d.now image → StandsAround moment.world (request_of line) image)
     pub faulted : after.faults ≡ moment.faults
@@ -131,7 +103,7 @@ module _ (functions : List ℕ → Functions) (honest : List ℕ → Type 0) (la
     pub cause : fault ≡ DiskFault → Rose before.disk_faults after.disk_faults
     pub whole : IfTold before.disk (λ d. (name : FileName) (at : ℕ) → fault ≡ Damaged name at → ⊥)
     pub room : (name : FileName) (length : Option ℕ) → fault ≡ Full name length → ⊥
-    pub moments : Tells before.disk after.disk (LeavesOnly (λ image. Stands image opening))
+    pub moments : Tells before.disk after.disk (LeavesOnly (λ image. StandsFor image opening))
     pub faulted : after.faults ≡ before.faults
     pub at_end : AtEnd []
 

@@ -10,43 +10,41 @@ use Rattle.view_ports.specs.Exchanges.{Exchange, LeadsTo, IsPrefixOf, lines_of, 
 use Rattle.view_ports.specs.Functions.{Functions}
 use Rattle.view_ports.specs.Lines.{IsCut, kept, last_line}
 use Rattle.view_ports.specs.Runs.{Run, Reached}
-use Rattle.child_pool.specs.Pools.{languages_of}
-use Rattle.doc_file.specs.Held.{Stands as StandsFor}
-use Rattle.doc_file.specs.History.{Write}
 use Rattle.view_engine.specs.declared.engine.Engine.{Engine}
 use Rattle.view_engine.specs.declared.halt.StepFault.{StepFault}
 use Rattle.view_engine.specs.declared.halt.StepFault.TheVariants.{Damaged, Full, NoMemory}
 use Rattle.view_engine.specs.Refusals.{line_limit, request_of}
-use Rattle.view_engine.specs.Engine.{HasChild, IsAt, StandsAround}
+use Rattle.view_engine.specs.Engine.{IsAt, KeepsChild}
 use Rattle.view_engine.specs.Moments.{Moment}
 use Rattle.view_engine.specs.Steps.{Answers}
 use Rattle.view_engine.specs.World.{World}
+use Rattle.view_engine.specs.Worlds.{at_start, GoesOnFrom, IsFullAt, StandsAround, StandsFor, languages as languages_of}
 use Rattle.couchview_cli.specs.declared.session.Session.{Session}
 use Rattle.couchview_cli.specs.declared.session.SessionError.{SessionError}
 use Rattle.couchview_cli.specs.declared.session.SessionError.TheVariants.{SinkFailed, OutOfMemory, Stopped as StoppedBy}
-use Rattle.couchview_cli.specs.Serving.{GoesOnFrom, IsFullAt, StandsSince, StandsSinceWith, Steps, at_start}
+use Rattle.couchview_cli.specs.Serving.{StandsSince, StandsSinceWith, Steps}
 
 -- the sink failed in this text
 abbrev pub Stopped : Option (List ℕ) → Option (List ℕ) → List ℕ → Type 0
 Stopped before after text = (part : List ℕ) × IsPrefixOf part text × Appends before after part
 
--- where a session began: its languages, the history at the opening, what the sink held, the disk, and how many faults the
+-- where a session began: its languages, the world at the opening, what the sink held, the disk, and how many faults the
 -- query servers had
 pub record Origin : Type 0 where
   pub languages : List (List ℕ × List ℕ)
-  pub opening : List Write
+  pub opening : World
   pub held : Option (List ℕ)
   pub disk : Option (Disk FileName)
   pub faults : ℕ
 
 -- an image stands for the one world or the other
 abbrev pub StandsEither : World → World → (FileName → List ℕ) → Type 0
-StandsEither before after image = StandsFor image before.history ⊎ StandsFor image after.history
+StandsEither before after image = StandsFor image before ⊎ StandsFor image after
 
--- from the disk at the opening to the disk now, each image stands for a first part of the history now
-pub record HasMoved (origin : Origin) (disk : Option (Disk FileName)) (history : List Write) : Type 0 where
-  pub grew : IfTold origin.disk (λ d. GoesOnFrom origin.opening history)
-  pub moments : Tells origin.disk disk (LeavesOnly (StandsSince origin.opening history))
+-- from the disk at the opening to the disk now, each image stands for a first part of the world now
+pub record HasMoved (origin : Origin) (disk : Option (Disk FileName)) (world : World) : Type 0 where
+  pub grew : IfTold origin.disk (λ d. GoesOnFrom origin.opening world)
+  pub moments : Tells origin.disk disk (LeavesOnly (StandsSince origin.opening world))
 
 module _ (functions : List ℕ → Functions) (honest : List ℕ → Type 0) where
   -- a line was answered with a text, of which the sink got what it says, and `Stands` holds of the moment after it; each
@@ -64,10 +62,10 @@ module _ (functions : List ℕ → Functions) (honest : List ℕ → Type 0) whe
 
   -- a session that has read these bytes has answered each line that ended in them, and keeps the line that no newline has ended yet
   pub record Progress (disk : Option (Disk FileName)) (may_follow : List Call → Type 0) (faults : ℕ) (origin : Origin) (now : Option (List ℕ)) (bytes : List ℕ) (session : Session) : Type 0 where
-    pub languages : languages_of session.responder.engine.pool ≡ origin.languages
+    pub languages : languages_of session.responder.engine ≡ origin.languages
     pub reached : Reached (StepsOf origin) (at_start origin.opening origin.faults) bytes
     pub stands : IsAt disk may_follow faults session.responder.engine reached.after
-    pub moved : HasMoved origin disk reached.after.world.history
+    pub moved : HasMoved origin disk reached.after.world
     pub pending : session.line.items ≡ kept line_limit reached.rest
     pub wrote : Appends origin.held now (text_of reached.exchanges)
 
@@ -77,7 +75,7 @@ module _ (functions : List ℕ → Functions) (honest : List ℕ → Type 0) whe
     pub moment : Moment
     pub run : Run (StepsOf origin) (at_start origin.opening origin.faults) bytes gained end moment
     pub stands : Stands moment
-    pub moved : HasMoved origin disk moment.world.history
+    pub moved : HasMoved origin disk moment.world
     pub wrote : Appends origin.held now gained
 
   -- a session that read these bytes was cut short in the line in hand; the lines before it are answered
@@ -95,7 +93,7 @@ module _ (functions : List ℕ → Functions) (honest : List ℕ → Type 0) whe
     pub images : IfTold disk (λ d. (image : FileName → List ℕ) → IsImageOf d.now image → StandsAround moment.world (request_of line) image)
     pub halts : fault ≢ NoMemory
     pub whole : IfTold origin.disk (λ d. (name : FileName) (at : ℕ) → fault ≡ Damaged name at → ⊥)
-    pub full : IfTold origin.disk (λ d. (name : FileName) (length : Option ℕ) → fault ≡ Full name length → IsFullAt moment.world line name length)
+    pub full : IfTold origin.disk (λ d. (name : FileName) (length : Option ℕ) → fault ≡ Full name length → IsFullAt moment.world (request_of line) name length)
     pub left : HasLeft moment
     pub wrote : Appends origin.held now (text_of exchanges)
 
@@ -103,7 +101,7 @@ module _ (functions : List ℕ → Functions) (honest : List ℕ → Type 0) whe
   abbrev pub EndedBy : Origin → Option (List ℕ) → Option (Disk FileName) → (List Call → Type 0) → ℕ → List ℕ → Engine → SessionError → Type 0
   EndedBy origin now disk may_follow faults bytes engine SinkFailed = Ended origin now disk bytes (IsAt disk may_follow faults engine) run_end.SinkFailed
   EndedBy origin now disk may_follow faults bytes engine OutOfMemory = Ended origin now disk bytes (IsAt disk may_follow faults engine) run_end.OutOfMemory
-  EndedBy origin now disk may_follow faults bytes engine (StoppedBy fault) = CutOff fault origin now disk bytes (HasChild may_follow faults engine.pool)
+  EndedBy origin now disk may_follow faults bytes engine (StoppedBy fault) = CutOff fault origin now disk bytes (KeepsChild may_follow faults engine)
 
 -- a line was not answered, since the folder failed, or a file is damaged or full: the sink gained nothing, and the request
 -- took effect wholly or not at all
@@ -111,6 +109,6 @@ pub record IsHalted (fault : StepFault) (old new : Option (Disk FileName)) (held
   pub moments : Tells old new (LeavesOnly (StandsAround before.world (request_of line)))
   pub halts : fault ≢ NoMemory
   pub whole : IfTold old (λ d. (name : FileName) (at : ℕ) → fault ≡ Damaged name at → ⊥)
-  pub full : IfTold old (λ d. (name : FileName) (length : Option ℕ) → fault ≡ Full name length → IsFullAt before.world line name length)
+  pub full : IfTold old (λ d. (name : FileName) (length : Option ℕ) → fault ≡ Full name length → IsFullAt before.world (request_of line) name length)
   pub left : HasLeft before
   pub silent : now ≡ held

@@ -1,13 +1,13 @@
 //! The commands.
-ghost use Rattle.std.specs.Prelude.{◌≡◌, ◌≤◌, ◌⊎◌, ◌↔◌, List, [], IsTrue, bytes_eq, map, string_bytes};
+ghost use Rattle.std.specs.Prelude.{◌≡◌, ◌≤◌, ◌⊎◌, ◌↔◌, [], IsTrue, bytes_eq, map, string_bytes};
 ghost use Rattle.std.specs.Io.KnownBytes.{IsAtEnd};
 ghost use Rattle.std.specs.List.{IsDistinct, list_all, list_any};
 ghost use Rattle.std.specs.Map.{keys_of};
 ghost use Rattle.view_ports.specs.Disk.{IfTold};
 ghost use Rattle.view_ports.specs.Faults.{Rose};
-ghost use Rattle.doc_file.specs.Docs.{HoldsHistory};
-ghost use Rattle.doc_file.specs.History.{Write};
 ghost use Rattle.child_pool.specs.Languages.{language_in, languages_in};
+ghost use Rattle.view_engine.specs.World.{World};
+ghost use Rattle.view_engine.specs.Worlds.{Holds};
 ghost use Rattle.couchview_cli.specs.Command.{AreLanguages, IsApart, IsServe, ShowsUsage, languages_named, usage_line};
 ghost use Rattle.couchview_cli.specs.Command as spec;
 ghost use Rattle.couchview_cli.specs.Serving.{AreLeft, Serves, StopsAtLimit, IsShort};
@@ -124,8 +124,8 @@ pub fn couchview<S: Source, K: Sink, F: Folder, C: Servers>(
 ) -> u8
     requires { C.may_follow servers.old [] }
 
-    // What is read, written, asked and kept, over a folder that tells its disk, where nothing is pending and a history stands.
-    ensures serves { IsServe words.now → (opening : List Write) → IfTold (F.disk folder.old) (λ d. HoldsHistory d.now opening) → Serves C.functions C.honest (languages_named words.now) opening
+    // What is read, written, asked and kept, over a folder that tells its disk, where nothing is pending and which holds a world.
+    ensures serves { IsServe words.now → (opening : World) → IfTold (F.disk folder.old) (λ d. Holds d.now opening) → Serves C.functions C.honest (languages_named words.now) opening
         (record { left = S.left source.old; held = K.held sink.old; disk = F.disk folder.old; disk_faults = F.faults folder.old; faults = C.faults servers.old })
         (record { left = S.left source.new; held = K.held sink.new; disk = F.disk folder.new; disk_faults = F.faults folder.new; faults = C.faults servers.new })
         (AreLeft (C.may_follow servers.new)) result }
@@ -141,14 +141,14 @@ pub fn couchview<S: Source, K: Sink, F: Folder, C: Servers>(
     ensures disk_failed { result ≡ 3 → IsServe words.now × Rose (F.faults folder.old) (F.faults folder.new) }
     ensures sink_failed { result ≡ 4 → Rose (K.faults sink.old) (K.faults sink.new) }
     ensures source_failed { result ≡ 5 → IsServe words.now × Rose (S.faults source.old) (S.faults source.new) }
-    ensures limit { IsServe words.now → (opening : List Write) → IfTold (F.disk folder.old) (λ d. HoldsHistory d.now opening) → StopsAtLimit (S.left source.old) (S.left source.new) result }
+    ensures limit { IsServe words.now → (opening : World) → IfTold (F.disk folder.old) (λ d. Holds d.now opening) → StopsAtLimit (S.left source.old) (S.left source.new) result }
     ensures source_count { S.faults source.old ≤ S.faults source.new }
     ensures sink_count { K.faults sink.old ≤ K.faults sink.new }
     ensures disk_count { F.faults folder.old ≤ F.faults folder.new }
     ensures server_count { C.faults servers.old ≤ C.faults servers.new }
 
     // Where no port fails, input that is short enough is read to its end, unless a file is full.
-    ensures complete { IsServe words.now → (opening : List Write) → IfTold (F.disk folder.old) (λ d. HoldsHistory d.now opening) → IsShort (S.left source.old) → ¬ Rose (S.faults source.old) (S.faults source.new) → ¬ Rose (K.faults sink.old) (K.faults sink.new)
+    ensures complete { IsServe words.now → (opening : World) → IfTold (F.disk folder.old) (λ d. Holds d.now opening) → IsShort (S.left source.old) → ¬ Rose (S.faults source.old) (S.faults source.new) → ¬ Rose (K.faults sink.old) (K.faults sink.new)
         → ¬ Rose (F.faults folder.old) (F.faults folder.new) → IfTold (F.disk folder.old) (λ d. (result ≡ 0) ⊎ ((result ≡ 6) ⊎ (result ≡ 9))) }
 {
     if is_serve(words) {

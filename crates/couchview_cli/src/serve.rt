@@ -4,8 +4,8 @@ ghost use Rattle.std.specs.Io.KnownBytes.{Consumes, IsAtEnd};
 ghost use Rattle.view_ports.specs.Disk.{IfTold};
 ghost use Rattle.view_ports.specs.Faults.{Rose};
 ghost use Rattle.child_pool.specs.Languages.{languages_in};
-ghost use Rattle.doc_file.specs.Docs.{HoldsHistory, IsOpen};
-ghost use Rattle.doc_file.specs.History.{Write};
+ghost use Rattle.view_engine.specs.World.{World};
+ghost use Rattle.view_engine.specs.Worlds.{Holds, IsOpen};
 ghost use Rattle.couchview_cli.specs.Serving.{AreLeft, Serves};
 ghost use Rattle.couchview_cli.specs.Ends.{ComesTo, end_of};
 ghost use Rattle.couchview_cli.specs.Session.{Origin, Progress};
@@ -36,7 +36,7 @@ pub fn serve<S: Source, K: Sink, F: Folder, C: Servers>(
     servers: &mut C,
 ) -> u8
     requires { C.may_follow servers.old [] }
-    ensures serves { (opening : List Write) → IfTold (F.disk folder.old) (λ d. HoldsHistory d.now opening) → Serves C.functions C.honest (languages_in (map string_bytes words.now)) opening
+    ensures serves { (opening : World) → IfTold (F.disk folder.old) (λ d. Holds d.now opening) → Serves C.functions C.honest (languages_in (map string_bytes words.now)) opening
         (record { left = S.left source.old; held = K.held sink.old; disk = F.disk folder.old; disk_faults = F.faults folder.old; faults = C.faults servers.old })
         (record { left = S.left source.new; held = K.held sink.new; disk = F.disk folder.new; disk_faults = F.faults folder.new; faults = C.faults servers.new })
         (AreLeft (C.may_follow servers.new)) result }
@@ -86,7 +86,7 @@ fn run<S: Source, K: Sink, F: Folder, C: Servers>(
     servers: &mut C,
 ) -> ServeEnd
     requires room { 0 < length piece.old }
-    requires open { IfTold (F.disk folder.old) (λ d. IsOpen session.old.responder.engine.docs d.now) }
+    requires open { IfTold (F.disk folder.old) (λ d. IsOpen session.old.responder.engine d.now) }
     ensures comes { (bytes : List ℕ) × Consumes (S.left source.old) (S.left source.new) bytes × ((origin : Origin)
         → Progress C.functions C.honest (F.disk folder.old) (C.may_follow servers.old) (C.faults servers.old) origin (K.held sink.old) [] session.old
         → ComesTo C.functions C.honest origin (K.held sink.new) (F.disk folder.new) (C.may_follow servers.new) (C.faults servers.new) bytes session.new.responder.engine result) }

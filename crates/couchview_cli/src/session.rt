@@ -6,13 +6,12 @@ ghost use Rattle.view_ports.specs.Causes.{HasCauseIf};
 ghost use Rattle.view_ports.specs.Disk.{IfTold, LeavesOnly, Tells};
 ghost use Rattle.view_ports.specs.Lines.{IsLine, ended, kept};
 ghost use Rattle.child_pool.specs.Languages.{languages_in};
-ghost use Rattle.child_pool.specs.Pools.{languages_of};
 ghost use Rattle.view_ports.specs.declared.file_name.FileName.{FileName};
-ghost use Rattle.doc_file.specs.Docs.{IsOpen};
-ghost use Rattle.doc_file.specs.History.{Write};
-ghost use Rattle.view_engine.specs.Engine.{HasChild, HasStopped, IsAt};
+ghost use Rattle.view_engine.specs.Engine.{HasStopped, IsAt, KeepsChild};
 ghost use Rattle.view_engine.specs.Moments.{Moment};
 ghost use Rattle.view_engine.specs.Refusals.{line_limit};
+ghost use Rattle.view_engine.specs.World.{World};
+ghost use Rattle.view_engine.specs.Worlds.{Holds, IsAtWorld, IsChildless, IsOpen, StandsFor, languages as languages_of};
 ghost use Rattle.couchview_cli.specs.declared.session.TheConstants.{LINE_KEPT};
 
 use json_terms::NoMemory;
@@ -56,18 +55,18 @@ impl Responder {
         sink: &mut K,
         servers: &mut C,
     ) -> Result<(), SessionError>
-        requires open { IfTold (F.disk folder.old) (λ d. IsOpen self.old.engine.docs d.now) }
+        requires open { IfTold (F.disk folder.old) (λ d. IsOpen self.old.engine d.now) }
         ensures ok { OnOk result ((before : Moment) → IsAt (F.disk folder.old) (C.may_follow servers.old) (C.faults servers.old) self.old.engine before
-            → Answered C.functions C.honest (languages_of self.old.engine.pool) (F.disk folder.old) (F.disk folder.new) (Appends (K.held sink.old) (K.held sink.new)) before line.now
+            → Answered C.functions C.honest (languages_of self.old.engine) (F.disk folder.old) (F.disk folder.new) (Appends (K.held sink.old) (K.held sink.new)) before line.now
             (IsAt (F.disk folder.new) (C.may_follow servers.new) (C.faults servers.new) self.new.engine)) }
         ensures failed { result ≡ Err SessionError.SinkFailed → (before : Moment) → IsAt (F.disk folder.old) (C.may_follow servers.old) (C.faults servers.old) self.old.engine before
-            → Answered C.functions C.honest (languages_of self.old.engine.pool) (F.disk folder.old) (F.disk folder.new) (Stopped (K.held sink.old) (K.held sink.new)) before line.now
+            → Answered C.functions C.honest (languages_of self.old.engine) (F.disk folder.old) (F.disk folder.new) (Stopped (K.held sink.old) (K.held sink.new)) before line.now
             (IsAt (F.disk folder.new) (C.may_follow servers.new) (C.faults servers.new) self.new.engine) }
         ensures stopped { (fault : StepFault) → result ≡ Err (SessionError.Stopped fault) → (before : Moment) → IsAt (F.disk folder.old) (C.may_follow servers.old) (C.faults servers.old) self.old.engine before
-            → IsHalted fault (F.disk folder.old) (F.disk folder.new) (K.held sink.old) (K.held sink.new) before line.now (HasChild (C.may_follow servers.new) (C.faults servers.new) self.new.engine.pool) }
+            → IsHalted fault (F.disk folder.old) (F.disk folder.new) (K.held sink.old) (K.held sink.new) before line.now (KeepsChild (C.may_follow servers.new) (C.faults servers.new) self.new.engine) }
         ensures memory { result ≢ Err SessionError.OutOfMemory }
-        ensures open { OnOk result (IfTold (F.disk folder.new) (λ d. IsOpen self.new.engine.docs d.now)) }
-        ensures languages { languages_of self.new.engine.pool ≡ languages_of self.old.engine.pool }
+        ensures open { OnOk result (IfTold (F.disk folder.new) (λ d. IsOpen self.new.engine d.now)) }
+        ensures languages { languages_of self.new.engine ≡ languages_of self.old.engine }
         ensures sink_cause { HasCauseIf (λ e. e ≡ SessionError.SinkFailed) (K.faults sink.old) (K.faults sink.new) result }
         ensures disk_cause { HasCauseIf (λ e. e ≡ SessionError.Stopped StepFault.DiskFault) (F.faults folder.old) (F.faults folder.new) result }
         ensures server_count { C.faults servers.old ≤ C.faults servers.new }
@@ -107,9 +106,6 @@ impl Session {
     ghost use Rattle.couchview_cli.specs.Session.{Progress, Ended, EndedBy, Origin};
     ghost use Rattle.couchview_cli.specs.declared.session.SessionError.TheVariants as error;
     ghost use Rattle.view_ports.specs.declared.run_end.RunEnd.TheVariants as run_end;
-    ghost use Rattle.child_pool.specs.Pools.{Stands};
-    ghost use Rattle.doc_file.specs.Docs.{HoldsHistory, IsAt as AreAt};
-    ghost use Rattle.doc_file.specs.Held.{Stands as StandsFor};
 
     /// A session that has read nothing, over the documents of the folder. The words LANG=PATH name the query servers of
     /// languages.
@@ -118,13 +114,13 @@ impl Session {
         folder: &mut F,
         words: &[String],
     ) -> Result<Session, StepFault>
-        ensures documents { (history : List Write) → IfTold (F.disk folder.old) (λ d. HoldsHistory d.now history) → IfTold (F.disk folder.new) (λ d. IfOk result (λ session. AreAt session.responder.engine.docs d.now history)) }
-        ensures moments { (history : List Write) → IfTold (F.disk folder.old) (λ d. HoldsHistory d.now history) → Tells (F.disk folder.old) (F.disk folder.new) (LeavesOnly (λ image. StandsFor image history)) }
-        ensures open { IfTold (F.disk folder.new) (λ d. IfOk result (λ session. IsOpen session.responder.engine.docs d.now)) }
-        ensures childless { IfOk result (λ session. (calls : List Call) → Stands session.responder.engine.pool calls) }
-        ensures languages { IfOk result (λ session. languages_of session.responder.engine.pool ≡ languages_in (map string_bytes words.now)) }
+        ensures documents { (world : World) → IfTold (F.disk folder.old) (λ d. Holds d.now world) → IfTold (F.disk folder.new) (λ d. IfOk result (λ session. IsAtWorld session.responder.engine d.now world)) }
+        ensures moments { (world : World) → IfTold (F.disk folder.old) (λ d. Holds d.now world) → Tells (F.disk folder.old) (F.disk folder.new) (LeavesOnly (λ image. StandsFor image world)) }
+        ensures open { IfTold (F.disk folder.new) (λ d. IfOk result (λ session. IsOpen session.responder.engine d.now)) }
+        ensures childless { IfOk result (λ session. IsChildless session.responder.engine) }
+        ensures languages { IfOk result (λ session. languages_of session.responder.engine ≡ languages_in (map string_bytes words.now)) }
         ensures pending { IfOk result (λ session. session.line.items ≡ []) }
-        ensures sound { (history : List Write) → IfTold (F.disk folder.old) (λ d. HoldsHistory d.now history → (name : FileName) (at : ℕ) → result ≡ Err (StepFault.Damaged name at) → ⊥) }
+        ensures sound { (world : World) → IfTold (F.disk folder.old) (λ d. Holds d.now world → (name : FileName) (at : ℕ) → result ≡ Err (StepFault.Damaged name at) → ⊥) }
         ensures room { (name : FileName) (length : Option ℕ) → result ≡ Err (StepFault.Full name length) → ⊥ }
         ensures cause { HasCauseIf (λ fault. fault ≡ StepFault.DiskFault) (F.faults folder.old) (F.faults folder.new) result }
     {
@@ -149,12 +145,12 @@ impl Session {
         sink: &mut K,
         servers: &mut C,
     ) -> Result<(), SessionError>
-        requires open { IfTold (F.disk folder.old) (λ d. IsOpen self.old.responder.engine.docs d.now) }
+        requires open { IfTold (F.disk folder.old) (λ d. IsOpen self.old.responder.engine d.now) }
         ensures ok { OnOk result ((origin : Origin) (bytes : List ℕ) → Progress C.functions C.honest (F.disk folder.old) (C.may_follow servers.old) (C.faults servers.old) origin (K.held sink.old) bytes self.old
             → Progress C.functions C.honest (F.disk folder.new) (C.may_follow servers.new) (C.faults servers.new) origin (K.held sink.new) (bytes ++ piece.now) self.new) }
         ensures err { IfErr result (λ e. (origin : Origin) (bytes : List ℕ) → Progress C.functions C.honest (F.disk folder.old) (C.may_follow servers.old) (C.faults servers.old) origin (K.held sink.old) bytes self.old
             → EndedBy C.functions C.honest origin (K.held sink.new) (F.disk folder.new) (C.may_follow servers.new) (C.faults servers.new) (bytes ++ piece.now) self.new.responder.engine e) }
-        ensures open { OnOk result (IfTold (F.disk folder.new) (λ d. IsOpen self.new.responder.engine.docs d.now)) }
+        ensures open { OnOk result (IfTold (F.disk folder.new) (λ d. IsOpen self.new.responder.engine d.now)) }
         ensures sink_cause { HasCauseIf (λ e. e ≡ SessionError.SinkFailed) (K.faults sink.old) (K.faults sink.new) result }
         ensures disk_cause { HasCauseIf (λ e. e ≡ SessionError.Stopped StepFault.DiskFault) (F.faults folder.old) (F.faults folder.new) result }
         ensures server_count { C.faults servers.old ≤ C.faults servers.new }
@@ -179,12 +175,12 @@ impl Session {
         servers: &mut C,
     ) -> Result<(), SessionError>
         requires line { IsLine end.now }
-        requires open { IfTold (F.disk folder.old) (λ d. IsOpen self.old.responder.engine.docs d.now) }
+        requires open { IfTold (F.disk folder.old) (λ d. IsOpen self.old.responder.engine d.now) }
         ensures ok { OnOk result ((origin : Origin) (bytes : List ℕ) → Progress C.functions C.honest (F.disk folder.old) (C.may_follow servers.old) (C.faults servers.old) origin (K.held sink.old) bytes self.old
             → Progress C.functions C.honest (F.disk folder.new) (C.may_follow servers.new) (C.faults servers.new) origin (K.held sink.new) (bytes ++ ended end.now) self.new) }
         ensures err { IfErr result (λ e. (origin : Origin) (bytes more : List ℕ) → Progress C.functions C.honest (F.disk folder.old) (C.may_follow servers.old) (C.faults servers.old) origin (K.held sink.old) bytes self.old
             → EndedBy C.functions C.honest origin (K.held sink.new) (F.disk folder.new) (C.may_follow servers.new) (C.faults servers.new) (bytes ++ ended end.now ++ more) self.new.responder.engine e) }
-        ensures open { OnOk result (IfTold (F.disk folder.new) (λ d. IsOpen self.new.responder.engine.docs d.now)) }
+        ensures open { OnOk result (IfTold (F.disk folder.new) (λ d. IsOpen self.new.responder.engine d.now)) }
         ensures sink_cause { HasCauseIf (λ e. e ≡ SessionError.SinkFailed) (K.faults sink.old) (K.faults sink.new) result }
         ensures disk_cause { HasCauseIf (λ e. e ≡ SessionError.Stopped StepFault.DiskFault) (F.faults folder.old) (F.faults folder.new) result }
         ensures server_count { C.faults servers.old ≤ C.faults servers.new }
@@ -223,7 +219,7 @@ impl Session {
         sink: &mut K,
         servers: &mut C,
     ) -> Result<(), SessionError>
-        requires open { IfTold (F.disk folder.old) (λ d. IsOpen self.old.responder.engine.docs d.now) }
+        requires open { IfTold (F.disk folder.old) (λ d. IsOpen self.old.responder.engine d.now) }
         ensures ok { OnOk result ((origin : Origin) (bytes : List ℕ) → Progress C.functions C.honest (F.disk folder.old) (C.may_follow servers.old) (C.faults servers.old) origin (K.held sink.old) bytes self.old
             → Ended C.functions C.honest origin (K.held sink.new) (F.disk folder.new) bytes (IsAt (F.disk folder.new) (C.may_follow servers.new) (C.faults servers.new) self.new.responder.engine) run_end.InputEnded) }
         ensures err { IfErr result (λ e. (origin : Origin) (bytes : List ℕ) → Progress C.functions C.honest (F.disk folder.old) (C.may_follow servers.old) (C.faults servers.old) origin (K.held sink.old) bytes self.old
@@ -240,7 +236,7 @@ impl Session {
 
     /// Ends the children.
     pub fn stop<C: Servers>(&mut self, servers: &mut C)
-        ensures stopped { (calls : List Call) → C.may_follow servers.old calls → HasStopped (C.may_follow servers.new) self.new.responder.engine.pool calls }
+        ensures stopped { (calls : List Call) → C.may_follow servers.old calls → HasStopped (C.may_follow servers.new) self.new.responder.engine calls }
         ensures faults { C.faults servers.new ≡ C.faults servers.old }
     {
         self.responder.engine.finish(servers);

@@ -46,7 +46,7 @@ module _ (functions : List ℕ → Functions) (honest : List ℕ → Type 0) (la
 module _ {F C : Type 0} (f : Folders F) (s : Servers C) (docs docs' : Docs) (pool : Pool) (old new : F) (servers : C) (out out' : List ℕ) where
   does_here : (request : Request) (result : Result (Unit {0}) Halt) → DoesHereBy f docs docs' old new request out out' result → DoesBy f s (scene (record { docs = docs; pool = pool }) old servers) (scene (record { docs = docs'; pool = pool }) new servers) (Ok request) out out' result
   does_here request (Ok value) done = λ before at.
-      let left = done.does before.world.history at.documents in
+      let left = done.does before.world at.documents in
       record {
         text = ended done.reply;
         after = with_world before left.after;
@@ -57,7 +57,7 @@ module _ {F C : Type 0} (f : Folders F) (s : Servers C) (docs docs' : Docs) (poo
         appended = done.appended;
       }
   does_here request (Err (Refused refusal)) refused = λ before at.
-      let left = refused before.world.history at.documents in
+      let left = refused before.world at.documents in
       record {
         after = with_world before left.after;
         is_at = record { documents = left.is_at; child = record { child = at.child.child; follows = at.child.follows; counts = at.child.counts } };
@@ -70,7 +70,7 @@ module _ {F C : Type 0} (f : Folders F) (s : Servers C) (docs docs' : Docs) (poo
             )) left.allowed;
       }
   does_here request (Err (Stopped NoMemory)) spent = λ before at.
-      let left = spent before.world.history at.documents in
+      let left = spent before.world at.documents in
       record {
         after = with_world before left.after;
         is_at = record { documents = left.is_at; child = record { child = at.child.child; follows = at.child.follows; counts = at.child.counts } };

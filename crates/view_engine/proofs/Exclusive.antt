@@ -14,7 +14,7 @@ use Rattle.doc_file.specs.Writes.{IsAcceptedDelete, IsAcceptedPut, IsRefusedDele
 use Rattle.view_engine.specs.declared.refusal.Refusal.{Refusal}
 use Rattle.view_engine.specs.declared.request.Request.{Request}
 use Rattle.view_engine.specs.declared.request.Request.TheVariants.{Delete, Get, Info, Put, View}
-use Rattle.view_engine.specs.Engine.{StandsAround}
+use Rattle.view_engine.specs.Worlds.{StandsAround}
 use Rattle.view_engine.specs.Get.{not_live}
 use Rattle.view_engine.specs.Laws.{IsNotRefusedAndDone, IsRefusedOnce}
 use Rattle.view_engine.specs.Moments.{Moment}

@@ -11,7 +11,8 @@ use Rattle.doc_file.specs.History.{Write}
 use Rattle.doc_file.proofs.Stores.{image_now}
 use Rattle.view_engine.specs.declared.request.Request.{Request}
 use Rattle.view_engine.specs.declared.refusal.Refusal.{Refusal}
-use Rattle.view_engine.specs.Engine.{StandsAround}
+use Rattle.view_engine.specs.World.{World}
+use Rattle.view_engine.specs.Worlds.{StandsAround}
 use Rattle.view_engine.proofs.Unmoved.{IsAt-none, IsOpen-none, LeavesOnly-none, LeavesOnly-still}
 
 -- nothing was called, so each image stands for the history
@@ -33,13 +34,13 @@ module _ (docs : Docs) (old new : Option (Disk FileName)) (moves : Tells old new
   pub open_none : IfTold old (λ d. IsOpen docs d.now) → IfTold new (λ d. IsOpen docs d.now)
   open_none told = told_after old new (λ d. IsOpen docs d.now) (λ d. IsOpen docs d.now) MovesNone (λ a b is_open none. IsOpen-none docs a b is_open none) told moves
 
-  pub moments_none : (request : Result Request Refusal) (history : List Write) → IfTold old (λ d. IsAt docs d.now history)
-      → Tells old new (LeavesOnly (StandsAround (record { history = history }) request))
-  moments_none request history told = told_given old new (λ d. IsAt docs d.now history) MovesNone (LeavesOnly (StandsAround (record { history = history }) request))
-      (λ a b at none. LeavesOnly-none docs history request a b at none) told moves
+  pub moments_none : (request : Result Request Refusal) (world : World) → IfTold old (λ d. IsAt docs d.now world.history)
+      → Tells old new (LeavesOnly (StandsAround world request))
+  moments_none request world told = told_given old new (λ d. IsAt docs d.now world.history) MovesNone (LeavesOnly (StandsAround world request))
+      (λ a b at none. LeavesOnly-none docs world request a b at none) told moves
 
 -- nothing was called
-pub moments_still : (docs : Docs) (now : Option (Disk FileName)) (request : Result Request Refusal) (history : List Write) → IfTold now (λ d. IsAt docs d.now history)
-    → Tells now now (LeavesOnly (StandsAround (record { history = history }) request))
-moments_still docs now request history told = told_still now (λ d. IsAt docs d.now history) (LeavesOnly (StandsAround (record { history = history }) request))
-    (λ d at. LeavesOnly-still docs history request d at) told
+pub moments_still : (docs : Docs) (now : Option (Disk FileName)) (request : Result Request Refusal) (world : World) → IfTold now (λ d. IsAt docs d.now world.history)
+    → Tells now now (LeavesOnly (StandsAround world request))
+moments_still docs now request world told = told_still now (λ d. IsAt docs d.now world.history) (LeavesOnly (StandsAround world request))
+    (λ d at. LeavesOnly-still docs world request d at) told

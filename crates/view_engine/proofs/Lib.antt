@@ -23,6 +23,7 @@ pub mod Keeping
 pub mod Performing
 pub mod Stepping
 pub mod AcceptedWrites
+pub mod Worlds
 pub mod Still
 pub mod OnDisk
 pub mod Acting

@@ -31,20 +31,20 @@ module _ {F : Type 0} {f : Folders F} {docs : Docs} {request : Result Request Re
   -- nothing was called
   pub disk_still : {folder : F} → AreOpen f docs folder → KeepsDisk f docs docs folder folder request GivenUp GoesOn
   disk_still {folder} is_open = record {
-    moments = λ history at. moments_still docs (f.disk folder) request history at;
+    moments = λ world at. moments_still docs (f.disk folder) request world at;
     unmoved = λ given. told_refl (f.disk folder) MovesNone none_refl;
-    unwritten = λ given history at. stands_still docs (f.disk folder) history at;
-    still = λ history at never. still_same docs (f.disk folder) request history at never;
+    unwritten = λ given world at. stands_still docs (f.disk folder) world.history at;
+    still = λ world at never. still_same docs (f.disk folder) request world at never;
     is_open = λ goes_on. is_open;
   }
 
   -- no file changed
   pub disk_read : {old new : F} → Tells (f.disk old) (f.disk new) MovesNone → AreOpen f docs old → KeepsDisk f docs docs old new request GivenUp GoesOn
   disk_read {old} {new} none is_open = record {
-    moments = λ history at. moments_none docs (f.disk old) (f.disk new) none request history at;
+    moments = λ world at. moments_none docs (f.disk old) (f.disk new) none request world at;
     unmoved = λ given. none;
-    unwritten = λ given history at. stands_none docs (f.disk old) (f.disk new) none history at;
-    still = λ history at never. none;
+    unwritten = λ given world at. stands_none docs (f.disk old) (f.disk new) none world.history at;
+    still = λ world at never. none;
     is_open = λ goes_on. open_none docs (f.disk old) (f.disk new) none is_open;
   }
 
@@ -52,10 +52,10 @@ module _ {F : Type 0} {f : Folders F} {docs : Docs} {request : Result Request Re
   pub disk_same : {docs' : Docs} {old new : F} → IsSame docs docs' × (new ≡ old) → AreOpen f docs old → KeepsDisk f docs docs' old new request GivenUp GoesOn
   disk_same {docs'} {old} {new} same is_open =
       let there : KeepsDisk f docs docs' old old request GivenUp GoesOn = record {
-        moments = λ history at. moments_still docs (f.disk old) request history at;
+        moments = λ world at. moments_still docs (f.disk old) request world at;
         unmoved = λ given. told_refl (f.disk old) MovesNone none_refl;
-        unwritten = λ given history at. stands_still docs (f.disk old) history at;
-        still = λ history at never. still_same docs (f.disk old) request history at never;
+        unwritten = λ given world at. stands_still docs (f.disk old) world.history at;
+        still = λ world at never. still_same docs (f.disk old) request world at never;
         is_open = λ goes_on. told_now (f.disk old) (λ d. IsOpen docs d.now) (λ d. IsOpen docs' d.now) (λ d opened. IsOpen-same docs docs' d.now same.0 opened) is_open;
       } in
       subst (λ (folder : F). KeepsDisk f docs docs' old folder request GivenUp GoesOn) (sym same.1) there
@@ -90,8 +90,8 @@ module _ {F : Type 0} (f : Folders F) (docs : Docs) where
   reason_then a b c DiskFault none later rose = omega arith
   reason_then a b c (Damaged name at) none later is = (
     told_back (f.disk a) (f.disk b) (λ d. IsDamage docs d.now name at) (λ d. IsDamage docs d.now name at) MovesNone (λ x y same damage. damage_back docs x y same name at damage) none is.0,
-    λ history. told_back (f.disk a) (f.disk b) (λ d. AreAt docs d.now history → ⊥) (λ d. AreAt docs d.now history → ⊥) MovesNone
-        (λ x y same never here. never (IsAt-none docs history x y here same)) none (is.1 history),
+    λ world. told_back (f.disk a) (f.disk b) (λ d. AreAt docs d.now world.history → ⊥) (λ d. AreAt docs d.now world.history → ⊥) MovesNone
+        (λ x y same never here. never (IsAt-none docs world.history x y here same)) none (is.1 world),
   )
   reason_then a b c (Full name length) none later is = is
   reason_then a b c NoMemory none later is = tt

@@ -22,44 +22,45 @@ use Rattle.view_engine.specs.declared.halt.StepFault.TheVariants.{DiskFault, Dam
 use Rattle.view_engine.specs.declared.refusal.Refusal.{Refusal}
 use Rattle.view_engine.specs.declared.request.Request.{Request}
 use Rattle.view_engine.specs.Calls.{ActsHere, DoesHere, DoesHereBy, IsRefusedHere}
-use Rattle.view_engine.specs.Disks.{world_of, AreOpen, IfStopped, IsReadReason, Reads, ReadsDocuments}
+use Rattle.view_engine.specs.Disks.{AreOpen, IfStopped, IsReadReason, Reads, ReadsDocuments}
 use Rattle.view_engine.specs.Halts.{halted_as, IsDamage}
+use Rattle.view_engine.specs.World.{World}
 use Rattle.view_engine.proofs.HaltedAs.{after_damage, spoiled_damage}
 use Rattle.view_engine.proofs.Keeping.{at_none}
 use Rattle.view_engine.proofs.OnDisk.{disk_read, read_halted, read_reason}
 
--- the definition is met in each history that the documents are at
-abbrev pub IsMetIn : {F : Type 0} → Folders F → Docs → F → (List Write → Type 0) → Type 0
-IsMetIn f docs old P = (history : List Write) → IfTold (f.disk old) (λ d. AreAt docs d.now history → P history)
+-- the definition is met in each world that the documents are at
+abbrev pub IsMetIn : {F : Type 0} → Folders F → Docs → F → (World → Type 0) → Type 0
+IsMetIn f docs old P = (world : World) → IfTold (f.disk old) (λ d. AreAt docs d.now world.history → P world)
 
 halted_so : {F : Type 0} (f : Folders F) (docs : Docs) (old new : F) (request : Request) (out out' : List ℕ) (halt : Halt) → Tells (f.disk old) (f.disk new) MovesNone
-    → ((refusal : Refusal) → halt ≡ Refused refusal → IsMetIn f docs old (λ history. IsRefusedHere (world_of history) request refusal)) → DoesHereBy f docs docs old new request out out' (Err halt)
-halted_so f docs old new request out out' (Refused refusal) none refused = λ history at. record {
-  after = world_of history;
-  is_at = at_none docs (f.disk old) (f.disk new) none history at;
-  allowed = told_pair (f.disk old) (λ d. AreAt docs d.now history) (λ d. AreAt docs d.now history → IsRefusedHere (world_of history) request refusal)
-      (λ d. (world_of history ≡ world_of history) × IsRefusedHere (world_of history) request refusal) (λ d here is. (refl, is here)) at (refused refusal refl history);
+    → ((refusal : Refusal) → halt ≡ Refused refusal → IsMetIn f docs old (λ world. IsRefusedHere world request refusal)) → DoesHereBy f docs docs old new request out out' (Err halt)
+halted_so f docs old new request out out' (Refused refusal) none refused = λ world at. record {
+  after = world;
+  is_at = at_none docs (f.disk old) (f.disk new) none world.history at;
+  allowed = told_pair (f.disk old) (λ d. AreAt docs d.now world.history) (λ d. AreAt docs d.now world.history → IsRefusedHere world request refusal)
+      (λ d. (world ≡ world) × IsRefusedHere world request refusal) (λ d here is. (refl, is here)) at (refused refusal refl world);
 }
-halted_so f docs old new request out out' (Stopped NoMemory) none refused = λ history at. record {
-  after = world_of history;
-  is_at = at_none docs (f.disk old) (f.disk new) none history at;
-  allowed = told_all (f.disk old) (λ d. world_of history ≡ world_of history) (λ d. refl);
+halted_so f docs old new request out out' (Stopped NoMemory) none refused = λ world at. record {
+  after = world;
+  is_at = at_none docs (f.disk old) (f.disk new) none world.history at;
+  allowed = told_all (f.disk old) (λ d. world ≡ world) (λ d. refl);
 }
 halted_so f docs old new request out out' (Stopped DiskFault) none refused = tt
 halted_so f docs old new request out out' (Stopped (Damaged name at)) none refused = tt
 halted_so f docs old new request out out' (Stopped (Full name length)) none refused = tt
 
 module _ {F : Type 0} {f : Folders F} {docs : Docs} {old new : F} {request : Request} {out out' : List ℕ} (is_open : AreOpen f docs old) (none : Tells (f.disk old) (f.disk new) MovesNone) (later : f.faults old ≤ f.faults new) where
-  pub read_done : (reply : List ℕ) → out' ≡ out ++ ended reply → IsMetIn f docs old (λ history. DoesHere (world_of history) request reply (world_of history)) → ActsHere f docs docs old new request out out' (Ok tt)
+  pub read_done : (reply : List ℕ) → out' ≡ out ++ ended reply → IsMetIn f docs old (λ world. DoesHere world request reply world) → ActsHere f docs docs old new request out out' (Ok tt)
   read_done reply appended does = record {
     does = record {
       reply = reply;
       appended = appended;
-      does = λ history at. record {
-        after = world_of history;
-        is_at = at_none docs (f.disk old) (f.disk new) none history at;
-        allowed = told_pair (f.disk old) (λ d. AreAt docs d.now history) (λ d. AreAt docs d.now history → DoesHere (world_of history) request reply (world_of history))
-            (λ d. DoesHere (world_of history) request reply (world_of history)) (λ d here is. is here) at (does history);
+      does = λ world at. record {
+        after = world;
+        is_at = at_none docs (f.disk old) (f.disk new) none world.history at;
+        allowed = told_pair (f.disk old) (λ d. AreAt docs d.now world.history) (λ d. AreAt docs d.now world.history → DoesHere world request reply world)
+            (λ d. DoesHere world request reply world) (λ d here is. is here) at (does world);
       };
     };
     silent = tt;
@@ -68,7 +69,7 @@ module _ {F : Type 0} {f : Folders F} {docs : Docs} {old new : F} {request : Req
     later = later;
   }
 
-  pub read_stopped : {halt : Halt} → ReadsDocuments (Ok request) → out' ≡ out → ((refusal : Refusal) → halt ≡ Refused refusal → IsMetIn f docs old (λ history. IsRefusedHere (world_of history) request refusal))
+  pub read_stopped : {halt : Halt} → ReadsDocuments (Ok request) → out' ≡ out → ((refusal : Refusal) → halt ≡ Refused refusal → IsMetIn f docs old (λ world. IsRefusedHere world request refusal))
       → IfStopped (IsReadReason f docs old new) halt → ActsHere f docs docs old new request out out' (Err halt)
   read_stopped {halt} is_read silent refused why = record {
     does = halted_so f docs old new request out out' halt none refused;
@@ -114,8 +115,8 @@ module _ {F : Type 0} (T : Type 0) (f : Folders F) (docs : Docs) (old new : F) w
       read_reason f docs old new fault cause.failed (λ n at is. (
         told_now (f.disk old) (λ d. (n : FileName) (at : ℕ) → failed T fault ≡ Err (doc.Gate (gate.Damaged n at)) → (n ≡ name_of (file_of docs)) × IsSpoiled id (bytes_in docs d.now) (last_of docs id) at)
             (λ d. IsDamage docs d.now n at) (λ d there. spoiled_damage docs d.now n id at (there n at (ap Err is))) damaged,
-        λ history. told_now (f.disk old) (λ d. AreAt docs d.now history → (n : FileName) (at : ℕ) → failed T fault ≡ Err (doc.Gate (gate.Damaged n at)) → ⊥) (λ d. AreAt docs d.now history → ⊥)
-            (λ d never here. never here n at (ap Err is)) (sound history),
+        λ world. told_now (f.disk old) (λ d. AreAt docs d.now world.history → (n : FileName) (at : ℕ) → failed T fault ≡ Err (doc.Gate (gate.Damaged n at)) → ⊥) (λ d. AreAt docs d.now world.history → ⊥)
+            (λ d never here. never here n at (ap Err is)) (sound world.history),
       )) (not_full_get fault faults)
 
 -- the same of a call that only reads
@@ -139,8 +140,8 @@ read_of_changes {T = T} {f = f} {docs = docs} {old = old} {new = new} fault is_o
     told_pair (f.disk old) (λ d. IsOpen docs d.now)
         (λ d. IsLoaded docs d.now → (n : FileName) (at : ℕ) → failed T fault ≡ Err (doc.Gate (gate.Damaged n at)) → (n ≡ name_of (file_of docs)) × IsSpoiledAfter docs (bytes_in docs d.now) 0 at)
         (λ d. IsDamage docs d.now n at) (λ d opened there. after_damage docs d.now n 0 at (there opened.loaded n at (ap Err is))) is_open damaged,
-    λ history. told_now (f.disk old) (λ d. AreAt docs d.now history → (n : FileName) (at : ℕ) → failed T fault ≡ Err (doc.Gate (gate.Damaged n at)) → ⊥) (λ d. AreAt docs d.now history → ⊥)
-        (λ d never here. never here n at (ap Err is)) (sound history),
+    λ world. told_now (f.disk old) (λ d. AreAt docs d.now world.history → (n : FileName) (at : ℕ) → failed T fault ≡ Err (doc.Gate (gate.Damaged n at)) → ⊥) (λ d. AreAt docs d.now world.history → ⊥)
+        (λ d never here. never here n at (ap Err is)) (sound world.history),
   )) (not_full fault faults);
   later = cause.later;
 }

@@ -1,11 +1,15 @@
 -- A step is the performing of its line's request, told as its halt is told.
-use Rattle.std.proofs.Common.{◌≡◌, ◌≢◌, ◌∙◌, ◌++◌, ℕ, List, [], ◌∷◌, Result, Ok, Err, refl, sym, ap, subst, append-nil, arith}
+use Rattle.std.proofs.Common.{◌≡◌, ◌≢◌, ◌∙◌, ◌++◌, ℕ, List, [], ◌∷◌, Option, None, Some, Result, Ok, Err, refl, sym, ap, subst, append-nil, arith}
+use Rattle.view_ports.specs.Disk.{Disk, IfTold, LeavesOnly, Tells}
 use Rattle.view_ports.specs.Functions.{Functions}
+use Rattle.view_ports.specs.declared.file_name.FileName.{FileName}
 use Rattle.view_ports.specs.Lines.{ended}
 use Rattle.view_ports.specs.declared.folder.Folder.{Ghosts as Folders}
 use Rattle.view_ports.specs.declared.servers.Servers.{Ghosts as Servers}
 use Rattle.view_ports.proofs.Told.{told_all, told_now}
 use Rattle.child_pool.specs.Pools.{languages_of}
+use Rattle.doc_file.specs.declared.docs.Docs.{Docs}
+use Rattle.doc_file.specs.Docs.{IsAt as AreAt}
 use Rattle.view_engine.specs.declared.halt.Halt.{Halt}
 use Rattle.view_engine.specs.declared.halt.Halt.TheVariants.{Refused, Stopped}
 use Rattle.view_engine.specs.declared.halt.StepFault.{StepFault}
@@ -13,12 +17,14 @@ use Rattle.view_engine.specs.declared.halt.StepFault.TheVariants.{DiskFault, Dam
 use Rattle.view_engine.specs.declared.refusal.Refusal.{Refusal}
 use Rattle.view_engine.specs.declared.refusal.Refusal.TheVariants as refusal
 use Rattle.view_engine.specs.declared.request.Request.{Request}
-use Rattle.view_engine.specs.Calls.{DoesBy, KeepsChild, IsStep, IsToldAs, Performed, Scene, StepsBy}
-use Rattle.view_engine.specs.Disks.{AreOpen}
-use Rattle.view_engine.specs.Halts.{halted_by, GoesOn}
+use Rattle.view_engine.specs.Calls.{DoesBy, KeepsChild, IsStep, IsToldAs, Performed, Scene, StandsAt, StepsBy}
+use Rattle.view_engine.specs.Disks.{AreOpen, IsReason}
+use Rattle.view_engine.specs.Halts.{halted_by, GoesOn, IsFullFor, WouldWrite}
 use Rattle.view_engine.specs.Moments.{Moment}
 use Rattle.view_engine.specs.Refusals.{request_of, refusal_text}
 use Rattle.view_engine.specs.Steps.{Does, DoesRequest, DoesRequestText, MayHaveCalled}
+use Rattle.view_engine.specs.World.{World}
+use Rattle.view_engine.specs.Worlds.{IsFullAt, StandsAround, StandsFor}
 use Rattle.view_engine.proofs.Acting.{refused_at_once, spent_at_once}
 use Rattle.view_engine.proofs.OnDisk.{disk_ends, disk_still}
 
@@ -146,9 +152,53 @@ for_request {f = f} {s = s} {old = old} {new = new} {out = out} {out' = out'} {r
 -- ---- what a caller takes out of a step
 
 -- the child after a fault
-pub step_stopped : {F C : Type 0} (f : Folders F) (s : Servers C) (old new : Scene F C) (line out out' : List ℕ) (fault : StepFault) → fault ≢ NoMemory → StepsBy f s old new line out out' (Err fault)
+kept_child : {F C : Type 0} (f : Folders F) (s : Servers C) (old new : Scene F C) (line out out' : List ℕ) (fault : StepFault) → fault ≢ NoMemory → StepsBy f s old new line out out' (Err fault)
     → (before : Moment) → KeepsChild f s old before → KeepsChild f s new before
-step_stopped f s old new line out out' DiskFault other does = does
-step_stopped f s old new line out out' (Damaged name at) other does = does
-step_stopped f s old new line out out' (Full name length) other does = does
-step_stopped f s old new line out out' NoMemory other does = absurd (other refl)
+kept_child f s old new line out out' DiskFault other does = does
+kept_child f s old new line out out' (Damaged name at) other does = does
+kept_child f s old new line out out' (Full name length) other does = does
+kept_child f s old new line out out' NoMemory other does = absurd (other refl)
+
+-- what is said of each place is said of the disk
+told_never : {D : Type 0} (told : Option D) (At : D → Type 0) (P : FileName → ℕ → Type 0) → ((name : FileName) (at : ℕ) → P name at → IfTold told (λ d. At d → ⊥)) → IfTold told At
+    → IfTold told (λ d. (name : FileName) (at : ℕ) → P name at → ⊥)
+told_never None At P never known = tt
+told_never (Some a) At P never known = λ name at is. never name at is known
+
+-- a full file is met by a write that is accepted
+told_full : (disk : Option (Disk FileName)) (docs : Docs) (world : World) (request : Result Request Refusal) (P : FileName → Option ℕ → Type 0)
+    → ((name : FileName) (length : Option ℕ) → P name length → IsFullFor docs request name length × WouldWrite docs disk request) → IfTold disk (λ d. AreAt docs d.now world.history)
+    → IfTold disk (λ d. (name : FileName) (length : Option ℕ) → P name length → IsFullAt world request name length)
+told_full None docs world request P full known = tt
+told_full (Some d) docs world request P full known = λ name length is.
+    let met = full name length is in
+    let made = met.1 world known in
+    record { docs = docs; files = d.now; at = known; full = met.0; write = made.0; accepted = made.1 }
+
+module _ {F C : Type 0} {f : Folders F} {s : Servers C} {old new : Scene F C} {line out out' : List ℕ} where
+  -- at each moment a crash leaves the world before the line or the one with its write
+  pub step_around : {result : Result (Unit {0}) StepFault} → IsStep f s old new line out out' result → (before : Moment) → StandsAt f s old before
+      → Tells (f.disk old.folder) (f.disk new.folder) (LeavesOnly (StandsAround before.world (request_of line)))
+  step_around step before at = step.disk.moments before.world at.documents
+
+  -- and where memory ran out, the world before it
+  pub step_unwritten : IsStep f s old new line out out' (Err NoMemory) → (before : Moment) → StandsAt f s old before
+      → Tells (f.disk old.folder) (f.disk new.folder) (LeavesOnly (λ image. StandsFor image before.world))
+  step_unwritten step before at = step.disk.unwritten refl before.world at.documents
+
+  module _ {fault : StepFault} (step : IsStep f s old new line out out' (Err fault)) (before : Moment) (at : StandsAt f s old before) where
+    -- the engine keeps the child that the calls left
+    pub step_stopped : fault ≢ NoMemory → KeepsChild f s new before
+    step_stopped other = kept_child f s old new line out out' fault other step.does before at.child
+
+    -- no place is damaged
+    pub step_sound : IfTold (f.disk old.folder) (λ d. (name : FileName) (at : ℕ) → fault ≡ Damaged name at → ⊥)
+    step_sound =
+        told_never (f.disk old.folder) (λ d. AreAt old.engine.docs d.now before.world.history) (λ name at. fault ≡ Damaged name at)
+        (λ name at is. (subst (IsReason f old.engine.docs old.folder new.folder (request_of line)) is step.why).1.1 before.world) at.documents
+
+    -- a full file is one with the write of the line
+    pub step_full : IfTold (f.disk old.folder) (λ d. (name : FileName) (length : Option ℕ) → fault ≡ Full name length → IsFullAt before.world (request_of line) name length)
+    step_full =
+        told_full (f.disk old.folder) old.engine.docs before.world (request_of line) (λ name length. fault ≡ Full name length)
+        (λ name length is. subst (IsReason f old.engine.docs old.folder new.folder (request_of line)) is step.why) at.documents

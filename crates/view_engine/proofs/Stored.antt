@@ -28,7 +28,7 @@ use Rattle.view_engine.specs.declared.halt.StepFault.TheVariants.{DiskFault, Dam
 use Rattle.view_engine.specs.declared.refusal.Refusal.{Refusal}
 use Rattle.view_engine.specs.declared.request.Request.{Request}
 use Rattle.view_engine.specs.Calls.{ActsHere, DoesHere, DoesHereBy, IsRefusedHere, LeavesWorld}
-use Rattle.view_engine.specs.Disks.{world_of, AreOpen, IfStopped, IsReason, KeepsDisk, OverHistory}
+use Rattle.view_engine.specs.Disks.{AreOpen, IfStopped, IsReason, KeepsDisk, OverWorld}
 use Rattle.view_engine.specs.Halts.{halted_as, GoesOn, IsFull, IsFullFor}
 use Rattle.view_engine.specs.Steps.{IsWrite}
 use Rattle.view_engine.specs.World.{written, World}
@@ -44,7 +44,7 @@ spent_here {f = f} {docs = docs} {old = old} {request = request} {out = out} {ou
     let err = err_from_is_err_and result is in
     let spent : result ≡ Err (Stopped NoMemory) = err.1 ∙ ap Err err.2 in
     subst (λ (r : Result (Unit {0}) Halt). ActsHere f docs docs old old request out out' r) (sym spent) (record {
-      does = λ history at. record { after = world_of history; is_at = at; allowed = told_all (f.disk old) (λ d. world_of history ≡ world_of history) (λ d. refl) };
+      does = λ world at. record { after = world; is_at = at; allowed = told_all (f.disk old) (λ d. world ≡ world) (λ d. refl) };
       silent = silent;
       disk = disk_still is_open;
       why = tt;
@@ -55,10 +55,10 @@ module _ {F : Type 0} {f : Folders F} {docs : Docs} {old : F} {request : Request
   -- it is refused before anything was called
   pub refused_here_at_once : {refusal : Refusal} → AreOpen f docs old → ((world : World) → IsRefusedHere world request refusal) → ActsHere f docs docs old old request out out (Err (Refused refusal))
   refused_here_at_once {refusal} is_open is = record {
-    does = λ history at. record {
-      after = world_of history;
+    does = λ world at. record {
+      after = world;
       is_at = at;
-      allowed = told_all (f.disk old) (λ d. (world_of history ≡ world_of history) × IsRefusedHere (world_of history) request refusal) (λ d. (refl, is (world_of history)));
+      allowed = told_all (f.disk old) (λ d. (world ≡ world) × IsRefusedHere world request refusal) (λ d. (refl, is world));
     };
     silent = refl;
     disk = disk_still is_open;
@@ -69,8 +69,8 @@ module _ {F : Type 0} {f : Folders F} {docs : Docs} {old : F} {request : Request
 module _ {F : Type 0} (f : Folders F) (docs docs' : Docs) (old new : F) (request : Request) (out out' : List ℕ) where
   -- what a halt is answered by
   halted_here : (halt : Halt)
-      → ((refusal : Refusal) → halt ≡ Refused refusal → OverHistory f docs old (λ history. LeavesWorld f docs' old new (λ after. (after ≡ world_of history) × IsRefusedHere (world_of history) request refusal)))
-      → (halt ≡ Stopped NoMemory → OverHistory f docs old (λ history. LeavesWorld f docs' old new (λ after. after ≡ world_of history)))
+      → ((refusal : Refusal) → halt ≡ Refused refusal → OverWorld f docs old (λ world. LeavesWorld f docs' old new (λ after. (after ≡ world) × IsRefusedHere world request refusal)))
+      → (halt ≡ Stopped NoMemory → OverWorld f docs old (λ world. LeavesWorld f docs' old new (λ after. after ≡ world)))
       → DoesHereBy f docs docs' old new request out out' (Err halt)
   halted_here (Refused refusal) refused spent = refused refusal refl
   halted_here (Stopped NoMemory) refused spent = spent refl
@@ -89,20 +89,20 @@ module _ {F : Type 0} (f : Folders F) (docs docs' : Docs) (old new : F) (request
   full_of id content fault Accepted IsRefused name (Some length) is (inr (inr full)) stored = absurd (let never : ⊥ = cc in never)
 
   module _ (id : List ℕ) (content : Option Json) (Accepted : Type 0) (IsRefused : DocFault → Type 0) (reply : List ℕ)
-      (does : (files : FileName → File) (history : List Write) → AreAt docs files history → Accepted → DoesHere (world_of history) request reply (written (world_of history) (write_of history id content)))
-      (writes : (files : FileName → File) (history : List Write) → AreAt docs files history → Accepted → IsWrite (world_of history) (Ok request) (write_of history id content)) where
+      (does : (files : FileName → File) (world : World) → AreAt docs files world.history → Accepted → DoesHere world request reply (written world (write_of world.history id content)))
+      (writes : (files : FileName → File) (world : World) → AreAt docs files world.history → Accepted → IsWrite world (Ok request) (write_of world.history id content)) where
     abbrev Side : Result Rev DocFault → Type 0
     Side = Writes f docs docs' old new id content Accepted IsRefused
 
     disk_moved : {GivenUp GoesOn : Type 0} (result : Result Rev DocFault) → Accepted → (GivenUp → ⊥) → (GoesOn → AreOpen f docs' new) → Side result → KeepsDisk f docs docs' old new (Ok request) GivenUp GoesOn
     disk_moved result accepted ungiven opens stored = record {
-      moments = λ history at. moves_around history (Ok request) (write_of history id content) (λ files. OnOk result (AreAt docs' files (write_of history id content ∷ history))) (f.disk old) (f.disk new)
-          (told_now (f.disk old) (λ d. AreAt docs d.now history) (λ d. IsWrite (world_of history) (Ok request) (write_of history id content)) (λ d is. writes d.now history is accepted) at) (stored.stored.stands history at);
+      moments = λ world at. moves_around world (Ok request) (write_of world.history id content) (λ files. OnOk result (AreAt docs' files (write_of world.history id content ∷ world.history))) (f.disk old) (f.disk new)
+          (told_now (f.disk old) (λ d. AreAt docs d.now world.history) (λ d. IsWrite world (Ok request) (write_of world.history id content)) (λ d is. writes d.now world is accepted) at) (stored.stored.stands world.history at);
       unmoved = λ given. absurd (ungiven given);
       unwritten = λ given. absurd (ungiven given);
-      still = λ history at never. still_written (f.disk old) (f.disk new) history (Ok request) (write_of history id content) _
-          (told_now (f.disk old) (λ d. AreAt docs d.now history) (λ d. IsWrite (world_of history) (Ok request) (write_of history id content)) (λ d is. writes d.now history is accepted) at)
-          never (stored.stored.stands history at);
+      still = λ world at never. still_written (f.disk old) (f.disk new) world (Ok request) (write_of world.history id content) _
+          (told_now (f.disk old) (λ d. AreAt docs d.now world.history) (λ d. IsWrite world (Ok request) (write_of world.history id content)) (λ d is. writes d.now world is accepted) at)
+          never (stored.stored.stands world.history at);
       is_open = opens;
     }
 
@@ -112,11 +112,11 @@ module _ {F : Type 0} (f : Folders F) (docs docs' : Docs) (old new : F) (request
       does = record {
         reply = reply;
         appended = appended;
-        does = λ history at. record {
-          after = written (world_of history) (write_of history id content);
-          is_at = told_after (f.disk old) (f.disk new) (λ d. AreAt docs d.now history) (λ d. AreAt docs' d.now (write_of history id content ∷ history)) _ (λ a b is moves. moves.ended) at (stored.stored.stands history at);
-          allowed = told_now (f.disk old) (λ d. AreAt docs d.now history) (λ d. DoesHere (world_of history) request reply (written (world_of history) (write_of history id content)))
-              (λ d is. does d.now history is stored.accepted) at;
+        does = λ world at. record {
+          after = written world (write_of world.history id content);
+          is_at = told_after (f.disk old) (f.disk new) (λ d. AreAt docs d.now world.history) (λ d. AreAt docs' d.now (write_of world.history id content ∷ world.history)) _ (λ a b is moves. moves.ended) at (stored.stored.stands world.history at);
+          allowed = told_now (f.disk old) (λ d. AreAt docs d.now world.history) (λ d. DoesHere world request reply (written world (write_of world.history id content)))
+              (λ d is. does d.now world is stored.accepted) at;
         };
       };
       silent = tt;
@@ -126,8 +126,8 @@ module _ {F : Type 0} (f : Folders F) (docs docs' : Docs) (old new : F) (request
     }
 
     module _ (not_of_file : (fault : GateFault) → IsRefused (doc.Gate fault) → ⊥)
-        (refused : (files : FileName → File) (history : List Write) → AreAt docs files history → (fault : DocFault) → IsRefused fault ⊎ IsFileFault (file_of docs) fault ⊎ (fault ≡ doc.NoMemory)
-        → (refusal : Refusal) → halted_as fault ≡ Refused refusal → IsRefusedHere (world_of history) request refusal)
+        (refused : (files : FileName → File) (world : World) → AreAt docs files world.history → (fault : DocFault) → IsRefused fault ⊎ IsFileFault (file_of docs) fault ⊎ (fault ≡ doc.NoMemory)
+        → (refusal : Refusal) → halted_as fault ≡ Refused refusal → IsRefusedHere world request refusal)
         (full : (name : FileName) (length : Option ℕ) → IsFull docs id content name length → IsFullFor docs (Ok request) name length) where
       of_file : (fault : DocFault) (g : GateFault) → fault ≡ doc.Gate g → IsRefused fault ⊎ IsFileFault (file_of docs) fault ⊎ (fault ≡ doc.NoMemory) → IsFileFault (file_of docs) fault
       of_file fault g is (inl refused_so) = absurd (not_of_file g (subst IsRefused is refused_so))
@@ -145,8 +145,8 @@ module _ {F : Type 0} (f : Folders F) (docs docs' : Docs) (old new : F) (request
       why_halted (doc.Gate (gate.Full name length)) stored =
           let so = of_file (doc.Gate (gate.Full name length)) (gate.Full name length) refl stored.refused in (
             full name length (full_of id content (doc.Gate (gate.Full name length)) Accepted IsRefused name length refl so stored),
-            λ history. told_all (f.disk old) (λ d. AreAt docs d.now history → (write : Write) × IsWrite (world_of history) (Ok request) write)
-                (λ d at. (write_of history id content, writes d.now history at (stored.reached so))),
+            λ world. told_all (f.disk old) (λ d. AreAt docs d.now world.history → (write : Write) × IsWrite world (Ok request) write)
+                (λ d at. (write_of world.history id content, writes d.now world at (stored.reached so))),
           )
       why_halted (doc.Gate gate.NoMemory) stored = tt
       why_halted doc.NoMemory stored = tt
@@ -167,9 +167,9 @@ module _ {F : Type 0} (f : Folders F) (docs docs' : Docs) (old new : F) (request
       goes_on : (halt going : Halt) → halt ≡ going → GoesOn going → GoesOn halt
       goes_on halt going is = subst GoesOn (sym is)
 
-      abbrev stands_still_at : (same : IsSame docs docs' × (new ≡ old)) (history : List Write) → IfTold (f.disk old) (λ d. AreAt docs d.now history) → IfTold (f.disk new) (λ d. AreAt docs' d.now history)
-      stands_still_at same history at = subst (λ (folder : F). IfTold (f.disk folder) (λ d. AreAt docs' d.now history)) (sym same.1)
-          (told_now (f.disk old) (λ d. AreAt docs d.now history) (λ d. AreAt docs' d.now history) (λ d is. IsAt-same docs docs' d.now same.0 history is) at)
+      abbrev stands_still_at : (same : IsSame docs docs' × (new ≡ old)) (world : World) → IfTold (f.disk old) (λ d. AreAt docs d.now world.history) → IfTold (f.disk new) (λ d. AreAt docs' d.now world.history)
+      stands_still_at same world at = subst (λ (folder : F). IfTold (f.disk folder) (λ d. AreAt docs' d.now world.history)) (sym same.1)
+          (told_now (f.disk old) (λ d. AreAt docs d.now world.history) (λ d. AreAt docs' d.now world.history) (λ d is. IsAt-same docs docs' d.now same.0 world.history is) at)
 
       -- a write that the documents refused, or that failed
       pub stored_halted : (fault : DocFault) → out' ≡ out → AreOpen f docs old → Side (Err fault) → ActsHere f docs docs' old new request out out' (Err (halted_as fault))
@@ -184,16 +184,16 @@ module _ {F : Type 0} (f : Folders F) (docs docs' : Docs) (old new : F) (request
         }
         | inr same ↦ record {
           does = halted_here (halted_as fault)
-              (λ refusal is history at. record {
-                after = world_of history;
-                is_at = stands_still_at same history at;
-                allowed = told_now (f.disk old) (λ d. AreAt docs d.now history) (λ d. (world_of history ≡ world_of history) × IsRefusedHere (world_of history) request refusal)
-                    (λ d here. (refl, refused d.now history here fault stored.refused refusal is)) at;
+              (λ refusal is world at. record {
+                after = world;
+                is_at = stands_still_at same world at;
+                allowed = told_now (f.disk old) (λ d. AreAt docs d.now world.history) (λ d. (world ≡ world) × IsRefusedHere world request refusal)
+                    (λ d here. (refl, refused d.now world here fault stored.refused refusal is)) at;
               })
-              (λ is history at. record {
-                after = world_of history;
-                is_at = stands_still_at same history at;
-                allowed = told_all (f.disk old) (λ d. world_of history ≡ world_of history) (λ d. refl);
+              (λ is world at. record {
+                after = world;
+                is_at = stands_still_at same world at;
+                allowed = told_all (f.disk old) (λ d. world ≡ world) (λ d. refl);
               });
           silent = silent;
           disk = disk_same same is_open;
@@ -206,14 +206,14 @@ module _ {F : Type 0} (f : Folders F) (docs docs' : Docs) (old new : F) (request
 
 module _ {F : Type 0} {f : Folders F} {docs docs' : Docs} {old new : F} {request : Request} {out out' : List ℕ} {id : List ℕ} {content : Option Json} {Accepted : Type 0} {IsRefused : DocFault → Type 0}
     (reply : List ℕ)
-    (does : (files : FileName → File) (history : List Write) → AreAt docs files history → Accepted → DoesHere (world_of history) request reply (written (world_of history) (write_of history id content)))
-    (writes : (files : FileName → File) (history : List Write) → AreAt docs files history → Accepted → IsWrite (world_of history) (Ok request) (write_of history id content)) where
+    (does : (files : FileName → File) (world : World) → AreAt docs files world.history → Accepted → DoesHere world request reply (written world (write_of world.history id content)))
+    (writes : (files : FileName → File) (world : World) → AreAt docs files world.history → Accepted → IsWrite world (Ok request) (write_of world.history id content)) where
   pub wrote_here : {rev : Rev} → out' ≡ out ++ ended reply → Writes f docs docs' old new id content Accepted IsRefused (Ok rev) → ActsHere f docs docs' old new request out out' (Ok tt)
   wrote_here {rev} = stored_done f docs docs' old new request out out' id content Accepted IsRefused reply does writes rev
 
   pub unwritten_here : {fault : DocFault} → ((g : GateFault) → IsRefused (doc.Gate g) → ⊥)
-      → ((files : FileName → File) (history : List Write) → AreAt docs files history → (e : DocFault) → IsRefused e ⊎ IsFileFault (file_of docs) e ⊎ (e ≡ doc.NoMemory)
-      → (refusal : Refusal) → halted_as e ≡ Refused refusal → IsRefusedHere (world_of history) request refusal)
+      → ((files : FileName → File) (world : World) → AreAt docs files world.history → (e : DocFault) → IsRefused e ⊎ IsFileFault (file_of docs) e ⊎ (e ≡ doc.NoMemory)
+      → (refusal : Refusal) → halted_as e ≡ Refused refusal → IsRefusedHere world request refusal)
       → ((name : FileName) (length : Option ℕ) → IsFull docs id content name length → IsFullFor docs (Ok request) name length)
       → out' ≡ out → AreOpen f docs old → Writes f docs docs' old new id content Accepted IsRefused (Err fault) → ActsHere f docs docs' old new request out out' (Err (halted_as fault))
   unwritten_here {fault} not_of_file refused full = stored_halted f docs docs' old new request out out' id content Accepted IsRefused reply does writes not_of_file refused full fault

@@ -11,7 +11,8 @@ use Rattle.doc_file.specs.History.{Write}
 use Rattle.doc_file.proofs.Stores.{image_now}
 use Rattle.view_engine.specs.declared.request.Request.{Request}
 use Rattle.view_engine.specs.declared.refusal.Refusal.{Refusal}
-use Rattle.view_engine.specs.Engine.{StandsAround}
+use Rattle.view_engine.specs.World.{World}
+use Rattle.view_engine.specs.Worlds.{StandsAround}
 
 -- the files as one value
 files_same : (old new : FileName → File) → ((name : FileName) → new name ≡ old name) → old ≡ new
@@ -23,16 +24,16 @@ IsOpen-none docs old new is_open moves = subst (IsOpen docs) (files_same old.now
 pub IsAt-none : (docs : Docs) (history : List Write) (old new : Disk FileName) → IsAt docs old.now history → MovesNone old new → IsAt docs new.now history
 IsAt-none docs history old new at moves = subst (λ files. IsAt docs files history) (files_same old.now new.now (none_same old new moves)) at
 
-module _ (docs : Docs) (history : List Write) (request : Result Request Refusal) where
-  around : (files : FileName → File) → IsAt docs files history → (image : FileName → List ℕ) → IsImageOf files image → StandsAround (record { history = history }) request image
-  around files at image is = inl (image_now docs files at.is_open history at image is)
+module _ (docs : Docs) (world : World) (request : Result Request Refusal) where
+  around : (files : FileName → File) → IsAt docs files world.history → (image : FileName → List ℕ) → IsImageOf files image → StandsAround world request image
+  around files at image is = inl (image_now docs files at.is_open world.history at image is)
 
   -- while no file changes
-  pub LeavesOnly-none : (old new : Disk FileName) → IsAt docs old.now history → MovesNone old new → LeavesOnly (StandsAround (record { history = history }) request) old new
+  pub LeavesOnly-none : (old new : Disk FileName) → IsAt docs old.now world.history → MovesNone old new → LeavesOnly (StandsAround world request) old new
   LeavesOnly-none old new at moves =
-      weaker (Framed (λ n. ⊥) old.now (λ image. Unit {0})) (StandsAround (record { history = history }) request) old new
+      weaker (Framed (λ n. ⊥) old.now (λ image. Unit {0})) (StandsAround world request) old new
       (λ image framed. around old.now at image (λ name. framed.outside name (λ never. never))) moves.moments
 
   -- where nothing is called
-  pub LeavesOnly-still : (disk : Disk FileName) → IsAt docs disk.now history → LeavesOnly (StandsAround (record { history = history }) request) disk disk
-  LeavesOnly-still disk at = started (StandsAround (record { history = history }) request) disk (λ image is. around disk.now at image is)
+  pub LeavesOnly-still : (disk : Disk FileName) → IsAt docs disk.now world.history → LeavesOnly (StandsAround world request) disk disk
+  LeavesOnly-still disk at = started (StandsAround world request) disk (λ image is. around disk.now at image is)

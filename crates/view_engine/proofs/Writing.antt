@@ -11,7 +11,6 @@ use Rattle.doc_file.specs.declared.fault.DocFault.{DocFault}
 use Rattle.doc_file.specs.declared.fault.DocFault.TheVariants as doc
 use Rattle.doc_file.specs.Accepted.{State, state_in, state_of}
 use Rattle.doc_file.specs.Docs.{bytes_in, entries_of, last_of, IsAt}
-use Rattle.doc_file.specs.History.{Write}
 use Rattle.doc_file.specs.Stored.{next_revision}
 use Rattle.doc_file.specs.Writes.{IsAcceptedDelete, IsAcceptedPut, IsFileFault, IsRefusedDelete, IsRefusedPut}
 use Rattle.doc_file.proofs.Histories.{state_kept}
@@ -58,60 +57,58 @@ met file fault refusal P (inl is) same = (fault, is, refusal_is fault refusal sa
 met file fault refusal P (inr (inl of_file)) same = absurd (file_fault file fault refusal of_file same)
 met file fault refusal P (inr (inr spent)) same = absurd (no_memory fault refusal spent same)
 
-module _ (docs : Docs) (files : FileName → File) (history : List Write) (at : IsAt docs files history) where
-  put_accepted : (document : Json) → IsAcceptedPut (state_in (last_of docs (id_of document))) document → IsAcceptedPut (state_of history (id_of document)) document
-  put_accepted document accepted = subst (λ (s : State). IsAcceptedPut s document) (state_kept history (bytes_in docs files) (entries_of docs) at.each (id_of document)) accepted
+module _ (docs : Docs) (files : FileName → File) (world : World) (at : IsAt docs files world.history) where
+  put_accepted : (document : Json) → IsAcceptedPut (state_in (last_of docs (id_of document))) document → IsAcceptedPut (state_of world.history (id_of document)) document
+  put_accepted document accepted = subst (λ (s : State). IsAcceptedPut s document) (state_kept world.history (bytes_in docs files) (entries_of docs) at.each (id_of document)) accepted
 
   -- an accepted put
   pub put_does : (document : Json) → is_unbuilt document ≡ false → IsAcceptedPut (state_in (last_of docs (id_of document))) document
-      → accepted_reply docs (id_of document) ≡ write_text (id_of document) (next_revision history (id_of document))
-      → DoesPut (record { history = history }) document (accepted_reply docs (id_of document)) (written (record { history = history }) (put_write (record { history = history }) document))
+      → accepted_reply docs (id_of document) ≡ write_text (id_of document) (next_revision world.history (id_of document))
+      → DoesPut world document (accepted_reply docs (id_of document)) (written world (put_write world document))
   put_does document built accepted reply = record { built = built; accepted = put_accepted document accepted; prints = reply; wrote = refl }
 
   -- it is the request's write
   pub put_is_write : (members : List (List ℕ × Json)) → is_unbuilt (object (members_of members)) ≡ false
       → IsAcceptedPut (state_in (last_of docs (id_of (object (members_of members))))) (object (members_of members))
-      → accepted_reply docs (id_of (object (members_of members))) ≡ write_text (id_of (object (members_of members))) (next_revision history (id_of (object (members_of members))))
-      → IsWrite (record { history = history }) (Ok (Put members)) (put_write (record { history = history }) (object (members_of members)))
+      → accepted_reply docs (id_of (object (members_of members))) ≡ write_text (id_of (object (members_of members))) (next_revision world.history (id_of (object (members_of members))))
+      → IsWrite world (Ok (Put members)) (put_write world (object (members_of members)))
   put_is_write members built accepted reply =
       let document : Json = object (members_of members) in
-      let world : World = record { history = history } in
       (accepted_reply docs (id_of document), (written world (put_write world document), put_does document built accepted reply, refl))
 
   -- a reply to the write of an id
-  pub reply_to : (i j : List ℕ) → i ≡ j → accepted_reply docs i ≡ write_text i (next_revision history i) → accepted_reply docs j ≡ write_text j (next_revision history j)
-  reply_to i j same = subst (λ k. accepted_reply docs k ≡ write_text k (next_revision history k)) same
+  pub reply_to : (i j : List ℕ) → i ≡ j → accepted_reply docs i ≡ write_text i (next_revision world.history i) → accepted_reply docs j ≡ write_text j (next_revision world.history j)
+  reply_to i j same = subst (λ k. accepted_reply docs k ≡ write_text k (next_revision world.history k)) same
 
   -- an accepted deletion
   pub delete_does : (id : List ℕ) (given : Option (List ℕ)) → IsAcceptedDelete (state_in (last_of docs id)) given
-      → accepted_reply docs id ≡ write_text id (next_revision history id)
-      → DoesDelete (record { history = history }) id given (accepted_reply docs id) (written (record { history = history }) (delete_write (record { history = history }) id))
+      → accepted_reply docs id ≡ write_text id (next_revision world.history id)
+      → DoesDelete world id given (accepted_reply docs id) (written world (delete_write world id))
   delete_does id given accepted reply = record {
-    accepted = subst (λ (s : State). IsAcceptedDelete s given) (state_kept history (bytes_in docs files) (entries_of docs) at.each id) accepted;
+    accepted = subst (λ (s : State). IsAcceptedDelete s given) (state_kept world.history (bytes_in docs files) (entries_of docs) at.each id) accepted;
     prints = reply;
     wrote = refl;
   }
 
   pub delete_is_write : (id : List ℕ) (given : Option (List ℕ)) → IsAcceptedDelete (state_in (last_of docs id)) given
-      → accepted_reply docs id ≡ write_text id (next_revision history id)
-      → IsWrite (record { history = history }) (Ok (Delete id given)) (delete_write (record { history = history }) id)
+      → accepted_reply docs id ≡ write_text id (next_revision world.history id)
+      → IsWrite world (Ok (Delete id given)) (delete_write world id)
   delete_is_write id given accepted reply =
-      let world : World = record { history = history } in
       (accepted_reply docs id, (written world (delete_write world id), delete_does id given accepted reply, refl))
 
   pub put_refused : (file : GateFile) (document : Json) (fault : DocFault) (refusal : Refusal) → is_unbuilt document ≡ false
       → IsRefusedPut (state_in (last_of docs (id_of document))) document fault ⊎ IsFileFault file fault ⊎ (fault ≡ doc.NoMemory) → halted_as fault ≡ Refused refusal
-      → IsPutRefused (record { history = history }) document refusal
+      → IsPutRefused world document refusal
   put_refused file document fault refusal built is same =
       inr (
         built,
-        subst (λ (s : State). (f : DocFault) × IsRefusedPut s document f × (refusal ≡ refused_as f)) (state_kept history (bytes_in docs files) (entries_of docs) at.each (id_of document))
+        subst (λ (s : State). (f : DocFault) × IsRefusedPut s document f × (refusal ≡ refused_as f)) (state_kept world.history (bytes_in docs files) (entries_of docs) at.each (id_of document))
             (met file fault refusal (IsRefusedPut (state_in (last_of docs (id_of document))) document) is same),
       )
 
   pub delete_refused : (file : GateFile) (id : List ℕ) (given : Option (List ℕ)) (fault : DocFault) (refusal : Refusal)
       → IsRefusedDelete (state_in (last_of docs id)) given fault ⊎ IsFileFault file fault ⊎ (fault ≡ doc.NoMemory) → halted_as fault ≡ Refused refusal
-      → IsDeleteRefused (record { history = history }) id given refusal
+      → IsDeleteRefused world id given refusal
   delete_refused file id given fault refusal is same =
-      subst (λ (s : State). (f : DocFault) × IsRefusedDelete s given f × (refusal ≡ refused_as f)) (state_kept history (bytes_in docs files) (entries_of docs) at.each id)
+      subst (λ (s : State). (f : DocFault) × IsRefusedDelete s given f × (refusal ≡ refused_as f)) (state_kept world.history (bytes_in docs files) (entries_of docs) at.each id)
       (met file fault refusal (IsRefusedDelete (state_in (last_of docs id)) given) is same)

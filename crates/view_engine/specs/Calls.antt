@@ -17,7 +17,7 @@ use Rattle.view_engine.specs.declared.refusal.Refusal.{Refusal}
 use Rattle.view_engine.specs.declared.request.Request.{Request}
 use Rattle.view_engine.specs.declared.request.Request.TheVariants.{Put, Delete, Get, Info}
 use Rattle.view_engine.specs.Delete.{DoesDelete, IsDeleteRefused}
-use Rattle.view_engine.specs.Disks.{world_of, HasGivenUp, IfStopped, IsReason, KeepsDisk, MayGoOn, OverHistory}
+use Rattle.view_engine.specs.Disks.{HasGivenUp, IfStopped, IsReason, KeepsDisk, MayGoOn, OverWorld}
 use Rattle.view_engine.specs.Engine.{Appends, HasChild, IsAt, Leaves}
 use Rattle.view_engine.specs.Get.{get_refusal, DoesGet, DoesInfo}
 use Rattle.view_engine.specs.Halts.{HasGoneOn}
@@ -56,15 +56,13 @@ module _ {F : Type 0} (f : Folders F) where
     pub record IsDoneHere : Type 0 where
       pub reply : List ℕ
       pub appended : out' ≡ out ++ ended reply
-      pub does : OverHistory f docs old (λ history. LeavesWorld docs' old new (DoesHere (world_of history) request reply))
+      pub does : OverWorld f docs old (λ world. LeavesWorld docs' old new (DoesHere world request reply))
 
     -- what it does, by how it ends
     abbrev pub DoesHereBy : Result (Unit {0}) Halt → Type 0
     DoesHereBy (Ok done) = IsDoneHere
-    DoesHereBy (Err (Refused refusal)) = OverHistory f docs old
-        (λ history. LeavesWorld docs' old new (λ after. (after ≡ world_of history) × IsRefusedHere (world_of history) request refusal))
-    DoesHereBy (Err (Stopped NoMemory)) = OverHistory f docs old
-        (λ history. LeavesWorld docs' old new (λ after. after ≡ world_of history))
+    DoesHereBy (Err (Refused refusal)) = OverWorld f docs old (λ world. LeavesWorld docs' old new (λ after. (after ≡ world) × IsRefusedHere world request refusal))
+    DoesHereBy (Err (Stopped NoMemory)) = OverWorld f docs old (λ world. LeavesWorld docs' old new (λ after. after ≡ world))
     DoesHereBy (Err (Stopped fault)) = Unit {0}
 
     pub record ActsHere (result : Result (Unit {0}) Halt) : Type 0 where

@@ -6,8 +6,6 @@ use Rattle.view_ports.specs.declared.file_name.FileName.{FileName}
 use Rattle.view_ports.specs.declared.folder.Folder.{Ghosts as Folders}
 use Rattle.doc_file.specs.declared.docs.Docs.{Docs}
 use Rattle.doc_file.specs.Docs.{IsAt as AreAt, IsOpen}
-use Rattle.doc_file.specs.Held.{Stands as StandsFor}
-use Rattle.doc_file.specs.History.{Write}
 use Rattle.view_engine.specs.declared.halt.Halt.{Halt}
 use Rattle.view_engine.specs.declared.halt.Halt.TheVariants.{Refused, Stopped}
 use Rattle.view_engine.specs.declared.halt.StepFault.{StepFault}
@@ -15,7 +13,7 @@ use Rattle.view_engine.specs.declared.halt.StepFault.TheVariants.{DiskFault, Dam
 use Rattle.view_engine.specs.declared.refusal.Refusal.{Refusal}
 use Rattle.view_engine.specs.declared.request.Request.{Request}
 use Rattle.view_engine.specs.declared.request.Request.TheVariants.{Get, View}
-use Rattle.view_engine.specs.Engine.{StandsAround}
+use Rattle.view_engine.specs.Worlds.{StandsAround, StandsFor}
 use Rattle.view_engine.specs.Halts.{GoesOn, IsDamage, IsFullFor, IsStill, WouldWrite}
 use Rattle.view_engine.specs.World.{World}
 
@@ -42,13 +40,10 @@ ReadsDocuments (Ok (Get id)) = Unit {0}
 ReadsDocuments (Ok (View name limits)) = Unit {0}
 ReadsDocuments other = ⊥
 
-abbrev pub world_of : List Write → World
-world_of history = record { history = history }
-
 module _ {F : Type 0} (f : Folders F) where
-  -- for each history that the documents and the disk, where it is told, are at
-  abbrev pub OverHistory : Docs → F → (List Write → Type 0) → Type 0
-  OverHistory docs folder P = (history : List Write) → IfTold (f.disk folder) (λ d. AreAt docs d.now history) → P history
+  -- for each world that the documents and the disk, where it is told, are at
+  abbrev pub OverWorld : Docs → F → (World → Type 0) → Type 0
+  OverWorld docs folder P = (world : World) → IfTold (f.disk folder) (λ d. AreAt docs d.now world.history) → P world
 
   abbrev pub AreOpen : Docs → F → Type 0
   AreOpen docs folder = IfTold (f.disk folder) (λ d. IsOpen docs d.now)
@@ -59,22 +54,22 @@ module _ {F : Type 0} (f : Folders F) where
 
   -- what the disk may hold at each moment of a request, and where the documents are after it
   pub record KeepsDisk (docs docs' : Docs) (old new : F) (request : Result Request Refusal) (HasGivenUp GoesOn : Type 0) : Type 0 where
-    -- a crash leaves the history before the request, or the one with the write that the request makes
-    pub moments : OverHistory docs old (λ history. CrashLeaves old new (StandsAround (world_of history) request))
-    -- where it is refused or memory runs out, no file changes, and a crash leaves the history before it
+    -- a crash leaves the world before the request, or the one with the write that the request makes
+    pub moments : OverWorld docs old (λ world. CrashLeaves old new (StandsAround world request))
+    -- where it is refused or memory runs out, no file changes, and a crash leaves the world before it
     pub unmoved : HasGivenUp → Tells (f.disk old) (f.disk new) MovesNone
-    pub unwritten : HasGivenUp → OverHistory docs old (λ history. CrashLeaves old new (λ image. StandsFor image history))
+    pub unwritten : HasGivenUp → OverWorld docs old (λ world. CrashLeaves old new (λ image. StandsFor image world))
     -- only a write that is accepted changes a file
     pub still : IsStill docs (f.disk old) (f.disk new) request
     -- where the engine may go on, its documents are open
     pub is_open : GoesOn → AreOpen docs' new
 
-  -- the cause of a fault of a call that only reads: the folder's, or a damaged place, which there is under no history
+  -- the cause of a fault of a call that only reads: the folder's, or a damaged place, which there is in no world
   abbrev pub IsReadReason : Docs → F → F → StepFault → Type 0
   IsReadReason docs old new DiskFault = Rose (f.faults old) (f.faults new)
   IsReadReason docs old new (Damaged name at) =
       IfTold (f.disk old) (λ d. IsDamage docs d.now name at)
-      × ((history : List Write) → IfTold (f.disk old) (λ d. AreAt docs d.now history → ⊥))
+      × ((world : World) → IfTold (f.disk old) (λ d. AreAt docs d.now world.history → ⊥))
   IsReadReason docs old new (Full name length) = ⊥
   IsReadReason docs old new NoMemory = Unit {0}
 

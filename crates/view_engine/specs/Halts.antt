@@ -23,6 +23,7 @@ use Rattle.view_engine.specs.declared.refusal.Refusal.TheVariants as refusal
 use Rattle.view_engine.specs.declared.request.Request.{Request}
 use Rattle.view_engine.specs.declared.request.Request.TheVariants.{Put, Delete}
 use Rattle.view_engine.specs.Steps.{IsWrite}
+use Rattle.view_engine.specs.World.{World}
 
 abbrev pub halted_as : DocFault → Halt
 halted_as doc.BadId = Refused refusal.BadId
@@ -80,13 +81,13 @@ IsFullFor docs (Ok (Put document)) name length = IsFull docs (id_of (object (mem
 IsFullFor docs (Ok (Delete id given)) name length = IsFull docs id None name length
 IsFullFor docs other name length = ⊥
 
--- the request is a write that is accepted at the end of the history
+-- the request is a write that is accepted in the world
 abbrev pub WouldWrite : Docs → Option (Disk FileName) → Result Request Refusal → Type 0
-WouldWrite docs disk request = (history : List Write) → IfTold disk (λ d. IsAt docs d.now history → (write : Write) × IsWrite (record { history = history }) request write)
+WouldWrite docs disk request = (world : World) → IfTold disk (λ d. IsAt docs d.now world.history → (write : Write) × IsWrite world request write)
 
 -- ---- what is written
 
--- where the request isn't a write that is accepted at the end of the history, no file changes
+-- where the request isn't a write that is accepted in the world, no file changes
 abbrev pub IsStill : Docs → Option (Disk FileName) → Option (Disk FileName) → Result Request Refusal → Type 0
 IsStill docs old new request =
-    (history : List Write) → IfTold old (λ d. IsAt docs d.now history) → ((write : Write) → IsWrite (record { history = history }) request write → ⊥) → Tells old new MovesNone
+    (world : World) → IfTold old (λ d. IsAt docs d.now world.history) → ((write : Write) → IsWrite world request write → ⊥) → Tells old new MovesNone

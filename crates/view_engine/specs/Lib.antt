@@ -14,6 +14,7 @@ pub mod Steps
 pub mod Replies
 pub mod Mapped
 pub mod Halts
+pub mod Worlds
 pub mod Engine
 pub mod Disks
 pub mod Calls

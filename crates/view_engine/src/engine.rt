@@ -6,15 +6,14 @@ ghost use Rattle.view_ports.specs.Disk.{IfTold, LeavesOnly, Tells};
 ghost use Rattle.view_ports.specs.Lines.{ended};
 ghost use Rattle.view_ports.specs.declared.file_name.FileName.{FileName};
 ghost use Rattle.child_pool.specs.Languages.{languages_in};
-ghost use Rattle.child_pool.specs.Pools.{Stands, languages_of};
-ghost use Rattle.doc_file.specs.Docs.{HoldsHistory, IsAt as AreAt, IsDamagedAt, IsOpen};
-ghost use Rattle.doc_file.specs.Held.{Stands as StandsFor};
-ghost use Rattle.doc_file.specs.History.{Write};
+ghost use Rattle.doc_file.specs.Docs.{IsDamagedAt};
 ghost use Rattle.view_engine.specs.Calls.{scene, IsStep, IsToldAs, Performed};
 ghost use Rattle.view_engine.specs.Disks.{AreOpen};
 ghost use Rattle.view_engine.specs.Engine.{HasStopped};
 ghost use Rattle.view_engine.specs.Halts.{fault_of, halted_as};
 ghost use Rattle.view_engine.specs.Refusals.{refusal_text};
+ghost use Rattle.view_engine.specs.World.{World};
+ghost use Rattle.view_engine.specs.Worlds.{Holds, IsAtWorld, IsChildless, IsOpen, StandsFor, languages};
 
 mod view;
 
@@ -41,20 +40,20 @@ impl Engine {
     /// Opens the documents of a folder. There are no children yet. The words of the form LANG=PATH name the paths of languages.
     ///
     /// The documents' file is `Damaged` where a slot of its pair is, and else at the place of its root record, where none
-    /// stands there. Where nothing is pending of the files and they stand for a history, so does each image from then on,
-    /// and no file is `Damaged`.
+    /// stands there. Where nothing is pending in the files and they hold a world, each image from then on stands for it, and
+    /// no file is `Damaged`.
     pub fn open<F: Folder>(
         alloc: Global,
         folder: &mut F,
         words: &[String],
     ) -> Result<Engine, StepFault>
-        ensures documents { (history : List Write) → IfTold (F.disk folder.old) (λ d. HoldsHistory d.now history) → IfTold (F.disk folder.new) (λ d. IfOk result (λ engine. AreAt engine.docs d.now history)) }
-        ensures moments { (history : List Write) → IfTold (F.disk folder.old) (λ d. HoldsHistory d.now history) → Tells (F.disk folder.old) (F.disk folder.new) (LeavesOnly (λ image. StandsFor image history)) }
-        ensures open { IfTold (F.disk folder.new) (λ d. IfOk result (λ engine. IsOpen engine.docs d.now)) }
-        ensures childless { IfOk result (λ engine. (calls : List Call) → Stands engine.pool calls) }
-        ensures languages { IfOk result (λ engine. languages_of engine.pool ≡ languages_in (map string_bytes words.now)) }
+        ensures documents { (world : World) → IfTold (F.disk folder.old) (λ d. Holds d.now world) → IfTold (F.disk folder.new) (λ d. IfOk result (λ engine. IsAtWorld engine d.now world)) }
+        ensures moments { (world : World) → IfTold (F.disk folder.old) (λ d. Holds d.now world) → Tells (F.disk folder.old) (F.disk folder.new) (LeavesOnly (λ image. StandsFor image world)) }
+        ensures open { IfTold (F.disk folder.new) (λ d. IfOk result (λ engine. IsOpen engine d.now)) }
+        ensures childless { IfOk result (λ engine. IsChildless engine) }
+        ensures languages { IfOk result (λ engine. languages engine ≡ languages_in (map string_bytes words.now)) }
         ensures damaged { IfTold (F.disk folder.old) (λ d. (name : FileName) (at : ℕ) → result ≡ Err (StepFault.Damaged name at) → IsDamagedAt d.now name at) }
-        ensures sound { (history : List Write) → IfTold (F.disk folder.old) (λ d. HoldsHistory d.now history → (name : FileName) (at : ℕ) → result ≡ Err (StepFault.Damaged name at) → ⊥) }
+        ensures sound { (world : World) → IfTold (F.disk folder.old) (λ d. Holds d.now world → (name : FileName) (at : ℕ) → result ≡ Err (StepFault.Damaged name at) → ⊥) }
         ensures room { (name : FileName) (length : Option ℕ) → result ≡ Err (StepFault.Full name length) → ⊥ }
         ensures cause { HasCauseIf (λ fault. fault ≡ StepFault.DiskFault) (F.faults folder.old) (F.faults folder.new) result }
     {
@@ -99,7 +98,7 @@ impl Engine {
 
     /// Stops all children.
     pub fn finish<C: Servers>(&mut self, servers: &mut C)
-        ensures stopped { (calls : List Call) → C.may_follow servers.old calls → HasStopped (C.may_follow servers.new) self.new.pool calls }
+        ensures stopped { (calls : List Call) → C.may_follow servers.old calls → HasStopped (C.may_follow servers.new) self.new calls }
         ensures faults { C.faults servers.new ≡ C.faults servers.old }
     {
         self.pool.stop_all(servers);

@@ -7,9 +7,10 @@ use Rattle.view_ports.specs.declared.run_end.RunEnd.TheVariants.{OutOfMemory}
 use Rattle.view_ports.proofs.Counting.{Rose-earlier}
 use Rattle.view_ports.proofs.Told.{told_pair}
 use Rattle.child_pool.specs.Languages.{languages_in}
-use Rattle.doc_file.specs.Docs.{HoldsHistory}
 use Rattle.view_engine.specs.declared.halt.StepFault.{StepFault}
 use Rattle.view_engine.specs.declared.halt.StepFault.TheVariants.{Damaged, DiskFault}
+use Rattle.view_engine.specs.Worlds.{Holds}
+use Rattle.view_engine.proofs.Worlds.{starts_at}
 use Rattle.couchview_cli.specs.declared.serve.ServeEnd.{ServeEnd}
 use Rattle.couchview_cli.specs.declared.serve.ServeEnd.TheVariants.{Stopped}
 use Rattle.couchview_cli.specs.declared.session.Session.{Session}
@@ -27,7 +28,7 @@ returns-in-Err-clause-serves g c = λ opening holds.
     let before : Outside = record { left = g.S.Source.left c.args.source.now; held = g.K.Sink.held c.args.sink.now; disk = disk; disk_faults = g.F.Folder.faults c.args.folder.now; faults = g.C.Servers.faults c.args.servers.now } in
     inr (inr (unopened g.C.Servers.functions g.C.Servers.honest (languages_in (map string_bytes c.args.words.now)) opening before (g.K.Sink.held c.close.new.sink) (g.F.Folder.disk c.open.new.folder) (g.F.Folder.faults c.open.new.folder)
     (g.C.Servers.may_follow c.args.servers.now) c.requires (c.in-Err.ensures.moments opening holds) c.in-Err.fault c.close.result c.close.ensures.closes (subst (λ (opened : Result Session StepFault). HasCauseIf (λ fault. fault ≡ DiskFault) (g.F.Folder.faults c.args.folder.now) (g.F.Folder.faults c.open.new.folder) opened) c.in-Err.is c.open.ensures.cause).failed
-    (told_pair disk (λ d. HoldsHistory d.now opening) (λ d. HoldsHistory d.now opening → (name : FileName) (at : ℕ) → c.open.result ≡ Err (Damaged name at) → ⊥) (λ d. (name : FileName) (at : ℕ) → c.in-Err.fault ≡ Damaged name at → ⊥)
+    (told_pair disk (λ d. Holds d.now opening) (λ d. Holds d.now opening → (name : FileName) (at : ℕ) → c.open.result ≡ Err (Damaged name at) → ⊥) (λ d. (name : FileName) (at : ℕ) → c.in-Err.fault ≡ Damaged name at → ⊥)
     (λ d held never name at is. never held name at (c.in-Err.is ∙ ap Err is)) holds (c.open.ensures.sound opening))
     (λ name size is. c.open.ensures.room name size (c.in-Err.is ∙ ap Err is))))
 
@@ -56,7 +57,7 @@ returns-in-Run-clause-serves g c = λ opening holds.
     let made = c.in-Ok.ensures in
     let start : Progress functions honest (g.F.Folder.disk c.open.new.folder) (g.C.Servers.may_follow c.args.servers.now) (g.C.Servers.faults c.args.servers.now) (origin_of languages opening before) before.held [] c.in-Ok.session =
     Progress-start functions honest (g.F.Folder.disk c.open.new.folder) (g.C.Servers.may_follow c.args.servers.now) (origin_of languages opening before) c.in-Ok.session made.languages
-    (record { documents = made.documents opening holds; child = record { child = made.childless []; follows = c.requires; counts = refl } }) (made.moments opening holds) made.pending in
+    (starts_at (g.F.Folder.disk c.open.new.folder) (g.C.Servers.may_follow c.args.servers.now) (g.C.Servers.faults c.args.servers.now) c.in-Ok.session.responder.engine opening (made.documents opening holds) made.childless c.requires) (made.moments opening holds) made.pending in
     let comes = c.run-end.ensures.comes in
     let come : ComesTo functions honest (origin_of languages opening before) (g.K.Sink.held ran.sink) (g.F.Folder.disk ran.folder) (g.C.Servers.may_follow ran.servers) (g.C.Servers.faults ran.servers) comes.0 ran.session.responder.engine c.run-end.result =
     comes.2 (origin_of languages opening before) start in
@@ -64,7 +65,7 @@ returns-in-Run-clause-serves g c = λ opening holds.
     let after : Outside = record { left = g.S.Source.left ran.source; held = g.K.Sink.held ran.sink; disk = g.F.Folder.disk ran.folder; disk_faults = g.F.Folder.faults ran.folder; faults = g.C.Servers.faults c.stop.new.servers } in
     subst (λ (status : ℕ). Serves functions honest languages opening before after (AreLeft (g.C.Servers.may_follow c.stop.new.servers)) status) (sym c.status-in-Run.ensures)
     (inl (finishes functions honest languages opening before (g.S.Source.left ran.source) (g.K.Sink.held ran.sink) (g.F.Folder.disk ran.folder) (g.F.Folder.faults ran.folder) (g.C.Servers.may_follow ran.servers) (g.C.Servers.may_follow c.stop.new.servers)
-    (g.C.Servers.faults ran.servers) (g.C.Servers.faults c.stop.new.servers) ran.session.responder.engine c.stop.new.self.responder.engine.pool c.stop.ensures.stopped c.stop.ensures.faults
+    (g.C.Servers.faults ran.servers) (g.C.Servers.faults c.stop.new.servers) ran.session.responder.engine c.stop.new.self.responder.engine c.stop.ensures.stopped c.stop.ensures.faults
     comes.0 c.in-Run.end comes.1 end.0 end.1))
 
 pub returns-clause-serves : goal.returns-clause-serves
@@ -77,12 +78,12 @@ returns-clause-serves g c = λ opening holds.
     let made = c.in-Ok.ensures in
     let start : Progress functions honest (g.F.Folder.disk c.open.new.folder) (g.C.Servers.may_follow c.args.servers.now) (g.C.Servers.faults c.args.servers.now) (origin_of languages opening before) before.held [] c.in-Ok.session =
     Progress-start functions honest (g.F.Folder.disk c.open.new.folder) (g.C.Servers.may_follow c.args.servers.now) (origin_of languages opening before) c.in-Ok.session made.languages
-    (record { documents = made.documents opening holds; child = record { child = made.childless []; follows = c.requires; counts = refl } }) (made.moments opening holds) made.pending in
+    (starts_at (g.F.Folder.disk c.open.new.folder) (g.C.Servers.may_follow c.args.servers.now) (g.C.Servers.faults c.args.servers.now) c.in-Ok.session.responder.engine opening (made.documents opening holds) made.childless c.requires) (made.moments opening holds) made.pending in
     let comes = c.run-end.ensures.comes in
     let come : ComesTo functions honest (origin_of languages opening before) (g.K.Sink.held ran.sink) (g.F.Folder.disk ran.folder) (g.C.Servers.may_follow ran.servers) (g.C.Servers.faults ran.servers) comes.0 ran.session.responder.engine c.run-end.result =
     comes.2 (origin_of languages opening before) start in
     let end = subst (λ (e : ServeEnd). ComesTo functions honest (origin_of languages opening before) (g.K.Sink.held ran.sink) (g.F.Folder.disk ran.folder) (g.C.Servers.may_follow ran.servers) (g.C.Servers.faults ran.servers) comes.0 ran.session.responder.engine e) c.in-Stopped.is come in
     inr (inl (cut_short functions honest languages opening before (g.S.Source.left ran.source) (g.K.Sink.held c.close-in-Stopped.new.sink) (g.F.Folder.disk ran.folder) (g.F.Folder.faults ran.folder) (g.C.Servers.may_follow ran.servers) (g.C.Servers.may_follow c.stop.new.servers)
-    (g.C.Servers.faults ran.servers) (g.C.Servers.faults c.stop.new.servers) ran.session.responder.engine c.stop.new.self.responder.engine.pool c.stop.ensures.stopped c.stop.ensures.faults
+    (g.C.Servers.faults ran.servers) (g.C.Servers.faults c.stop.new.servers) ran.session.responder.engine c.stop.new.self.responder.engine c.stop.ensures.stopped c.stop.ensures.faults
     (g.K.Sink.held ran.sink) comes.0 c.in-Stopped.fault c.close-in-Stopped.result comes.1 end.0
     (λ is. Rose-earlier (g.F.Folder.faults c.args.folder.now) (g.F.Folder.faults c.open.new.folder) (g.F.Folder.faults ran.folder) c.open.ensures.cause.later (c.run-end.ensures.disk_failed (c.in-Stopped.is ∙ ap Stopped is))) end.1 c.close-in-Stopped.ensures.closes))

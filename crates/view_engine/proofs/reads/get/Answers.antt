@@ -8,7 +8,6 @@ use Rattle.doc_file.specs.Docs.{IsAt}
 use Rattle.doc_file.specs.History.{live_document}
 use Rattle.view_engine.specs.declared.refusal.Refusal.{Refusal}
 use Rattle.view_engine.specs.declared.halt.Halt.TheVariants.{Refused}
-use Rattle.view_engine.specs.Disks.{world_of}
 use Rattle.view_engine.specs.Get.{get_refusal}
 use Rattle.view_engine.specs.Halts.{halted_as}
 use Rattle.view_engine.proofs.Reading.{read_done, read_spent, read_stopped, why_of_get, IsMetIn}
@@ -29,12 +28,12 @@ returns-in_ok-extend_from_slice-in-Ok-clause-acts g c =
     let document = json c.in-Ok.document in
     let docs = c.args.docs.now in
     let appended : c.extend_from_slice.new.self.items ≡ c.args.out.now.items ++ ended (text_of document) = search rules in
-    read_done c.requires.open c.in-Ok.ensures.disk c.in-Ok.ensures.cause.later (text_of document) appended (λ history.
-    told_now (g.F.Folder.disk c.args.folder.now) (λ d. IsAt docs d.now history → live_document history c.args.id.now ≡ Some document) _ (λ d live at. ((document, live at, refl), refl))
-    (c.in-Ok.ensures.document history))
+    read_done c.requires.open c.in-Ok.ensures.disk c.in-Ok.ensures.cause.later (text_of document) appended (λ world.
+    told_now (g.F.Folder.disk c.args.folder.now) (λ d. IsAt docs d.now world.history → live_document world.history c.args.id.now ≡ Some document) _ (λ d live at. ((document, live at, refl), refl))
+    (c.in-Ok.ensures.document world.history))
 
 pub returns-in-Err-clause-acts : goal.returns-in-Err-clause-acts
 returns-in-Err-clause-acts g c =
-    let refused : (refusal : Refusal) → halted_as c.in-Err.fault ≡ Refused refusal → IsMetIn g.F.Folder c.args.docs.now c.args.folder.now (λ history. get_refusal (world_of history) c.args.id.now ≡ Some refusal) = search rules in
+    let refused : (refusal : Refusal) → halted_as c.in-Err.fault ≡ Refused refusal → IsMetIn g.F.Folder c.args.docs.now c.args.folder.now (λ world. get_refusal world c.args.id.now ≡ Some refusal) = search rules in
     rw c.from.ensures (read_stopped c.requires.open c.in-Err.ensures.disk c.in-Err.ensures.cause.later tt refl refused
     (why_of_get _ g.F.Folder c.args.docs.now c.args.folder.now c.get.new.folder c.args.id.now c.in-Err.fault c.in-Err.ensures.cause c.in-Err.ensures.damaged c.in-Err.ensures.sound c.in-Err.ensures.faults))

@@ -31,8 +31,8 @@ returns-in-Ok-clause-acts g c =
     let given = option_map (λ text. text.now) c.text_of.result in
     let appended : c.extend_from_slice.new.self.items ≡ c.args.out.now.items ++ ended (accepted_reply docs id) = search rules in
     both (λ i rev. ActsHere g.F.Folder docs c.delete.new.self c.args.folder.now c.delete.new.folder (Delete i rev) c.args.out.now.items c.extend_from_slice.new.self.items (Ok tt)) c.as_str-2.ensures c.text_of.ensures
-    (wrote_here (accepted_reply docs id) (λ files history at accepted. delete_does docs files history at id given accepted (reply_to docs files history at c.as_str.result.now id (c.as_str.ensures ∙ sym c.as_str-2.ensures) (c.in_ok-reply.ensures.history files history at)))
-    (λ files history at accepted. delete_is_write docs files history at id given accepted (reply_to docs files history at c.as_str.result.now id (c.as_str.ensures ∙ sym c.as_str-2.ensures) (c.in_ok-reply.ensures.history files history at))) appended c.in-Ok.ensures)
+    (wrote_here (accepted_reply docs id) (λ files world at accepted. delete_does docs files world at id given accepted (reply_to docs files world at c.as_str.result.now id (c.as_str.ensures ∙ sym c.as_str-2.ensures) (c.in_ok-reply.ensures.history files world.history at)))
+    (λ files world at accepted. delete_is_write docs files world at id given accepted (reply_to docs files world at c.as_str.result.now id (c.as_str.ensures ∙ sym c.as_str-2.ensures) (c.in_ok-reply.ensures.history files world.history at))) appended c.in-Ok.ensures)
 
 pub returns-clause-acts : goal.returns-clause-acts
 returns-clause-acts g c =
@@ -41,7 +41,7 @@ returns-clause-acts g c =
     let given = option_map (λ text. text.now) c.text_of.result in
     let silent : c.truncate.new.self.items ≡ c.args.out.now.items = grind (arith, common_steps) in
     rw c.from.ensures (both (λ i rev. ActsHere g.F.Folder docs c.delete.new.self c.args.folder.now c.delete.new.folder (Delete i rev) c.args.out.now.items c.truncate.new.self.items (Err (halted_as c.in-Err.fault)))
-    c.as_str-2.ensures c.text_of.ensures (unwritten_here (accepted_reply docs id) (λ files history at accepted. delete_does docs files history at id given accepted (reply_to docs files history at c.as_str.result.now id (c.as_str.ensures ∙ sym c.as_str-2.ensures) (c.in_ok-reply.ensures.history files history at)))
-    (λ files history at accepted. delete_is_write docs files history at id given accepted (reply_to docs files history at c.as_str.result.now id (c.as_str.ensures ∙ sym c.as_str-2.ensures) (c.in_ok-reply.ensures.history files history at)))
+    c.as_str-2.ensures c.text_of.ensures (unwritten_here (accepted_reply docs id) (λ files world at accepted. delete_does docs files world at id given accepted (reply_to docs files world at c.as_str.result.now id (c.as_str.ensures ∙ sym c.as_str-2.ensures) (c.in_ok-reply.ensures.history files world.history at)))
+    (λ files world at accepted. delete_is_write docs files world at id given accepted (reply_to docs files world at c.as_str.result.now id (c.as_str.ensures ∙ sym c.as_str-2.ensures) (c.in_ok-reply.ensures.history files world.history at)))
     (delete_not_of_file (state_in (last_of docs id)) given)
-    (λ files history at fault is refusal met. delete_refused docs files history at docs.file id given fault refusal is met) (λ name length full. full) silent c.requires.open c.in-Err.ensures))
+    (λ files world at fault is refusal met. delete_refused docs files world at docs.file id given fault refusal is met) (λ name length full. full) silent c.requires.open c.in-Err.ensures))

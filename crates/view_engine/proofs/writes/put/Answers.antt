@@ -34,8 +34,8 @@ returns-in-Ok-clause-acts g c =
     let json : Json = object (members_of c.args.document) in
     let built = sym c.in_ok-is_unbuilt.ensures ∙ c.if-branch.false in
     let appended : c.extend_from_slice.new.self.items ≡ c.args.out.now.items ++ ended (accepted_reply docs (id_of json)) = search rules in
-    wrote_here (accepted_reply docs (id_of json)) (λ files history at accepted. put_does docs files history at json built accepted (reply_to docs files history at c.id_of.result.now (id_of json) c.id_of.ensures (c.in_ok-reply.ensures.history files history at)))
-    (λ files history at accepted. put_is_write docs files history at c.args.document built accepted (reply_to docs files history at c.id_of.result.now (id_of json) c.id_of.ensures (c.in_ok-reply.ensures.history files history at))) appended c.in-Ok.ensures
+    wrote_here (accepted_reply docs (id_of json)) (λ files world at accepted. put_does docs files world at json built accepted (reply_to docs files world at c.id_of.result.now (id_of json) c.id_of.ensures (c.in_ok-reply.ensures.history files world.history at)))
+    (λ files world at accepted. put_is_write docs files world at c.args.document built accepted (reply_to docs files world at c.id_of.result.now (id_of json) c.id_of.ensures (c.in_ok-reply.ensures.history files world.history at))) appended c.in-Ok.ensures
 
 pub returns-clause-acts : goal.returns-clause-acts
 returns-clause-acts g c =
@@ -43,7 +43,7 @@ returns-clause-acts g c =
     let json : Json = object (members_of c.args.document) in
     let built = sym c.in_ok-is_unbuilt.ensures ∙ c.if-branch.false in
     let silent : c.truncate.new.self.items ≡ c.args.out.now.items = grind (arith, common_steps) in
-    rw c.from.ensures (unwritten_here (accepted_reply docs (id_of json)) (λ files history at accepted. put_does docs files history at json built accepted (reply_to docs files history at c.id_of.result.now (id_of json) c.id_of.ensures (c.in_ok-reply.ensures.history files history at)))
-    (λ files history at accepted. put_is_write docs files history at c.args.document built accepted (reply_to docs files history at c.id_of.result.now (id_of json) c.id_of.ensures (c.in_ok-reply.ensures.history files history at)))
+    rw c.from.ensures (unwritten_here (accepted_reply docs (id_of json)) (λ files world at accepted. put_does docs files world at json built accepted (reply_to docs files world at c.id_of.result.now (id_of json) c.id_of.ensures (c.in_ok-reply.ensures.history files world.history at)))
+    (λ files world at accepted. put_is_write docs files world at c.args.document built accepted (reply_to docs files world at c.id_of.result.now (id_of json) c.id_of.ensures (c.in_ok-reply.ensures.history files world.history at)))
     (put_not_of_file (state_in (last_of docs (id_of json))) json)
-    (λ files history at fault is refusal met. put_refused docs files history at docs.file json fault refusal built is met) (λ name length full. full) silent c.requires.open c.in-Err.ensures)
+    (λ files world at fault is refusal met. put_refused docs files world at docs.file json fault refusal built is met) (λ name length full. full) silent c.requires.open c.in-Err.ensures)

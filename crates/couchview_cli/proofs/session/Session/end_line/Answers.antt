@@ -4,8 +4,8 @@ use Rattle.std.proofs.Common.{◌≡◌, ◌++◌, List, ℕ, [], length, refl, 
 use Rattle.std.proofs.lemmas.List.{nil_from_length}
 use Rattle.std.proofs.lemmas.Bool.{eqb-true}
 use Rattle.view_ports.specs.Lines.{ended}
-use Rattle.child_pool.specs.Pools.{languages_of}
 use Rattle.view_engine.specs.Engine.{IsAt}
+use Rattle.view_engine.specs.Worlds.{languages as languages_of}
 use Rattle.couchview_cli.specs.declared.session.SessionError.{SessionError}
 use Rattle.couchview_cli.specs.Session.{EndedBy, Origin, Progress}
 use Rattle.couchview_cli.proofs.Progressing.{Progress-line, Answered-alone, Answered-pending, IsHalted-alone, IsHalted-pending}
@@ -56,7 +56,7 @@ returns-in-Err-answer-clause-err g c =
     let may_follow = g.C.Servers.may_follow servers in
     let faults = g.C.Servers.faults servers in
     let after = c.answer-2 in
-    let known = ap (λ (r : _). languages_of r.engine.pool) c.in-Ok.ensures.same in
+    let known = ap (λ (r : _). languages_of r.engine) c.in-Ok.ensures.same in
     let line_is = c.deref.ensures.value ∙ c.in-Ok.ensures.ok in
     let P : SessionError → Type 0 = λ e. (origin : Origin) (bytes more : List ℕ) → Progress g.C.Servers.functions g.C.Servers.honest disk may_follow faults origin (g.K.Sink.held c.args.sink.now) bytes c.args.self.now
     → EndedBy g.C.Servers.functions g.C.Servers.honest origin (g.K.Sink.held after.new.sink) (g.F.Folder.disk after.new.folder) (g.C.Servers.may_follow after.new.servers) (g.C.Servers.faults after.new.servers) (bytes ++ ended end ++ more) after.new.self.engine e in
@@ -77,7 +77,7 @@ returns-clause-ok g c = λ origin bytes progress.
     let disk = g.F.Folder.disk c.args.folder.now in
     let stands : IsAt disk (g.C.Servers.may_follow servers) (g.C.Servers.faults servers) c.keep.new.self.responder.engine progress.reached.after =
     subst (λ (r : _). IsAt disk (g.C.Servers.may_follow servers) (g.C.Servers.faults servers) r.engine progress.reached.after) (sym c.in-Ok.ensures.same) progress.stands in
-    let known = ap (λ (r : _). languages_of r.engine.pool) c.in-Ok.ensures.same in
+    let known = ap (λ (r : _). languages_of r.engine) c.in-Ok.ensures.same in
     Progress-line progress end c.requires.line _ _ _ _ _ (c.in-Ok-answer.ensures.languages ∙ known)
     (Answered-pending progress _ _ _ _ known end c.deref.result.now (c.deref.ensures.value ∙ c.in-Ok.ensures.ok)
     (c.in-Ok-answer.ensures.ok progress.reached.after stands))

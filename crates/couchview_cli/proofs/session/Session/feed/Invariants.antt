@@ -1,6 +1,6 @@
 use Rattle.std.proofs.Common.{◌≡◌, ◌≤◌, ◌++◌, ℕ, List, length}
 use Rattle.view_ports.specs.Disk.{IfTold}
-use Rattle.doc_file.specs.Docs.{IsOpen}
+use Rattle.view_engine.specs.Worlds.{IsOpen}
 use Rattle.couchview_cli.specs.Session.{Origin, Progress}
 use Rattle.couchview_cli.proofs.session.Session.feed.Given as goal
 
@@ -16,7 +16,7 @@ invariant-loop-line g l =
     (front : List ℕ) × (l.piece ≡ front ++ l.rest) ×
     ((origin : Origin) (bytes : List ℕ) → Progress functions honest (disk l.initial.folder) (may_follow l.initial.servers) (faults l.initial.servers) origin (held l.initial.sink) bytes l.initial.self
     → Progress functions honest (disk l.folder) (may_follow l.servers) (faults l.servers) origin (held l.sink) (bytes ++ front) l.self) ×
-    IfTold (disk l.folder) (λ d. IsOpen l.self.responder.engine.docs d.now) ×
+    IfTold (disk l.folder) (λ d. IsOpen l.self.responder.engine d.now) ×
     (g.K.Sink.faults l.initial.sink ≤ g.K.Sink.faults l.sink) × (g.F.Folder.faults l.initial.folder ≤ g.F.Folder.faults l.folder) × (faults l.initial.servers ≤ faults l.servers)
 
 abbrev pub decreases-loop-line : goal.decreases-loop-line

@@ -1,27 +1,33 @@
 -- An engine is opened as its documents are.
 use Rattle.std.proofs.Common.{◌≡◌, ◌∙◌, ℕ, Err, IfOk, sym, ap}
+use Rattle.view_ports.specs.Disk.{Moves}
 use Rattle.view_ports.specs.declared.file_name.FileName.{FileName}
-use Rattle.view_ports.proofs.Told.{told_now}
+use Rattle.view_ports.proofs.Told.{told_after, told_now}
 use Rattle.gate_file.specs.declared.fault.GateFault.TheVariants as gate
 use Rattle.doc_file.specs.declared.fault.DocFault.TheVariants.{Gate}
-use Rattle.doc_file.specs.Docs.{HoldsHistory, IsAt, IsDamagedAt}
-use Rattle.doc_file.specs.Held.{Stands}
+use Rattle.doc_file.specs.Docs.{IsAt, IsDamagedAt, IsDocsFile}
 use Rattle.view_engine.specs.declared.halt.StepFault.TheVariants.{Damaged}
+use Rattle.view_engine.specs.Worlds.{Holds, StandsFor}
 use Rattle.view_engine.proofs.Around.{inside}
 use Rattle.view_engine.proofs.Faults.{damage_is}
 use Rattle.view_engine.proofs.engine.Engine.open.Goals as goal
 
+pub returns-in-Ok-new-clause-documents : goal.returns-in-Ok-new-clause-documents
+returns-in-Ok-new-clause-documents g c = λ world held.
+    told_after (g.F.Folder.disk c.args.folder.now) (g.F.Folder.disk c.open.new.folder) (λ d. Holds d.now world) (λ d. IsAt c.in-Ok.docs d.now world.history)
+    (Moves IsDocsFile (λ image. StandsFor image world) (λ files. IsAt c.in-Ok.docs files world.history)) (λ a b here moves. moves.ended) held (c.in-Ok.ensures.stands world.history held)
+
 pub returns-in-Ok-new-clause-moments : goal.returns-in-Ok-new-clause-moments
-returns-in-Ok-new-clause-moments g c = λ history held.
-    inside (g.F.Folder.disk c.args.folder.now) (g.F.Folder.disk c.open.new.folder) (λ image. Stands image history) (λ files. IfOk c.open.result (λ docs. IsAt docs files history)) (c.open.ensures.stands history held)
+returns-in-Ok-new-clause-moments g c = λ world held.
+    inside (g.F.Folder.disk c.args.folder.now) (g.F.Folder.disk c.open.new.folder) (λ image. StandsFor image world) (λ files. IfOk c.open.result (λ docs. IsAt docs files world.history)) (c.open.ensures.stands world.history held)
 
 pub returns-in-Err-new-clause-moments : goal.returns-in-Err-new-clause-moments
-returns-in-Err-new-clause-moments g c = λ history held.
-    inside (g.F.Folder.disk c.args.folder.now) (g.F.Folder.disk c.open.new.folder) (λ image. Stands image history) (λ files. IfOk c.open.result (λ docs. IsAt docs files history)) (c.open.ensures.stands history held)
+returns-in-Err-new-clause-moments g c = λ world held.
+    inside (g.F.Folder.disk c.args.folder.now) (g.F.Folder.disk c.open.new.folder) (λ image. StandsFor image world) (λ files. IfOk c.open.result (λ docs. IsAt docs files world.history)) (c.open.ensures.stands world.history held)
 
 pub returns-in-Err-clause-moments : goal.returns-in-Err-clause-moments
-returns-in-Err-clause-moments g c = λ history held.
-    inside (g.F.Folder.disk c.args.folder.now) (g.F.Folder.disk c.open.new.folder) (λ image. Stands image history) (λ files. IfOk c.open.result (λ docs. IsAt docs files history)) (c.open.ensures.stands history held)
+returns-in-Err-clause-moments g c = λ world held.
+    inside (g.F.Folder.disk c.args.folder.now) (g.F.Folder.disk c.open.new.folder) (λ image. StandsFor image world) (λ files. IfOk c.open.result (λ docs. IsAt docs files world.history)) (c.open.ensures.stands world.history held)
 
 pub returns-in-Err-clause-damaged : goal.returns-in-Err-clause-damaged
 returns-in-Err-clause-damaged g c =
@@ -32,9 +38,9 @@ returns-in-Err-clause-damaged g c =
     c.open.ensures.damaged
 
 pub returns-in-Err-clause-sound : goal.returns-in-Err-clause-sound
-returns-in-Err-clause-sound g c = λ history.
+returns-in-Err-clause-sound g c = λ world.
     told_now (g.F.Folder.disk c.args.folder.now)
-    (λ d. HoldsHistory d.now history → (name : FileName) (at : ℕ) → c.open.result ≡ Err (Gate (gate.Damaged name at)) → ⊥)
+    (λ d. Holds d.now world → (name : FileName) (at : ℕ) → c.open.result ≡ Err (Gate (gate.Damaged name at)) → ⊥)
     _
     (λ d told held name at is. told held name at (c.in-Err.is ∙ ap Err (damage_is c.in-Err.fault name at (sym c.open_fault.ensures ∙ (let fault : c.open_fault.result ≡ Damaged name at = cc in fault)))))
-    (c.open.ensures.sound history)
+    (c.open.ensures.sound world.history)

@@ -1,0 +1,63 @@
+-- What is known of worlds that go on from one another, and of an engine at a world.
+use Rattle.std.specs.Prelude.{Bool, true, false, if◌then◌else◌}
+use Rattle.std.proofs.Common.{ℕ, List, [], ◌∷◌, ◌++◌, Option, Result, Ok, refl, sym, ap, ◌∙◌, subst, append_assoc}
+use Rattle.view_ports.specs.Calls.{Call}
+use Rattle.view_ports.specs.Disk.{Disk, IfTold, IsImageOf}
+use Rattle.view_ports.specs.Exchanges.{Exchange}
+use Rattle.view_ports.specs.File.{File}
+use Rattle.view_ports.specs.Functions.{Functions}
+use Rattle.view_ports.specs.declared.file_name.FileName.{FileName}
+use Rattle.view_ports.proofs.Told.{told_now}
+use Rattle.doc_file.specs.History.{Write}
+use Rattle.doc_file.proofs.Stores.{image_now}
+use Rattle.view_engine.specs.declared.engine.Engine.{Engine}
+use Rattle.view_engine.specs.declared.refusal.Refusal.{Refusal}
+use Rattle.view_engine.specs.declared.request.Request.{Request}
+use Rattle.view_engine.specs.declared.request.Request.TheVariants.{Delete, Put}
+use Rattle.view_engine.specs.Accepted.{after_request, is_ok}
+use Rattle.view_engine.specs.Engine.{IsAt}
+use Rattle.view_engine.specs.Moments.{Moment}
+use Rattle.view_engine.specs.Refusals.{request_of}
+use Rattle.view_engine.specs.Steps.{Answers}
+use Rattle.view_engine.specs.World.{World}
+use Rattle.view_engine.specs.Worlds.{at_start, GoesOnFrom, IsAtWorld, IsChildless, StandsFor}
+use Rattle.view_engine.proofs.AcceptedWrites.{Answers-accepted}
+
+-- ---- worlds
+
+pub same_world : (world : World) → GoesOnFrom world world
+same_world world = ([], refl)
+
+pub goes_on : (a b c : World) → GoesOnFrom a b → GoesOnFrom b c → GoesOnFrom a c
+goes_on a b c first second = (second.0 ++ first.0, second.1 ∙ ap (λ (h : List Write). second.0 ++ h) first.1 ∙ sym (append_assoc second.0 first.0 a.history))
+
+-- a step adds a write at most
+request_grows : (world : World) (request : Result Request Refusal) → GoesOnFrom world (after_request world request)
+request_grows world (Ok (Put document)) = (_ ∷ [], refl)
+request_grows world (Ok (Delete id given)) = (_ ∷ [], refl)
+request_grows world other = same_world world
+
+exchange_grows : (world : World) (b : Bool) (request : Result Request Refusal) → GoesOnFrom world (if b then after_request world request else world)
+exchange_grows world true request = request_grows world request
+exchange_grows world false request = same_world world
+
+pub answers_grow : (functions : List ℕ → Functions) (honest : List ℕ → Type 0) (languages : List (List ℕ × List ℕ)) (before : Moment) (e : Exchange) (after : Moment)
+    → Answers functions honest languages before e after → GoesOnFrom before.world after.world
+answers_grow functions honest languages before e after answers =
+    subst (λ (w : World). GoesOnFrom before.world w) (sym (Answers-accepted functions honest languages before e after answers)) (exchange_grows before.world (is_ok e.text) (request_of e.line))
+
+-- ---- an engine at a world
+
+-- each image that a crash may leave now stands for the world
+pub image_at : (engine : Engine) (files : FileName → File) (world : World) → IsAtWorld engine files world → (image : FileName → List ℕ) → IsImageOf files image → StandsFor image world
+image_at engine files world at image is = image_now engine.docs files at.is_open world.history at image is
+
+module _ (disk : Option (Disk FileName)) (may_follow : List Call → Type 0) (faults : ℕ) (engine : Engine) where
+  -- an engine without a child is at the start of its world, where no call was made on the servers
+  pub starts_at : (world : World) → IfTold disk (λ d. IsAtWorld engine d.now world) → IsChildless engine → may_follow [] → IsAt disk may_follow faults engine (at_start world faults)
+  starts_at world at childless follows = record { documents = at; child = record { child = childless []; follows = follows; counts = refl } }
+
+  pub images_at : (moment : Moment) → IsAt disk may_follow faults engine moment → IfTold disk (λ d. (image : FileName → List ℕ) → IsImageOf d.now image → StandsFor image moment.world)
+  images_at moment at =
+      told_now disk (λ d. IsAtWorld engine d.now moment.world) (λ d. (image : FileName → List ℕ) → IsImageOf d.now image → StandsFor image moment.world)
+      (λ d here. image_at engine d.now moment.world here) at.documents

@@ -1,0 +1,74 @@
+-- The words in which the layers above speak of worlds, and of the files, the images of a disk and the engines that are at
+-- one. Whoever uses them names no part of a world or of an engine, so a new part changes only this crate.
+use Rattle.std.specs.Prelude.{◌≡◌, ◌⊎◌, ℕ, List, [], ◌++◌, Option, Result}
+use Rattle.view_ports.specs.Calls.{Call}
+use Rattle.view_ports.specs.File.{File}
+use Rattle.view_ports.specs.declared.file_name.FileName.{FileName}
+use Rattle.child_pool.specs.Pools.{Stands as HasChildOf, languages_of}
+use Rattle.doc_file.specs.declared.docs.Docs.{Docs}
+use Rattle.doc_file.specs.Docs.{HoldsHistory, IsAt as AreAt, IsOpen as AreOpen}
+use Rattle.doc_file.specs.Held.{Stands}
+use Rattle.doc_file.specs.History.{Write}
+use Rattle.view_engine.specs.declared.engine.Engine.{Engine}
+use Rattle.view_engine.specs.declared.refusal.Refusal.{Refusal}
+use Rattle.view_engine.specs.declared.request.Request.{Request}
+use Rattle.view_engine.specs.Halts.{IsFullFor}
+use Rattle.view_engine.specs.Moments.{Moment}
+use Rattle.view_engine.specs.Steps.{IsWrite}
+use Rattle.view_engine.specs.World.{World, written}
+
+-- ---- worlds
+
+-- one world goes on from another: it has all of its writes, and maybe newer ones
+abbrev pub GoesOnFrom : World → World → Type 0
+GoesOnFrom before after = (newer : List Write) × (after.history ≡ newer ++ before.history)
+
+-- a world, and query servers that had so many faults, before any call
+abbrev pub at_start : World → ℕ → Moment
+at_start world faults = record { world = world; calls = []; faults = faults }
+
+-- ---- files, and what a crash leaves of them
+
+-- nothing is pending in the files, and they hold this world
+abbrev pub Holds : (FileName → File) → World → Type 0
+Holds files world = HoldsHistory files world.history
+
+-- an image of the disk, as a crash leaves it, stands for this world
+abbrev pub StandsFor : (FileName → List ℕ) → World → Type 0
+StandsFor image world = Stands image world.history
+
+-- an image stands for the world with the write that the request makes
+abbrev pub StandsAfter : World → Result Request Refusal → (FileName → List ℕ) → Type 0
+StandsAfter world request image = (write : Write) × IsWrite world request write × StandsFor image (written world write)
+
+-- an image stands for the world before a request, or for the one with the write that the request makes
+abbrev pub StandsAround : World → Result Request Refusal → (FileName → List ℕ) → Type 0
+StandsAround world request image = StandsFor image world ⊎ StandsAfter world request image
+
+-- The request is a write that is accepted in this world, and with it a file of the documents there would be too long, or has
+-- one commit too many.
+pub record IsFullAt (world : World) (request : Result Request Refusal) (name : FileName) (length : Option ℕ) : Type 0 where
+  pub docs : Docs
+  pub files : FileName → File
+  pub at : AreAt docs files world.history
+  pub full : IsFullFor docs request name length
+  pub write : Write
+  pub accepted : IsWrite world request write
+
+-- ---- engines
+
+-- the languages that an engine knows, with their paths
+abbrev pub languages : Engine → List (List ℕ × List ℕ)
+languages engine = languages_of engine.pool
+
+-- what an engine keeps is what the folder holds
+abbrev pub IsOpen : Engine → (FileName → File) → Type 0
+IsOpen engine files = AreOpen engine.docs files
+
+-- an engine and the folder are at this world
+abbrev pub IsAtWorld : Engine → (FileName → File) → World → Type 0
+IsAtWorld engine files world = AreAt engine.docs files world.history
+
+-- an engine remembers no child
+abbrev pub IsChildless : Engine → Type 0
+IsChildless engine = (calls : List Call) → HasChildOf engine.pool calls
