@@ -21,7 +21,7 @@ def fail(text):
 
 
 def start(folder, **more):
-    return subprocess.Popen([PROGRAM, "serve"], cwd=folder, stdin=subprocess.PIPE, stdout=subprocess.PIPE, **more)
+    return subprocess.Popen([PROGRAM, "serve"], cwd=folder, stdin=subprocess.PIPE, stdout=subprocess.PIPE, stderr=subprocess.DEVNULL, **more)
 
 
 def ask(process, request):

@@ -164,7 +164,7 @@ def replies(step, words, text):
     """The lines that a run answers."""
     try:
         with tempfile.TemporaryDirectory() as folder:
-            run = subprocess.run(words, cwd=folder, input=text, stdout=subprocess.PIPE, timeout=SECONDS)
+            run = subprocess.run(words, cwd=folder, input=text, stdout=subprocess.PIPE, stderr=subprocess.DEVNULL, timeout=SECONDS)
     except subprocess.TimeoutExpired:
         complain("%s: the run takes more than %d seconds" % (step, SECONDS))
     if run.returncode != 0:

@@ -117,7 +117,7 @@ def main():
         run.words = [word.replace("@", folder + os.sep) for word in run.words]
         sink = open("/dev/full", "wb") if run.kind == "full" else subprocess.PIPE
         try:
-            done = subprocess.run([program, *run.words], cwd=place, input=run.input, stdout=sink, timeout=SECONDS)
+            done = subprocess.run([program, *run.words], cwd=place, input=run.input, stdout=sink, stderr=subprocess.DEVNULL, timeout=SECONDS)
         except subprocess.TimeoutExpired:
             complain("%s didn't end within %d seconds" % (run.name, SECONDS))
         compare(run, done.stdout or b"", done.returncode)
