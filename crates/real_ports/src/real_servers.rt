@@ -1,6 +1,6 @@
 //! Query servers that are child processes.
 
-ghost use Rattle.std.specs.Prelude.{◌≡◌, ◌≤◌, ◌<◌, vec_len};
+ghost use Rattle.std.specs.Prelude.{◌≡◌, ◌↔◌, ◌≤◌, ◌<◌, vec_len};
 ghost use Rattle.real_ports.specs.declared.child_lines.TheConstants.{PIECE};
 
 use crate::child_fault::ChildFault;
@@ -60,6 +60,7 @@ impl RealServers {
     /// Ends the child of the slot, of which it is said why, and counts the fault, if it is one.
     fn give_up(&mut self, slot: u32, fault: ChildFault) -> ServersFault
         requires { slot < SLOT_COUNT }
+        ensures memory { (result ≡ ServersFault.NoMemory) ↔ (fault ≡ ChildFault.NoMemory) }
         ensures later { self.old.faults ≤ self.new.faults }
         ensures counted { result ≡ ServersFault.Failed → Rose self.old.faults self.new.faults }
         ensures none { has_child self.new slot ≡ false }
