@@ -1,4 +1,5 @@
-use crate::texts::{assert_text, nested, text_of};
+//! Which documents are plain, and what a plain design holds.
+
 use design_docs::{
     Design, Views, id_of, is_design_id, is_plain, is_plain_design,
     plain_design_documents_have_plain_designs, read_design, revisions_leave_designs,
@@ -7,6 +8,7 @@ use design_docs::{
 use json_terms::{NoMemory, Term, read_term};
 use std::alloc::Global;
 use std::test::Fail;
+use test_tools::{nested, same_text, text_of};
 
 /// Plain documents, and other texts.
 const DOCUMENTS: &[(&str, bool)] = &[
@@ -179,7 +181,7 @@ const DESIGNS: &[(&str, &str)] = &[
 #[test]
 fn designs_are_read(rt: HostRuntime) -> Result<(), Fail> {
     for (text, want) in DESIGNS {
-        assert_text(&rt, design_text(rt.alloc(), text), want, text)?;
+        same_text(design_text(rt.alloc(), text), want, text)?;
     }
     Ok(())
 }

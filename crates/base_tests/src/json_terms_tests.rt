@@ -1,10 +1,12 @@
-use crate::texts::{assert_text, nested, text_of};
+//! Terms read from texts, written, looked into and copied.
+
 use json_terms::{
     Chars, Members, NoMemory, Term, TermFault, Terms, copy_term, depth_within, member, read_term,
     text_is_line, write_term, write_text,
 };
 use std::alloc::Global;
 use std::test::Fail;
+use test_tools::{nested, same_text, text_of};
 
 /// What the text is read as, copied and written again, or why it is no term.
 fn read(alloc: Global, text: &[u8]) -> Result<String, Fail> {
@@ -55,7 +57,7 @@ const TEXTS: &[(&[u8], &str)] = &[
 fn texts_are_read_and_written(rt: HostRuntime) -> Result<(), Fail> {
     text_is_line(&Term::Null);
     for (text, want) in TEXTS {
-        assert_text(&rt, read(rt.alloc(), text), want, want)?;
+        same_text(read(rt.alloc(), text), want, want)?;
     }
     Ok(())
 }
@@ -114,7 +116,7 @@ const MEMBERS: &[(&str, &str, &str)] = &[
 #[test]
 fn members_are_found(rt: HostRuntime) -> Result<(), Fail> {
     for (text, name, want) in MEMBERS {
-        assert_text(&rt, member_of(rt.alloc(), text, name), want, name)?;
+        same_text(member_of(rt.alloc(), text, name), want, name)?;
     }
     Ok(())
 }

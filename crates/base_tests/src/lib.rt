@@ -14,5 +14,3 @@ mod raw_collation_tests;
 mod server_tests;
 #[cfg(test)]
 mod term_codec_tests;
-#[cfg(test)]
-mod texts;

@@ -1,4 +1,5 @@
-use crate::texts::{assert_text, nested, text_of};
+//! The lines of commands, and what replies say.
+
 use json_terms::{
     Chars, Members, NoMemory, Row, RowLists, Term, depth_within, read_term, write_term,
 };
@@ -8,6 +9,7 @@ use query_protocol::{
 };
 use std::alloc::Global;
 use std::test::Fail;
+use test_tools::{nested, same_text, text_of};
 
 /// Appends the line that asks about a document.
 fn put_map(alloc: Global, document: &str, out: &mut Vec<u8>) -> Result<(), Fail> {
@@ -194,7 +196,7 @@ const REPLIES: &[(Kind, &str, &str)] = &[
 #[test]
 fn replies_have_their_meaning(rt: HostRuntime) -> Result<(), Fail> {
     for (kind, line, want) in REPLIES {
-        assert_text(&rt, meaning(rt.alloc(), *kind, line), want, line)?;
+        same_text(meaning(rt.alloc(), *kind, line), want, line)?;
     }
     Ok(())
 }

@@ -1,5 +1,6 @@
-// The order of terms and of rows, worked out by hand from CouchDB's documentation and from this project's order of
-// the members of objects.
+//! The order of terms and of rows, worked out by hand from CouchDB's documentation and from this project's order of
+//! the members of objects.
+
 use json_terms::{Chars, Row, Term, read_term};
 use raw_collation::{raw_cmp, row_cmp, sort_rows};
 use std::alloc::Global;

@@ -1,56 +1,13 @@
-// Servers in the process, servers of a script, and the commands that they are sent.
-use crate::texts::{assert_text, nested, text_of};
+//! Servers in the process, servers of a script, and the commands that they are sent.
+
+use Call::{Ask, Receive, Send, Start, Stop};
 use json_terms::{Chars, NoMemory, Row, Term, Terms, write_term};
 use std::alloc::Global;
-use std::process::Abort;
 use std::test::Fail;
+use test_tools::{Call, called, nested, same_text, shown, text_of};
 use view_ports::{
     Answer, Command, FieldServers, InProcess, ScriptServers, Servers, ServersFault, read_command,
 };
-
-/// A call on query servers. `Ask` sends the line and receives the answer.
-#[derive(Clone, Copy)]
-enum Call {
-    Start,
-    Send,
-    Receive,
-    Ask,
-    Stop,
-}
-
-use Call::{Ask, Receive, Send, Start, Stop};
-
-/// What the call gives: a line, or nothing.
-fn called(
-    servers: &mut FieldServers,
-    alloc: Global,
-    slot: u32,
-    call: Call,
-    line: &str,
-) -> Result<Vec<u8>, ServersFault> {
-    if slot >= 9 {
-        return Err(ServersFault::Failed);
-    }
-    match call {
-        Start => servers.start(alloc, slot, "any path")?,
-        Send => servers.send(alloc, slot, line.as_bytes())?,
-        Receive => return servers.receive(alloc, slot),
-        Ask => {
-            servers.send(alloc, slot, line.as_bytes())?;
-            return servers.receive(alloc, slot);
-        }
-        Stop => servers.stop(slot),
-    }
-    Ok(Vec::new(alloc))
-}
-
-/// The line that a call gave, or its fault.
-fn shown(alloc: Global, given: Result<Vec<u8>, ServersFault>) -> Result<String, Fail> {
-    match given {
-        Ok(line) => Ok(String::from_utf8(line)?),
-        Err(fault) => Ok(format!(in alloc; "{fault}")?),
-    }
-}
 
 const COMPLAINT: &str = r#"["error","compilation_error","source"]"#;
 
@@ -128,7 +85,6 @@ const FAILING: &[(u32, Call, &str, &str)] = &[
 
 /// Makes the calls on servers of which some calls fail, and compares what each gives.
 fn assert_calls(
-    rt: &impl Abort,
     alloc: Global,
     fail: &[u64],
     calls: &[(u32, Call, &str, &str)],
@@ -136,16 +92,16 @@ fn assert_calls(
     let mut servers: FieldServers = InProcess::new(alloc, fail.to_vec(alloc)?)?;
     for (slot, call, line, want) in calls {
         let given = called(&mut servers, alloc, *slot, *call, line);
-        assert_text(rt, shown(alloc, given), want, line)?;
+        same_text(shown(alloc, given), want, line)?;
     }
     Ok(())
 }
 
 #[test]
 fn servers_in_the_process_answer_each_call(rt: HostRuntime) -> Result<(), Fail> {
-    assert_calls(&rt, rt.alloc(), &[], SESSION)?;
-    assert_calls(&rt, rt.alloc(), &[], SLOTS)?;
-    assert_calls(&rt, rt.alloc(), &[0, 3, 4, 6], FAILING)
+    assert_calls(rt.alloc(), &[], SESSION)?;
+    assert_calls(rt.alloc(), &[], SLOTS)?;
+    assert_calls(rt.alloc(), &[0, 3, 4, 6], FAILING)
 }
 
 /// A script of a line, a fault and an empty line.
@@ -178,7 +134,7 @@ fn a_script_is_given_in_order(rt: HostRuntime) -> Result<(), Fail> {
     let mut servers = ScriptServers::new(rt.alloc(), script(rt.alloc())?)?;
     for (slot, want) in [(0, "true"), (8, FAILED), (3, ""), (0, FAILED), (0, FAILED)] {
         let given = scripted(&mut servers, rt.alloc(), slot);
-        assert_text(&rt, shown(rt.alloc(), given), want, want)?;
+        same_text(shown(rt.alloc(), given), want, want)?;
     }
     Ok(())
 }
@@ -274,7 +230,7 @@ const LINES: &[(&str, &str)] = &[
 fn lines_are_read_as_commands(rt: HostRuntime) -> Result<(), Fail> {
     for (line, want) in LINES {
         let command = read_command(rt.alloc(), line.as_bytes())?;
-        assert_text(&rt, command_text(rt.alloc(), command), want, line)?;
+        same_text(command_text(rt.alloc(), command), want, line)?;
     }
     Ok(())
 }

@@ -1,8 +1,10 @@
-use crate::texts::{assert_text, text_of};
+//! Spellings of terms: worked out by hand, read back, and those that are none.
+
 use json_terms::{NoMemory, Term};
 use std::alloc::Global;
 use std::test::Fail;
 use term_codec::{CodecFault, decode_term, encode_term, spellings_are_prefix_free};
+use test_tools::{same_text, text_of};
 
 /// A term of these kinds of values, and its spelling.
 const SPELLINGS: &[(&str, &[u8])] = &[
@@ -104,7 +106,7 @@ fn terms_are_spelled_where_they_belong(rt: HostRuntime) -> Result<(), Fail> {
 fn spellings_are_read_where_they_stand(rt: HostRuntime) -> Result<(), Fail> {
     spellings_are_prefix_free();
     for (text, spelling) in SPELLINGS {
-        assert_text(&rt, read_back(rt.alloc(), spelling), text, text)?;
+        same_text(read_back(rt.alloc(), spelling), text, text)?;
     }
     Ok(())
 }

@@ -4,14 +4,14 @@ use Rattle.std.proofs.lemmas.Bool.{le-leb}
 use Rattle.view_ports.specs.Calls.{Call, start, send, stop, after, child, session}
 use Rattle.view_ports.specs.Functions.{line_limit}
 use Rattle.child_pool.specs.Jobs.{HasChild}
-use Rattle.child_pool.specs.Sessions.{IsAt, IsIdle}
+use Rattle.child_pool.specs.Sessions.{IsInSession, IsIdle}
 use Rattle.child_pool.proofs.Going.{child_after}
 
 pub idle_has_child : (path : List ℕ) (sources : List (List ℕ)) (slot : ℕ) (calls : List Call) → IsIdle path sources slot calls → HasChild (child slot calls)
 idle_has_child path sources slot calls idle = subst HasChild (sym idle.is) tt
 
 -- a prompt was sent to a child that has answered each line
-pub asked_child : (path : List ℕ) (sources : List (List ℕ)) (slot : ℕ) (calls : List Call) (line : List ℕ) → length line ≤ line_limit → IsIdle path sources slot calls → IsAt path sources (line ∷ []) 0 slot (send slot line true ∷ calls)
+pub asked_child : (path : List ℕ) (sources : List (List ℕ)) (slot : ℕ) (calls : List Call) (line : List ℕ) → length line ≤ line_limit → IsIdle path sources slot calls → IsInSession path sources (line ∷ []) 0 slot (send slot line true ∷ calls)
 asked_child path sources slot calls line short idle = record {
   is = child_after (send slot line true) slot calls refl ∙ ap (after (send slot line true)) idle.is ∙ ap (λ (sound : Bool). Some (session path sources (line ∷ []) 0 sound)) (le-leb (length line) line_limit short);
 }

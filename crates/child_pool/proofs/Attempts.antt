@@ -77,14 +77,21 @@ module _ (functions : List ℕ → Functions) (honest : List ℕ → Type 0) (jo
     ];
   }
 
-module _ (functions : List ℕ → Functions) (honest : List ℕ → Type 0) (job : Job) {first second : List Call → Type 0} {slot : ℕ} {calls : List Call} where
+module _ (functions : List ℕ → Functions) (honest : List ℕ → Type 0) (job : Job) {slot : ℕ} where
   -- what was due before was done
+  pub refused_after : (dues more : List Due) (rose_first rose_second rose : Type 0) → (rose_first → rose) → (rose_second → rose) → (f : PoolFault) (added later calls now : List Call) → now ≡ added ++ calls
+      → AreTurns dues (talk added) ⊎ rose_first → Refused functions honest job slot more rose_second f now later → Refused functions honest job slot (dues ++ more) rose f calls (later ++ added)
+  refused_after dues more rose_first rose_second rose f g fault added later calls now is done r = record {
+    caused = caused_later functions honest job fault later added calls now is r.caused;
+    talked = cut_turns slot dues more rose_first rose_second rose added later f g done r.talked;
+  }
+
+module _ (functions : List ℕ → Functions) (honest : List ℕ → Type 0) (job : Job) {first second : List Call → Type 0} {slot : ℕ} {calls : List Call} where
+  -- the same of two functions, one after the other
   pub refused_then : (dues more : List Due) (rose_first rose_second rose : Type 0) → (rose_first → rose) → (rose_second → rose) → (f : PoolFault) {P R : List Call → List Call → Type 0} (w : Went first job slot calls P) (v : Went second job slot w.now R)
       → AreTurns dues (talk w.added) ⊎ rose_first → Refused functions honest job slot more rose_second f w.now v.added → Refused functions honest job slot (dues ++ more) rose f calls (v.added ++ w.added)
-  refused_then dues more rose_first rose_second rose f g fault w v done r = record {
-    caused = caused_later functions honest job fault v.added w.added calls w.now w.is_now r.caused;
-    talked = cut_turns slot dues more rose_first rose_second rose w.added v.added f g done r.talked;
-  }
+  refused_then dues more rose_first rose_second rose f g fault w v done r =
+      refused_after functions honest job dues more rose_first rose_second rose f g fault w.added v.added calls w.now w.is_now done r
 
   -- a fault was counted before
   pub refused_again : (dues told : List Due) (rose rose_second : Type 0) → rose → (f : PoolFault) {P R : List Call → List Call → Type 0} (w : Went first job slot calls P) (v : Went second job slot w.now R)

@@ -1,5 +1,5 @@
 -- Documents are mapped one after another: what one more adds.
-use Rattle.std.proofs.Common.{◌≡◌, ◌⊎◌, ◌<◌, ◌+◌, ℕ, zero, suc, List, [], ◌∷◌, ◌++◌, length, map, get_or, None, refl, sym, ap, ◌∙◌, subst, inl, inr, arith, append-nil}
+use Rattle.std.proofs.Common.{◌≡◌, ◌⊎◌, ◌<◌, ◌≤◌, ◌+◌, ℕ, zero, suc, List, [], ◌∷◌, ◌++◌, length, map, get_or, None, refl, sym, ap, ◌∙◌, subst, inl, inr, arith, append-nil}
 use Rattle.std.specs.List.{AllByRecursion}
 use Rattle.std.proofs.lemmas.Grind.{flat_map-append}
 use Rattle.std.proofs.lemmas.List.{flat_map_more, length-append, map-append}
@@ -15,6 +15,7 @@ use Rattle.child_pool.specs.Jobs.{Job}
 use Rattle.child_pool.specs.Mapping.{HasMapped}
 use Rattle.child_pool.specs.Pools.{AreRowsOf, HasMappedEach}
 use Rattle.child_pool.specs.Refused.{Refused}
+use Rattle.child_pool.specs.Sessions.{HasTold, IsThere}
 use Rattle.child_pool.specs.Talk.{AreTurns, AreCutShort, Due, asks, one_by_one, waves}
 use Rattle.child_pool.proofs.Attempts.{both_turns, refused_then, refused_wider}
 use Rattle.child_pool.proofs.Going.{Went-then}
@@ -64,25 +65,28 @@ module _ (functions : List ℕ → Functions) (honest : List ℕ → Type 0) (jo
   }
 
   module _ {first second : List Call → Type 0} {calls : List Call} where
-    pub mapped_more : (documents : List (List (List ℕ × Json))) (document : List (List ℕ × Json)) (lists : List (List (List (Json × Json)))) (rows : List (List (Json × Json))) (rose_first rose_second rose : Type 0)
-        → (rose_first → rose) → (rose_second → rose) → (w : Went first job 0 calls (HasMappedEach functions honest job documents rose_first lists))
+    pub mapped_more : (slots kept : ℕ) → slots ≤ 1 → kept ≤ 1 → (documents : List (List (List ℕ × Json))) (document : List (List ℕ × Json)) (lists : List (List (List (Json × Json)))) (rows : List (List (Json × Json))) (rose_first rose_second rose : Type 0)
+        → (rose_first → rose) → (rose_second → rose) → (w : Went first job 0 calls (HasMappedEach functions honest job slots kept documents rose_first lists))
         (v : Went second job 0 w.now (HasMapped functions honest job 0 document (asks 0 (MapDoc document) (length job.sources)) rose_second rows))
-        → Went second job 0 calls (HasMappedEach functions honest job (documents ++ document ∷ []) rose (lists ++ rows ∷ []))
-    mapped_more documents document lists rows rose_first rose_second rose f g w v =
+        → Went second job 0 calls (HasMappedEach functions honest job slots kept (documents ++ document ∷ []) rose (lists ++ rows ∷ []))
+    mapped_more slots kept one few documents document lists rows rose_first rose_second rose f g w v =
         let count = length job.sources in
         let dues = asks 0 (MapDoc document) count in
-        Went-then w v (HasMappedEach functions honest job (documents ++ document ∷ []) rose (lists ++ rows ∷ [])) (record {
-          told = v.holds.told;
+        Went-then w v (HasMappedEach functions honest job slots kept (documents ++ document ∷ []) rose (lists ++ rows ∷ [])) (record {
+          stand = record {
+            told = λ slot below. let first : 0 ≡ slot = omega arith in subst (λ (at : ℕ). HasTold functions honest job.path job.sources at v.now) first v.holds.told;
+            there = λ slot below. let first : 0 ≡ slot = omega arith in subst (λ (at : ℕ). IsThere job.path at v.now) first (job.sources, v.holds.told.idle);
+          };
           talked = subst (λ (all : List Due). AreTurns all (talk (v.added ++ w.added)) ⊎ rose) (one_more count documents document) (both_turns (one_by_one count documents) dues rose_first rose_second rose w.added v.added f g w.holds.talked v.holds.talked);
           rows = rows_more documents document lists rows dues rose_second v.added v.now w.holds.rows v.holds;
         })
 
     -- a document was refused
-    pub refused_more : (documents : List (List (List ℕ × Json))) (document : List (List ℕ × Json)) (rest all : List (List (List ℕ × Json))) (lists : List (List (List (Json × Json)))) (rose_first rose_second rose : Type 0) (f : PoolFault)
-        → all ≡ (documents ++ document ∷ []) ++ rest → (rose_first → rose) → (rose_second → rose) → (w : Went first job 0 calls (HasMappedEach functions honest job documents rose_first lists))
+    pub refused_more : (slots kept : ℕ) (documents : List (List (List ℕ × Json))) (document : List (List ℕ × Json)) (rest all : List (List (List ℕ × Json))) (lists : List (List (List (Json × Json)))) (rose_first rose_second rose : Type 0) (f : PoolFault)
+        → all ≡ (documents ++ document ∷ []) ++ rest → (rose_first → rose) → (rose_second → rose) → (w : Went first job 0 calls (HasMappedEach functions honest job slots kept documents rose_first lists))
         (v : Went second job 0 w.now (λ added now. Refused functions honest job 0 (asks 0 (MapDoc document) (length job.sources)) rose_second f w.now added))
         → Refused functions honest job 0 (one_by_one (length job.sources) all) rose f calls (v.added ++ w.added)
-    refused_more documents document rest all lists rose_first rose_second rose f is one two w v =
+    refused_more slots kept documents document rest all lists rose_first rose_second rose f is one two w v =
         let count = length job.sources in
         let dues = asks 0 (MapDoc document) count in
         let here = refused_then functions honest job (one_by_one count documents) dues rose_first rose_second rose one two f w v w.holds.talked v.holds in
@@ -91,9 +95,9 @@ module _ (functions : List ℕ → Functions) (honest : List ℕ → Type 0) (jo
         refused_wider functions honest job 0 calls (one_by_one count documents ++ dues) (one_by_one count all) rose f (v.added ++ w.added) (one_by_one count rest, wider) here
 
   -- memory ran out behind some documents
-  pub forgotten_more : {follow : List Call → Type 0} {calls : List Call} (documents rest all : List (List (List ℕ × Json))) (lists : List (List (List (Json × Json)))) (rose : Type 0) → all ≡ documents ++ rest
-      → (w : Went follow job 0 calls (HasMappedEach functions honest job documents rose lists)) → Refused functions honest job 0 (one_by_one (length job.sources) all) rose NoMemory calls w.added
-  forgotten_more documents rest all lists rose is w =
+  pub forgotten_more : {follow : List Call → Type 0} {calls : List Call} (slots kept : ℕ) (documents rest all : List (List (List ℕ × Json))) (lists : List (List (List (Json × Json)))) (rose : Type 0) → all ≡ documents ++ rest
+      → (w : Went follow job 0 calls (HasMappedEach functions honest job slots kept documents rose lists)) → Refused functions honest job 0 (one_by_one (length job.sources) all) rose NoMemory calls w.added
+  forgotten_more slots kept documents rest all lists rose is w =
       let count = length job.sources in
       let wider : one_by_one count all ≡ one_by_one count documents ++ one_by_one count rest = ap (one_by_one count) is ∙ flat_map-append (λ d. asks 0 (MapDoc d) count) documents rest in
       record {

@@ -1,5 +1,6 @@
 pub mod Replies
 pub mod Going
+pub mod Slots
 pub mod Lines
 pub mod Prompts
 pub mod Asking
@@ -8,6 +9,8 @@ pub mod Telling
 pub mod Stagings
 pub mod Attempts
 pub mod Prepared
+pub mod Refusals
+pub mod Readied
 pub mod RowReplies
 pub mod Mapped
 pub mod Batches

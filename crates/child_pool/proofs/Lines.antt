@@ -12,14 +12,14 @@ use Rattle.child_pool.specs.declared.pool_fault.PoolFault.{PoolFault}
 use Rattle.child_pool.specs.declared.pool_fault.PoolFault.TheVariants.{ServerFault, BadReply, Compile, UnknownLanguage, NoMemory}
 use Rattle.child_pool.specs.Jobs.{Job, IsAsked, IsPromptOf}
 use Rattle.child_pool.specs.Histories.{heard_turn}
-use Rattle.child_pool.specs.Sessions.{IsAt}
+use Rattle.child_pool.specs.Sessions.{IsInSession}
 use Rattle.child_pool.specs.Causes.{kind_of}
 use Rattle.child_pool.specs.Hearing.{IsHeard, IsShown}
 use Rattle.child_pool.specs.Outcomes.{AfterLine, IsCaused, StopsAfter, WasBad}
 use Rattle.child_pool.proofs.Going.{child_after}
 
 -- a child that has not answered a prompt was asked
-pub at_asked : (path : List ℕ) (sources : List (List ℕ)) (prompt : List ℕ) (logs slot : ℕ) (calls : List Call) → IsAt path sources (prompt ∷ []) logs slot calls → IsAsked (child slot calls)
+pub at_asked : (path : List ℕ) (sources : List (List ℕ)) (prompt : List ℕ) (logs slot : ℕ) (calls : List Call) → IsInSession path sources (prompt ∷ []) logs slot calls → IsAsked (child slot calls)
 at_asked path sources prompt logs slot calls at = subst IsAsked (sym at.is) (λ e. cc)
 
 -- one line is heard at most
@@ -28,15 +28,15 @@ one_line true slot line = inl refl
 one_line false slot line = inr (Some line, refl)
 
 module _ (functions : List ℕ → Functions) (honest : List ℕ → Type 0) (job : Job) (sources : List (List ℕ)) (prompt : List ℕ) (logs slot : ℕ) (calls : List Call) (line : List ℕ)
-    (of : IsPromptOf job sources (command prompt)) (at : IsAt job.path sources (prompt ∷ []) logs slot calls) (answers : AnswersChild functions honest (child slot calls) line) where
+    (of : IsPromptOf job sources (command prompt)) (at : IsInSession job.path sources (prompt ∷ []) logs slot calls) (answers : AnswersChild functions honest (child slot calls) line) where
   -- the child after the line
   now_child : (b : Bool) → is_log line ≡ b → child slot (receive slot (Some line) ∷ calls) ≡ Some (heard b line (session job.path sources (prompt ∷ []) logs true))
   now_child b is = child_after (receive slot (Some line)) slot calls refl ∙ ap (after (receive slot (Some line))) at.is ∙ ap (λ log. Some (heard log line (session job.path sources (prompt ∷ []) logs true))) is
 
-  logged : is_log line ≡ true → IsAt job.path sources (prompt ∷ []) (logs + 1) slot (receive slot (Some line) ∷ calls)
+  logged : is_log line ≡ true → IsInSession job.path sources (prompt ∷ []) (logs + 1) slot (receive slot (Some line) ∷ calls)
   logged is = record { is = now_child true is }
 
-  idle : is_log line ≡ false → IsAt job.path (sources_after (command prompt) (is_yes line) sources) [] 0 slot (receive slot (Some line) ∷ calls)
+  idle : is_log line ≡ false → IsInSession job.path (sources_after (command prompt) (is_yes line) sources) [] 0 slot (receive slot (Some line) ∷ calls)
   idle is = record { is = now_child false is }
 
   was_bad : (text : List ℕ) (kind : Kind) → kind ≡ kind_of (command prompt) (length sources) → IsShown line (BadReply text)

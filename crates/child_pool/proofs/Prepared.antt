@@ -3,6 +3,7 @@ use Rattle.std.proofs.Common.{◌≡◌, ◌≤◌, ◌+◌, ℕ, zero, suc, tak
 use Rattle.std.specs.List.{flat_map}
 use Rattle.std.proofs.Math.Seq.{take-length, take-suc}
 use Rattle.std.proofs.lemmas.List.{flat_map_more}
+use Rattle.std.proofs.lemmas.List.Folds.{flat_map-map}
 use Rattle.view_ports.specs.declared.command.Command.TheVariants.{Reset, AddFun}
 use Rattle.view_ports.specs.Calls.{Call}
 use Rattle.view_ports.specs.Functions.{Functions}
@@ -34,6 +35,7 @@ ready_turns slot sources =
     ap (λ (n : ℕ). told_turns slot sources n) (add-one (length sources))
     ∙ turns_so_far slot sources (length sources) (omega arith)
     ∙ ap (λ (srcs : List (List ℕ)). asks slot Reset 0 ++ flat_map (added_turns slot) srcs) (take-length sources)
+    ∙ ap (λ (dues : List Due). asks slot Reset 0 ++ dues) (sym (flat_map-map (λ command. asks slot command 0) AddFun sources))
 
 module _ (functions : List ℕ → Functions) (honest : List ℕ → Type 0) (job : Job) (slot : ℕ) where
   -- at the last stage all sources are told

@@ -1,5 +1,5 @@
 -- Prompts: a function more, and what its result says.
-use Rattle.std.proofs.Common.{◌≡◌, ◌+◌, ℕ, List, [], ◌∷◌, ◌++◌, Option, Some, None, Result, Ok, Err, sym, ap, ◌∙◌, subst, inl, inr, append_assoc, append-nil}
+use Rattle.std.proofs.Common.{◌≡◌, ◌+◌, ℕ, List, [], ◌∷◌, ◌++◌, Bool, Option, Some, None, Result, Ok, Err, sym, ap, ◌∙◌, subst, inl, inr, append_assoc, append-nil}
 use Rattle.view_ports.specs.Calls.{Call, Session}
 use Rattle.view_ports.specs.Functions.{Functions}
 use Rattle.query_protocol.specs.declared.reply.Reply.{Reply}
@@ -7,12 +7,17 @@ use Rattle.child_pool.specs.declared.heard.Heard.TheVariants.{Log}
 use Rattle.child_pool.specs.declared.pool_fault.PoolFault.{PoolFault}
 use Rattle.child_pool.specs.declared.pool_fault.PoolFault.TheVariants.{ServerFault, BadReply, Compile, UnknownLanguage, NoMemory}
 use Rattle.child_pool.specs.Jobs.{Job}
-use Rattle.child_pool.specs.Histories.{Went, HasReceived, Turn, hears, last_heard, talk}
-use Rattle.child_pool.specs.Outcomes.{AfterLine, AfterPrompt, IsCaused, OnlyLogged, StopsAfter, WasBad, WasComplaint}
-use Rattle.child_pool.proofs.Going.{HasReceived-after, Went-then, talk-append}
+use Rattle.child_pool.specs.Histories.{Went, HasReceived, Turn, says, hears, last_heard, talk}
+use Rattle.child_pool.specs.Outcomes.{AfterLine, AfterPrompt, AfterSend, IsCaused, OnlyLogged, StopsAfter, WasBad, WasComplaint}
+use Rattle.child_pool.proofs.Going.{HasReceived-after, Went-map, Went-then, talk-append}
 
 pub received_later : (P : Option Session → List ℕ → Type 0) (more added before now : List Call) → now ≡ added ++ before → HasReceived P more now → HasReceived P (more ++ added) before
 received_later P more added before now is h = HasReceived-after P more added before (subst (HasReceived P more) is h)
+
+-- what comes of a prompt that wasn't sent
+abbrev pub unsent : Result Bool PoolFault → Result (Option Reply) PoolFault
+unsent (Ok sent) = Ok None
+unsent (Err f) = Err f
 
 -- what was said before is said still
 stops_later : (slot : ℕ) (earlier : List Turn) (more added : List Call) → talk added ≡ earlier → StopsAfter slot [] (talk more) → StopsAfter slot (earlier ++ []) (talk (more ++ added))
@@ -65,3 +70,11 @@ module _ (functions : List ℕ → Functions) (honest : List ℕ → Type 0) (jo
           caused_later f v.added w.added calls w.now w.is_now v.holds.0,
           stops_later slot earlier v.added w.added talked v.holds.1,
         )
+
+  module _ {follow : List Call → Type 0} {slot : ℕ} {calls : List Call} where
+    pub not_sent : (sources : List (List ℕ)) (line : List ℕ) (result : Result Bool PoolFault) → Went follow job slot calls (AfterSend job sources line slot result)
+        → Went follow job slot calls (AfterPrompt functions honest job sources line slot (says slot line ∷ []) (unsent result) calls)
+    not_sent sources line (Ok sent) w = Went-map w (AfterPrompt functions honest job sources line slot (says slot line ∷ []) (Ok None) calls) tt
+    not_sent sources line (Err f) w =
+        Went-map w (AfterPrompt functions honest job sources line slot (says slot line ∷ []) (Err f) calls)
+        (subst (λ (fault : PoolFault). IsCaused functions honest job w.added calls fault) (sym w.holds.0) tt, inl w.holds.1)

@@ -1,7 +1,7 @@
 -- The calls that a function made on the query servers, the newest first.
 use Rattle.std.specs.Prelude.{◌≡◌, ◌⊎◌, ℕ, List, [], ◌∷◌, ◌++◌, Bool, true, false, Option, Some, None}
 use Rattle.view_ports.specs.Calls.{Call, start, send, receive, stop, Session, child, is_log}
-use Rattle.child_pool.specs.Jobs.{Job, AllLawful}
+use Rattle.child_pool.specs.Jobs.{Job, AllLawful, AllLawfulIn}
 
 -- what a function did on a slot: after the calls that were made `before` it made those that it `added`, each lawful, and of
 -- those that it added and of all calls now `P` holds
@@ -11,6 +11,15 @@ pub record Went (may_follow : List Call → Type 0) (job : Job) (slot : ℕ) (be
   pub is_now : now ≡ added ++ before
   pub follows : may_follow now
   pub lawful : AllLawful job slot added before
+  pub holds : P added now
+
+-- the same of a pool of this width, on any of its slots
+pub record WentIn (may_follow : List Call → Type 0) (job : Job) (width : ℕ) (before : List Call) (P : List Call → List Call → Type 0) : Type 0 where
+  pub added : List Call
+  pub now : List Call
+  pub is_now : now ≡ added ++ before
+  pub follows : may_follow now
+  pub lawful : AllLawfulIn job width added before
   pub holds : P added now
 
 -- a line was received; of the child that sent it and of the line `P` holds

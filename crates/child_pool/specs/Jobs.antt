@@ -1,5 +1,5 @@
 -- What a request asks of the query servers, and which calls it may make.
-use Rattle.std.specs.Prelude.{◌≡◌, ◌≢◌, ◌⊎◌, ◌≤◌, ℕ, List, [], ◌∷◌, ◌++◌, length, Option, Some, None}
+use Rattle.std.specs.Prelude.{◌≡◌, ◌≢◌, ◌⊎◌, ◌<◌, ◌≤◌, ℕ, List, [], ◌∷◌, ◌++◌, length, Option, Some, None}
 use Rattle.json_terms.specs.Json.{Json}
 use Rattle.view_ports.specs.declared.command.Command.{Command}
 use Rattle.view_ports.specs.declared.command.Command.TheVariants.{Reset, AddFun, MapDoc, Reduce, Rereduce, Other}
@@ -64,3 +64,13 @@ IsLawful job (stop slot) before = Unit {0}
 abbrev pub AllLawful : Job → ℕ → List Call → List Call → Type 0
 AllLawful job slot [] before = Unit {0}
 AllLawful job slot (call ∷ added) before = (slot_of call ≡ slot) × IsLawful job call (added ++ before) × AllLawful job slot added before
+
+-- A pool of this width makes the call on one of the slots below the width, which are for maps, and it is lawful there. In no
+-- other slot is anything asked for, started or stopped.
+abbrev pub IsLawfulAt : Job → ℕ → Call → List Call → Type 0
+IsLawfulAt job width call before = (slot_of call < width) × IsLawful job call before
+
+-- each of these calls is one that the pool may make
+abbrev pub AllLawfulIn : Job → ℕ → List Call → List Call → Type 0
+AllLawfulIn job width [] before = Unit {0}
+AllLawfulIn job width (call ∷ added) before = IsLawfulAt job width call (added ++ before) × AllLawfulIn job width added before

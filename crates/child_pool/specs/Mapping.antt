@@ -2,15 +2,18 @@
 use Rattle.std.specs.Prelude.{◌≡◌, ◌⊎◌, ◌≤◌, ℕ, List, length, Option, Some, None, Result, Ok, Err}
 use Rattle.json_terms.specs.Json.{Json}
 use Rattle.json_terms.specs.declared.rows.RowLists.{RowLists}
+use Rattle.view_ports.specs.declared.command.Command.TheVariants.{MapDoc}
+use Rattle.view_ports.specs.declared.servers.Servers.{Ghosts as Servers}
 use Rattle.view_ports.specs.Calls.{Call}
 use Rattle.view_ports.specs.Functions.{Functions, source_limit}
 use Rattle.view_ports.specs.Honest.{rows_of}
 use Rattle.child_pool.specs.declared.pool_fault.PoolFault.{PoolFault}
-use Rattle.child_pool.specs.Histories.{talk}
-use Rattle.child_pool.specs.Jobs.{Job}
+use Rattle.child_pool.specs.Ends.{HasRisen}
+use Rattle.child_pool.specs.Histories.{Went, talk}
+use Rattle.child_pool.specs.Jobs.{IsAmong, Job, job_of}
 use Rattle.child_pool.specs.Refused.{Refused}
 use Rattle.child_pool.specs.Sessions.{HasTold}
-use Rattle.child_pool.specs.Talk.{AreTurns, Due}
+use Rattle.child_pool.specs.Talk.{AreTurns, Due, asks}
 
 module _ (functions : List ℕ → Functions) (honest : List ℕ → Type 0) where
   -- on an honest path these are the rows of the path's map functions
@@ -34,3 +37,24 @@ module _ (functions : List ℕ → Functions) (honest : List ℕ → Type 0) whe
   AfterAnswer job slot document dues (Ok (Some rows)) before added now = HasMapped job slot document dues ⊥ rows added now
   AfterAnswer job slot document dues (Ok None) before added now = Unit {0}
   AfterAnswer job slot document dues (Err f) before added now = Refused functions honest job slot dues ⊥ f before added
+
+-- ---- what is promised of it
+
+module _ {C : Type 0} (s : Servers C) (old new : C) (slot : ℕ) where
+  -- the turns that map a document by so many sources
+  abbrev pub map_turns : List (List ℕ) → List (List ℕ × Json) → List Due
+  map_turns sources document = asks slot (MapDoc document) (length sources)
+
+  -- a child that is ready is asked once for the rows of a document of the job
+  abbrev pub AsksRows : List (List ℕ) → List (List ℕ × Json) → Result (Option RowLists) PoolFault → Type 0
+  AsksRows sources document result = (path : List ℕ) (documents : List (List (List ℕ × Json))) (calls : List Call) → s.may_follow old calls
+      → IsAmong documents document → HasTold s.functions s.honest path sources slot calls
+      → Went (s.may_follow new) (job_of path sources documents) slot calls
+      (AfterAnswer s.functions s.honest (job_of path sources documents) slot document (map_turns sources document) result calls)
+
+  -- and in two attempts at most
+  abbrev pub MapsOne : List ℕ → List (List ℕ) → List (List ℕ × Json) → Result RowLists PoolFault → Type 0
+  MapsOne path sources document result = (documents : List (List (List ℕ × Json))) (calls : List Call) → s.may_follow old calls
+      → IsAmong documents document → HasTold s.functions s.honest path sources slot calls
+      → Went (s.may_follow new) (job_of path sources documents) slot calls
+      (AfterMap s.functions s.honest (job_of path sources documents) slot document (map_turns sources document) (HasRisen s old new) result calls)

@@ -1,5 +1,5 @@
 -- What the steps of a session come to.
-use Rattle.std.specs.Prelude.{◌≡◌, ◌⊎◌, ◌+◌, ℕ, List, [], ◌∷◌, ◌++◌, length, true, false, Option, Some, None, Result, Ok, Err}
+use Rattle.std.specs.Prelude.{◌≡◌, ◌⊎◌, ◌+◌, ℕ, List, [], ◌∷◌, ◌++◌, length, Bool, true, false, Option, Some, None, Result, Ok, Err}
 use Rattle.json_terms.specs.Reading.{reading}
 use Rattle.view_ports.specs.declared.command.Command.TheVariants.{AddFun}
 use Rattle.view_ports.specs.Calls.{Call, receive, Session, session, child, is_log, is_yes, sources_after}
@@ -14,17 +14,23 @@ use Rattle.child_pool.specs.declared.pool_fault.PoolFault.{PoolFault}
 use Rattle.child_pool.specs.declared.pool_fault.PoolFault.TheVariants as fault
 use Rattle.child_pool.specs.Shown.{shown}
 use Rattle.child_pool.specs.Jobs.{Job, IsAmong, IsPromptOf}
-use Rattle.child_pool.specs.Histories.{HasReceived, Turn, hears, last_heard, talk}
-use Rattle.child_pool.specs.Sessions.{IsAt, IsIdle}
+use Rattle.child_pool.specs.Histories.{HasReceived, Turn, says, hears, last_heard, talk}
+use Rattle.child_pool.specs.Sessions.{IsInSession, IsIdle}
 use Rattle.child_pool.specs.Causes.{IsBadReply, kind_of}
 
 -- so many log lines came since the prompt, and nothing else
 abbrev pub OnlyLogged : List ℕ → List (List ℕ) → List ℕ → ℕ → ℕ → List Call → List Call → Type 0
-OnlyLogged path sources prompt logs slot added now = IsAt path sources (prompt ∷ []) logs slot now × (talk added ≡ [])
+OnlyLogged path sources prompt logs slot added now = IsInSession path sources (prompt ∷ []) logs slot now × (talk added ≡ [])
 
 -- nothing was said, or this was said and one line was heard at most
 abbrev pub StopsAfter : ℕ → List Turn → List Turn → Type 0
 StopsAfter slot said turns = (turns ≡ []) ⊎ ((last : Option (List ℕ)) × (turns ≡ said ++ last_heard slot last))
+
+-- after a line was sent, or the call failed; where memory ran out nothing was said
+abbrev pub AfterSend : Job → List (List ℕ) → List ℕ → ℕ → Result Bool PoolFault → List Call → List Call → Type 0
+AfterSend job sources line slot (Ok true) added now = (talk added ≡ says slot line ∷ []) × IsInSession job.path sources (line ∷ []) 0 slot now
+AfterSend job sources line slot (Ok false) added now = Unit {0}
+AfterSend job sources line slot (Err f) added now = (f ≡ fault.NoMemory) × (talk added ≡ [])
 
 module _ (functions : List ℕ → Functions) (honest : List ℕ → Type 0) where
   -- a line came from a child that was started by the job's path and whose calls all went well, in reply to a prompt of the job
@@ -68,7 +74,7 @@ module _ (functions : List ℕ → Functions) (honest : List ℕ → Type 0) whe
     pub is : now ≡ receive slot (Some line) ∷ earlier
     pub reads : reply_of (kind_of (command prompt) (length sources)) line ≡ Some reply
     pub no_log : is_log line ≡ false
-    pub asked : IsAt path sources (prompt ∷ []) logs slot earlier
+    pub asked : IsInSession path sources (prompt ∷ []) logs slot earlier
     pub answers : AnswersChild functions honest (child slot earlier) line
     pub idle : IsIdle path (sources_after (command prompt) (is_yes line) sources) slot now
     pub talked : talk added ≡ said ++ hears slot line ∷ []

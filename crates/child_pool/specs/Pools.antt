@@ -1,5 +1,5 @@
--- The pool: the paths of languages, and the child that it started.
-use Rattle.std.specs.Prelude.{◌≡◌, ◌⊎◌, ◌≤◌, ℕ, List, [], map, length, Some, None, Result, Ok, Err, MatchOption}
+-- The pool: the paths of languages, and the children that it started.
+use Rattle.std.specs.Prelude.{◌≡◌, ◌⊎◌, ◌<◌, ◌≤◌, ℕ, List, [], map, length, Some, None, Result, Ok, Err, OnOk, OnErr, MatchOption}
 use Rattle.std.specs.List.{AllByRecursion}
 use Rattle.json_terms.specs.Json.{Json}
 use Rattle.view_ports.specs.Calls.{Call, child}
@@ -13,9 +13,9 @@ use Rattle.child_pool.specs.declared.doc_rows.DocRowLists.{DocRowLists}
 use Rattle.child_pool.specs.declared.pool_fault.PoolFault.{PoolFault}
 use Rattle.child_pool.specs.Histories.{talk}
 use Rattle.child_pool.specs.Jobs.{Job}
-use Rattle.child_pool.specs.Refused.{Refused}
+use Rattle.child_pool.specs.Refused.{Refused, RefusedIn}
 use Rattle.child_pool.specs.Sessions.{HasTold, IsThere}
-use Rattle.child_pool.specs.Talk.{AreTurns, Due, one_by_one, ready, waves}
+use Rattle.child_pool.specs.Talk.{AreTurns, Due, one_by_one, ready_slots, waves}
 
 -- the rows that a reply says
 abbrev pub rows_said : Reply → List (List (Json × Json))
@@ -32,29 +32,78 @@ entry_of language = (language.name, language.path)
 abbrev pub languages_of : Pool → List (List ℕ × List ℕ)
 languages_of pool = map entry_of pool.languages.items
 
--- the child that the pool remembers is there
-abbrev pub Stands : Pool → List Call → Type 0
-Stands pool calls = MatchOption pool.started (Unit {0}) (λ path. IsThere path 0 calls)
+-- how many children map documents: those of the slots below this one
+abbrev pub width_of : Pool → ℕ
+width_of pool = pool.width
 
--- no child is left
-pub record AreStopped (pool : Pool) (calls : List Call) : Type 0 where
+-- in each of the first slots is a child that was started by this path
+abbrev pub AreThere : List ℕ → ℕ → List Call → Type 0
+AreThere path count calls = (slot : ℕ) → slot < count → IsThere path slot calls
+
+-- the children that the pool remembers are there, as many as the width at most
+abbrev pub HasItsChildren : Pool → List Call → Type 0
+HasItsChildren pool calls = MatchOption pool.started (Unit {0}) (λ started. (started.count ≤ pool.width) × AreThere started.path started.count calls)
+
+-- the pool remembers so many children, of this path
+abbrev pub IsKept : Pool → List ℕ → ℕ → Type 0
+IsKept pool path count = pool.started ≡ Some (record { path = path; count = count })
+
+-- so many of the children that it remembers are of this path: all or none
+abbrev pub IsKeptOf : Pool → List ℕ → ℕ → Type 0
+IsKeptOf pool path count = IsKept pool path count ⊎ ((count ≡ 0) × ((other : ℕ) → IsKept pool path other → ⊥))
+
+-- it remembers so many children of this path at least
+abbrev pub AreKept : Pool → List ℕ → ℕ → Type 0
+AreKept pool path slots = (count : ℕ) × (slots ≤ count) × IsKept pool path count
+
+-- no slot below the width has a child
+abbrev pub NoneIsLeft : ℕ → List Call → Type 0
+NoneIsLeft width calls = (slot : ℕ) → slot < width → child slot calls ≡ None
+
+-- no child is remembered, and none is left in a pool of this width
+pub record AreStopped (width : ℕ) (pool : Pool) (calls : List Call) : Type 0 where
   pub forgotten : pool.started ≡ None
-  pub stopped : child 0 calls ≡ None
+  pub stopped : NoneIsLeft width calls
+
+-- the turns that map documents with so many children
+abbrev pub batch_turns : Job → ℕ → List (List (List ℕ × Json)) → List Due
+batch_turns job width documents = waves (length documents) width (length job.sources) documents
 
 module _ (functions : List ℕ → Functions) (honest : List ℕ → Type 0) where
-  -- the child has the job's sources, and is remembered
-  pub record IsReady (job : Job) (pool : Pool) (calls : List Call) : Type 0 where
-    pub remembered : pool.started ≡ Some job.path
-    pub told : HasTold functions honest job.path job.sources 0 calls
+  -- in each of the first slots the child has the job's sources
+  abbrev pub AreTold : Job → ℕ → List Call → Type 0
+  AreTold job slots calls = (slot : ℕ) → slot < slots → HasTold functions honest job.path job.sources slot calls
+
+  -- and so many slots have a child of its path
+  pub record StandReady (job : Job) (slots kept : ℕ) (calls : List Call) : Type 0 where
+    pub told : AreTold job slots calls
+    pub there : AreThere job.path kept calls
+
+  -- they have them and are remembered, among others of this path, which are all there
+  pub record IsReady (job : Job) (slots : ℕ) (pool : Pool) (calls : List Call) : Type 0 where
+    pub remembered : AreKept pool job.path slots
+    pub there : HasItsChildren pool calls
+    pub told : AreTold job slots calls
 
   -- a refusal stops all children
-  pub record GaveUp (job : Job) (dues : List Due) (rose : Type 0) (pool : Pool) (f : PoolFault) (before added now : List Call) : Type 0 where
-    pub refused : Refused functions honest job 0 dues rose f before added
-    pub stopped : AreStopped pool now
+  pub record GaveUp (job : Job) (width : ℕ) (dues : List Due) (rose : Type 0) (pool : Pool) (f : PoolFault) (before added now : List Call) : Type 0 where
+    pub refused : RefusedIn functions honest job width dues rose f before added
+    pub stopped : AreStopped width pool now
 
-  abbrev pub AfterPreparing : Job → Type 0 → Pool → Result (Unit {0}) PoolFault → List Call → List Call → List Call → Type 0
-  AfterPreparing job rose pool (Ok done) before added now = IsReady job pool now × (AreTurns (ready 0 job.sources) (talk added) ⊎ rose)
-  AfterPreparing job rose pool (Err f) before added now = GaveUp job (ready 0 job.sources) rose pool f before added now
+  -- the first slots are made ready, or there is a refusal
+  abbrev pub AfterReadying : Job → ℕ → ℕ → Type 0 → Result (Unit {0}) PoolFault → List Call → List Call → List Call → Type 0
+  AfterReadying job width slots rose (Ok done) before added now = AreTold job slots now × (AreTurns (ready_slots 0 slots job.sources) (talk added) ⊎ rose)
+  AfterReadying job width slots rose (Err f) before added now = RefusedIn functions honest job width (ready_slots 0 slots job.sources) rose f before added
+
+  -- the same, and the pool remembers the children that are ready; after a refusal they may be as they were left
+  abbrev pub AfterTrying : Job → ℕ → ℕ → Type 0 → Pool → Result (Unit {0}) PoolFault → List Call → List Call → List Call → Type 0
+  AfterTrying job width slots rose pool result before added now =
+      AfterReadying job width slots rose result before added now × OnOk result (AreKept pool job.path slots × HasItsChildren pool now)
+
+  -- the same, and a refusal stops all children
+  abbrev pub AfterPreparing : Job → ℕ → ℕ → Type 0 → Pool → Result (Unit {0}) PoolFault → List Call → List Call → List Call → Type 0
+  AfterPreparing job width slots rose pool result before added now =
+      AfterTrying job width slots rose pool result before added now × OnErr result (AreStopped width pool now)
 
   -- for each document a list of rows for each source, which on an honest path are those of the path's map functions
   pub record AreRowsOf (path : List ℕ) (sources : List (List ℕ)) (documents : List (List (List ℕ × Json))) (lists : List (List (List (Json × Json)))) : Type 0 where
@@ -62,22 +111,22 @@ module _ (functions : List ℕ → Functions) (honest : List ℕ → Type 0) whe
     pub all : AllByRecursion (λ rows. length rows ≡ length sources) lists
     pub right : honest path → length sources ≤ source_limit → lists ≡ map (rows_of (functions path) sources) documents
 
-  -- documents were mapped one after another
-  pub record HasMappedAll (job : Job) (documents : List (List (List ℕ × Json))) (rose : Type 0) (pool : Pool) (lists : List (List (List (Json × Json)))) (added now : List Call) : Type 0 where
-    pub is_ready : IsReady job pool now
-    pub talked : AreTurns (waves (length documents) 1 (length job.sources) documents) (talk added) ⊎ rose
+  -- documents were mapped, in waves of as many as the width, and the children of the first slots are ready still
+  pub record HasMappedAll (job : Job) (width slots : ℕ) (documents : List (List (List ℕ × Json))) (rose : Type 0) (pool : Pool) (lists : List (List (List (Json × Json)))) (added now : List Call) : Type 0 where
+    pub is_ready : IsReady job slots pool now
+    pub talked : AreTurns (batch_turns job width documents) (talk added) ⊎ rose
     pub rows : AreRowsOf job.path job.sources documents lists
 
-  -- the same without what the pool remembers
-  pub record HasMappedEach (job : Job) (documents : List (List (List ℕ × Json))) (rose : Type 0) (lists : List (List (List (Json × Json)))) (added now : List Call) : Type 0 where
-    pub told : HasTold functions honest job.path job.sources 0 now
+  -- documents were mapped one after another by the child of slot 0
+  pub record HasMappedEach (job : Job) (slots kept : ℕ) (documents : List (List (List ℕ × Json))) (rose : Type 0) (lists : List (List (List (Json × Json)))) (added now : List Call) : Type 0 where
+    pub stand : StandReady job slots kept now
     pub talked : AreTurns (one_by_one (length job.sources) documents) (talk added) ⊎ rose
     pub rows : AreRowsOf job.path job.sources documents lists
 
-  abbrev pub AfterMapping : Job → List (List (List ℕ × Json)) → Type 0 → Result DocRowLists PoolFault → List Call → List Call → List Call → Type 0
-  AfterMapping job documents rose (Ok lists) before added now = HasMappedEach job documents rose lists added now
-  AfterMapping job documents rose (Err f) before added now = Refused functions honest job 0 (one_by_one (length job.sources) documents) rose f before added
+  abbrev pub AfterMapping : Job → ℕ → ℕ → List (List (List ℕ × Json)) → Type 0 → Result DocRowLists PoolFault → List Call → List Call → List Call → Type 0
+  AfterMapping job slots kept documents rose (Ok lists) before added now = HasMappedEach job slots kept documents rose lists added now
+  AfterMapping job slots kept documents rose (Err f) before added now = Refused functions honest job 0 (one_by_one (length job.sources) documents) rose f before added
 
-  abbrev pub AfterBatch : Job → List (List (List ℕ × Json)) → Type 0 → Pool → Result DocRowLists PoolFault → List Call → List Call → List Call → Type 0
-  AfterBatch job documents rose pool (Ok lists) before added now = HasMappedAll job documents rose pool lists added now
-  AfterBatch job documents rose pool (Err f) before added now = GaveUp job (waves (length documents) 1 (length job.sources) documents) rose pool f before added now
+  abbrev pub AfterBatch : Job → ℕ → ℕ → List (List (List ℕ × Json)) → Type 0 → Pool → Result DocRowLists PoolFault → List Call → List Call → List Call → Type 0
+  AfterBatch job width slots documents rose pool (Ok lists) before added now = HasMappedAll job width slots documents rose pool lists added now
+  AfterBatch job width slots documents rose pool (Err f) before added now = GaveUp job width (batch_turns job width documents) rose pool f before added now

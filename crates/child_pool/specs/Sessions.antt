@@ -6,12 +6,12 @@ use Rattle.view_ports.specs.Functions.{Functions}
 
 -- the slot's child was started by this path, has these sources, hasn't answered these lines, and has printed so many log
 -- lines since its last answer; no call of its session failed, and no line was too long
-pub record IsAt (path : List ℕ) (sources waiting : List (List ℕ)) (logs slot : ℕ) (calls : List Call) : Type 0 where
+pub record IsInSession (path : List ℕ) (sources waiting : List (List ℕ)) (logs slot : ℕ) (calls : List Call) : Type 0 where
   pub is : child slot calls ≡ Some (session path sources waiting logs true)
 
 -- it has answered each line
 abbrev pub IsIdle : List ℕ → List (List ℕ) → ℕ → List Call → Type 0
-IsIdle path sources slot calls = IsAt path sources [] 0 slot calls
+IsIdle path sources slot calls = IsInSession path sources [] 0 slot calls
 
 -- a child that was started by this path is there, and has answered each line
 abbrev pub IsThere : List ℕ → ℕ → List Call → Type 0

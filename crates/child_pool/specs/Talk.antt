@@ -1,5 +1,5 @@
 -- The talk of an update without faults, log lines aside: which lines are said and heard, in which order.
-use Rattle.std.specs.Prelude.{◌≡◌, ℕ, zero, suc, min, List, [], ◌∷◌, ◌++◌, length, take, drop, Option, Some}
+use Rattle.std.specs.Prelude.{◌≡◌, ◌<◌, ℕ, zero, suc, min, List, [], ◌∷◌, ◌++◌, length, map, take, drop, Option, Some}
 use Rattle.std.specs.List.{flat_map}
 use Rattle.json_terms.specs.Json.{Json}
 use Rattle.view_ports.specs.declared.command.Command.{Command}
@@ -52,13 +52,21 @@ pub record AreCutShort (slot : ℕ) (dues : List Due) (turns : List Turn) : Type
   pub last : Option (List ℕ)
   pub is : turns ≡ said ++ last_heard slot last
 
+-- the same in a pool of this width: the line more was heard on one of the slots below it
+abbrev pub AreCutShortIn : ℕ → List Due → List Turn → Type 0
+AreCutShortIn width dues turns = (slot : ℕ) × (slot < width) × AreCutShort slot dues turns
+
 -- a command is said, and its answer is heard before anything else
 abbrev pub asks : ℕ → Command → ℕ → List Due
 asks slot command count = say slot command ∷ hear slot command count ∷ []
 
--- a slot is made ready: it is reset, and each source is added
+-- the commands that set a child up for these sources: it is reset, and each source is added
+abbrev pub setup : List (List ℕ) → List Command
+setup sources = Reset ∷ map AddFun sources
+
+-- a slot is made ready: it is asked each of them
 abbrev pub ready : ℕ → List (List ℕ) → List Due
-ready slot sources = asks slot Reset 0 ++ flat_map (λ source. asks slot (AddFun source) 0) sources
+ready slot sources = flat_map (λ command. asks slot command 0) (setup sources)
 
 -- the first slots are made ready, in rising order
 abbrev pub ready_slots : ℕ → ℕ → List (List ℕ) → List Due

@@ -18,7 +18,5 @@ pub use doc_rows::DocRowLists;
 pub use document::Document;
 pub use languages::language_word;
 pub use laws::honest_paths_are_refused_rightly;
-pub use mapping::map_one;
 pub use pool::Pool;
 pub use pool_fault::PoolFault;
-pub use preparing::prepare_slot;

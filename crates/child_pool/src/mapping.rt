@@ -1,43 +1,34 @@
 //! Mapping a document through a child whose session is ready.
 
-ghost use Rattle.std.specs.Prelude.{◌≡◌, ◌≢◌, ◌<◌, ◌≤◌, ◌+◌, ◌^◌, ℕ, List, [], ◌∷◌, Ok, Err, None, length, IfOk, OnOk};
-ghost use Rattle.json_terms.specs.Json.{Json};
-ghost use Rattle.json_terms.specs.Seen.{json};
-ghost use Rattle.view_ports.specs.Calls.{Call};
+ghost use Rattle.std.specs.Prelude.{◌≡◌, ◌<◌, ◌^◌, None, length, IfOk, OnOk};
 ghost use Rattle.view_ports.specs.Commands.{command};
-ghost use Rattle.view_ports.specs.Faults.{Rose, RoseBy};
 ghost use Rattle.view_ports.specs.Functions.{IsMappable};
-ghost use Rattle.query_protocol.specs.CommandLines.{command_line, document_of, IsDocument, IsWhole};
-ghost use Rattle.child_pool.specs.Histories.{Went};
-ghost use Rattle.child_pool.specs.Jobs.{IsAmong, job_of};
-ghost use Rattle.child_pool.specs.Mapping.{AfterAnswer, AfterMap};
+ghost use Rattle.query_protocol.specs.CommandLines.{command_line, IsWhole};
+ghost use Rattle.child_pool.specs.Ends.{EndsOnce, EndsTwice};
+ghost use Rattle.child_pool.specs.Mapping.{AsksRows, MapsOne};
 ghost use Rattle.child_pool.specs.Pools.{rows_said};
-ghost use Rattle.child_pool.specs.Sessions.{HasTold};
-ghost use Rattle.child_pool.specs.Talk.{asks};
 
+use crate::document::Document;
 use crate::pool_fault::PoolFault;
 use crate::prompt::ask;
 use crate::session::start_over;
-use json_terms::{Chars, NoMemory, RowLists, Term};
+use json_terms::{Chars, NoMemory, RowLists};
 use query_protocol::{Kind, Reply, map_line};
 use std::alloc::Global;
-use view_ports::{Command, SLOT_COUNT, Servers};
-
-/// How many bytes the line of a document has at most.
-const DOCUMENT_LIMIT: usize = 1_048_576;
+use view_ports::{Command, DOCUMENT_LINE_LIMIT, SLOT_COUNT, Servers};
 
 /// The line that asks for a document's rows. There is no memory for one of more than 1,048,576 bytes.
-fn document_line(alloc: Global, document: &Term) -> Result<Vec<u8>, NoMemory>
-    requires { IsDocument (json document.now) }
-    ensures mappable { OnOk result (IsMappable (document_of (json document.now))) }
-    ensures line { IfOk result (λ line. line.items ≡ command_line (Command.MapDoc (document_of (json document.now)))) }
+fn document_line(alloc: Global, document: &Document) -> Result<Vec<u8>, NoMemory>
+    ensures mappable { OnOk result (IsMappable document.now) }
+    ensures line { IfOk result (λ line. line.items ≡ command_line (Command.MapDoc document.now)) }
     ensures whole { IfOk result (λ line. IsWhole line.items) }
-    ensures reads { IfOk result (λ line. command line.items ≡ Command.MapDoc (document_of (json document.now))) }
+    ensures reads { IfOk result (λ line. command line.items ≡ Command.MapDoc document.now) }
 {
-    document.validity();
+    let term = document.term();
+    term.validity();
     let mut line = Vec::new(alloc);
-    map_line(alloc, document, &mut line)?;
-    if line.len() > DOCUMENT_LIMIT {
+    map_line(alloc, term, &mut line)?;
+    if line.len() > DOCUMENT_LINE_LIMIT {
         return Err(NoMemory);
     }
     Ok(line)
@@ -62,18 +53,12 @@ fn ask_rows<C: Servers>(
     servers: &mut C,
     slot: u32,
     sources: &[Chars],
-    document: &Term,
+    document: &Document,
 ) -> Result<Option<RowLists>, PoolFault>
     requires slot { slot < SLOT_COUNT }
     requires few { length sources.now < 2 ^ 32 }
-    requires document { IsDocument (json document.now) }
-    ensures went { (path : List ℕ) (documents : List (List (List ℕ × Json))) (calls : List Call) → C.may_follow servers.old calls → IsAmong documents (document_of (json document.now))
-        → HasTold C.functions C.honest path sources.now slot calls
-        → Went (C.may_follow servers.new) (job_of path sources.now documents) slot calls (AfterAnswer C.functions C.honest (job_of path sources.now documents) slot (document_of (json document.now)) (asks slot (Command.MapDoc (document_of (json document.now))) (length sources.now)) result calls) }
-    ensures later { C.faults servers.old ≤ C.faults servers.new }
-    ensures failed { result ≡ Ok None → Rose (C.faults servers.old) (C.faults servers.new) }
-    ensures no_fault { result ≢ Err PoolFault.ServerFault }
-    ensures language { result ≢ Err PoolFault.UnknownLanguage }
+    ensures went { AsksRows C.Servers servers.old servers.new slot sources.now document.now result }
+    ensures ends { EndsOnce C.Servers servers.old servers.new None result }
 {
     let line = match document_line(alloc, document) {
         Ok(line) => line,
@@ -99,17 +84,13 @@ pub fn map_one<C: Servers>(
     slot: u32,
     path: &str,
     sources: &[Chars],
-    document: &Term,
+    document: &Document,
 ) -> Result<RowLists, PoolFault>
     requires slot { slot < SLOT_COUNT }
     requires few { length sources.now < 2 ^ 32 }
-    requires document { IsDocument (json document.now) }
-    ensures went { (documents : List (List (List ℕ × Json))) (calls : List Call) → C.may_follow servers.old calls → IsAmong documents (document_of (json document.now))
-        → HasTold C.functions C.honest path.now sources.now slot calls
-        → Went (C.may_follow servers.new) (job_of path.now sources.now documents) slot calls (AfterMap C.functions C.honest (job_of path.now sources.now documents) slot (document_of (json document.now)) (asks slot (Command.MapDoc (document_of (json document.now))) (length sources.now)) (Rose (C.faults servers.old) (C.faults servers.new)) result calls) }
-    ensures later { C.faults servers.old ≤ C.faults servers.new }
-    ensures twice { result ≡ Err PoolFault.ServerFault → RoseBy 2 (C.faults servers.old) (C.faults servers.new) }
-    ensures language { result ≢ Err PoolFault.UnknownLanguage }
+    ensures went { MapsOne C.Servers servers.old servers.new
+        slot path.now sources.now document.now result }
+    ensures ends { EndsTwice C.Servers servers.old servers.new result }
 {
     match ask_rows(alloc, servers, slot, sources, document) {
         Ok(Some(rows)) => return Ok(rows),

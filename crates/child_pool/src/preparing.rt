@@ -1,13 +1,9 @@
-//! Making the child of a slot ready.
+//! Making the children of slots ready.
 
-ghost use Rattle.std.specs.Prelude.{◌≡◌, ◌≢◌, ◌<◌, ◌≤◌, ℕ, List, Err, false};
-ghost use Rattle.json_terms.specs.Json.{Json};
-ghost use Rattle.view_ports.specs.Calls.{Call};
-ghost use Rattle.view_ports.specs.Faults.{Rose, RoseBy};
-ghost use Rattle.child_pool.specs.Histories.{Went};
-ghost use Rattle.child_pool.specs.Jobs.{job_of};
-ghost use Rattle.child_pool.specs.Preparing.{AfterPrepare};
-ghost use Rattle.child_pool.specs.Sessions.{IsThere};
+ghost use Rattle.std.specs.Prelude.{◌<◌};
+ghost use Rattle.child_pool.specs.Ends.{EndsTwice};
+ghost use Rattle.child_pool.specs.PoolCalls.{ReadiesSlots};
+ghost use Rattle.child_pool.specs.StageCalls.{PreparesSlot};
 
 use crate::pool_fault::PoolFault;
 use crate::session::tell_all;
@@ -26,12 +22,33 @@ pub fn prepare_slot<C: Servers>(
     fresh: bool,
 ) -> Result<(), PoolFault>
     requires { slot < SLOT_COUNT }
-    ensures went { (documents : List (List (List ℕ × Json))) (calls : List Call) → C.may_follow servers.old calls
-        → (fresh ≡ false → IsThere path.now slot calls)
-        → Went (C.may_follow servers.new) (job_of path.now sources.now documents) slot calls (AfterPrepare C.functions C.honest (job_of path.now sources.now documents) slot (Rose (C.faults servers.old) (C.faults servers.new)) result calls) }
-    ensures later { C.faults servers.old ≤ C.faults servers.new }
-    ensures twice { result ≡ Err PoolFault.ServerFault → RoseBy 2 (C.faults servers.old) (C.faults servers.new) }
-    ensures language { result ≢ Err PoolFault.UnknownLanguage }
+    ensures went { PreparesSlot C.Servers servers.old servers.new
+        slot path.now sources.now fresh result }
+    ensures ends { EndsTwice C.Servers servers.old servers.new result }
 {
     tell_all(alloc, servers, slot, path, sources, fresh)
+}
+
+/// Makes the first slots ready, in rising order. The first `kept` slots have a child that was started by this path; in the
+/// others one is started.
+pub fn prepare_slots<C: Servers>(
+    alloc: Global,
+    servers: &mut C,
+    slots: u32,
+    kept: u32,
+    path: &str,
+    sources: &[Chars],
+) -> Result<(), PoolFault>
+    requires { slots < SLOT_COUNT }
+    ensures went { ReadiesSlots C.Servers servers.old servers.new
+        slots kept path.now sources.now result }
+    ensures ends { EndsTwice C.Servers servers.old servers.new result }
+{
+    for slot in 0..slots {
+        match prepare_slot(alloc, servers, slot, path, sources, kept <= slot) {
+            Ok(()) => {}
+            Err(fault) => return Err(fault),
+        }
+    }
+    Ok(())
 }

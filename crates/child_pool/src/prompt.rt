@@ -1,29 +1,20 @@
 //! One prompt: a line is sent, and its answer is received behind log lines.
 
-ghost use Rattle.std.specs.Prelude.{◌≡◌, ◌≢◌, ◌<◌, ◌≤◌, ◌+◌, ℕ, List, [], ◌∷◌, Ok, Err, None, length};
-ghost use Rattle.view_ports.specs.Calls.{Call, child};
-ghost use Rattle.view_ports.specs.Commands.{command};
-ghost use Rattle.view_ports.specs.Faults.{Rose};
+ghost use Rattle.std.specs.Prelude.{◌≡◌, ◌<◌, Ok, None, false};
 ghost use Rattle.query_protocol.specs.CommandLines.{IsWhole};
-ghost use Rattle.child_pool.specs.Causes.{kind_of};
+ghost use Rattle.child_pool.specs.Ends.{EndsOnce};
 ghost use Rattle.child_pool.specs.Hearing.{IsHeard, IsKept, IsShown};
-ghost use Rattle.child_pool.specs.Histories.{Went, says};
-ghost use Rattle.child_pool.specs.Jobs.{Job, IsLineOfJob, IsPromptOf};
-ghost use Rattle.child_pool.specs.Outcomes.{AfterLine, AfterPrompt};
-ghost use Rattle.child_pool.specs.Sessions.{IsAt, IsIdle};
+ghost use Rattle.child_pool.specs.PromptCalls.{Asks, Hears, HearsReply, Sends};
 
 use crate::heard::Heard;
 use crate::pool_fault::PoolFault;
 use crate::shown_line::shown_line;
 use query_protocol::{Kind, Reply, ReplyFault, read_reply};
 use std::alloc::Global;
-use view_ports::{SLOT_COUNT, Servers, ServersFault};
+use view_ports::{LINE_LIMIT, SLOT_COUNT, Servers, ServersFault};
 
 /// How many log lines may come before one answer.
 const LOG_LIMIT: u32 = 1_000;
-
-/// How many bytes a line to a child has at most.
-const LINE_LIMIT: usize = 134_217_728;
 
 /// Receives one line in reply to a prompt, behind `logs` log lines.
 fn receive_line<C: Servers>(
@@ -34,14 +25,9 @@ fn receive_line<C: Servers>(
     logs: u32,
 ) -> Result<Heard, PoolFault>
     requires { slot < SLOT_COUNT }
-    ensures went { (job : Job) (sources : List (List ℕ)) (prompt : List ℕ) (calls : List Call) → C.may_follow servers.old calls
-        → kind ≡ kind_of (command prompt) (length sources) → IsPromptOf job sources (command prompt) → IsAt job.path sources (prompt ∷ []) logs slot calls
-        → Went (C.may_follow servers.new) job slot calls (AfterLine C.functions C.honest job sources prompt logs slot result calls) }
-    ensures later { C.faults servers.old ≤ C.faults servers.new }
-    ensures failed { result ≡ Ok Heard.Failed → Rose (C.faults servers.old) (C.faults servers.new) }
+    ensures went { Hears C.Servers servers.old servers.new slot kind logs result }
+    ensures ends { EndsOnce C.Servers servers.old servers.new Heard.Failed result }
     ensures few { result ≡ Ok Heard.Log → logs < 1000 }
-    ensures no_fault { result ≢ Err PoolFault.ServerFault }
-    ensures language { result ≢ Err PoolFault.UnknownLanguage }
 {
     let line = match servers.receive(alloc, slot) {
         Ok(line) => line,
@@ -59,13 +45,8 @@ fn receive_reply<C: Servers>(
     kind: Kind,
 ) -> Result<Option<Reply>, PoolFault>
     requires { slot < SLOT_COUNT }
-    ensures went { (job : Job) (sources : List (List ℕ)) (prompt : List ℕ) (calls : List Call) → C.may_follow servers.old calls
-        → kind ≡ kind_of (command prompt) (length sources) → IsPromptOf job sources (command prompt) → IsAt job.path sources (prompt ∷ []) 0 slot calls
-        → Went (C.may_follow servers.new) job slot calls (AfterPrompt C.functions C.honest job sources prompt slot [] result calls) }
-    ensures later { C.faults servers.old ≤ C.faults servers.new }
-    ensures failed { result ≡ Ok None → Rose (C.faults servers.old) (C.faults servers.new) }
-    ensures no_fault { result ≢ Err PoolFault.ServerFault }
-    ensures language { result ≢ Err PoolFault.UnknownLanguage }
+    ensures went { HearsReply C.Servers servers.old servers.new slot kind result }
+    ensures ends { EndsOnce C.Servers servers.old servers.new None result }
 {
     for logs in 0..LOG_LIMIT {
         match receive_line(alloc, servers, slot, kind, logs) {
@@ -83,8 +64,30 @@ fn receive_reply<C: Servers>(
     }
 }
 
-/// Sends a prompt and receives its reply, or nothing where a call fails. A line past 134,217,728 bytes isn't sent: there is
-/// no memory for it.
+/// Sends a prompt to a child that has answered each line. It is false where the call failed. A line past 134,217,728 bytes
+/// isn't sent: there is no memory for it.
+fn send_prompt<C: Servers>(
+    alloc: Global,
+    servers: &mut C,
+    slot: u32,
+    line: &[u8],
+) -> Result<bool, PoolFault>
+    requires slot { slot < SLOT_COUNT }
+    requires whole { IsWhole line.now }
+    ensures went { Sends C.Servers servers.old servers.new slot line.now result }
+    ensures ends { EndsOnce C.Servers servers.old servers.new false result }
+{
+    if line.len() > LINE_LIMIT {
+        return Err(PoolFault::NoMemory);
+    }
+    match servers.send(alloc, slot, line) {
+        Ok(()) => Ok(true),
+        Err(ServersFault::Failed) => Ok(false),
+        Err(ServersFault::NoMemory) => Err(PoolFault::NoMemory),
+    }
+}
+
+/// Sends a prompt and receives its reply, or nothing where a call fails.
 pub fn ask<C: Servers>(
     alloc: Global,
     servers: &mut C,
@@ -94,21 +97,13 @@ pub fn ask<C: Servers>(
 ) -> Result<Option<Reply>, PoolFault>
     requires slot { slot < SLOT_COUNT }
     requires whole { IsWhole line.now }
-    ensures went { (job : Job) (sources : List (List ℕ)) (calls : List Call) → C.may_follow servers.old calls
-        → kind ≡ kind_of (command line.now) (length sources) → IsLineOfJob job line.now → IsPromptOf job sources (command line.now) → IsIdle job.path sources slot calls
-        → Went (C.may_follow servers.new) job slot calls (AfterPrompt C.functions C.honest job sources line.now slot (says slot line.now ∷ []) result calls) }
-    ensures later { C.faults servers.old ≤ C.faults servers.new }
-    ensures failed { result ≡ Ok None → Rose (C.faults servers.old) (C.faults servers.new) }
-    ensures no_fault { result ≢ Err PoolFault.ServerFault }
-    ensures language { result ≢ Err PoolFault.UnknownLanguage }
+    ensures went { Asks C.Servers servers.old servers.new slot line.now kind result }
+    ensures ends { EndsOnce C.Servers servers.old servers.new None result }
 {
-    if line.len() > LINE_LIMIT {
-        return Err(PoolFault::NoMemory);
-    }
-    match servers.send(alloc, slot, line) {
-        Ok(()) => receive_reply(alloc, servers, slot, kind),
-        Err(ServersFault::Failed) => Ok(None),
-        Err(ServersFault::NoMemory) => Err(PoolFault::NoMemory),
+    match send_prompt(alloc, servers, slot, line) {
+        Ok(true) => receive_reply(alloc, servers, slot, kind),
+        Ok(false) => Ok(None),
+        Err(fault) => Err(fault),
     }
 }
 

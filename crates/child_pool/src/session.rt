@@ -1,17 +1,12 @@
 //! Making a child's session ready: start, reset, and one source after another. Each prompt has two attempts.
 
-ghost use Rattle.std.specs.Prelude.{◌≡◌, ◌≢◌, ◌<◌, ◌≤◌, ◌+◌, ℕ, List, [], ◌∷◌, Ok, Err, IfOk, true, false, map, length, suc};
-ghost use Rattle.json_terms.specs.Json.{Json};
-ghost use Rattle.view_ports.specs.Calls.{Call, child};
+ghost use Rattle.std.specs.Prelude.{◌≡◌, ◌<◌, ◌≤◌, ◌+◌, ℕ, List, IfOk, false, length};
 ghost use Rattle.view_ports.specs.Commands.{command};
-ghost use Rattle.view_ports.specs.Faults.{Rose, RoseBy};
 ghost use Rattle.query_protocol.specs.CommandLines.{command_line, IsWhole};
 ghost use Rattle.child_pool.specs.Causes.{kind_of};
-ghost use Rattle.child_pool.specs.Histories.{Went};
-ghost use Rattle.child_pool.specs.Jobs.{job_of};
-ghost use Rattle.child_pool.specs.Sessions.{IsTold};
-ghost use Rattle.child_pool.specs.Stages.{AfterStages, AfterAttempts, stage_command, told_by, told_turns};
-ghost use Rattle.child_pool.specs.Talk.{asks};
+ghost use Rattle.child_pool.specs.Ends.{EndsOnce, EndsTwice, IsStageOf};
+ghost use Rattle.child_pool.specs.Stages.{stage_command, told_by};
+ghost use Rattle.child_pool.specs.StageCalls.{Attempts, Brings, StartsOver, Tells, TellsAll};
 
 use crate::pool_fault::PoolFault;
 use crate::prompt::ask;
@@ -68,13 +63,9 @@ fn tell<C: Servers>(
 ) -> Result<bool, PoolFault>
     requires slot { slot < SLOT_COUNT }
     requires stage { stage ≤ length sources.now }
-    ensures went { (path : List ℕ) (documents : List (List (List ℕ × Json))) (calls : List Call) → C.may_follow servers.old calls
-        → IsTold C.functions C.honest path sources.now stage slot calls
-        → Went (C.may_follow servers.new) (job_of path sources.now documents) slot calls (AfterStages C.functions C.honest (job_of path sources.now documents) slot (suc stage) (asks slot (stage_command sources.now stage) 0) result calls) }
-    ensures later { C.faults servers.old ≤ C.faults servers.new }
-    ensures failed { result ≡ Ok false → Rose (C.faults servers.old) (C.faults servers.new) }
-    ensures no_fault { result ≢ Err PoolFault.ServerFault }
-    ensures language { result ≢ Err PoolFault.UnknownLanguage }
+    ensures went { (path : List ℕ)
+        → Tells C.Servers servers.old servers.new slot path sources.now stage result }
+    ensures ends { EndsOnce C.Servers servers.old servers.new false result }
 {
     let line = match stage_line(alloc, sources, stage) {
         Ok(line) => line,
@@ -98,12 +89,9 @@ pub fn start_over<C: Servers>(
 ) -> Result<bool, PoolFault>
     requires slot { slot < SLOT_COUNT }
     requires stages { stages ≤ length sources.now + 1 }
-    ensures went { (documents : List (List (List ℕ × Json))) (calls : List Call) → C.may_follow servers.old calls
-        → Went (C.may_follow servers.new) (job_of path.now sources.now documents) slot calls (AfterStages C.functions C.honest (job_of path.now sources.now documents) slot stages (told_turns slot sources.now stages) result calls) }
-    ensures later { C.faults servers.old ≤ C.faults servers.new }
-    ensures failed { result ≡ Ok false → Rose (C.faults servers.old) (C.faults servers.new) }
-    ensures no_fault { result ≢ Err PoolFault.ServerFault }
-    ensures language { result ≢ Err PoolFault.UnknownLanguage }
+    ensures went { StartsOver C.Servers servers.old servers.new
+        slot path.now sources.now stages result }
+    ensures ends { EndsOnce C.Servers servers.old servers.new false result }
 {
     match servers.start(alloc, slot, path) {
         Ok(()) => {}
@@ -131,15 +119,10 @@ fn first_attempt<C: Servers>(
     fresh: bool,
 ) -> Result<bool, PoolFault>
     requires slot { slot < SLOT_COUNT }
-    requires stage { stage ≤ length sources.now }
-    requires fresh { fresh ≡ true → stage ≡ 0 }
-    ensures went { (documents : List (List (List ℕ × Json))) (calls : List Call) → C.may_follow servers.old calls
-        → (fresh ≡ false → IsTold C.functions C.honest path.now sources.now stage slot calls)
-        → Went (C.may_follow servers.new) (job_of path.now sources.now documents) slot calls (AfterStages C.functions C.honest (job_of path.now sources.now documents) slot (suc stage) (asks slot (stage_command sources.now stage) 0) result calls) }
-    ensures later { C.faults servers.old ≤ C.faults servers.new }
-    ensures failed { result ≡ Ok false → Rose (C.faults servers.old) (C.faults servers.new) }
-    ensures no_fault { result ≢ Err PoolFault.ServerFault }
-    ensures language { result ≢ Err PoolFault.UnknownLanguage }
+    requires stage { IsStageOf sources.now stage fresh }
+    ensures went { Attempts C.Servers servers.old servers.new
+        slot path.now sources.now stage fresh result }
+    ensures ends { EndsOnce C.Servers servers.old servers.new false result }
 {
     if fresh {
         return start_over(alloc, servers, slot, path, sources, 1);
@@ -158,14 +141,10 @@ fn bring<C: Servers>(
     fresh: bool,
 ) -> Result<(), PoolFault>
     requires slot { slot < SLOT_COUNT }
-    requires stage { stage ≤ length sources.now }
-    requires fresh { fresh ≡ true → stage ≡ 0 }
-    ensures went { (documents : List (List (List ℕ × Json))) (calls : List Call) → C.may_follow servers.old calls
-        → (fresh ≡ false → IsTold C.functions C.honest path.now sources.now stage slot calls)
-        → Went (C.may_follow servers.new) (job_of path.now sources.now documents) slot calls (AfterAttempts C.functions C.honest (job_of path.now sources.now documents) slot (suc stage) (asks slot (stage_command sources.now stage) 0) (Rose (C.faults servers.old) (C.faults servers.new)) result calls) }
-    ensures later { C.faults servers.old ≤ C.faults servers.new }
-    ensures twice { result ≡ Err PoolFault.ServerFault → RoseBy 2 (C.faults servers.old) (C.faults servers.new) }
-    ensures language { result ≢ Err PoolFault.UnknownLanguage }
+    requires stage { IsStageOf sources.now stage fresh }
+    ensures went { Brings C.Servers servers.old servers.new
+        slot path.now sources.now stage fresh result }
+    ensures ends { EndsTwice C.Servers servers.old servers.new result }
 {
     match first_attempt(alloc, servers, slot, path, sources, stage, fresh) {
         Ok(true) => return Ok(()),
@@ -190,12 +169,9 @@ pub fn tell_all<C: Servers>(
     fresh: bool,
 ) -> Result<(), PoolFault>
     requires { slot < SLOT_COUNT }
-    ensures went { (documents : List (List (List ℕ × Json))) (calls : List Call) → C.may_follow servers.old calls
-        → (fresh ≡ false → IsTold C.functions C.honest path.now sources.now 0 slot calls)
-        → Went (C.may_follow servers.new) (job_of path.now sources.now documents) slot calls (AfterAttempts C.functions C.honest (job_of path.now sources.now documents) slot (length sources.now + 1) (told_turns slot sources.now (length sources.now + 1)) (Rose (C.faults servers.old) (C.faults servers.new)) result calls) }
-    ensures later { C.faults servers.old ≤ C.faults servers.new }
-    ensures twice { result ≡ Err PoolFault.ServerFault → RoseBy 2 (C.faults servers.old) (C.faults servers.new) }
-    ensures language { result ≢ Err PoolFault.UnknownLanguage }
+    ensures went { TellsAll C.Servers servers.old servers.new
+        slot path.now sources.now fresh result }
+    ensures ends { EndsTwice C.Servers servers.old servers.new result }
 {
     match bring(alloc, servers, slot, path, sources, 0, fresh) {
         Ok(()) => {}

@@ -1,5 +1,5 @@
 -- What a step of the engine is to a session.
-use Rattle.std.specs.Prelude.{◌≡◌, ◌≢◌, ◌++◌, ℕ, List, [], ◌∷◌, Option}
+use Rattle.std.specs.Prelude.{◌≡◌, ◌≢◌, ◌++◌, ℕ, List, [], ◌∷◌, Ok, Err}
 use Rattle.std.proofs.Common.{refl, sym, ap, ◌∙◌, subst, inl}
 use Rattle.view_ports.specs.Calls.{Call}
 use Rattle.view_ports.specs.Disk.{IfTold, LeavesOnly, Tells}
@@ -7,7 +7,6 @@ use Rattle.view_ports.specs.Functions.{Functions}
 use Rattle.view_ports.specs.Lines.{ended}
 use Rattle.view_ports.proofs.Moments.{started, weaker}
 use Rattle.view_ports.proofs.Told.{told_given, told_map, told_now, told_still}
-use Rattle.view_ports.specs.declared.file_name.FileName.{FileName}
 use Rattle.view_engine.specs.declared.engine.Engine.{Engine}
 use Rattle.view_engine.specs.declared.halt.StepFault.{StepFault}
 use Rattle.view_engine.specs.declared.halt.StepFault.TheVariants.{Damaged, Full}
@@ -17,10 +16,16 @@ use Rattle.view_engine.specs.Engine.{Appends as StepAppends, IsAt, Leaves}
 use Rattle.view_engine.specs.Moments.{Moment}
 use Rattle.view_engine.specs.Refusals.{refusal_text, request_of}
 use Rattle.view_engine.specs.Steps.{Answers, Does, MayHaveCalled}
-use Rattle.view_engine.specs.Worlds.{IsAtWorld, IsFullAt, StandsAround, StandsFor}
+use Rattle.view_engine.specs.Worlds.{IsAtWorld, StandsAround, StandsFor}
 use Rattle.view_engine.proofs.Exclusive.{around_either}
 use Rattle.view_engine.proofs.Worlds.{image_at}
-use Rattle.couchview_cli.specs.Session.{Answered, IsHalted, StandsEither}
+use Rattle.view_engine.specs.Calls.{IsStep, Scene}
+use Rattle.view_engine.specs.Disks.{IsReason}
+use Rattle.view_engine.specs.Worlds.{languages as languages_of}
+use Rattle.view_engine.proofs.Stepping.{step_around, step_full, step_sound, step_stopped, step_unwritten}
+use Rattle.view_ports.specs.declared.folder.Folder.{Ghosts as Folders}
+use Rattle.view_ports.specs.declared.servers.Servers.{Ghosts as Servers}
+use Rattle.couchview_cli.specs.Session.{Answered, IsAnswered, IsUnanswered, StandsEither}
 use Rattle.couchview_cli.proofs.Keeping.{answers_no_memory}
 use Rattle.couchview_cli.proofs.Moving.{Told}
 
@@ -38,38 +43,63 @@ module _ (functions : List ℕ → Functions) (honest : List ℕ → Type 0) (la
       (λ a b done leaves. weaker (StandsAround before.world (request_of line)) (StandsEither before.world after.world) a b (λ image stands. around_either functions honest languages before byte bytes text after image done stands) leaves)
       does moments
 
-  pub answered_done : (earlier : Engine) (line start out : List ℕ) → start ≡ [] → (Wrote : List ℕ → Type 0) → IfTold old (λ d. IsAtWorld earlier d.now before.world)
+  pub answered_done : (earlier : Engine) (line start out : List ℕ) → start ≡ [] → IfTold old (λ d. IsAtWorld earlier d.now before.world)
       → StepAppends new may_follow faults engine (λ text after. IfTold old (λ d. Does functions honest languages before line text after)) start out
-      → (line ≡ [] → new ≡ old) → Tells old new (LeavesOnly (StandsAround before.world (request_of line))) → Wrote out
-      → Answered functions honest languages old new Wrote before line (IsAt new may_follow faults engine)
-  answered_done earlier line start out empty Wrote at done idle moments wrote = record {
-    text = done.text;
-    after = done.after;
-    answers = told_now old (λ d. Does functions honest languages before line done.text done.after) (λ d. Answers functions honest languages before (record { line = line; text = done.text }) done.after) (λ d does. inl does) done.allowed;
-    moments = moments_done earlier line done.text done.after at done.allowed idle moments;
-    stands = done.is_at;
-    wrote = subst Wrote (done.appended ∙ ap (λ (front : List ℕ). front ++ done.text) empty) wrote;
-  }
+      → (line ≡ [] → new ≡ old) → Tells old new (LeavesOnly (StandsAround before.world (request_of line)))
+      → Answered functions honest languages old new before line out (IsAt new may_follow faults engine)
+  answered_done earlier line start out empty at done idle moments =
+      let same : done.text ≡ out = sym (done.appended ∙ ap (λ (front : List ℕ). front ++ done.text) empty) in
+      subst (λ (text : List ℕ). Answered functions honest languages old new before line text (IsAt new may_follow faults engine)) same
+      (record {
+        after = done.after;
+        answers = told_now old (λ d. Does functions honest languages before line done.text done.after) (λ d. Answers functions honest languages before (record { line = line; text = done.text }) done.after) (λ d does. inl does) done.allowed;
+        moments = moments_done earlier line done.text done.after at done.allowed idle moments;
+        stands = done.is_at;
+      })
 
   -- a line for which memory ran out
-  pub answered_spent : (line : List ℕ) (Wrote : List ℕ → Type 0) → line ≢ []
+  pub answered_spent : (line : List ℕ) → line ≢ []
       → Leaves new may_follow faults engine (λ after. IfTold old (λ d. MayHaveCalled languages before (request_of line) after))
-      → Tells old new (LeavesOnly (λ image. StandsFor image before.world)) → Wrote (ended (refusal_text NoMemory))
-      → Answered functions honest languages old new Wrote before line (IsAt new may_follow faults engine)
-  answered_spent line Wrote some left moments wrote = record {
-    text = ended (refusal_text NoMemory);
+      → Tells old new (LeavesOnly (λ image. StandsFor image before.world))
+      → Answered functions honest languages old new before line (ended (refusal_text NoMemory)) (IsAt new may_follow faults engine)
+  answered_spent line some left moments = record {
     after = left.after;
     answers = told_now old (λ d. MayHaveCalled languages before (request_of line) left.after) (λ d. Answers functions honest languages before (record { line = line; text = ended (refusal_text NoMemory) }) left.after)
         (λ d called. answers_no_memory functions honest languages before line left.after some called) left.allowed;
     moments = told_map old new (LeavesOnly (λ image. StandsFor image before.world)) (LeavesOnly (StandsEither before.world (left.after).world))
         (λ a b leaves. weaker (λ image. StandsFor image before.world) (StandsEither before.world (left.after).world) a b (λ image stands. inl stands) leaves) moments;
     stands = left.is_at;
-    wrote = wrote;
   }
 
--- a line that the engine did not answer
-pub halted_by : (fault : StepFault) (line : List ℕ) (before : Moment) (old new : Told) (held : Option (List ℕ)) (HasLeft : Moment → Type 0) → fault ≢ halt.NoMemory
-    → Tells old new (LeavesOnly (StandsAround before.world (request_of line))) → IfTold old (λ d. (name : FileName) (at : ℕ) → fault ≡ Damaged name at → ⊥)
-    → IfTold old (λ d. (name : FileName) (length : Option ℕ) → fault ≡ Full name length → IsFullAt before.world (request_of line) name length) → HasLeft before
-    → IsHalted fault old new held held before line HasLeft
-halted_by fault line before old new held HasLeft halts moments sound full left = record { moments = moments; halts = halts; whole = sound; full = full; left = left; silent = refl }
+module _ {F C : Type 0} {f : Folders F} {s : Servers C} {old new : Scene F C} {line start out : List ℕ} where
+  -- a step of the engine that is done is an answer
+  pub answered_by : start ≡ [] → IsStep f s old new line start out (Ok tt) → IsAnswered f s old new line out
+  answered_by empty step = record {
+    answers = λ before at.
+        answered_done s.functions s.honest (languages_of old.engine) before (f.disk old.folder) (f.disk new.folder) (s.may_follow new.servers) (s.faults new.servers) new.engine old.engine line start out empty at.documents
+        (step.does before at) (λ none. ap f.disk (step.idle none)) (step_around step before at);
+    stays = step.stays;
+  }
+
+  -- where it had no memory the answer is a constant
+  pub answered_constant : IsStep f s old new line start out (Err halt.NoMemory) → IsAnswered f s old new line (ended (refusal_text NoMemory))
+  answered_constant step = record {
+    answers = λ before at.
+        answered_spent s.functions s.honest (languages_of old.engine) before (f.disk old.folder) (f.disk new.folder) (s.may_follow new.servers) (s.faults new.servers) new.engine line step.asked
+        (step.does before at) (step_unwritten step before at);
+    stays = step.stays;
+  }
+
+  -- after each other fault the line is not answered
+  pub unanswered_by : (fault : StepFault) → fault ≢ halt.NoMemory → IsStep f s old new line start out (Err fault) → IsUnanswered f s old new line fault
+  unanswered_by fault other step = record {
+    halts = λ before at. record {
+      moments = step_around step before at;
+      halts = other;
+      whole = step_sound step before at;
+      full = step_full step before at;
+      left = step_stopped step before at other;
+    };
+    cause = λ is. subst (IsReason f _ old.folder new.folder (request_of line)) is step.why;
+    stays = step.stays;
+  }

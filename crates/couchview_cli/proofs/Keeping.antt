@@ -4,7 +4,7 @@ use Rattle.std.proofs.Common.{refl, sym, ap, ◌∙◌, subst, inl, inr}
 use Rattle.view_ports.specs.Functions.{Functions}
 use Rattle.view_engine.specs.Moments.{Moment}
 use Rattle.view_engine.specs.declared.refusal.Refusal.TheVariants.{NoMemory}
-use Rattle.view_engine.specs.Refusals.{line_limit, refusal_text, request_of}
+use Rattle.view_engine.specs.Refusals.{request_limit, refusal_text, request_of}
 use Rattle.view_ports.specs.Lines.{ended, kept}
 use Rattle.view_ports.proofs.KeptLines.{kept-cases}
 use Rattle.view_engine.specs.Steps.{Answers, MayHaveCalled}
@@ -14,16 +14,19 @@ use Rattle.view_ports.proofs.Told.{told_now}
 use Rattle.view_engine.specs.declared.halt.StepFault.{StepFault}
 use Rattle.view_engine.specs.declared.halt.StepFault.TheVariants.{Full}
 use Rattle.view_engine.specs.Worlds.{IsFullAt, StandsAround}
-use Rattle.view_engine.proofs.LineLimit.{Answers-cut, request_of-long}
-use Rattle.couchview_cli.specs.Session.{Answered, IsHalted}
+use Rattle.view_ports.specs.declared.folder.Folder.{Ghosts as Folders}
+use Rattle.view_ports.specs.declared.servers.Servers.{Ghosts as Servers}
+use Rattle.view_engine.specs.Calls.{Scene}
+use Rattle.view_engine.proofs.RequestLimit.{Answers-cut, request_limit-is, request_of-long}
+use Rattle.couchview_cli.specs.Session.{Answered, IsAnswered, IsUnanswered, IsHalted}
 use Rattle.couchview_cli.proofs.Moving.{Told}
 
 module _ (functions : List ℕ → Functions) (honest : List ℕ → Type 0) (languages : List (List ℕ × List ℕ)) where
   -- a line is answered as what is kept of it
-  pub Answers-kept : (before : Moment) (line text : List ℕ) (after : Moment) → Answers functions honest languages before (record { line = kept line_limit line; text = text }) after
+  pub Answers-kept : (before : Moment) (line text : List ℕ) (after : Moment) → Answers functions honest languages before (record { line = kept request_limit line; text = text }) after
       → Answers functions honest languages before (record { line = line; text = text }) after
   Answers-kept before line text after answers =
-      elim (kept-cases line_limit line) [
+      elim (kept-cases request_limit line) [
         | inl long ↦ Answers-cut functions honest languages before line text after long.0 answers
         | inr whole ↦ subst (λ (l : List ℕ). Answers functions honest languages before (record { line = l; text = text }) after) whole answers
       ]
@@ -34,44 +37,50 @@ module _ (functions : List ℕ → Functions) (honest : List ℕ → Type 0) (la
   answers_no_memory before line after some called = inr (some, refl, called)
 
 -- a line is the request that what is kept of it is
-pub request_kept : (line : List ℕ) → request_of (kept line_limit line) ≡ request_of line
+pub request_kept : (line : List ℕ) → request_of (kept request_limit line) ≡ request_of line
 request_kept line =
-    elim (kept-cases line_limit line) [
-      | inl long ↦ request_of-long (kept line_limit line) long.1 ∙ sym (request_of-long line long.0)
+    elim (kept-cases request_limit line) [
+      | inl long ↦ request_of-long (kept request_limit line) long.1 ∙ sym (request_of-long line long.0)
       | inr whole ↦ ap request_of whole
     ]
 
-module _ {functions : List ℕ → Functions} {honest : List ℕ → Type 0} {languages : List (List ℕ × List ℕ)} {old new : Told} {Wrote : List ℕ → Type 0} {before : Moment} {Stands : Moment → Type 0} where
-  pub Answered-same : (line line' : List ℕ) → line ≡ line' → Answered functions honest languages old new Wrote before line Stands → Answered functions honest languages old new Wrote before line' Stands
-  Answered-same line line' same answered = subst (λ (l : List ℕ). Answered functions honest languages old new Wrote before l Stands) same answered
-
+module _ {functions : List ℕ → Functions} {honest : List ℕ → Type 0} {languages : List (List ℕ × List ℕ)} {old new : Told} {before : Moment} {text : List ℕ} {Stands : Moment → Type 0} where
   -- the same languages, written in another way
-  pub Answered-of : (languages' : List (List ℕ × List ℕ)) (line : List ℕ) → languages ≡ languages' → Answered functions honest languages old new Wrote before line Stands
-      → Answered functions honest languages' old new Wrote before line Stands
-  Answered-of languages' line same answered = subst (λ (ls : List (List ℕ × List ℕ)). Answered functions honest ls old new Wrote before line Stands) same answered
+  pub Answered-of : (languages' : List (List ℕ × List ℕ)) (line : List ℕ) → languages ≡ languages' → Answered functions honest languages old new before line text Stands
+      → Answered functions honest languages' old new before line text Stands
+  Answered-of languages' line same answered = subst (λ (ls : List (List ℕ × List ℕ)). Answered functions honest ls old new before line text Stands) same answered
 
-  pub Answered-kept : (line : List ℕ) → Answered functions honest languages old new Wrote before (kept line_limit line) Stands → Answered functions honest languages old new Wrote before line Stands
+  pub Answered-kept : (line : List ℕ) → Answered functions honest languages old new before (kept request_limit line) text Stands → Answered functions honest languages old new before line text Stands
   Answered-kept line answered = record {
-    text = answered.text;
     after = answered.after;
-    answers = told_now old (λ d. Answers functions honest languages before (record { line = kept line_limit line; text = answered.text }) answered.after) (λ d. Answers functions honest languages before (record { line = line; text = answered.text }) answered.after)
-        (λ d answers. Answers-kept functions honest languages before line answered.text answered.after answers) answered.answers;
+    answers = told_now old (λ d. Answers functions honest languages before (record { line = kept request_limit line; text = text }) answered.after) (λ d. Answers functions honest languages before (record { line = line; text = text }) answered.after)
+        (λ d answers. Answers-kept functions honest languages before line text answered.after answers) answered.answers;
     moments = answered.moments;
     stands = answered.stands;
-    wrote = answered.wrote;
   }
 
-module _ {fault : StepFault} {old new : Told} {held now : Option (List ℕ)} {before : Moment} {HasLeft : Moment → Type 0} where
-  pub IsHalted-same : (line line' : List ℕ) → line ≡ line' → IsHalted fault old new held now before line HasLeft → IsHalted fault old new held now before line' HasLeft
-  IsHalted-same line line' same halted = subst (λ (l : List ℕ). IsHalted fault old new held now before l HasLeft) same halted
-
-  pub IsHalted-kept : (line : List ℕ) → IsHalted fault old new held now before (kept line_limit line) HasLeft → IsHalted fault old new held now before line HasLeft
+module _ {fault : StepFault} {old new : Told} {before : Moment} {HasLeft : Moment → Type 0} where
+  pub IsHalted-kept : (line : List ℕ) → IsHalted fault old new before (kept request_limit line) HasLeft → IsHalted fault old new before line HasLeft
   IsHalted-kept line halted = record {
     moments = subst (λ r. Tells old new (LeavesOnly (StandsAround before.world r))) (request_kept line) halted.moments;
     halts = halted.halts;
     whole = halted.whole;
-    full = told_now old (λ d. (name : FileName) (length : Option ℕ) → fault ≡ Full name length → IsFullAt before.world (request_of (kept line_limit line)) name length) (λ d. (name : FileName) (length : Option ℕ) → fault ≡ Full name length → IsFullAt before.world (request_of line) name length)
-        (λ d full name length is. subst (λ r. IsFullAt before.world r name length) (request_kept line) (full name length is)) halted.full;
+    full = told_now old (λ d. (name : FileName) (length : Option ℕ) → fault ≡ Full name length → IsFullAt d.now before.world (request_of (kept request_limit line)) name length) (λ d. (name : FileName) (length : Option ℕ) → fault ≡ Full name length → IsFullAt d.now before.world (request_of line) name length)
+        (λ d full name length is. subst (λ r. IsFullAt d.now before.world r name length) (request_kept line) (full name length is)) halted.full;
     left = halted.left;
-    silent = halted.silent;
   }
+
+-- what a responder is given of a line is what is kept of it
+is_kept : (line given : List ℕ) → given ≡ kept 2097152 line → given ≡ kept request_limit line
+is_kept line given is = is ∙ ap (λ (limit : ℕ). kept limit line) (sym request_limit-is)
+
+module _ {F C : Type 0} {f : Folders F} {s : Servers C} {old new : Scene F C} (line given : List ℕ) (is : given ≡ kept 2097152 line) where
+  pub answered_whole : (text : List ℕ) → IsAnswered f s old new given text → IsAnswered f s old new line text
+  answered_whole text answered =
+      let kept_answered : IsAnswered f s old new (kept request_limit line) text = subst (λ (l : List ℕ). IsAnswered f s old new l text) (is_kept line given is) answered in
+      record { answers = λ before at. Answered-kept line (kept_answered.answers before at); stays = answered.stays }
+
+  pub unanswered_whole : (fault : StepFault) → IsUnanswered f s old new given fault → IsUnanswered f s old new line fault
+  unanswered_whole fault cut =
+      let kept_unanswered : IsUnanswered f s old new (kept request_limit line) fault = subst (λ (l : List ℕ). IsUnanswered f s old new l fault) (is_kept line given is) cut in
+      record { halts = λ before at. IsHalted-kept line (kept_unanswered.halts before at); cause = cut.cause; stays = cut.stays }

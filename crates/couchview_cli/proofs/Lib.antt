@@ -1,11 +1,8 @@
-pub mod LineErrors
 pub mod Moving
 pub mod Keeping
 pub mod Answering
-pub mod Progressing
-pub mod Ending
+pub mod Coming
 pub mod Naming
 pub mod Served
 pub mod Statuses
 pub mod Pieces
-pub mod Coming

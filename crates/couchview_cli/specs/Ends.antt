@@ -1,25 +1,54 @@
 -- How the run of a session ends.
-use Rattle.std.specs.Prelude.{◌≤◌, ℕ, List, Option, length}
-use Rattle.view_ports.specs.declared.run_end.RunEnd.TheVariants.{SinkFailed, OutOfMemory}
-use Rattle.view_ports.specs.declared.file_name.FileName.{FileName}
-use Rattle.view_ports.specs.Calls.{Call}
-use Rattle.view_ports.specs.Disk.{Disk}
-use Rattle.view_ports.specs.Functions.{Functions}
-use Rattle.view_ports.specs.Runs.{HasRead, input_limit}
-use Rattle.view_engine.specs.declared.engine.Engine.{Engine}
-use Rattle.view_engine.specs.Engine.{IsAt, KeepsChild}
-use Rattle.couchview_cli.specs.declared.serve.ServeEnd.{ServeEnd}
-use Rattle.couchview_cli.specs.declared.serve.ServeEnd.TheVariants.{Run, Stopped}
-use Rattle.couchview_cli.specs.declared.session.SessionError.{SessionError}
-use Rattle.couchview_cli.specs.declared.session.SessionError.TheVariants as error
-use Rattle.couchview_cli.specs.Session.{CutOff, Ended, Origin}
+use Rattle.std.specs.Prelude.{◌≡◌, ℕ, List, ◌∷◌, ◌++◌, Option, length}
+use Rattle.std.specs.Io.KnownBytes.{Appends, Consumes}
+use Rattle.view_ports.specs.declared.run_end.RunEnd.{RunEnd}
+use Rattle.view_ports.specs.declared.folder.Folder.{Ghosts as Folders}
+use Rattle.view_ports.specs.declared.servers.Servers.{Ghosts as Servers}
+use Rattle.view_ports.specs.Exchanges.{Exchange, LeadsTo, lines_of, text_of}
+use Rattle.view_ports.specs.Lines.{IsCut, last_line}
+use Rattle.view_ports.specs.Runs.{Run}
+use Rattle.line_loop.specs.declared.loop_end.LoopEnd.{LoopEnd}
+use Rattle.line_loop.specs.declared.loop_end.LoopEnd.TheVariants as loop_end
+use Rattle.line_loop.specs.Loops.{HasReadBy}
+use Rattle.view_engine.specs.declared.halt.StepFault.{StepFault}
+use Rattle.view_engine.specs.Calls.{Scene}
+use Rattle.view_engine.specs.Moments.{Moment}
+use Rattle.view_engine.specs.Worlds.{at_start}
+use Rattle.couchview_cli.specs.Serving.{width}
+use Rattle.couchview_cli.specs.Session.{HasCome, IsUnanswered, Origin, StepsOf}
 
-abbrev pub end_of : SessionError → ServeEnd
-end_of error.SinkFailed = Run SinkFailed
-end_of error.OutOfMemory = Run OutOfMemory
-end_of (error.Stopped fault) = Stopped fault
+module _ {F C : Type 0} (f : Folders F) (s : Servers C) (origin : Origin) (held now : Option (List ℕ)) (bytes : List ℕ) (after : Scene F C) where
+  -- a session that read these bytes came to this end
+  pub record Ended (end : RunEnd) : Type 0 where
+    pub gained : List ℕ
+    pub moment : Moment
+    pub run : Run (StepsOf s.functions s.honest origin) (at_start origin.opening width origin.faults) bytes gained end moment
+    pub has_come : HasCome f s origin after moment
+    pub wrote : Appends held now gained
 
--- a session that read these bytes came to this end
-abbrev pub ComesTo : (List ℕ → Functions) → (List ℕ → Type 0) → Origin → Option (List ℕ) → Option (Disk FileName) → (List Call → Type 0) → ℕ → List ℕ → Engine → ServeEnd → Type 0
-ComesTo functions honest origin now disk may_follow faults bytes engine (Run end) = HasRead end (length bytes) × Ended functions honest origin now disk bytes (IsAt disk may_follow faults engine) end
-ComesTo functions honest origin now disk may_follow faults bytes engine (Stopped fault) = (length bytes ≤ input_limit) × CutOff functions honest fault origin now disk bytes (KeepsChild may_follow faults engine)
+  -- a session that read these bytes was cut short in the line in hand; the lines before it are answered
+  pub record CutOff (fault : StepFault) : Type 0 where
+    pub exchanges : List Exchange
+    pub lines : List (List ℕ)
+    pub rest : List ℕ
+    pub line : List ℕ
+    pub more : List (List ℕ)
+    pub mid : Scene F C
+    pub moment : Moment
+    pub cut : IsCut bytes lines rest
+    pub answered : lines ++ last_line rest ≡ lines_of exchanges ++ line ∷ more
+    pub leads : LeadsTo (StepsOf s.functions s.honest origin) (at_start origin.opening width origin.faults) exchanges moment
+    pub has_come : HasCome f s origin mid moment
+    pub halts : IsUnanswered f s mid after line fault
+    pub wrote : Appends held now (text_of exchanges)
+
+  abbrev pub EndsBy : LoopEnd StepFault → Type 0
+  EndsBy (loop_end.Run end) = Ended end
+  EndsBy (loop_end.Stopped fault) = CutOff fault
+
+-- a session that began at the origin read the bytes that the source lost, and came to this end
+pub record Comes {F C : Type 0} (f : Folders F) (s : Servers C) (origin : Origin) (after : Scene F C) (left left' held held' : Option (List ℕ)) (end : LoopEnd StepFault) : Type 0 where
+  pub bytes : List ℕ
+  pub reads : Consumes left left' bytes
+  pub counts : HasReadBy end (length bytes)
+  pub ends : EndsBy f s origin held held' bytes after end

@@ -2,5 +2,6 @@ pub mod BuiltIn
 pub mod Command
 pub mod Closing
 pub mod Serving
+pub mod Laws
 pub mod Session
 pub mod Ends

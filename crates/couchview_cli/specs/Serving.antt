@@ -14,7 +14,7 @@ use Rattle.view_engine.specs.declared.halt.StepFault.{StepFault}
 use Rattle.view_engine.specs.declared.halt.StepFault.TheVariants.{Damaged, DiskFault, Full, NoMemory}
 use Rattle.view_engine.specs.World.{World}
 use Rattle.view_engine.specs.Moments.{Moment}
-use Rattle.view_engine.specs.Worlds.{at_start, GoesOnFrom, IsFullAt, StandsAfter, StandsAround, StandsFor}
+use Rattle.view_engine.specs.Worlds.{at_start, GoesOnFrom, Holds, IsFullAt, StandsAfter, StandsAround, StandsFor}
 use Rattle.view_engine.specs.Refusals.{request_of}
 use Rattle.view_engine.specs.Steps.{Answers}
 use Rattle.view_engine.specs.Accepted.{accepted}
@@ -29,11 +29,15 @@ pub record Outside : Type 0 where
   pub disk_faults : ℕ
   pub faults : ℕ
 
--- more calls may have been made on the query servers, which left no child in slot 0, the one slot that is used
+-- how many children map documents
+abbrev pub width : ℕ
+width = 1
+
+-- more calls may have been made on the query servers, which left no child in any slot
 pub record AreLeft (may_follow : List Call → Type 0) (calls : List Call) : Type 0 where
   pub added : List Call
   pub follows : may_follow (added ++ calls)
-  pub stopped : child 0 (added ++ calls) ≡ None
+  pub stopped : (slot : ℕ) → slot < width → child slot (added ++ calls) ≡ None
 
 -- an image stands for some first part of the world, which has all that was there at the opening
 abbrev pub StandsSince : World → World → (FileName → List ℕ) → Type 0
@@ -50,7 +54,8 @@ Steps functions honest languages disk before exchange after = IfTold disk (λ d.
 module _ (functions : List ℕ → Functions) (honest : List ℕ → Type 0) (languages : List (List ℕ × List ℕ)) (opening : World) where
   -- A run that read the bytes that the source lost, that wrote what the sink gained, and that ended with this status. The
   -- world at its end has the writes of the opening and exactly those that were answered `ok`. Each image since the start
-  -- stands for a first part of it, and each image now for the whole of it.
+  -- stands for a first part of it, and each image now for the whole of it. Nothing is pending, and the files hold that world,
+  -- so a later run begins with it.
   pub record Finishes (before after : Outside) (AtEnd : List Call → Type 0) (status : ℕ) : Type 0 where
     pub bytes : List ℕ
     pub gained : List ℕ
@@ -60,16 +65,18 @@ module _ (functions : List ℕ → Functions) (honest : List ℕ → Type 0) (la
     pub reads : Consumes before.left after.left bytes
     pub counts : HasRead end (length bytes)
     pub writes : Appends before.held after.held gained
-    pub runs : Run (Steps functions honest languages before.disk) (at_start opening before.faults) bytes gained end moment
+    pub runs : Run (Steps functions honest languages before.disk) (at_start opening width before.faults) bytes gained end moment
     pub keeps : IfTold before.disk (λ d. moment.world ≡ accepted opening runs.exchanges)
     pub moments : Tells before.disk after.disk (LeavesOnly (StandsSince opening moment.world))
     pub images : IfTold after.disk (λ d. (image : FileName → List ℕ) → IsImageOf d.now image → StandsFor image moment.world)
+    pub holds : IfTold after.disk (λ d. Holds d.now moment.world)
     pub faulted : after.faults ≡ moment.faults
     pub at_end : AtEnd moment.calls
 
   -- A run that a fault of the folder cut short: some first lines were answered, each wholly, and then the line in hand was
   -- not. Its request took effect wholly or not at all. The last line that is written names the fault, unless the sink fails.
-  -- Want of memory doesn't cut a run short: such a line is answered.
+  -- Want of memory doesn't cut a run short: such a line is answered. `mid` is the disk before the line in hand: nothing is
+  -- pending there, its files hold the world, and a file that is full is one of them.
   pub record IsCutShort (before after : Outside) (AtEnd : List Call → Type 0) (status : ℕ) : Type 0 where
     pub bytes : List ℕ
     pub exchanges : List Exchange
@@ -83,13 +90,17 @@ module _ (functions : List ℕ → Functions) (honest : List ℕ → Type 0) (la
     pub counts : length bytes ≤ input_limit
     pub cut : IsCut bytes lines rest
     pub answered : lines ++ last_line rest ≡ lines_of exchanges ++ line ∷ more
-    pub leads : LeadsTo (Steps functions honest languages before.disk) (at_start opening before.faults) exchanges moment
+    pub leads : LeadsTo (Steps functions honest languages before.disk) (at_start opening width before.faults) exchanges moment
     pub keeps : IfTold before.disk (λ d. moment.world ≡ accepted opening exchanges)
     pub closes : Closes before.held after.held (text_of exchanges) fault status
     pub halts : fault ≢ NoMemory
     pub cause : fault ≡ DiskFault → Rose before.disk_faults after.disk_faults
     pub whole : IfTold before.disk (λ d. (name : FileName) (at : ℕ) → fault ≡ Damaged name at → ⊥)
-    pub full : IfTold before.disk (λ d. (name : FileName) (length : Option ℕ) → fault ≡ Full name length → IsFullAt moment.world (request_of line) name length)
+    pub mid : Option (Disk FileName)
+    pub until : Tells before.disk mid (LeavesOnly (StandsSince opening moment.world))
+    pub holds : IfTold mid (λ d. Holds d.now moment.world)
+    pub full : IfTold mid (λ d. (name : FileName) (length : Option ℕ) → fault ≡ Full name length → IsFullAt d.now moment.world (request_of line) name length)
+    pub since : Tells mid after.disk (LeavesOnly (StandsAround moment.world (request_of line)))
     pub moments : Tells before.disk after.disk (LeavesOnly (StandsSinceWith opening moment.world line))
     pub images : IfTold after.disk (λ d. (image : FileName → List ℕ) → IsImageOf d.now image → StandsAround moment.world (request_of line) image)
     pub faulted : after.faults ≡ moment.faults

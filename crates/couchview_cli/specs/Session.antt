@@ -1,39 +1,29 @@
--- How far a session has come in its input, and how it ends.
-use Rattle.std.specs.Prelude.{◌≡◌, ◌≢◌, ◌⊎◌, ℕ, List, ◌∷◌, ◌++◌, Option}
-use Rattle.std.specs.Io.KnownBytes.{Appends}
-use Rattle.view_ports.specs.declared.run_end.RunEnd.{RunEnd}
-use Rattle.view_ports.specs.declared.run_end.RunEnd.TheVariants as run_end
+-- What a session, which is an engine between its ports, does with a line, and how far it has come since the opening.
+use Rattle.std.specs.Prelude.{◌≡◌, ◌≢◌, ◌⊎◌, ℕ, List, Option, if◌then◌else◌}
 use Rattle.view_ports.specs.declared.file_name.FileName.{FileName}
-use Rattle.view_ports.specs.Calls.{Call}
-use Rattle.view_ports.specs.Disk.{Disk, IfTold, IsImageOf, LeavesOnly, Tells}
-use Rattle.view_ports.specs.Exchanges.{Exchange, LeadsTo, IsPrefixOf, lines_of, text_of}
+use Rattle.view_ports.specs.declared.folder.Folder.{Ghosts as Folders}
+use Rattle.view_ports.specs.declared.servers.Servers.{Ghosts as Servers}
+use Rattle.view_ports.specs.Disk.{Disk, IfTold, LeavesOnly, Tells}
+use Rattle.view_ports.specs.Exchanges.{Exchange}
+use Rattle.view_ports.specs.Faults.{Rose}
 use Rattle.view_ports.specs.Functions.{Functions}
-use Rattle.view_ports.specs.Lines.{IsCut, kept, last_line}
-use Rattle.view_ports.specs.Runs.{Run, Reached}
-use Rattle.view_engine.specs.declared.engine.Engine.{Engine}
 use Rattle.view_engine.specs.declared.halt.StepFault.{StepFault}
-use Rattle.view_engine.specs.declared.halt.StepFault.TheVariants.{Damaged, Full, NoMemory}
-use Rattle.view_engine.specs.Refusals.{line_limit, request_of}
-use Rattle.view_engine.specs.Engine.{IsAt, KeepsChild}
+use Rattle.view_engine.specs.declared.halt.StepFault.TheVariants.{Damaged, DiskFault, Full, NoMemory}
+use Rattle.view_ports.specs.Lines.{ended}
+use Rattle.view_engine.specs.declared.refusal.Refusal.TheVariants as refusal
+use Rattle.view_engine.specs.Calls.{KeepsChild, Scene, StandsAt, Stays, scene}
+use Rattle.view_engine.specs.Refusals.{refusal_text, request_of}
 use Rattle.view_engine.specs.Moments.{Moment}
 use Rattle.view_engine.specs.Steps.{Answers}
 use Rattle.view_engine.specs.World.{World}
 use Rattle.view_engine.specs.Worlds.{at_start, GoesOnFrom, IsFullAt, StandsAround, StandsFor, languages as languages_of}
 use Rattle.couchview_cli.specs.declared.session.Session.{Session}
-use Rattle.couchview_cli.specs.declared.session.SessionError.{SessionError}
-use Rattle.couchview_cli.specs.declared.session.SessionError.TheVariants.{SinkFailed, OutOfMemory, Stopped as StoppedBy}
-use Rattle.couchview_cli.specs.Serving.{StandsSince, StandsSinceWith, Steps}
+use Rattle.couchview_cli.specs.Serving.{StandsSince, Steps, width}
 
--- the sink failed in this text
-abbrev pub Stopped : Option (List ℕ) → Option (List ℕ) → List ℕ → Type 0
-Stopped before after text = (part : List ℕ) × IsPrefixOf part text × Appends before after part
-
--- where a session began: its languages, the world at the opening, what the sink held, the disk, and how many faults the
--- query servers had
+-- where a session began: its languages, the world at the opening, the disk, and how many faults the query servers had
 pub record Origin : Type 0 where
   pub languages : List (List ℕ × List ℕ)
   pub opening : World
-  pub held : Option (List ℕ)
   pub disk : Option (Disk FileName)
   pub faults : ℕ
 
@@ -47,68 +37,55 @@ pub record HasMoved (origin : Origin) (disk : Option (Disk FileName)) (world : W
   pub moments : Tells origin.disk disk (LeavesOnly (StandsSince origin.opening world))
 
 module _ (functions : List ℕ → Functions) (honest : List ℕ → Type 0) where
-  -- a line was answered with a text, of which the sink got what it says, and `Stands` holds of the moment after it; each
-  -- image stands for the world before or after it
-  pub record Answered (languages : List (List ℕ × List ℕ)) (old new : Option (Disk FileName)) (Wrote : List ℕ → Type 0) (before : Moment) (line : List ℕ) (Stands : Moment → Type 0) : Type 0 where
-    pub text : List ℕ
+  -- a line was answered with a text, and `Stands` holds of the moment after it; each image stands for the world before or after it
+  pub record Answered (languages : List (List ℕ × List ℕ)) (old new : Option (Disk FileName)) (before : Moment) (line text : List ℕ) (Stands : Moment → Type 0) : Type 0 where
     pub after : Moment
     pub answers : IfTold old (λ d. Answers functions honest languages before (record { line = line; text = text }) after)
     pub moments : Tells old new (LeavesOnly (StandsEither before.world after.world))
     pub stands : Stands after
-    pub wrote : Wrote text
 
   abbrev pub StepsOf : Origin → Moment → Exchange → Moment → Type 0
   StepsOf origin = Steps functions honest origin.languages origin.disk
 
-  -- a session that has read these bytes has answered each line that ended in them, and keeps the line that no newline has ended yet
-  pub record Progress (disk : Option (Disk FileName)) (may_follow : List Call → Type 0) (faults : ℕ) (origin : Origin) (now : Option (List ℕ)) (bytes : List ℕ) (session : Session) : Type 0 where
-    pub languages : languages_of session.responder.engine ≡ origin.languages
-    pub reached : Reached (StepsOf origin) (at_start origin.opening origin.faults) bytes
-    pub stands : IsAt disk may_follow faults session.responder.engine reached.after
-    pub moved : HasMoved origin disk reached.after.world
-    pub pending : session.line.items ≡ kept line_limit reached.rest
-    pub wrote : Appends origin.held now (text_of reached.exchanges)
-
-  -- a session that read these bytes came to this end, at a moment of which `Stands` holds
-  pub record Ended (origin : Origin) (now : Option (List ℕ)) (disk : Option (Disk FileName)) (bytes : List ℕ) (Stands : Moment → Type 0) (end : RunEnd) : Type 0 where
-    pub gained : List ℕ
-    pub moment : Moment
-    pub run : Run (StepsOf origin) (at_start origin.opening origin.faults) bytes gained end moment
-    pub stands : Stands moment
-    pub moved : HasMoved origin disk moment.world
-    pub wrote : Appends origin.held now gained
-
-  -- a session that read these bytes was cut short in the line in hand; the lines before it are answered
-  pub record CutOff (fault : StepFault) (origin : Origin) (now : Option (List ℕ)) (disk : Option (Disk FileName)) (bytes : List ℕ) (HasLeft : Moment → Type 0) : Type 0 where
-    pub exchanges : List Exchange
-    pub lines : List (List ℕ)
-    pub rest : List ℕ
-    pub line : List ℕ
-    pub more : List (List ℕ)
-    pub moment : Moment
-    pub cut : IsCut bytes lines rest
-    pub answered : lines ++ last_line rest ≡ lines_of exchanges ++ line ∷ more
-    pub leads : LeadsTo (StepsOf origin) (at_start origin.opening origin.faults) exchanges moment
-    pub moments : Tells origin.disk disk (LeavesOnly (StandsSinceWith origin.opening moment.world line))
-    pub images : IfTold disk (λ d. (image : FileName → List ℕ) → IsImageOf d.now image → StandsAround moment.world (request_of line) image)
-    pub halts : fault ≢ NoMemory
-    pub whole : IfTold origin.disk (λ d. (name : FileName) (at : ℕ) → fault ≡ Damaged name at → ⊥)
-    pub full : IfTold origin.disk (λ d. (name : FileName) (length : Option ℕ) → fault ≡ Full name length → IsFullAt moment.world (request_of line) name length)
-    pub left : HasLeft moment
-    pub wrote : Appends origin.held now (text_of exchanges)
-
-  -- how a session ended that can't go on
-  abbrev pub EndedBy : Origin → Option (List ℕ) → Option (Disk FileName) → (List Call → Type 0) → ℕ → List ℕ → Engine → SessionError → Type 0
-  EndedBy origin now disk may_follow faults bytes engine SinkFailed = Ended origin now disk bytes (IsAt disk may_follow faults engine) run_end.SinkFailed
-  EndedBy origin now disk may_follow faults bytes engine OutOfMemory = Ended origin now disk bytes (IsAt disk may_follow faults engine) run_end.OutOfMemory
-  EndedBy origin now disk may_follow faults bytes engine (StoppedBy fault) = CutOff fault origin now disk bytes (KeepsChild may_follow faults engine)
-
--- a line was not answered, since the folder failed, or a file is damaged or full: the sink gained nothing, and the request
--- took effect wholly or not at all
-pub record IsHalted (fault : StepFault) (old new : Option (Disk FileName)) (held now : Option (List ℕ)) (before : Moment) (line : List ℕ) (HasLeft : Moment → Type 0) : Type 0 where
+-- a line was not answered, since the folder failed, or a file is damaged or full: the request took effect wholly or not at all
+pub record IsHalted (fault : StepFault) (old new : Option (Disk FileName)) (before : Moment) (line : List ℕ) (HasLeft : Moment → Type 0) : Type 0 where
   pub moments : Tells old new (LeavesOnly (StandsAround before.world (request_of line)))
   pub halts : fault ≢ NoMemory
   pub whole : IfTold old (λ d. (name : FileName) (at : ℕ) → fault ≡ Damaged name at → ⊥)
-  pub full : IfTold old (λ d. (name : FileName) (length : Option ℕ) → fault ≡ Full name length → IsFullAt before.world (request_of line) name length)
+  pub full : IfTold old (λ d. (name : FileName) (length : Option ℕ) → fault ≡ Full name length → IsFullAt d.now before.world (request_of line) name length)
   pub left : HasLeft before
-  pub silent : now ≡ held
+
+module _ {F C : Type 0} (f : Folders F) (s : Servers C) where
+  -- a line was answered with this text, whatever the moment was
+  pub record IsAnswered (old new : Scene F C) (line text : List ℕ) : Type 0 where
+    pub answers : (before : Moment) → StandsAt f s old before
+        → Answered s.functions s.honest (languages_of old.engine) (f.disk old.folder) (f.disk new.folder) before line text (StandsAt f s new)
+    pub stays : Stays f s old new
+
+  -- a line was not answered, for this fault
+  pub record IsUnanswered (old new : Scene F C) (line : List ℕ) (fault : StepFault) : Type 0 where
+    pub halts : (before : Moment) → StandsAt f s old before → IsHalted fault (f.disk old.folder) (f.disk new.folder) before line (KeepsChild f s new)
+    pub cause : fault ≡ DiskFault → Rose (f.faults old.folder) (f.faults new.folder)
+    pub stays : Stays f s old new
+
+  -- since the origin a session has come to this moment
+  pub record HasCome (origin : Origin) (now : Scene F C) (moment : Moment) : Type 0 where
+    pub languages : languages_of now.engine ≡ origin.languages
+    pub stands : StandsAt f s now moment
+    pub moved : HasMoved origin (f.disk now.folder) moment.world
+
+  -- it has come to none yet but the opening
+  abbrev pub IsAtOrigin : Origin → Scene F C → Type 0
+  IsAtOrigin origin now = HasCome origin now (at_start origin.opening width origin.faults)
+
+-- a session between its ports
+abbrev pub scene_of : {F C : Type 0} → Session F C → Scene F C
+scene_of session = scene session.engine.now session.folder.now session.servers.now
+
+-- it still has the same engine and the same ports
+abbrev pub KeepsPorts : {F C : Type 0} → Session F C → Session F C → Type 0
+KeepsPorts old new = (new.engine.ghost_name ≡ old.engine.ghost_name) × (new.folder.ghost_name ≡ old.folder.ghost_name) × (new.servers.ghost_name ≡ old.servers.ghost_name)
+
+-- what the last line is answered with: the reply, or a constant where there was no memory for it
+abbrev pub reply_of : {F C : Type 0} → Session F C → List ℕ
+reply_of session = if session.ran_out then ended (refusal_text refusal.NoMemory) else session.reply.now.items

@@ -55,11 +55,15 @@ pub struct Mixed<C> {
 impl<C: Servers + Drop> Mixed<C> {
     /// The servers in the process beside these others. None has a child, if the others have none.
     pub fn new(alloc: Global, others: C) -> Result<Mixed<C>, NoMemory>
-        ensures calls { IfOk result (λ m. C.may_follow others [] → ⟦<Mixed<C> as Servers>⟧.may_follow m []) }
+        ensures calls { IfOk result (λ m. C.may_follow others []
+            → ⟦<Mixed<C> as Servers>⟧.may_follow m []) }
         ensures field { ⟦<Mixed<C> as Servers>⟧.functions (codes "builtin:field") ≡ field }
         ensures pick { ⟦<Mixed<C> as Servers>⟧.functions (codes "builtin:pick") ≡ pick }
-        ensures honest { ⟦<Mixed<C> as Servers>⟧.honest (codes "builtin:field") × ⟦<Mixed<C> as Servers>⟧.honest (codes "builtin:pick") }
-        ensures elsewhere { (path : List ℕ) → spec.is_built_in path ≡ false → (⟦<Mixed<C> as Servers>⟧.functions path ≡ C.functions path) × (⟦<Mixed<C> as Servers>⟧.honest path ↔ C.honest path) }
+        ensures honest { ⟦<Mixed<C> as Servers>⟧.honest (codes "builtin:field")
+            × ⟦<Mixed<C> as Servers>⟧.honest (codes "builtin:pick") }
+        ensures elsewhere { (path : List ℕ) → spec.is_built_in path ≡ false
+            → (⟦<Mixed<C> as Servers>⟧.functions path ≡ C.functions path)
+            × (⟦<Mixed<C> as Servers>⟧.honest path ↔ C.honest path) }
         ensures others { IfOk result (λ m. m.servers.others.others ≡ others) }
     {
         let field = Switch::over(FieldServers::new(alloc, Vec::new(alloc))?, others);

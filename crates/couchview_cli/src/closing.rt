@@ -3,7 +3,7 @@ ghost use Rattle.std.specs.Prelude.{◌≡◌, ◌≤◌, ◌≢◌, [], OnErr, 
 ghost use Rattle.std.specs.Io.KnownBytes.{Appends};
 ghost use Rattle.view_ports.specs.Faults.{HasCause, Rose};
 ghost use Rattle.couchview_cli.specs.Closing.{about_file, closing_of, fault_status, limit_text, Closes};
-ghost use Rattle.couchview_cli.specs.Session.{Stopped};
+ghost use Rattle.line_loop.specs.Loops.{FailsIn};
 
 use itoa::Buffer;
 use real_ports::{FILE_TEXT_LIMIT, file_text};
@@ -47,7 +47,7 @@ fn status_of(fault: StepFault) -> u8
 /// Writes the last line, which names the fault. For want of memory there is none.
 fn write_last<K: Sink>(sink: &mut K, fault: StepFault) -> Result<(), PortFault>
     ensures ok { OnOk result (Appends (K.held sink.old) (K.held sink.new) (closing_of fault)) }
-    ensures err { OnErr result (Stopped (K.held sink.old) (K.held sink.new) (closing_of fault)) }
+    ensures err { OnErr result (FailsIn (K.held sink.old) (K.held sink.new) (closing_of fault)) }
     ensures cause { HasCause (K.faults sink.old) (K.faults sink.new) result }
 {
     let mut digits = Buffer::new();
@@ -80,8 +80,10 @@ fn write_about<K: Sink>(
     name: &FileName,
     what: &[u8],
 ) -> Result<(), PortFault>
-    ensures ok { OnOk result (Appends (K.held sink.old) (K.held sink.new) (about_file error.now name.now what.now)) }
-    ensures err { OnErr result (Stopped (K.held sink.old) (K.held sink.new) (about_file error.now name.now what.now)) }
+    ensures ok { OnOk result (Appends (K.held sink.old) (K.held sink.new)
+        (about_file error.now name.now what.now)) }
+    ensures err { OnErr result (FailsIn (K.held sink.old) (K.held sink.new)
+        (about_file error.now name.now what.now)) }
     ensures cause { HasCause (K.faults sink.old) (K.faults sink.new) result }
 {
     let mut room = [0; FILE_TEXT_LIMIT];

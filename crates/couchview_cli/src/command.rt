@@ -66,14 +66,16 @@ fn names(word: &str, language: &str) -> bool
 
 /// Whether one of the words is LANG=PATH with this language.
 pub fn is_named(words: &[String], language: &str) -> bool
-    ensures { result ≡ list_any (λ word. spec.names language.now (language_in (string_bytes word))) words.now }
+    ensures { result ≡ list_any (λ word. spec.names language.now
+        (language_in (string_bytes word))) words.now }
 {
     words.iter().any(|word| names(word.as_str(), language))
 }
 
 /// Whether the language of the first word is named by none of the others.
 fn is_apart(first: &str, others: &[String]) -> bool
-    ensures { IsTrue result ↔ IsApart (language_in first.now) (keys_of (languages_in (map string_bytes others.now))) }
+    ensures { IsTrue result ↔ IsApart (language_in first.now)
+        (keys_of (languages_in (map string_bytes others.now))) }
 {
     match language_word(first) {
         Some((language, _path)) => !is_named(others, language),
@@ -83,7 +85,8 @@ fn is_apart(first: &str, others: &[String]) -> bool
 
 /// Whether no two words name one language.
 fn are_apart(words: &[String]) -> bool
-    ensures { IsTrue result ↔ IsDistinct bytes_eq (keys_of (languages_in (map string_bytes words.now))) }
+    ensures { IsTrue result ↔ IsDistinct bytes_eq (keys_of
+        (languages_in (map string_bytes words.now))) }
 {
     match words.split_first() {
         Some((first, others)) => is_apart(first.as_str(), others) && are_apart(others),
@@ -125,7 +128,9 @@ pub fn couchview<S: Source, K: Sink, F: Folder, C: Servers>(
     requires { C.may_follow servers.old [] }
 
     // What is read, written, asked and kept, over a folder that tells its disk, where nothing is pending and which holds a world.
-    ensures serves { IsServe words.now → (opening : World) → IfTold (F.disk folder.old) (λ d. Holds d.now opening) → Serves C.functions C.honest (languages_named words.now) opening
+    ensures serves { IsServe words.now → (opening : World)
+        → IfTold (F.disk folder.old) (λ d. Holds d.now opening)
+        → Serves C.functions C.honest (languages_named words.now) opening
         (record { left = S.left source.old; held = K.held sink.old; disk = F.disk folder.old; disk_faults = F.faults folder.old; faults = C.faults servers.old })
         (record { left = S.left source.new; held = K.held sink.new; disk = F.disk folder.new; disk_faults = F.faults folder.new; faults = C.faults servers.new })
         (AreLeft (C.may_follow servers.new)) result }
@@ -137,19 +142,28 @@ pub fn couchview<S: Source, K: Sink, F: Folder, C: Servers>(
     // The cause of each status.
     ensures ended { result ≡ 0 → IsServe words.now × IsAtEnd (S.left source.new) }
     ensures no_command { result ≡ 2 → ¬ IsServe words.now }
-    ensures told { ¬ IsServe words.now → ¬ Rose (K.faults sink.old) (K.faults sink.new) → result ≡ 2 }
-    ensures disk_failed { result ≡ 3 → IsServe words.now × Rose (F.faults folder.old) (F.faults folder.new) }
+    ensures told { ¬ IsServe words.now → ¬ Rose (K.faults sink.old) (K.faults sink.new)
+        → result ≡ 2 }
+    ensures disk_failed { result ≡ 3 → IsServe words.now
+        × Rose (F.faults folder.old) (F.faults folder.new) }
     ensures sink_failed { result ≡ 4 → Rose (K.faults sink.old) (K.faults sink.new) }
-    ensures source_failed { result ≡ 5 → IsServe words.now × Rose (S.faults source.old) (S.faults source.new) }
-    ensures limit { IsServe words.now → (opening : World) → IfTold (F.disk folder.old) (λ d. Holds d.now opening) → StopsAtLimit (S.left source.old) (S.left source.new) result }
+    ensures source_failed { result ≡ 5 → IsServe words.now
+        × Rose (S.faults source.old) (S.faults source.new) }
+    ensures limit { IsServe words.now → (opening : World)
+        → IfTold (F.disk folder.old) (λ d. Holds d.now opening)
+        → StopsAtLimit (S.left source.old) (S.left source.new) result }
     ensures source_count { S.faults source.old ≤ S.faults source.new }
     ensures sink_count { K.faults sink.old ≤ K.faults sink.new }
     ensures disk_count { F.faults folder.old ≤ F.faults folder.new }
     ensures server_count { C.faults servers.old ≤ C.faults servers.new }
 
     // Where no port fails, input that is short enough is read to its end, unless a file is full.
-    ensures complete { IsServe words.now → (opening : World) → IfTold (F.disk folder.old) (λ d. Holds d.now opening) → IsShort (S.left source.old) → ¬ Rose (S.faults source.old) (S.faults source.new) → ¬ Rose (K.faults sink.old) (K.faults sink.new)
-        → ¬ Rose (F.faults folder.old) (F.faults folder.new) → IfTold (F.disk folder.old) (λ d. (result ≡ 0) ⊎ ((result ≡ 6) ⊎ (result ≡ 9))) }
+    ensures complete { IsServe words.now → (opening : World)
+        → IfTold (F.disk folder.old) (λ d. Holds d.now opening) → IsShort (S.left source.old)
+        → ¬ Rose (S.faults source.old) (S.faults source.new)
+        → ¬ Rose (K.faults sink.old) (K.faults sink.new)
+        → ¬ Rose (F.faults folder.old) (F.faults folder.new)
+        → IfTold (F.disk folder.old) (λ d. (result ≡ 0) ⊎ ((result ≡ 6) ⊎ (result ≡ 9))) }
 {
     if is_serve(words) {
         return serve(alloc, &words[1..], source, sink, folder, servers);

@@ -5,6 +5,7 @@ mod advice;
 mod built_in;
 mod closing;
 mod command;
+mod laws;
 mod serve;
 mod session;
 #[cfg(test)]
@@ -15,6 +16,7 @@ use advice::advice;
 use built_in::Mixed;
 pub use command::couchview;
 use json_terms::NoMemory;
+pub use laws::runs_go_on;
 use real_ports::{Diagnostics, Program, RealFolder, RealServers, StdSink, StdSource};
 use std::alloc::AllocError;
 use std::env;

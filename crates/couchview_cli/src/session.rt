@@ -1,244 +1,94 @@
-//! Request lines cut from the input, answered one after another.
-ghost use Rattle.std.specs.Prelude.{◌≡◌, ◌≢◌, ◌≤◌, ◌++◌, ℕ, List, [], Option, Err, IfOk, IfErr, OnOk, map, string_bytes, vec_len};
-ghost use Rattle.std.specs.Io.KnownBytes.{Appends};
-ghost use Rattle.view_ports.specs.Calls.{Call};
-ghost use Rattle.view_ports.specs.Causes.{HasCauseIf};
-ghost use Rattle.view_ports.specs.Disk.{IfTold, LeavesOnly, Tells};
-ghost use Rattle.view_ports.specs.Lines.{IsLine, ended, kept};
-ghost use Rattle.child_pool.specs.Languages.{languages_in};
-ghost use Rattle.view_ports.specs.declared.file_name.FileName.{FileName};
-ghost use Rattle.view_engine.specs.Engine.{HasStopped, IsAt, KeepsChild};
-ghost use Rattle.view_engine.specs.Moments.{Moment};
-ghost use Rattle.view_engine.specs.Refusals.{line_limit};
-ghost use Rattle.view_engine.specs.World.{World};
-ghost use Rattle.view_engine.specs.Worlds.{Holds, IsAtWorld, IsChildless, IsOpen, StandsFor, languages as languages_of};
-ghost use Rattle.couchview_cli.specs.declared.session.TheConstants.{LINE_KEPT};
+//! An engine between its ports, which answers request lines.
+ghost use Rattle.std.specs.Prelude.{◌≡◌, ◌≤◌};
+ghost use Rattle.std.specs.Io.KnownBytes.{IsAtEnd};
+ghost use Rattle.view_ports.specs.Disk.{IfTold};
+ghost use Rattle.view_ports.specs.Faults.{Rose};
+ghost use Rattle.view_engine.specs.Calls.{Stays};
+ghost use Rattle.line_loop.specs.Loops.{HasEnded, HasSinkFailed, HasSourceFailed};
+ghost use Rattle.view_engine.specs.Worlds.{IsOpen};
 
-use json_terms::NoMemory;
+use line_loop::{LoopEnd, Responder, answer_lines};
 use std::alloc::Global;
-use view_engine::{Engine, StepFault, no_memory_line};
-use view_ports::{Folder, PortFault, Servers, Sink, cut_line, keep_bytes, write_all};
+use view_engine::{Engine, REQUEST_LIMIT, StepFault, no_memory_line};
+use view_ports::{Folder, Servers, Sink, Source};
 
-/// How many bytes of a line are kept: one more than the longest request line has, which is enough to
-/// refuse a longer one.
-const LINE_KEPT: usize = 2_097_153;
-
-/// Why a session can't go on.
-#[derive(Clone, Copy, Debug, PartialEq, Eq)]
-pub enum SessionError {
-    /// The sink failed.
-    SinkFailed,
-    /// There was no memory to keep a line in.
-    OutOfMemory,
-    /// The engine met this fault, and isn't to be used again.
-    Stopped(StepFault),
-}
-
-/// The engine, and the reply to one line.
+/// An engine between its ports, and its reply to the last line. It owns nothing, so that what it was lent is whole behind it.
 #[derive(Drop)]
-struct Responder {
-    alloc: Global,
-    engine: Engine,
-    reply: Vec<u8>,
+pub struct Session<'a, F, C> {
+    pub alloc: Global,
+    pub engine: &'a mut Engine,
+    pub folder: &'a mut F,
+    pub servers: &'a mut C,
+    pub reply: &'a mut Vec<u8>,
+    /// There was no memory for the last line, which is answered with a constant.
+    pub ran_out: bool,
 }
 
-impl Responder {
-    ghost use Rattle.couchview_cli.specs.Session.{Answered, IsHalted, Stopped};
-    ghost use Rattle.couchview_cli.specs.declared.session.SessionError.TheVariants as error;
+impl<F: Folder, C: Servers> Session<'_, F, C> {
+    ghost use Rattle.couchview_cli.specs.Session.{IsAtOrigin, KeepsPorts, Origin, scene_of};
+    ghost use Rattle.couchview_cli.specs.Ends.{Comes};
 
-    /// Answers a line. Where the engine has no memory for it, the answer is a constant. After each other fault of the engine
-    /// nothing is written.
-    fn answer<F: Folder, K: Sink, C: Servers>(
-        &mut self,
-        line: &[u8],
-        folder: &mut F,
-        sink: &mut K,
-        servers: &mut C,
-    ) -> Result<(), SessionError>
-        requires open { IfTold (F.disk folder.old) (λ d. IsOpen self.old.engine d.now) }
-        ensures ok { OnOk result ((before : Moment) → IsAt (F.disk folder.old) (C.may_follow servers.old) (C.faults servers.old) self.old.engine before
-            → Answered C.functions C.honest (languages_of self.old.engine) (F.disk folder.old) (F.disk folder.new) (Appends (K.held sink.old) (K.held sink.new)) before line.now
-            (IsAt (F.disk folder.new) (C.may_follow servers.new) (C.faults servers.new) self.new.engine)) }
-        ensures failed { result ≡ Err SessionError.SinkFailed → (before : Moment) → IsAt (F.disk folder.old) (C.may_follow servers.old) (C.faults servers.old) self.old.engine before
-            → Answered C.functions C.honest (languages_of self.old.engine) (F.disk folder.old) (F.disk folder.new) (Stopped (K.held sink.old) (K.held sink.new)) before line.now
-            (IsAt (F.disk folder.new) (C.may_follow servers.new) (C.faults servers.new) self.new.engine) }
-        ensures stopped { (fault : StepFault) → result ≡ Err (SessionError.Stopped fault) → (before : Moment) → IsAt (F.disk folder.old) (C.may_follow servers.old) (C.faults servers.old) self.old.engine before
-            → IsHalted fault (F.disk folder.old) (F.disk folder.new) (K.held sink.old) (K.held sink.new) before line.now (KeepsChild (C.may_follow servers.new) (C.faults servers.new) self.new.engine) }
-        ensures memory { result ≢ Err SessionError.OutOfMemory }
-        ensures open { OnOk result (IfTold (F.disk folder.new) (λ d. IsOpen self.new.engine d.now)) }
-        ensures languages { languages_of self.new.engine ≡ languages_of self.old.engine }
-        ensures sink_cause { HasCauseIf (λ e. e ≡ SessionError.SinkFailed) (K.faults sink.old) (K.faults sink.new) result }
-        ensures disk_cause { HasCauseIf (λ e. e ≡ SessionError.Stopped StepFault.DiskFault) (F.faults folder.old) (F.faults folder.new) result }
-        ensures server_count { C.faults servers.old ≤ C.faults servers.new }
+    /// Reads request lines and answers them, until the input ends or the run can't go on.
+    pub fn run<S: Source, K: Sink>(&mut self, source: &mut S, sink: &mut K) -> LoopEnd<StepFault>
+        requires { IfTold (F.disk self.old.folder.now) (λ d. IsOpen self.old.engine.now d.now) }
+        ensures comes { (origin : Origin) → IsAtOrigin F.Folder C.Servers origin (scene_of self.old)
+            → Comes F.Folder C.Servers origin (scene_of self.new) (S.left source.old)
+            (S.left source.new) (K.held sink.old) (K.held sink.new) result }
+        ensures ports { KeepsPorts self.old self.new }
+        ensures stays { Stays F.Folder C.Servers (scene_of self.old) (scene_of self.new) }
+        ensures ended { HasEnded result → IsAtEnd (S.left source.new) }
+        ensures disk_failed { result ≡ LoopEnd.Stopped StepFault.DiskFault
+            → Rose (F.faults self.old.folder.now) (F.faults self.new.folder.now) }
+        ensures sink_failed { HasSinkFailed result → Rose (K.faults sink.old) (K.faults sink.new) }
+        ensures source_failed { HasSourceFailed result
+            → Rose (S.faults source.old) (S.faults source.new) }
+        ensures source_count { S.faults source.old ≤ S.faults source.new }
+        ensures sink_count { K.faults sink.old ≤ K.faults sink.new }
     {
+        let alloc = self.alloc;
+        answer_lines(alloc, source, sink, self, REQUEST_LIMIT as u32)
+    }
+}
+
+impl<F: Folder, C: Servers> Responder for Session<'_, F, C> {
+    ghost use Rattle.couchview_cli.specs.Session.{IsAnswered, IsUnanswered, KeepsPorts, reply_of, scene_of};
+
+    type Error = StepFault;
+
+    ghost line_limit = { 2097152 };
+
+    ghost is_ready = { λ s. IfTold (F.disk s.folder.now) (λ d. IsOpen s.engine.now d.now) };
+
+    ghost text = { reply_of };
+
+    ghost answers = { λ old line new. KeepsPorts old new
+        × IsAnswered F.Folder C.Servers (scene_of old) (scene_of new) line (reply_of new) };
+
+    ghost stops = { λ old line fault new. KeepsPorts old new
+        × IsUnanswered F.Folder C.Servers (scene_of old) (scene_of new) line fault };
+
+    fn answer(&mut self, line: &[u8]) -> Result<(), StepFault> {
         self.reply.clear();
+        self.ran_out = false;
         match self
             .engine
-            .step(self.alloc, folder, servers, line, &mut self.reply)
+            .step(self.alloc, self.folder, self.servers, line, self.reply)
         {
-            Ok(()) => match write_all(sink, &self.reply) {
-                Ok(()) => Ok(()),
-                Err(PortFault) => Err(SessionError::SinkFailed),
-            },
+            Ok(()) => Ok(()),
             Err(fault) => {
                 let StepFault::NoMemory = fault else {
-                    return Err(SessionError::Stopped(fault));
+                    return Err(fault);
                 };
-                match write_all(sink, no_memory_line()) {
-                    Ok(()) => Ok(()),
-                    Err(PortFault) => Err(SessionError::SinkFailed),
-                }
+                self.ran_out = true;
+                Ok(())
             }
         }
     }
-}
 
-/// A run of request lines: what answers them, and the line that no newline has ended yet, of which
-/// at most `LINE_KEPT` bytes are kept.
-#[derive(Drop)]
-pub struct Session {
-    responder: Responder,
-    line: Vec<u8>,
-    ghost line_is_kept: { vec_len line ≤ LINE_KEPT },
-}
-
-impl Session {
-    ghost use Rattle.couchview_cli.specs.Session.{Progress, Ended, EndedBy, Origin};
-    ghost use Rattle.couchview_cli.specs.declared.session.SessionError.TheVariants as error;
-    ghost use Rattle.view_ports.specs.declared.run_end.RunEnd.TheVariants as run_end;
-
-    /// A session that has read nothing, over the documents of the folder. The words LANG=PATH name the query servers of
-    /// languages.
-    pub fn open<F: Folder>(
-        alloc: Global,
-        folder: &mut F,
-        words: &[String],
-    ) -> Result<Session, StepFault>
-        ensures documents { (world : World) → IfTold (F.disk folder.old) (λ d. Holds d.now world) → IfTold (F.disk folder.new) (λ d. IfOk result (λ session. IsAtWorld session.responder.engine d.now world)) }
-        ensures moments { (world : World) → IfTold (F.disk folder.old) (λ d. Holds d.now world) → Tells (F.disk folder.old) (F.disk folder.new) (LeavesOnly (λ image. StandsFor image world)) }
-        ensures open { IfTold (F.disk folder.new) (λ d. IfOk result (λ session. IsOpen session.responder.engine d.now)) }
-        ensures childless { IfOk result (λ session. IsChildless session.responder.engine) }
-        ensures languages { IfOk result (λ session. languages_of session.responder.engine ≡ languages_in (map string_bytes words.now)) }
-        ensures pending { IfOk result (λ session. session.line.items ≡ []) }
-        ensures sound { (world : World) → IfTold (F.disk folder.old) (λ d. Holds d.now world → (name : FileName) (at : ℕ) → result ≡ Err (StepFault.Damaged name at) → ⊥) }
-        ensures room { (name : FileName) (length : Option ℕ) → result ≡ Err (StepFault.Full name length) → ⊥ }
-        ensures cause { HasCauseIf (λ fault. fault ≡ StepFault.DiskFault) (F.faults folder.old) (F.faults folder.new) result }
-    {
-        match Engine::open(alloc, folder, words) {
-            Ok(engine) => Ok(Session {
-                responder: Responder {
-                    alloc,
-                    engine,
-                    reply: Vec::new(alloc),
-                },
-                line: Vec::new(alloc),
-            }),
-            Err(fault) => Err(fault),
+    fn text(&self) -> &[u8] {
+        if self.ran_out {
+            return no_memory_line();
         }
-    }
-
-    /// Goes on with these bytes: answers each line that ends in them, and keeps what stands behind.
-    pub fn feed<F: Folder, K: Sink, C: Servers>(
-        &mut self,
-        piece: &[u8],
-        folder: &mut F,
-        sink: &mut K,
-        servers: &mut C,
-    ) -> Result<(), SessionError>
-        requires open { IfTold (F.disk folder.old) (λ d. IsOpen self.old.responder.engine d.now) }
-        ensures ok { OnOk result ((origin : Origin) (bytes : List ℕ) → Progress C.functions C.honest (F.disk folder.old) (C.may_follow servers.old) (C.faults servers.old) origin (K.held sink.old) bytes self.old
-            → Progress C.functions C.honest (F.disk folder.new) (C.may_follow servers.new) (C.faults servers.new) origin (K.held sink.new) (bytes ++ piece.now) self.new) }
-        ensures err { IfErr result (λ e. (origin : Origin) (bytes : List ℕ) → Progress C.functions C.honest (F.disk folder.old) (C.may_follow servers.old) (C.faults servers.old) origin (K.held sink.old) bytes self.old
-            → EndedBy C.functions C.honest origin (K.held sink.new) (F.disk folder.new) (C.may_follow servers.new) (C.faults servers.new) (bytes ++ piece.now) self.new.responder.engine e) }
-        ensures open { OnOk result (IfTold (F.disk folder.new) (λ d. IsOpen self.new.responder.engine d.now)) }
-        ensures sink_cause { HasCauseIf (λ e. e ≡ SessionError.SinkFailed) (K.faults sink.old) (K.faults sink.new) result }
-        ensures disk_cause { HasCauseIf (λ e. e ≡ SessionError.Stopped StepFault.DiskFault) (F.faults folder.old) (F.faults folder.new) result }
-        ensures server_count { C.faults servers.old ≤ C.faults servers.new }
-    {
-        let mut rest = piece;
-        while let Some((line, behind)) = cut_line(rest) {
-            match self.end_line(line, folder, sink, servers) {
-                Ok(()) => {}
-                Err(error) => return Err(error),
-            }
-            rest = behind;
-        }
-        self.keep(rest)
-    }
-
-    /// Answers the line that ends with these bytes. A line that wholly stands in them is not copied.
-    fn end_line<F: Folder, K: Sink, C: Servers>(
-        &mut self,
-        end: &[u8],
-        folder: &mut F,
-        sink: &mut K,
-        servers: &mut C,
-    ) -> Result<(), SessionError>
-        requires line { IsLine end.now }
-        requires open { IfTold (F.disk folder.old) (λ d. IsOpen self.old.responder.engine d.now) }
-        ensures ok { OnOk result ((origin : Origin) (bytes : List ℕ) → Progress C.functions C.honest (F.disk folder.old) (C.may_follow servers.old) (C.faults servers.old) origin (K.held sink.old) bytes self.old
-            → Progress C.functions C.honest (F.disk folder.new) (C.may_follow servers.new) (C.faults servers.new) origin (K.held sink.new) (bytes ++ ended end.now) self.new) }
-        ensures err { IfErr result (λ e. (origin : Origin) (bytes more : List ℕ) → Progress C.functions C.honest (F.disk folder.old) (C.may_follow servers.old) (C.faults servers.old) origin (K.held sink.old) bytes self.old
-            → EndedBy C.functions C.honest origin (K.held sink.new) (F.disk folder.new) (C.may_follow servers.new) (C.faults servers.new) (bytes ++ ended end.now ++ more) self.new.responder.engine e) }
-        ensures open { OnOk result (IfTold (F.disk folder.new) (λ d. IsOpen self.new.responder.engine d.now)) }
-        ensures sink_cause { HasCauseIf (λ e. e ≡ SessionError.SinkFailed) (K.faults sink.old) (K.faults sink.new) result }
-        ensures disk_cause { HasCauseIf (λ e. e ≡ SessionError.Stopped StepFault.DiskFault) (F.faults folder.old) (F.faults folder.new) result }
-        ensures server_count { C.faults servers.old ≤ C.faults servers.new }
-    {
-        if self.line.is_empty() {
-            return self.responder.answer(end, folder, sink, servers);
-        }
-        match self.keep(end) {
-            Ok(()) => {}
-            Err(error) => return Err(error),
-        }
-        match self.responder.answer(&self.line, folder, sink, servers) {
-            Ok(()) => {}
-            Err(error) => return Err(error),
-        }
-        self.line.clear();
-        Ok(())
-    }
-
-    /// Keeps more bytes of the line that no newline has ended yet.
-    fn keep(&mut self, more: &[u8]) -> Result<(), SessionError>
-        ensures ok { OnOk result (self.new.line.items ≡ kept line_limit (self.old.line.items ++ more.now)) }
-        ensures same { self.new.responder ≡ self.old.responder }
-        ensures err { IfErr result (λ e. e ≡ error.OutOfMemory) }
-    {
-        match keep_bytes(&mut self.line, more, LINE_KEPT) {
-            Ok(()) => Ok(()),
-            Err(NoMemory) => Err(SessionError::OutOfMemory),
-        }
-    }
-
-    /// Answers the last line, where the input ended without a newline.
-    pub fn finish<F: Folder, K: Sink, C: Servers>(
-        &mut self,
-        folder: &mut F,
-        sink: &mut K,
-        servers: &mut C,
-    ) -> Result<(), SessionError>
-        requires open { IfTold (F.disk folder.old) (λ d. IsOpen self.old.responder.engine d.now) }
-        ensures ok { OnOk result ((origin : Origin) (bytes : List ℕ) → Progress C.functions C.honest (F.disk folder.old) (C.may_follow servers.old) (C.faults servers.old) origin (K.held sink.old) bytes self.old
-            → Ended C.functions C.honest origin (K.held sink.new) (F.disk folder.new) bytes (IsAt (F.disk folder.new) (C.may_follow servers.new) (C.faults servers.new) self.new.responder.engine) run_end.InputEnded) }
-        ensures err { IfErr result (λ e. (origin : Origin) (bytes : List ℕ) → Progress C.functions C.honest (F.disk folder.old) (C.may_follow servers.old) (C.faults servers.old) origin (K.held sink.old) bytes self.old
-            → EndedBy C.functions C.honest origin (K.held sink.new) (F.disk folder.new) (C.may_follow servers.new) (C.faults servers.new) bytes self.new.responder.engine e) }
-        ensures sink_cause { HasCauseIf (λ e. e ≡ SessionError.SinkFailed) (K.faults sink.old) (K.faults sink.new) result }
-        ensures disk_cause { HasCauseIf (λ e. e ≡ SessionError.Stopped StepFault.DiskFault) (F.faults folder.old) (F.faults folder.new) result }
-        ensures server_count { C.faults servers.old ≤ C.faults servers.new }
-    {
-        if self.line.is_empty() {
-            return Ok(());
-        }
-        self.responder.answer(&self.line, folder, sink, servers)
-    }
-
-    /// Ends the children.
-    pub fn stop<C: Servers>(&mut self, servers: &mut C)
-        ensures stopped { (calls : List Call) → C.may_follow servers.old calls → HasStopped (C.may_follow servers.new) self.new.responder.engine calls }
-        ensures faults { C.faults servers.new ≡ C.faults servers.old }
-    {
-        self.responder.engine.finish(servers);
+        self.reply.as_slice()
     }
 }

@@ -1,5 +1,6 @@
 //! Whole runs over ports in memory, which give small pieces and fail where they are told to.
 use crate::command::couchview;
+use crate::laws::runs_go_on;
 use crash_disk::MemoryFolder;
 use map_server::PickServers;
 use std::alloc::Global;
@@ -56,6 +57,7 @@ fn run_in(alloc: Global, folder: &mut MemoryFolder, given: &Given) -> Result<(Ve
     let mut sink = MemorySink::new(alloc, piece, given.writes.to_vec(alloc)?)?;
     let mut servers = PickServers::new(alloc, given.servers.to_vec(alloc)?)?;
     let status = couchview(alloc, &words, &mut source, &mut sink, folder, &mut servers);
+    runs_go_on(&servers, &servers);
     Ok((sink.held().to_vec(alloc)?, status))
 }
 

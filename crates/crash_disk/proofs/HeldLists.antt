@@ -4,7 +4,7 @@ use Rattle.std.proofs.Math.ListN.{set}
 use Rattle.view_ports.specs.declared.file_name.FileName.{FileName}
 use Rattle.crash_disk.specs.declared.held_file.HeldFile.{HeldFile}
 use Rattle.crash_disk.specs.Names.{is_same}
-use Rattle.crash_disk.specs.Held.{bytes_of, IsAbsent, AreApart, IsAt}
+use Rattle.crash_disk.specs.Held.{bytes_of, IsAbsent, AreApart, IsIndexOf}
 use Rattle.crash_disk.proofs.NamedLists as named
 
 pub absent_by_index : (name : FileName) (files : List HeldFile) → ((k : ℕ) (d : HeldFile) → k < length files → (get_or files k d).name ≢ name) → IsAbsent name files
@@ -27,7 +27,7 @@ pub bytes_push : (files : List HeldFile) (file : HeldFile) (name : FileName) →
 bytes_push = named.value_push (λ (file : HeldFile). file.name) (λ (file : HeldFile). file.bytes.items) []
 
 -- a step on the bytes of the file with a name, by the place of the file in the list
-pub step_at : (name : FileName) (files : List HeldFile) (at : ℕ) (d file : HeldFile) (step : List ℕ → List ℕ) → AreApart files → IsAt name files at
+pub step_at : (name : FileName) (files : List HeldFile) (at : ℕ) (d file : HeldFile) (step : List ℕ → List ℕ) → AreApart files → IsIndexOf name files at
     → d ≡ get_or files at d → file.name ≡ d.name → file.bytes.items ≡ step d.bytes.items
     → (n : FileName) → bytes_of (set files at file) n ≡ cond (is_same name n) (step (bytes_of files n)) (bytes_of files n)
 step_at = named.step_at (λ (file : HeldFile). file.name) (λ (file : HeldFile). file.bytes.items) []

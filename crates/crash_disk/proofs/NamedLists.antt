@@ -5,7 +5,7 @@ use Rattle.std.proofs.Math.ListN.{set}
 use Rattle.view_ports.specs.declared.file_name.FileName.{FileName}
 use Rattle.crash_disk.specs.Names.{is_same}
 use Rattle.crash_disk.specs.SameNames.{names_split, is_same_true, is_same_false}
-use Rattle.crash_disk.specs.Named.{value_in, IsAbsentIn, AreApartIn, IsAtIn}
+use Rattle.crash_disk.specs.Named.{value_in, IsAbsentIn, AreApartIn, IsIndexIn}
 
 module _ {E : Type 0} (name_of : E → FileName) where
   pub absent_by_index : (name : FileName) (files : List E) → ((k : ℕ) (d : E) → k < length files → name_of (get_or files k d) ≢ name) → IsAbsentIn name_of name files
@@ -85,7 +85,7 @@ module _ {E V : Type 0} (name_of : E → FileName) (value_of : E → V) (none : 
   value_push (first ∷ files) file name is = ap (cond (is_same (name_of first) name) (value_of first)) (value_push files file name is)
 
   -- A step on the value of the file with a name, by the place of the file in the list.
-  pub step_at : (name : FileName) (files : List E) (at : ℕ) (d file : E) (step : V → V) → AreApartIn name_of files → IsAtIn name_of name files at
+  pub step_at : (name : FileName) (files : List E) (at : ℕ) (d file : E) (step : V → V) → AreApartIn name_of files → IsIndexIn name_of name files at
       → d ≡ get_or files at d → name_of file ≡ name_of d → value_of file ≡ step (value_of d)
       → (n : FileName) → value_in name_of value_of none (set files at file) n ≡ cond (is_same name n) (step (value_in name_of value_of none files n)) (value_in name_of value_of none files n)
   step_at name files at d file step apart is_at is named value n =

@@ -11,7 +11,7 @@ use Rattle.crash_disk.specs.Names.{is_same}
 use Rattle.crash_disk.specs.SameNames.{names_split}
 use Rattle.crash_disk.specs.Held.{bytes_of, IsAbsent, AreApart}
 use Rattle.crash_disk.specs.Pending.{file_of}
-use Rattle.crash_disk.specs.PendingList.{file_named, IsPendingAbsent, ArePendingApart, IsPendingAt, AreMatched}
+use Rattle.crash_disk.specs.PendingList.{file_named, IsPendingAbsent, ArePendingApart, IsPendingIndex, AreMatched}
 use Rattle.crash_disk.proofs.NamedLists as named
 
 pub absent_by_index : (name : FileName) (files : List PendingFile) → ((k : ℕ) (d : PendingFile) → k < length files → (get_or files k d).name ≢ name) → IsPendingAbsent name files
@@ -31,7 +31,7 @@ pub file_push : (files : List PendingFile) (file : PendingFile) (name : FileName
 file_push = named.value_push (λ (file : PendingFile). file.name) (λ (file : PendingFile). file_of file.pending) (settled [])
 
 -- a step on the file with a name, by its place in the list
-pub step_at : (name : FileName) (files : List PendingFile) (at : ℕ) (d file : PendingFile) (step : File → File) → ArePendingApart files → IsPendingAt name files at
+pub step_at : (name : FileName) (files : List PendingFile) (at : ℕ) (d file : PendingFile) (step : File → File) → ArePendingApart files → IsPendingIndex name files at
     → d ≡ get_or files at d → file.name ≡ d.name → file_of file.pending ≡ step (file_of d.pending)
     → (n : FileName) → file_named (set files at file) n ≡ cond (is_same name n) (step (file_named files n)) (file_named files n)
 step_at = named.step_at (λ (file : PendingFile). file.name) (λ (file : PendingFile). file_of file.pending) (settled [])

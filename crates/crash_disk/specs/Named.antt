@@ -19,8 +19,8 @@ AreApartIn name_of [] = Unit {0}
 AreApartIn name_of (file ∷ files) = IsAbsentIn name_of (name_of file) files × AreApartIn name_of files
 
 -- the file with the name stands at this place
-abbrev pub IsAtIn : {E : Type 0} → (E → FileName) → FileName → List E → ℕ → Type 0
-IsAtIn {E} name_of name files at = (at < length files) × ((file : E) → name_of (slice_index_or files at file) ≡ name)
+abbrev pub IsIndexIn : {E : Type 0} → (E → FileName) → FileName → List E → ℕ → Type 0
+IsIndexIn {E} name_of name files at = (at < length files) × ((file : E) → name_of (slice_index_or files at file) ≡ name)
 
 absent_prop : {E : Type 0} (name_of : E → FileName) (name : FileName) (files : List E) → IsProp (IsAbsentIn name_of name files)
 absent_prop name_of name [] = Unit-prop

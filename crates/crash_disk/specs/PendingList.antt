@@ -4,7 +4,7 @@ use Rattle.view_ports.specs.declared.file_name.FileName.{FileName}
 use Rattle.view_ports.specs.File.{File, settled}
 use Rattle.crash_disk.specs.declared.held_file.HeldFile.{HeldFile}
 use Rattle.crash_disk.specs.declared.pending_file.PendingFile.{PendingFile}
-use Rattle.crash_disk.specs.Named.{value_in, IsAbsentIn, AreApartIn, IsAtIn, apart_prop}
+use Rattle.crash_disk.specs.Named.{value_in, IsAbsentIn, AreApartIn, IsIndexIn, apart_prop}
 use Rattle.crash_disk.specs.Pending.{file_of}
 
 abbrev pub file_named : List PendingFile → FileName → File
@@ -16,8 +16,8 @@ IsPendingAbsent = IsAbsentIn (λ (file : PendingFile). file.name)
 abbrev pub ArePendingApart : List PendingFile → Type 0
 ArePendingApart = AreApartIn (λ (file : PendingFile). file.name)
 
-abbrev pub IsPendingAt : FileName → List PendingFile → ℕ → Type 0
-IsPendingAt = IsAtIn (λ (file : PendingFile). file.name)
+abbrev pub IsPendingIndex : FileName → List PendingFile → ℕ → Type 0
+IsPendingIndex = IsIndexIn (λ (file : PendingFile). file.name)
 
 pub ArePendingApart-prop : (files : List PendingFile) → IsProp (ArePendingApart files)
 ArePendingApart-prop = apart_prop (λ (file : PendingFile). file.name)

@@ -8,7 +8,7 @@ use Rattle.crash_disk.specs.declared.did.Change.{Change}
 use Rattle.crash_disk.specs.declared.did.Change.TheVariants.{Wrote, Grew, Emptied, Synced}
 use Rattle.crash_disk.specs.declared.did.Did.{Did}
 use Rattle.crash_disk.specs.declared.did.Did.TheVariants.{Passed, Changed}
-use Rattle.crash_disk.specs.declared.log.Moments.{Moments}
+use Rattle.crash_disk.specs.declared.moments.Moments.{Moments}
 use Rattle.crash_disk.specs.Names.{is_same}
 use Rattle.crash_disk.specs.HeldFiles.{bytes_in}
 use Rattle.crash_disk.specs.Moments.{stepped, noted, disk_after, disk_at, FitsIn, Fits, AllFit}

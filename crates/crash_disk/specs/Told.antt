@@ -4,7 +4,7 @@ use Rattle.std.specs.Coded.{Π_prop, Unit-prop, Coded-set, coded_list, coded_ℕ
 use Rattle.view_ports.specs.declared.file_name.FileName.{FileName}
 use Rattle.view_ports.specs.Disk.{Disk, IfTold}
 use Rattle.crash_disk.specs.declared.held_files.HeldFiles.{HeldFiles}
-use Rattle.crash_disk.specs.declared.log.Moments.{Moments}
+use Rattle.crash_disk.specs.declared.moments.Moments.{Moments}
 use Rattle.crash_disk.specs.HeldFiles.{bytes_in}
 use Rattle.crash_disk.specs.Moments.{disk_after, disk_at}
 

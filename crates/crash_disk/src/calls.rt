@@ -1,6 +1,6 @@
 //! The calls on a folder in memory.
 
-ghost use Rattle.std.specs.Prelude.{◌≡◌, ◌↔◌, ℕ, ◌+◌, ◌≤◌, ◌^◌, [], length, Some, None, Err, IfOk, OnOk, OnErr, IsErr, IsTrue, cond, option_map, is_err};
+ghost use Rattle.std.specs.Prelude.{◌≡◌, ◌↔◌, ℕ, ◌+◌, ◌≤◌, ◌^◌, [], length, Some, None, Err, IfOk, OnOk, OnErr, IsErr, IsTrue, cond, is_err};
 ghost use Rattle.std.specs.Io.{ReadsAtMost};
 ghost use Rattle.view_ports.specs.declared.folder.FolderFault.TheVariants.{Failed};
 ghost use Rattle.view_ports.specs.Causes.{HasCauseIf, one_more};
@@ -8,17 +8,16 @@ ghost use Rattle.view_ports.specs.Disk.{IfTold, Tells};
 ghost use Rattle.view_ports.specs.Faults.{HasCause};
 ghost use Rattle.view_ports.specs.File.{emptied, grew, synced, wrote};
 ghost use Rattle.view_ports.specs.FolderCalls.{Changes, IsListing, IsReadAt, Passes};
-ghost use Rattle.view_ports.specs.Memory.{is_listed};
-ghost use Rattle.crash_disk.specs.Moments.{disk_at, passed, took};
-ghost use Rattle.crash_disk.specs.State.{ChangedNothing, called, counts, failed, told, was_read};
+ghost use Rattle.crash_disk.specs.Moments.{disk_at};
+ghost use Rattle.crash_disk.specs.State.{ChangedNothing, HasPassed, HasTaken, called, counted, counts, failed, is_failing, told, uncalled, was_read};
 ghost use Rattle.crash_disk.specs.Law.{told_stays};
 
 use crate::counters::Counters;
 use crate::did::Did;
 use crate::held_files::HeldFiles;
-use crate::log::Moments;
 use crate::memory_folder::MemoryFolder;
-use crate::moments::note;
+use crate::moments::Moments;
+use crate::noted::note;
 use json_terms::NoMemory;
 use std::alloc::Global;
 use view_ports::{FileName, Folder, FolderFault, PortFault};
@@ -30,8 +29,9 @@ impl MemoryFolder {
     /// fails in the same way. A call that finds no memory to note it is no moment. A write that does not
     /// lie within its file, which only a folder that tells nothing can be asked for, fails too.
     pub fn new(alloc: Global, fail: Vec<u64>, moments: bool) -> Result<MemoryFolder, NoMemory>
-        ensures told { IfOk result (λ folder. told folder ≡ cond moments (Some (disk_at (λ name. []))) None) }
-        ensures counts { IfOk result (λ folder. counts folder ≡ record { fail = fail.items; calls = 0; faults = 0; reads = 0 }) }
+        ensures told { IfOk result (λ folder. told folder ≡ cond moments
+            (Some (disk_at (λ name. []))) None) }
+        ensures counts { IfOk result (λ folder. counts folder ≡ uncalled fail.items) }
     {
         let moments = if moments {
             Some(Moments {
@@ -63,19 +63,20 @@ impl Folder for MemoryFolder {
     ghost reads = { λ folder. (counts folder).reads };
 
     fn len(&mut self, name: FileName) -> Result<u64, PortFault>
-        ensures length { IfTold (told self.old) (λ d. IfOk result (λ count. count ≡ length (d.now name).seen)) }
+        ensures length { IfTold (told self.old) (λ d. IfOk result
+            (λ count. count ≡ length (d.now name).seen)) }
         ensures disk { Tells (told self.old) (told self.new) Passes }
         ensures cause { HasCause (counts self.old).faults (counts self.new).faults result }
         ensures reads { (counts self.new).reads ≡ (counts self.old).reads }
 
         // It fails where its number is listed, and where no memory is left; then it is a fault.
-        ensures listed { IsTrue (is_listed (counts self.old).fail (counts self.old).calls) → IsErr result }
-        ensures unkept { told self.old ≡ None → is_err result ≡ is_listed (counts self.old).fail (counts self.old).calls }
+        ensures listed { IsTrue (is_failing (counts self.old)) → IsErr result }
+        ensures unkept { told self.old ≡ None → is_err result ≡ is_failing (counts self.old) }
         ensures ok { OnOk result (counts self.new ≡ called (counts self.old)) }
         ensures err { OnErr result (counts self.new ≡ failed (counts self.old)) }
 
         // It is one moment more, or none where it found no memory to be noted.
-        ensures passed { OnOk result (told self.new ≡ option_map passed (told self.old)) }
+        ensures passed { OnOk result (HasPassed (told self.old) (told self.new)) }
         ensures same { OnErr result (ChangedNothing (told self.old) (told self.new)) }
     {
         self.pass()?;
@@ -84,19 +85,20 @@ impl Folder for MemoryFolder {
 
     fn read_at(&mut self, name: FileName, at: u64, into: &mut [u8]) -> Result<usize, PortFault>
         ensures bound { ReadsAtMost result into.new }
-        ensures bytes { IfTold (told self.old) (λ d. IfOk result (λ count. IsReadAt (d.now name).seen at count into.new)) }
+        ensures bytes { IfTold (told self.old) (λ d. IfOk result
+            (λ count. IsReadAt (d.now name).seen at count into.new)) }
         ensures disk { Tells (told self.old) (told self.new) Passes }
         ensures cause { HasCause (counts self.old).faults (counts self.new).faults result }
         ensures reads { (counts self.new).reads ≡ one_more (counts self.old).reads }
 
         // It fails where its number is listed, and where no memory is left; then it is a fault.
-        ensures listed { IsTrue (is_listed (counts self.old).fail (counts self.old).calls) → IsErr result }
-        ensures unkept { told self.old ≡ None → is_err result ≡ is_listed (counts self.old).fail (counts self.old).calls }
+        ensures listed { IsTrue (is_failing (counts self.old)) → IsErr result }
+        ensures unkept { told self.old ≡ None → is_err result ≡ is_failing (counts self.old) }
         ensures ok { OnOk result (counts self.new ≡ called (was_read (counts self.old))) }
         ensures err { OnErr result (counts self.new ≡ failed (was_read (counts self.old))) }
 
         // It is one moment more, or none where it found no memory to be noted.
-        ensures passed { OnOk result (told self.new ≡ option_map passed (told self.old)) }
+        ensures passed { OnOk result (HasPassed (told self.old) (told self.new)) }
         ensures same { OnErr result (ChangedNothing (told self.old) (told self.new)) }
     {
         self.counters.read();
@@ -111,16 +113,18 @@ impl Folder for MemoryFolder {
 
     fn write_at(&mut self, name: FileName, at: u64, from: &[u8]) -> Result<(), PortFault>
         requires { IfTold (told self.old) (λ d. at + length from.now ≤ length (d.now name).seen) }
-        ensures disk { Tells (told self.old) (told self.new) (Changes name (wrote at from.now) result) }
+        ensures disk { Tells (told self.old) (told self.new)
+            (Changes name (wrote at from.now) result) }
         ensures cause { HasCause (counts self.old).faults (counts self.new).faults result }
         ensures reads { (counts self.new).reads ≡ (counts self.old).reads }
 
         // It fails where its number is listed, and where no memory is left; then it is a fault.
-        ensures listed { IsTrue (is_listed (counts self.old).fail (counts self.old).calls) → IsErr result }
+        ensures listed { IsTrue (is_failing (counts self.old)) → IsErr result }
         ensures ok { OnOk result (counts self.new ≡ called (counts self.old)) }
 
         // Its step is taken as a whole, or not at all.
-        ensures taken { OnOk result (told self.new ≡ option_map (took name (wrote at from.now)) (told self.old)) }
+        ensures taken { OnOk result (HasTaken (told self.old) (told self.new) name
+            (wrote at from.now)) }
         ensures err { OnErr result (counts self.new ≡ failed (counts self.old)) }
         ensures same { OnErr result (ChangedNothing (told self.old) (told self.new)) }
     {
@@ -140,11 +144,11 @@ impl Folder for MemoryFolder {
         ensures reads { (counts self.new).reads ≡ (counts self.old).reads }
 
         // It fails where its number is listed, and where no memory is left; then it is a fault.
-        ensures listed { IsTrue (is_listed (counts self.old).fail (counts self.old).calls) → IsErr result }
+        ensures listed { IsTrue (is_failing (counts self.old)) → IsErr result }
         ensures ok { OnOk result (counts self.new ≡ called (counts self.old)) }
 
         // Its step is taken as a whole, or not at all.
-        ensures taken { OnOk result (told self.new ≡ option_map (took name (grew by)) (told self.old)) }
+        ensures taken { OnOk result (HasTaken (told self.old) (told self.new) name (grew by)) }
         ensures err { OnErr result (counts self.new ≡ failed (counts self.old)) }
         ensures same { OnErr result (ChangedNothing (told self.old) (told self.new)) }
     {
@@ -163,12 +167,12 @@ impl Folder for MemoryFolder {
         ensures reads { (counts self.new).reads ≡ (counts self.old).reads }
 
         // It fails where its number is listed, and where no memory is left; then it is a fault.
-        ensures listed { IsTrue (is_listed (counts self.old).fail (counts self.old).calls) → IsErr result }
-        ensures unkept { told self.old ≡ None → is_err result ≡ is_listed (counts self.old).fail (counts self.old).calls }
+        ensures listed { IsTrue (is_failing (counts self.old)) → IsErr result }
+        ensures unkept { told self.old ≡ None → is_err result ≡ is_failing (counts self.old) }
         ensures ok { OnOk result (counts self.new ≡ called (counts self.old)) }
 
         // Its step is taken as a whole, or not at all.
-        ensures taken { OnOk result (told self.new ≡ option_map (took name emptied) (told self.old)) }
+        ensures taken { OnOk result (HasTaken (told self.old) (told self.new) name emptied) }
         ensures err { OnErr result (counts self.new ≡ failed (counts self.old)) }
         ensures same { OnErr result (ChangedNothing (told self.old) (told self.new)) }
     {
@@ -187,12 +191,12 @@ impl Folder for MemoryFolder {
         ensures reads { (counts self.new).reads ≡ (counts self.old).reads }
 
         // It fails where its number is listed, and where no memory is left; then it is a fault.
-        ensures listed { IsTrue (is_listed (counts self.old).fail (counts self.old).calls) → IsErr result }
-        ensures unkept { told self.old ≡ None → is_err result ≡ is_listed (counts self.old).fail (counts self.old).calls }
+        ensures listed { IsTrue (is_failing (counts self.old)) → IsErr result }
+        ensures unkept { told self.old ≡ None → is_err result ≡ is_failing (counts self.old) }
         ensures ok { OnOk result (counts self.new ≡ called (counts self.old)) }
 
         // Its step is taken as a whole, or not at all.
-        ensures taken { OnOk result (told self.new ≡ option_map (took name synced) (told self.old)) }
+        ensures taken { OnOk result (HasTaken (told self.old) (told self.new) name synced) }
         ensures err { OnErr result (counts self.new ≡ failed (counts self.old)) }
         ensures same { OnErr result (ChangedNothing (told self.old) (told self.new)) }
     {
@@ -206,17 +210,19 @@ impl Folder for MemoryFolder {
     }
 
     fn names(&mut self, alloc: Global) -> Result<Vec<FileName>, FolderFault>
-        ensures names { IfTold (told self.old) (λ d. IfOk result (λ names. IsListing d.now names.items)) }
+        ensures names { IfTold (told self.old) (λ d. IfOk result
+            (λ names. IsListing d.now names.items)) }
         ensures disk { Tells (told self.old) (told self.new) Passes }
-        ensures cause { HasCauseIf (λ error. error ≡ Failed) (counts self.old).faults (counts self.new).faults result }
+        ensures cause { HasCauseIf (λ error. error ≡ Failed) (counts self.old).faults
+            (counts self.new).faults result }
         ensures reads { (counts self.new).reads ≡ (counts self.old).reads }
 
         // It fails exactly where its number is listed; want of memory is no fault.
-        ensures listed { IsTrue (is_listed (counts self.old).fail (counts self.old).calls) ↔ (result ≡ Err Failed) }
-        ensures counts { counts self.new ≡ cond (is_listed (counts self.old).fail (counts self.old).calls) (failed (counts self.old)) (called (counts self.old)) }
+        ensures listed { IsTrue (is_failing (counts self.old)) ↔ (result ≡ Err Failed) }
+        ensures counts { counts self.new ≡ counted (counts self.old) }
 
         // It is one moment more, or none where it found no memory to be noted.
-        ensures passed { OnOk result (told self.new ≡ option_map passed (told self.old)) }
+        ensures passed { OnOk result (HasPassed (told self.old) (told self.new)) }
         ensures same { OnErr result (ChangedNothing (told self.old) (told self.new)) }
     {
         if self.counters.begin() {

@@ -3,7 +3,7 @@
 ghost use Rattle.crash_disk.specs.Held.{AreApart, AreApart-prop};
 
 use crate::held_file::HeldFile;
-use crate::over::{add_zeros, write_over};
+use crate::patch::{add_zeros, write_over};
 use json_terms::NoMemory;
 use std::alloc::Global;
 use view_ports::FileName;
@@ -20,7 +20,7 @@ impl HeldFiles {
     ghost use Rattle.view_ports.specs.declared.file_name.FileName.{FileName};
     ghost use Rattle.view_ports.specs.File.{splice};
     ghost use Rattle.crash_disk.specs.Names.{is_same};
-    ghost use Rattle.crash_disk.specs.Held.{IsAbsent, IsAt, names_of};
+    ghost use Rattle.crash_disk.specs.Held.{IsAbsent, IsIndexOf, names_of};
     ghost use Rattle.crash_disk.specs.HeldFiles.{bytes_in};
 
     /// No files.
@@ -34,7 +34,8 @@ impl HeldFiles {
 
     // The place of the file in the list.
     fn place(&self, name: FileName) -> Option<usize>
-        ensures { MatchOption result (IsAbsent name self.now.files.items) (λ at. IsAt name self.now.files.items at) }
+        ensures { MatchOption result (IsAbsent name self.now.files.items)
+            (λ at. IsIndexOf name self.now.files.items at) }
     {
         for (at, file) in self.files.iter().enumerate() {
             if file.name == name {
@@ -57,7 +58,8 @@ impl HeldFiles {
     /// Writes the bytes of `from` over those from the place `at` on.
     pub fn overwrite(&mut self, name: FileName, at: usize, from: &[u8])
         requires { at + length from.now ≤ length (bytes_in self.old name) }
-        ensures { (n : FileName) → bytes_in self.new n ≡ cond (is_same name n) (splice (bytes_in self.old n) at from.now) (bytes_in self.old n) }
+        ensures { (n : FileName) → bytes_in self.new n ≡ cond (is_same name n)
+            (splice (bytes_in self.old n) at from.now) (bytes_in self.old n) }
     {
         if let Some(place) = self.place(name) {
             let file = &mut self.files[place];
@@ -67,7 +69,8 @@ impl HeldFiles {
 
     /// Takes all bytes of the file away.
     pub fn clear(&mut self, name: FileName)
-        ensures { (n : FileName) → bytes_in self.new n ≡ cond (is_same name n) [] (bytes_in self.old n) }
+        ensures { (n : FileName) → bytes_in self.new n ≡ cond (is_same name n) []
+            (bytes_in self.old n) }
     {
         if let Some(place) = self.place(name) {
             let file = &mut self.files[place];
@@ -77,7 +80,8 @@ impl HeldFiles {
 
     /// Adds so many zero bytes at the end of the file, or changes nothing.
     pub fn extend(&mut self, alloc: Global, name: FileName, by: usize) -> Result<(), NoMemory>
-        ensures ok { OnOk result ((n : FileName) → bytes_in self.new n ≡ cond (is_same name n) (bytes_in self.old n ++ replicate by 0) (bytes_in self.old n)) }
+        ensures ok { OnOk result ((n : FileName) → bytes_in self.new n ≡ cond (is_same name n)
+            (bytes_in self.old n ++ replicate by 0) (bytes_in self.old n)) }
         ensures err { OnErr result ((n : FileName) → bytes_in self.new n ≡ bytes_in self.old n) }
     {
         let place = self.place_or_new(alloc, name)?;
@@ -88,7 +92,7 @@ impl HeldFiles {
     // The place of the file in the list, where it is put if it isn't there.
     fn place_or_new(&mut self, alloc: Global, name: FileName) -> Result<usize, NoMemory>
         ensures same { (n : FileName) → bytes_in self.new n ≡ bytes_in self.old n }
-        ensures ok { IfOk result (λ at. IsAt name self.new.files.items at) }
+        ensures ok { IfOk result (λ at. IsIndexOf name self.new.files.items at) }
     {
         if let Some(place) = self.place(name) {
             return Ok(place);
@@ -102,7 +106,8 @@ impl HeldFiles {
 
     /// Takes the last bytes of the file away.
     pub fn cut_back(&mut self, name: FileName, by: usize)
-        ensures { (n : FileName) → bytes_in self.new n ≡ cond (is_same name n) (take (length (bytes_in self.old n) - by) (bytes_in self.old n)) (bytes_in self.old n) }
+        ensures { (n : FileName) → bytes_in self.new n ≡ cond (is_same name n)
+            (take (length (bytes_in self.old n) - by) (bytes_in self.old n)) (bytes_in self.old n) }
     {
         if let Some(place) = self.place(name) {
             let file = &mut self.files[place];

@@ -14,7 +14,8 @@ use std::alloc::Global;
 // The bytes cut to the length, or filled up with zeros.
 fn resized(alloc: Global, bytes: &[u8], long: usize) -> Result<Vec<u8>, NoMemory>
     ensures long { IfOk result (λ image. length image.items ≡ long) }
-    ensures bytes { IfOk result (λ image. (place : ℕ) → place < long → slice_index image.items place ≡ slice_index bytes.now place) }
+    ensures bytes { IfOk result (λ image. (place : ℕ) → place < long
+        → slice_index image.items place ≡ slice_index bytes.now place) }
 {
     let mut image = bytes.to_vec(alloc)?;
     image.resize(long, 0)?;
@@ -45,7 +46,8 @@ impl Pending {
     }
 
     fn overwritten(&self, alloc: Global) -> Result<Vec<u8>, NoMemory>
-        ensures { IfOk result (λ image. IsOverwritten (file_of self.now).written (file_of self.now).seen image.items) }
+        ensures { IfOk result (λ image. IsOverwritten (file_of self.now).written
+            (file_of self.now).seen image.items) }
     {
         let mut image = self.seen.as_slice().to_vec(alloc)?;
         for range in &self.written {

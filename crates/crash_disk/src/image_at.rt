@@ -5,20 +5,21 @@ ghost use Rattle.view_ports.specs.declared.file_name.FileName.{FileName};
 ghost use Rattle.view_ports.specs.Disk.{IfTold};
 ghost use Rattle.crash_disk.specs.HeldFiles.{bytes_in};
 ghost use Rattle.crash_disk.specs.Moments.{disk_at};
-ghost use Rattle.crash_disk.specs.State.{calls_told, counts, told};
+ghost use Rattle.crash_disk.specs.State.{calls_told, counts, told, uncalled};
 ghost use Rattle.crash_disk.specs.Torn.{IsLeft};
 
 use crate::counters::Counters;
 use crate::held_files::HeldFiles;
-use crate::log::Moments;
 use crate::memory_folder::MemoryFolder;
+use crate::moments::Moments;
 use crate::pending_files::PendingFiles;
 use json_terms::NoMemory;
 use std::alloc::Global;
 
 // A copy: all that there is of the files where nothing is pending.
 fn copied(alloc: Global, files: &HeldFiles) -> Result<HeldFiles, NoMemory>
-    ensures { IfOk result (λ copy. (name : FileName) → bytes_in copy name ≡ bytes_in files.now name) }
+    ensures { IfOk result (λ copy. (name : FileName)
+        → bytes_in copy name ≡ bytes_in files.now name) }
 {
     PendingFiles::settled(alloc, files)?.images(alloc, 1)
 }
@@ -26,7 +27,7 @@ fn copied(alloc: Global, files: &HeldFiles) -> Result<HeldFiles, NoMemory>
 // A folder with these files and its own moments, to which nothing happened so far.
 fn folder_of(alloc: Global, files: HeldFiles) -> Result<MemoryFolder, NoMemory>
     ensures told { IfOk result (λ folder. told folder ≡ Some (disk_at (bytes_in files))) }
-    ensures counts { IfOk result (λ folder. counts folder ≡ record { fail = []; calls = 0; faults = 0; reads = 0 }) }
+    ensures counts { IfOk result (λ folder. counts folder ≡ uncalled []) }
 {
     let start = copied(alloc, &files)?;
     Ok(MemoryFolder {
@@ -71,8 +72,9 @@ impl MemoryFolder {
     /// ones (0), those that a read gives (1) or 255 (2).
     pub fn image_at(&self, alloc: Global, call: u64, choice: u64) -> Result<MemoryFolder, NoMemory>
         requires { call < calls_told (told self.now) }
-        ensures image { IfTold (told self.now) (λ disk. IfOk result (λ folder. IsLeft disk call choice (told folder))) }
-        ensures counts { IfOk result (λ folder. counts folder ≡ record { fail = []; calls = 0; faults = 0; reads = 0 }) }
+        ensures image { IfTold (told self.now) (λ disk.
+            IfOk result (λ folder. IsLeft disk call choice (told folder))) }
+        ensures counts { IfOk result (λ folder. counts folder ≡ uncalled []) }
     {
         let Some(moments) = &self.moments else {
             unreachable!()

@@ -4,7 +4,7 @@ ghost use Rattle.crash_disk.specs.Told.{IsTied, IsTied-prop};
 
 use crate::counters::Counters;
 use crate::held_files::HeldFiles;
-use crate::log::Moments;
+use crate::moments::Moments;
 use std::alloc::Global;
 
 /// A folder in memory, whose calls fail where they are to, and which keeps its moments or doesn't.

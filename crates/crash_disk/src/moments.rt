@@ -1,23 +1,16 @@
-//! The moments of a folder: what it held at first, and what each call did.
+//! The moments of a folder: what it held at first, and what each call did, as long as it keeps that.
 
-ghost use Rattle.std.specs.Prelude.{◌≡◌, OnOk, OnErr, IsOk, None, option_map};
-ghost use Rattle.view_ports.specs.Disk.{IfTold};
-ghost use Rattle.crash_disk.specs.Moments.{Fits, noted};
-ghost use Rattle.crash_disk.specs.Told.{disk_of};
+ghost use Rattle.crash_disk.specs.Held.{bytes_of};
+ghost use Rattle.crash_disk.specs.Moments.{AllFit, AllFit-prop, disk_at};
 
 use crate::did::Did;
-use crate::log::Moments;
-use json_terms::NoMemory;
+use crate::held_files::HeldFiles;
 
-/// Notes what a call did, where moments are kept.
-pub fn note(moments: &mut Option<Moments>, did: Did) -> Result<(), NoMemory>
-    requires { IfTold (disk_of moments.old) (λ disk. Fits did disk.now) }
-    ensures ok { OnOk result (disk_of moments.new ≡ option_map (noted did) (disk_of moments.old)) }
-    ensures unkept { disk_of moments.old ≡ None → IsOk result }
-    ensures err { OnErr result (disk_of moments.new ≡ disk_of moments.old) }
-{
-    if let Some(moments) = moments {
-        moments.log.push(did)?;
-    }
-    Ok(())
+/// What a folder held before its first call, where nothing was pending, and what each call did, the
+/// first one first.
+#[derive(Drop)]
+pub struct Moments {
+    pub start: HeldFiles,
+    pub log: Vec<Did>,
+    ghost fit: { AllFit (disk_at (bytes_of start.files.items)).now log.items } by { AllFit-prop (disk_at (bytes_of start.files.items)).now log.items },
 }

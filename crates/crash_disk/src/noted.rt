@@ -1,22 +1,33 @@
 //! Calls on a folder in memory that note what they do, and take all of their step or none of it.
 
-ghost use Rattle.std.specs.Prelude.{◌≡◌, ℕ, ◌+◌, ◌-◌, ◌≤◌, length, option_map, OnOk, OnErr, IsTrue, IsErr, IsOk, None, is_err};
+ghost use Rattle.std.specs.Prelude.{◌≡◌, ℕ, ◌+◌, ◌-◌, ◌≤◌, length, OnOk, OnErr, IsTrue, IsErr, IsOk, None, is_err, option_map};
 ghost use Rattle.view_ports.specs.Disk.{IfTold, Tells};
 ghost use Rattle.view_ports.specs.File.{emptied, grew, synced, wrote};
 ghost use Rattle.view_ports.specs.FolderCalls.{Passes};
 ghost use Rattle.view_ports.specs.Faults.{HasCause, next_count};
-ghost use Rattle.view_ports.specs.Memory.{is_listed};
-ghost use Rattle.crash_disk.specs.Moments.{passed, took};
 ghost use Rattle.crash_disk.specs.Told.{disk_of};
-ghost use Rattle.crash_disk.specs.State.{ChangedNothing, called, counts, failed, told};
+ghost use Rattle.crash_disk.specs.State.{ChangedNothing, HasPassed, HasTaken, called, counts, failed, is_failing, told};
+ghost use Rattle.crash_disk.specs.Moments.{Fits, noted};
 
 use crate::did::{Change, Did};
-use crate::log::Moments;
 use crate::memory_folder::MemoryFolder;
-use crate::moments::note;
+use crate::moments::Moments;
 use json_terms::NoMemory;
 use std::alloc::Global;
 use view_ports::{FileName, PortFault};
+
+/// Notes what a call did, where moments are kept.
+pub fn note(moments: &mut Option<Moments>, did: Did) -> Result<(), NoMemory>
+    requires { IfTold (disk_of moments.old) (λ disk. Fits did disk.now) }
+    ensures ok { OnOk result (disk_of moments.new ≡ option_map (noted did) (disk_of moments.old)) }
+    ensures unkept { disk_of moments.old ≡ None → IsOk result }
+    ensures err { OnErr result (disk_of moments.new ≡ disk_of moments.old) }
+{
+    if let Some(moments) = moments {
+        moments.log.push(did)?;
+    }
+    Ok(())
+}
 
 // Notes a write, with a copy of what is written where moments are kept.
 fn note_write(
@@ -26,8 +37,10 @@ fn note_write(
     at: u64,
     from: &[u8],
 ) -> Result<(), NoMemory>
-    requires { IfTold (disk_of moments.old) (λ disk. at + length from.now ≤ length (disk.now name).seen) }
-    ensures ok { OnOk result (disk_of moments.new ≡ option_map (took name (wrote at from.now)) (disk_of moments.old)) }
+    requires { IfTold (disk_of moments.old) (λ disk. at + length from.now ≤ length
+        (disk.now name).seen) }
+    ensures ok { OnOk result (HasTaken (disk_of moments.old) (disk_of moments.new) name
+        (wrote at from.now)) }
     ensures err { OnErr result (disk_of moments.new ≡ disk_of moments.old) }
 {
     if moments.is_none() {
@@ -40,12 +53,12 @@ fn note_write(
 impl MemoryFolder {
     /// Counts a call that looks at the folder, and notes it.
     pub(crate) fn pass(&mut self) -> Result<(), PortFault>
-        ensures ok_disk { OnOk result (told self.new ≡ option_map passed (told self.old)) }
+        ensures ok_disk { OnOk result (HasPassed (told self.old) (told self.new)) }
         ensures err_disk { OnErr result (ChangedNothing (told self.old) (told self.new)) }
         ensures disk { Tells (told self.old) (told self.new) Passes }
         ensures files { self.new.files ≡ self.old.files }
-        ensures listed { IsTrue (is_listed (counts self.old).fail (counts self.old).calls) → IsErr result }
-        ensures unkept { told self.old ≡ None → is_err result ≡ is_listed (counts self.old).fail (counts self.old).calls }
+        ensures listed { IsTrue (is_failing (counts self.old)) → IsErr result }
+        ensures unkept { told self.old ≡ None → is_err result ≡ is_failing (counts self.old) }
         ensures ok { OnOk result (counts self.new ≡ called (counts self.old)) }
         ensures err { OnErr result (counts self.new ≡ failed (counts self.old)) }
         ensures cause { HasCause (counts self.old).faults (counts self.new).faults result }
@@ -74,8 +87,10 @@ impl MemoryFolder {
 
     /// Writes, where the bytes lie within the file.
     pub(crate) fn write(&mut self, name: FileName, at: u64, from: &[u8]) -> Result<(), NoMemory>
-        requires { IfTold (told self.old) (λ disk. at + length from.now ≤ length (disk.now name).seen) }
-        ensures ok { OnOk result (told self.new ≡ option_map (took name (wrote at from.now)) (told self.old)) }
+        requires { IfTold (told self.old) (λ disk. at + length from.now ≤ length
+            (disk.now name).seen) }
+        ensures ok { OnOk result (HasTaken (told self.old) (told self.new) name
+            (wrote at from.now)) }
         ensures err { OnErr result (told self.new ≡ told self.old) }
         ensures counts { self.new.counters ≡ self.old.counters }
     {
@@ -92,7 +107,7 @@ impl MemoryFolder {
 
     /// Adds zero bytes.
     pub(crate) fn extend(&mut self, name: FileName, by: u64) -> Result<(), NoMemory>
-        ensures ok { OnOk result (told self.new ≡ option_map (took name (grew by)) (told self.old)) }
+        ensures ok { OnOk result (HasTaken (told self.old) (told self.new) name (grew by)) }
         ensures err { OnErr result (told self.new ≡ told self.old) }
         ensures counts { self.new.counters ≡ self.old.counters }
     {
@@ -106,7 +121,7 @@ impl MemoryFolder {
 
     /// Takes all bytes away.
     pub(crate) fn clear(&mut self, name: FileName) -> Result<(), NoMemory>
-        ensures ok { OnOk result (told self.new ≡ option_map (took name emptied) (told self.old)) }
+        ensures ok { OnOk result (HasTaken (told self.old) (told self.new) name emptied) }
         ensures unkept { told self.old ≡ None → IsOk result }
         ensures err { OnErr result (told self.new ≡ told self.old) }
         ensures counts { self.new.counters ≡ self.old.counters }
@@ -118,7 +133,7 @@ impl MemoryFolder {
 
     /// Makes sure of what the file is.
     pub(crate) fn settle(&mut self, name: FileName) -> Result<(), NoMemory>
-        ensures ok { OnOk result (told self.new ≡ option_map (took name synced) (told self.old)) }
+        ensures ok { OnOk result (HasTaken (told self.old) (told self.new) name synced) }
         ensures unkept { told self.old ≡ None → IsOk result }
         ensures err { OnErr result (told self.new ≡ told self.old) }
         ensures counts { self.new.counters ≡ self.old.counters }

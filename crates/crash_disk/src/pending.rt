@@ -6,7 +6,7 @@ ghost use Rattle.crash_disk.specs.Moments.{FitsIn, stepped};
 ghost use Rattle.crash_disk.specs.Pending.{file_of};
 
 use crate::did::Change;
-use crate::over::{add_zeros, write_over};
+use crate::patch::{add_zeros, write_over};
 use json_terms::NoMemory;
 use std::alloc::Global;
 

@@ -27,12 +27,13 @@ impl PendingFiles {
     ghost use Rattle.crash_disk.specs.HeldFiles.{bytes_in};
     ghost use Rattle.crash_disk.specs.Moments.{Fits, FitsIn, after, stepped};
     ghost use Rattle.crash_disk.specs.Chosen.{IsChosen, IsSound};
-    ghost use Rattle.crash_disk.specs.PendingList.{IsPendingAbsent, IsPendingAt};
+    ghost use Rattle.crash_disk.specs.PendingList.{IsPendingAbsent, IsPendingIndex};
     ghost use Rattle.crash_disk.specs.PendingFiles.{file_in};
 
     /// The files as they are held, with nothing pending.
     pub fn settled(alloc: Global, held: &HeldFiles) -> Result<PendingFiles, NoMemory>
-        ensures { IfOk result (λ pending. (name : FileName) → file_in pending name ≡ settled (bytes_in held.now name)) }
+        ensures { IfOk result (λ pending. (name : FileName)
+            → file_in pending name ≡ settled (bytes_in held.now name)) }
     {
         Ok(PendingFiles {
             files: settled_list(alloc, &held.files)?,
@@ -41,7 +42,8 @@ impl PendingFiles {
 
     // The place of the file in the list.
     fn place(&self, name: FileName) -> Option<usize>
-        ensures { MatchOption result (IsPendingAbsent name self.now.files.items) (λ at. IsPendingAt name self.now.files.items at) }
+        ensures { MatchOption result (IsPendingAbsent name self.now.files.items)
+            (λ at. IsPendingIndex name self.now.files.items at) }
     {
         for (at, file) in self.files.iter().enumerate() {
             if file.name == name {
@@ -54,7 +56,7 @@ impl PendingFiles {
     // The place of the file in the list, where it is put if it isn't there.
     fn place_or_new(&mut self, alloc: Global, name: FileName) -> Result<usize, NoMemory>
         ensures same { (n : FileName) → file_in self.new n ≡ file_in self.old n }
-        ensures ok { IfOk result (λ at. IsPendingAt name self.new.files.items at) }
+        ensures ok { IfOk result (λ at. IsPendingIndex name self.new.files.items at) }
     {
         if let Some(place) = self.place(name) {
             return Ok(place);
@@ -69,7 +71,8 @@ impl PendingFiles {
     // Makes the change, unless memory runs out.
     fn change(&mut self, alloc: Global, name: FileName, change: &Change) -> Result<(), NoMemory>
         requires { FitsIn change.now (file_in self.old name) }
-        ensures { OnOk result ((n : FileName) → file_in self.new n ≡ cond (is_same name n) (stepped change.now (file_in self.old n)) (file_in self.old n)) }
+        ensures { OnOk result ((n : FileName) → file_in self.new n ≡ cond (is_same name n)
+            (stepped change.now (file_in self.old n)) (file_in self.old n)) }
     {
         let place = self.place_or_new(alloc, name)?;
         let file = &mut self.files[place];
@@ -79,7 +82,8 @@ impl PendingFiles {
     /// Does what the call did, unless memory runs out.
     pub fn apply(&mut self, alloc: Global, did: &Did) -> Result<(), NoMemory>
         requires { Fits did.now (file_in self.old) }
-        ensures { OnOk result ((n : FileName) → file_in self.new n ≡ after did.now (file_in self.old) n) }
+        ensures { OnOk result ((n : FileName) → file_in self.new n ≡ after did.now
+            (file_in self.old) n) }
     {
         match did {
             Did::Passed => Ok(()),
@@ -90,7 +94,8 @@ impl PendingFiles {
     /// An image of all files.
     pub fn images(&self, alloc: Global, choice: u64) -> Result<HeldFiles, NoMemory>
         requires { (name : FileName) → IsSound (file_in self.now name) }
-        ensures { IfOk result (λ held. (name : FileName) → IsChosen choice (file_in self.now name) (bytes_in held name)) }
+        ensures { IfOk result (λ held. (name : FileName)
+            → IsChosen choice (file_in self.now name) (bytes_in held name)) }
     {
         Ok(HeldFiles {
             files: image_list(alloc, &self.files, choice)?,

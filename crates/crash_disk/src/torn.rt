@@ -9,7 +9,7 @@ ghost use Rattle.crash_disk.specs.PendingFiles.{file_in};
 ghost use Rattle.crash_disk.specs.Within.{is_sync, within, files_before};
 
 use crate::did::{Change, Did};
-use crate::log::Moments;
+use crate::moments::Moments;
 use crate::pending_files::PendingFiles;
 use json_terms::NoMemory;
 use std::alloc::Global;
@@ -24,7 +24,9 @@ impl Moments {
     /// The files with what is pending within the call: after it, or before it where it is a sync.
     pub fn torn(&self, alloc: Global, call: usize) -> Result<PendingFiles, NoMemory>
         requires { call < length self.now.log.items }
-        ensures { IfOk result (λ pending. (did : Did) (name : FileName) → file_in pending name ≡ within (slice_index_or self.now.log.items call did) (files_before (disk_at (bytes_in self.now.start)) self.now.log.items call) name) }
+        ensures { IfOk result (λ pending. (did : Did) (name : FileName)
+            → file_in pending name ≡ within (slice_index_or self.now.log.items call did)
+            (files_before (disk_at (bytes_in self.now.start)) self.now.log.items call) name) }
     {
         let mut pending = PendingFiles::settled(alloc, &self.start)?;
         let earlier = &self.log[..call];

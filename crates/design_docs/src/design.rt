@@ -1,4 +1,5 @@
-// A design and its views.
+//! A design and its views.
+
 ghost use Rattle.std.specs.Prelude.{◌≡◌, ◌↔◌, [], IsTrue, length};
 
 use json_terms::{Chars, Term};

@@ -1,4 +1,5 @@
-// The ids of documents. Nothing here takes memory.
+//! The ids of documents. Nothing here takes memory.
+
 ghost use Rattle.std.specs.Prelude.{◌≡◌};
 ghost use Rattle.json_terms.specs.Seen.{json};
 ghost use Rattle.design_docs.specs.Documents as spec;

@@ -1,4 +1,5 @@
-// The laws of the definitions. Each function states some, and does nothing.
+//! The laws of the definitions. Each function states some, and does nothing.
+
 ghost use Rattle.json_terms.specs.Json.{Json, Members};
 ghost use Rattle.design_docs.specs.Laws.{AreInOrderOfName, AreFew, HasViewsOfNames, HasPlainDesign, RevisionLeavesDesign};
 

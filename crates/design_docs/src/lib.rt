@@ -17,6 +17,6 @@ pub use laws::{
     plain_design_documents_have_plain_designs, revisions_leave_designs, views_are_few_and_in_order,
     views_are_found_by_name,
 };
-pub use plain::is_plain;
+pub use plain::{SIZE_LIMIT, is_plain};
 pub use plain_design::is_plain_design;
 pub use read::read_design;

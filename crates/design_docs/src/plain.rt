@@ -1,4 +1,5 @@
-// Plain documents: those that are taken so far.
+//! Plain documents: those that are taken so far.
+
 ghost use Rattle.std.specs.Prelude.{◌≡◌, IfOk, map};
 ghost use Rattle.json_terms.specs.Json.{members_of};
 ghost use Rattle.json_terms.specs.Seen.{json, pair_of};
@@ -6,17 +7,14 @@ ghost use Rattle.design_docs.specs.PlainDocument as spec;
 
 use crate::document::{DESIGN_PREFIX, id_of, is_design_id, is_special};
 use crate::plain_design::is_plain_design;
-use json_terms::{Member, NoMemory, Term, depth_within, write_term};
+use json_terms::{DOCUMENT_DEPTH, Member, NoMemory, Term, depth_within, write_term};
 use std::alloc::Global;
 
 /// The greatest length of a document's text, in bytes.
-const SIZE_LIMIT: usize = 524_288;
+pub const SIZE_LIMIT: usize = 524_288;
 
 /// Room for the text of most documents, in bytes.
 const USUAL_SIZE: usize = 512;
-
-/// The greatest depth of a document.
-const DEPTH_LIMIT: u32 = 64;
 
 /// Whether a document is plain: small, with an id and no other special member, and a plain design where the id is special.
 /// The one error is want of memory: it takes as much as the document's text has bytes.
@@ -73,7 +71,7 @@ fn is_plain_id(document: &Term, id: &str) -> bool
 fn is_shallow(document: &Term) -> bool
     ensures { result ≡ spec.is_shallow (json document.now) }
 {
-    depth_within(document, DEPTH_LIMIT)
+    depth_within(document, DOCUMENT_DEPTH)
 }
 
 fn is_small(alloc: Global, document: &Term) -> Result<bool, NoMemory>

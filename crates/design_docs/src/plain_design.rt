@@ -1,4 +1,5 @@
-// Plain designs: those that are taken so far. Nothing here takes memory.
+//! Plain designs: those that are taken so far. Nothing here takes memory.
+
 ghost use Rattle.std.specs.Prelude.{◌≡◌, option_map, map};
 ghost use Rattle.json_terms.specs.Json.{members_of};
 ghost use Rattle.json_terms.specs.Seen.{json, pair_of};

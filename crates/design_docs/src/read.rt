@@ -1,4 +1,5 @@
-// Reading the design of a document.
+//! Reading the design of a document.
+
 ghost use Rattle.std.specs.Prelude.{◌≡◌, IfOk, map};
 ghost use Rattle.json_terms.specs.Json.{members_of};
 ghost use Rattle.json_terms.specs.Seen.{json, pair_of};

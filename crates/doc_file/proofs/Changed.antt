@@ -9,7 +9,7 @@ use Rattle.json_terms.specs.Json.{Json, Members, no_members, member, depth, memb
 use Rattle.json_terms.specs.Terms.{AreMembers, ComesBefore}
 use Rattle.json_terms.specs.Find.{find, with_member}
 use Rattle.term_codec.specs.Spelling.{spelling, members_spelling, members_count, text_bytes}
-use Rattle.term_codec.specs.Stands.{CountsFit, MembersFit}
+use Rattle.term_codec.specs.SpelledAt.{CountsFit, MembersFit}
 use Rattle.doc_file.specs.Content.{without}
 
 -- ---- a member left out

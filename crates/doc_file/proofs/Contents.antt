@@ -16,7 +16,7 @@ use Rattle.json_terms.specs.Text.{text_of}
 use Rattle.json_terms.proofs.Inserted.{AreMembers-with_member}
 use Rattle.json_terms.proofs.Parts.{length-text_of-find, IsTerm-find}
 use Rattle.term_codec.specs.Spelling.{spelling, members_spelling, members_count, count_bytes}
-use Rattle.term_codec.specs.Stands.{CountsFit}
+use Rattle.term_codec.specs.SpelledAt.{CountsFit}
 use Rattle.term_codec.proofs.Words.{length-count_bytes}
 use Rattle.design_docs.specs.Documents.{id_of, is_design_id}
 use Rattle.design_docs.proofs.Revised.{find-with_member}

@@ -9,7 +9,7 @@ use Rattle.json_terms.specs.Json.{Json}
 use Rattle.doc_file.specs.Accepted.{state_after, state_in, state_of}
 use Rattle.doc_file.specs.Accepted.State.{known}
 use Rattle.doc_file.specs.Revision.{revision}
-use Rattle.doc_file.specs.Held.{IsKept, Keeps, KeepsDocument, KeepsEach, find_last}
+use Rattle.doc_file.specs.Held.{IsKept, KeepsLast, KeepsDocument, KeepsEach, find_last}
 use Rattle.doc_file.specs.Stored.{generation_in, with_last}
 use Rattle.doc_file.proofs.Setting.{bool_cases, same_id, bytes_eq-same, find_last-with_last}
 
@@ -52,7 +52,7 @@ generation-none [] id is = refl
 generation-none (write ∷ older) id is = none_match write older id (bool_cases (bytes_eq id write.id)) is (generation-none older id)
 
 -- the generation that is kept
-kept_generation : (history : List Write) (bytes id : List ℕ) (last : Option LastWrite) (write : Option Write) → last_write history id ≡ write → Keeps history bytes last write → generation_in last ≡ generation history id
+kept_generation : (history : List Write) (bytes id : List ℕ) (last : Option LastWrite) (write : Option Write) → last_write history id ≡ write → KeepsLast history bytes last write → generation_in last ≡ generation history id
 kept_generation history bytes id None None is keeps = sym (generation-none history id is)
 kept_generation history bytes id None (Some write) is keeps = absurd keeps
 kept_generation history bytes id (Some last) None is keeps = absurd keeps
@@ -77,7 +77,7 @@ module _ (history : List Write) (write : Write) where
   generation_there id differs = generation_no write history id differs
 
   -- what is kept of another id
-  keeps_there : (bytes id : List ℕ) (last : Option LastWrite) (old : Option Write) → bytes_eq id write.id ≡ false → last_write history id ≡ old → Keeps history bytes last old → Keeps (write ∷ history) bytes last old
+  keeps_there : (bytes id : List ℕ) (last : Option LastWrite) (old : Option Write) → bytes_eq id write.id ≡ false → last_write history id ≡ old → KeepsLast history bytes last old → KeepsLast (write ∷ history) bytes last old
   keeps_there bytes id None None differs is keeps = tt
   keeps_there bytes id None (Some old) differs is keeps = absurd keeps
   keeps_there bytes id (Some last) None differs is keeps = absurd keeps
@@ -94,7 +94,7 @@ module _ (history : List Write) (write : Write) where
       → last.seq ≡ length history + 1 → last.generation ≡ generation history write.id + 1 → KeepsDocument write.id bytes last write.document
       → KeepsEach (write ∷ history) bytes (with_last write.id last entries)
   each_written bytes entries last each seq count document = λ id.
-      subst (λ found. Keeps (write ∷ history) bytes found (last_write (write ∷ history) id)) (sym (find_last-with_last id write.id last entries)) (by_cases id (bool_cases (bytes_eq id write.id)))
+      subst (λ found. KeepsLast (write ∷ history) bytes found (last_write (write ∷ history) id)) (sym (find_last-with_last id write.id last entries)) (by_cases id (bool_cases (bytes_eq id write.id)))
     where
       here : IsKept (write ∷ history) bytes last write
       here = record {
@@ -103,13 +103,13 @@ module _ (history : List Write) (write : Write) where
         document = document;
       }
 
-      by_cases : (id : List ℕ) → (bytes_eq id write.id ≡ true) ⊎ (bytes_eq id write.id ≡ false) → Keeps (write ∷ history) bytes (cond (bytes_eq id write.id) (Some last) (find_last id entries)) (last_write (write ∷ history) id)
+      by_cases : (id : List ℕ) → (bytes_eq id write.id ≡ true) ⊎ (bytes_eq id write.id ≡ false) → KeepsLast (write ∷ history) bytes (cond (bytes_eq id write.id) (Some last) (find_last id entries)) (last_write (write ∷ history) id)
       by_cases id (inl same) = rw (same) here
       by_cases id (inr differs) = rw (differs) (keeps_there bytes id (find_last id entries) (last_write history id) differs refl (each id))
 
 -- ---- the state of an id
 
-kept_state : (history : List Write) (bytes id : List ℕ) (last : Option LastWrite) (write : Option Write) → last_write history id ≡ write → Keeps history bytes last write
+kept_state : (history : List Write) (bytes id : List ℕ) (last : Option LastWrite) (write : Option Write) → last_write history id ≡ write → KeepsLast history bytes last write
     → state_in last ≡ state_after write (revision (generation history id) (last_seq history id))
 kept_state history bytes id None None is keeps = refl
 kept_state history bytes id None (Some write) is keeps = absurd keeps

@@ -11,7 +11,7 @@ use Rattle.doc_file.specs.declared.fault.DocFault.TheVariants.{Gate, NoMemory}
 use Rattle.gate_file.specs.declared.fault.GateFault.TheVariants.{Damaged, DiskFault}
 use Rattle.doc_file.specs.Accepted.{is_deletion}
 use Rattle.doc_file.specs.Docs.{bytes_in, is_deleted, last_of, IsAt, IsLive, IsSpoiled}
-use Rattle.doc_file.specs.Held.{HasBody, Keeps, KeepsDocument}
+use Rattle.doc_file.specs.Held.{HasBody, KeepsLast, KeepsDocument}
 use Rattle.doc_file.specs.History.{Write, last_write, live_document}
 use Rattle.doc_file.proofs.Histories.{last_write-id}
 use Rattle.doc_file.proofs.Since.{has_body, one_body}
@@ -27,7 +27,7 @@ flag_of : (id bytes : List ℕ) (last : LastWrite) (document : Option Json) → 
 flag_of id bytes last None keeps = keeps
 flag_of id bytes last (Some document) keeps = keeps.0
 
-pub same_flag : (history : List Write) (bytes : List ℕ) (found : Option LastWrite) (write : Option Write) → Keeps history bytes found write → kept_flag found ≡ write_flag write
+pub same_flag : (history : List Write) (bytes : List ℕ) (found : Option LastWrite) (write : Option Write) → KeepsLast history bytes found write → kept_flag found ≡ write_flag write
 same_flag history bytes None None keeps = refl
 same_flag history bytes None (Some write) keeps = absurd keeps
 same_flag history bytes (Some last) None keeps = absurd keeps
@@ -49,12 +49,12 @@ document_kept : (id bytes : List ℕ) (last : LastWrite) (t : Json) (name : List
 document_kept id bytes last t name None live keeps = let is = live.0 in absurd (let clash : ⊥ = cc in clash)
 document_kept id bytes last t name (Some u) live keeps = ap Some (one_body name bytes id last u t keeps.2 live.1)
 
-live_kept : (history : List Write) (id bytes : List ℕ) (t : Json) (found : Option LastWrite) (write : Option Write) → last_write history id ≡ write → Keeps history bytes found write → IsLive id bytes found t → live_document history id ≡ Some t
+live_kept : (history : List Write) (id bytes : List ℕ) (t : Json) (found : Option LastWrite) (write : Option Write) → last_write history id ≡ write → KeepsLast history bytes found write → IsLive id bytes found t → live_document history id ≡ Some t
 live_kept history id bytes t None write is keeps live = absurd live
 live_kept history id bytes t (Some last) None is keeps live = absurd keeps
 live_kept history id bytes t (Some last) (Some write) is keeps live = rw is (document_kept id bytes last t write.id write.document live keeps.document)
 
-spoiled_kept : (history : List Write) (id bytes : List ℕ) (at : ℕ) (found : Option LastWrite) (write : Option Write) → last_write history id ≡ write → Keeps history bytes found write
+spoiled_kept : (history : List Write) (id bytes : List ℕ) (at : ℕ) (found : Option LastWrite) (write : Option Write) → last_write history id ≡ write → KeepsLast history bytes found write
     → is_deleted found ≡ false → IsSpoiled id bytes found at → ⊥
 spoiled_kept history id bytes at None write is keeps live spoiled = spoiled
 spoiled_kept history id bytes at (Some last) None is keeps live spoiled = keeps

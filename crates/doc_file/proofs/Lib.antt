@@ -4,9 +4,7 @@ mod Lasts
 mod Entries
 mod EntryParts
 mod Bodies
-mod Stretches
 mod CountsKept
-mod Images
 mod Carried
 mod Setting
 pub mod Histories
@@ -20,10 +18,12 @@ mod Storing
 mod Written
 pub mod NotOfFile
 mod Storable
-mod Opened
 mod Nexts
 mod Numbers
 mod Since
 mod Progress
 mod Known
 mod Tallies
+pub mod LastWrites
+mod MappedOrder
+mod MappedLater

@@ -10,11 +10,11 @@ use Rattle.doc_file.specs.History.{Write, changes_after, last_seq, last_write, o
 use Rattle.doc_file.proofs.Setting.{bool_cases, bytes_eq-same, same_id}
 
 -- a change has a number after `seq`
-abbrev is_after : ℕ → ℕ × Write → Bool
+abbrev pub is_after : ℕ → ℕ × Write → Bool
 is_after seq change = nat_lt seq change.0
 
 -- the number and the write are those of the id's last write, after `seq`
-record IsNumbered (history : List Write) (seq : ℕ) (change : ℕ × Write) : Type 0 where
+pub record IsNumbered (history : List Write) (seq : ℕ) (change : ℕ × Write) : Type 0 where
   pub write : last_write history (change.1).id ≡ Some change.1
   pub number : last_seq history (change.1).id ≡ change.0
   pub after : seq < change.0
@@ -125,7 +125,7 @@ others_numbered write older seq changes all = λ k d within.
 abbrev After : ℕ → Write → List Write → Type 0
 After seq write older = (nat_lt seq (length (write ∷ older)) ≡ true) ⊎ (nat_lt seq (length (write ∷ older)) ≡ false)
 
-with_newest : (seq : ℕ) (write : Write) (older : List Write) → nat_lt seq (length (write ∷ older)) ≡ true
+pub with_newest : (seq : ℕ) (write : Write) (older : List Write) → nat_lt seq (length (write ∷ older)) ≡ true
     → changes_after seq (write ∷ older) ≡ of_others write.id (changes_after seq older) ++ (length (write ∷ older), write) ∷ []
 with_newest seq write older after = rw after refl
 
@@ -137,7 +137,7 @@ numbered_match seq write older (inl after) rest = subst (All (IsNumbered (write 
     (others_numbered write older seq (changes_after seq older) rest) (numbered_here write older seq (ltb-true seq (length (write ∷ older)) after)))
 numbered_match seq write older (inr not_yet) rest = subst (All (IsNumbered (write ∷ older) seq)) (sym (without_newest seq write older not_yet)) (All-nil (IsNumbered (write ∷ older) seq))
 
-each_numbered : (seq : ℕ) (history : List Write) → All (IsNumbered history seq) (changes_after seq history)
+pub each_numbered : (seq : ℕ) (history : List Write) → All (IsNumbered history seq) (changes_after seq history)
 each_numbered seq [] = All-nil (IsNumbered [] seq)
 each_numbered seq (write ∷ older) = numbered_match seq write older (bool_cases (nat_lt seq (length (write ∷ older)))) (each_numbered seq older)
 
@@ -155,7 +155,7 @@ rises_match seq write older (inl after) rest = subst Rises (sym (with_newest seq
     (λ k d in'. let low = All-filter (λ c. not (bytes_eq write.id (c.1).id)) (λ c. c.0 ≤ length older) (changes_after seq older) (within seq older) k d in' in omega arith))
 rises_match seq write older (inr not_yet) rest = subst Rises (sym (without_newest seq write older not_yet)) (λ i j d before in'. absurd (omega arith))
 
-rises : (seq : ℕ) (history : List Write) → Rises (changes_after seq history)
+pub rises : (seq : ℕ) (history : List Write) → Rises (changes_after seq history)
 rises seq [] = λ i j d before in'. absurd (omega arith)
 rises seq (write ∷ older) = rises_match seq write older (bool_cases (nat_lt seq (length (write ∷ older)))) (rises seq older)
 
@@ -177,7 +177,7 @@ later_match seq k write older less (inr not_yet) rest =
     let right : changes_after k (write ∷ older) ≡ [] = without_newest k write older not_yet in
     filter_none k (changes_after seq (write ∷ older)) (λ j d in'. let low = within seq (write ∷ older) j d in' in grind (arith, nat_tests)) ∙ sym right
 
-later : (seq k : ℕ) (history : List Write) → seq ≤ k → filter (is_after k) (changes_after seq history) ≡ changes_after k history
+pub later : (seq k : ℕ) (history : List Write) → seq ≤ k → filter (is_after k) (changes_after seq history) ≡ changes_after k history
 later seq k [] less = refl
 later seq k (write ∷ older) less = later_match seq k write older less (bool_cases (nat_lt k (length (write ∷ older)))) (later seq k older less)
 

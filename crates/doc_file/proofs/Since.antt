@@ -7,7 +7,7 @@ use Rattle.std.proofs.lemmas.Map.Text.{is_eq-slice_cmp}
 use Rattle.std.proofs.lemmas.List.Elements.{All-cons, All-contains, All-head, All-nil, All-tail}
 use Rattle.json_terms.specs.Json.{Json}
 use Rattle.term_codec.specs.Spelling.{spelling}
-use Rattle.term_codec.specs.Stands.{IsWithin}
+use Rattle.term_codec.specs.SpelledAt.{IsWithin}
 use Rattle.term_codec.proofs.Spelled.{spelling-prefix_free}
 use Rattle.gate_file.specs.declared.root.Root.{Root}
 use Rattle.doc_file.specs.declared.entry.LastWrite.{LastWrite}
@@ -15,7 +15,7 @@ use Rattle.doc_file.specs.declared.entry.Entry.{Entry}
 use Rattle.doc_file.specs.Record.{AreEntries, ComesBefore}
 use Rattle.doc_file.specs.Stored.{entry_of}
 use Rattle.doc_file.specs.History.{Write, changes_after, last_seq, last_write}
-use Rattle.doc_file.specs.Held.{HasBody, HoldsRoot, IsDocument, IsKept, Keeps, KeepsDocument, KeepsEach, find_last}
+use Rattle.doc_file.specs.Held.{HasBody, HoldsRoot, IsDocument, IsKept, KeepsLast, KeepsDocument, KeepsEach, find_last}
 use Rattle.doc_file.specs.Changes.{IsNext, IsStored}
 use Rattle.doc_file.proofs.Setting.{bool_cases, bytes_eq-same, same_id}
 use Rattle.doc_file.proofs.Histories.{last_write-id}
@@ -71,7 +71,7 @@ pub record IsKnown (history : List Write) (bytes id : List ℕ) (last : LastWrit
   pub named : write.id ≡ id
   pub kept : IsKept history bytes last write
 
-known_match : (history : List Write) (bytes id : List ℕ) (last : LastWrite) (found : Option LastWrite) (write : Option Write) → last_write history id ≡ write → found ≡ Some last → Keeps history bytes found write → IsKnown history bytes id last
+known_match : (history : List Write) (bytes id : List ℕ) (last : LastWrite) (found : Option LastWrite) (write : Option Write) → last_write history id ≡ write → found ≡ Some last → KeepsLast history bytes found write → IsKnown history bytes id last
 known_match history bytes id last None write is found keeps = absurd (let clash : ⊥ = cc in clash)
 known_match history bytes id last (Some l) None is found keeps = absurd keeps
 known_match history bytes id last (Some l) (Some write) is found keeps =
@@ -87,7 +87,7 @@ pub record IsFound (history : List Write) (bytes : List ℕ) (entries : List Ent
   pub number : last.seq ≡ last_seq history id
 
 found_match : (history : List Write) (bytes : List ℕ) (entries : List Entry) (id : List ℕ) (u : Write) (found : Option LastWrite) (write : Option Write) → find_last id entries ≡ found → last_write history id ≡ write → write ≡ Some u
-    → Keeps history bytes found write → IsFound history bytes entries id
+    → KeepsLast history bytes found write → IsFound history bytes entries id
 found_match history bytes entries id u None None found is some keeps = absurd (let clash : ⊥ = cc in clash)
 found_match history bytes entries id u None (Some write) found is some keeps = absurd keeps
 found_match history bytes entries id u (Some last) None found is some keeps = absurd keeps

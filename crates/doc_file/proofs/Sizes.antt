@@ -8,7 +8,7 @@ use Rattle.json_terms.specs.Json.{Json, number, is_false, is_null, is_true, obje
 use Rattle.json_terms.specs.Terms.{IsTerm, AreTerms, AreMembers}
 use Rattle.json_terms.specs.Text.{text_of, items_serde_of, members_serde_of}
 use Rattle.term_codec.specs.Spelling.{spelling, items_spelling, members_spelling, items_count, members_count, count_bytes, text_bytes}
-use Rattle.term_codec.specs.Stands.{CountsFit, ItemsFit, MembersFit}
+use Rattle.term_codec.specs.SpelledAt.{CountsFit, ItemsFit, MembersFit}
 use Rattle.term_codec.proofs.Words.{length-count_bytes, length-number_bytes}
 
 -- ---- texts

@@ -9,20 +9,22 @@ use Rattle.term_codec.specs.Spelling.{spelling}
 use Rattle.gate_file.specs.declared.root.Root.{Root}
 use Rattle.gate_file.specs.declared.gate.GateFile.{GateFile}
 use Rattle.gate_file.specs.GateFile.{start_of}
+use Rattle.gate_file.specs.Header.{data_start}
 use Rattle.gate_file.specs.Open.{IsPart}
-use Rattle.gate_file.specs.Shown.{Shows}
+use Rattle.gate_file.specs.Shown.{HasAll}
+use Rattle.gate_file.proofs.Published.{has_all_more}
 use Rattle.doc_file.specs.declared.entry.LastWrite.{LastWrite}
 use Rattle.doc_file.specs.declared.entry.Entry.{Entry}
 use Rattle.doc_file.specs.declared.rev.Rev.{Rev}
 use Rattle.doc_file.specs.Record.{IsEntry, IsRoot, AreEntries, record_bytes}
 use Rattle.doc_file.specs.Counts.{is_counted, are_counted, most_writes}
 use Rattle.doc_file.specs.History.{Write, generation}
-use Rattle.doc_file.specs.Held.{HoldsRoot, IsBodyOf, KeepsDocument, KeepsEach, StandsFor, find_last}
+use Rattle.doc_file.specs.Held.{HoldsRoot, HoldsWrites, IsBodyOf, KeepsDocument, KeepsEach, find_last}
 use Rattle.doc_file.specs.Stored.{body_of, entry_of, generation_in, last_of, next_rev, place_in, revised, with_last, write_of}
 use Rattle.std.specs.Cmp.{first_so, second_so}
 use Rattle.doc_file.proofs.Setting.{passes, list_all-with_last, list_all-weaker, AreEntries-with_last}
 use Rattle.doc_file.proofs.Histories.{each_written, generation_kept}
-use Rattle.doc_file.proofs.Carried.{carried_part, carried_each}
+use Rattle.doc_file.proofs.Carried.{carried_each}
 
 -- the part of a list between two others
 part_between : (front part behind : List ℕ) → IsPart (front ++ (part ++ behind)) (length front) (length part) part
@@ -130,35 +132,27 @@ module _ (gate : GateFile) (seq : ℕ) (entries : List Entry) (id : List ℕ) (r
         each = AreEntries-with_last id (last_of (start_of gate) rev document) entries new_entry are;
       }
 
-      -- ---- an image of the file with its new root
+      -- ---- the file with its new root, as it is written
 
-      module _ (front record_part image : List ℕ) (front_long : length front ≡ start_of gate) (many : length entries' < 2 ^ 64)
-          (record_is : record_part ≡ record_bytes (seq + 1) entries') (next : Root) (at : next.offset ≡ start_of gate + length (body_of document)) (long : next.length ≡ length record_part)
-          (shows : Shows (Some next) (front ++ (body_of document ++ record_part)) image) where
-        start_behind : 8192 ≤ start_of gate
+      module _ (front record_part : List ℕ) (front_long : length front ≡ start_of gate) (many : length entries' < 2 ^ 64)
+          (record_is : record_part ≡ record_bytes (seq + 1) entries') (next : Root) (at : next.offset ≡ start_of gate + length (body_of document)) (long : next.length ≡ length record_part) where
+        start_behind : data_start ≤ start_of gate
         start_behind = omega arith
 
-        pub holds_written : (commits : ℕ) → commits ≡ gate.commits + 1 → HoldsRoot (Some next) commits image (seq + 1) entries'
+        pub holds_written : (commits : ℕ) → commits ≡ gate.commits + 1 → HoldsRoot (Some next) commits (front ++ (body_of document ++ record_part)) (seq + 1) entries'
         holds_written commits commits_is = (
           root_written many,
           ap (λ n. are_counted n (seq + 1) entries') commits_is ∙ counted_written,
-          subst (IsPart image next.offset next.length) record_is (carried_part (Some next) (front ++ (body_of document ++ record_part)) image shows next.offset next.length record_part (omega (arith, at, start_behind)) part),
+          subst (IsPart (front ++ (body_of document ++ record_part)) next.offset next.length) record_is part,
         )
           where
             part : IsPart (front ++ (body_of document ++ record_part)) next.offset next.length record_part
             part = subst (λ o. IsPart (front ++ (body_of document ++ record_part)) o next.length record_part) (ap (λ n. n + length (body_of document)) front_long ∙ sym at)
                 (subst (λ n. IsPart (front ++ (body_of document ++ record_part)) (length front + length (body_of document)) n record_part) (sym long) (part_last front (body_of document) record_part))
 
-        body_written : (d : Option Json) → d ≡ document → ((t : Json) → d ≡ Some t → IsBodyOf id t) → KeepsDocument id image (last_of (start_of gate) rev d) d
+        body_written : (d : Option Json) → d ≡ document → ((t : Json) → d ≡ Some t → IsBodyOf id t) → KeepsDocument id (front ++ (body_of document ++ record_part)) (last_of (start_of gate) rev d) d
         body_written None is body = refl
-        body_written (Some t) is body = (
-          refl,
-          start_behind,
-          record {
-            body = body t refl;
-            spelled = carried_part (Some next) (front ++ (body_of document ++ record_part)) image shows (start_of gate) (length (spelling t)) (spelling t) start_behind part;
-          },
-        )
+        body_written (Some t) is body = (refl, start_behind, record { body = body t refl; spelled = part })
           where
             whole : front ++ (spelling t ++ record_part) ≡ front ++ (body_of document ++ record_part)
             whole = ap (λ (o : Option Json). front ++ (body_of o ++ record_part)) is
@@ -167,30 +161,31 @@ module _ (gate : GateFile) (seq : ℕ) (entries : List Entry) (id : List ℕ) (r
             part = subst (λ bytes. IsPart bytes (start_of gate) (length (spelling t)) (spelling t)) whole
                 (subst (λ n. IsPart (front ++ (spelling t ++ record_part)) n (length (spelling t)) (spelling t)) front_long (part_between front (spelling t) record_part))
 
-        -- over a history that the bytes before stand for
+        -- over a history that the bytes before hold
         module _ (history : List Write) (content : Option Json) (document_is : document ≡ revised content rev) (count : seq ≡ length history)
-            (old : List ℕ) (older : Shows (Some next) old image) (each : KeepsEach history old entries) (body : (t : Json) → document ≡ Some t → IsBodyOf id t) where
+            (old : List ℕ) (older : HasAll old front) (each : KeepsEach history old entries) (body : (t : Json) → document ≡ Some t → IsBodyOf id t) where
           generations : rev.generation ≡ generation history id + 1
           generations = generation_is ∙ ap (λ n. n + 1) (generation_kept history old entries each id)
 
           numbers : rev.seq ≡ length history + 1
           numbers = seq_is ∙ ap (λ n. n + 1) count
 
-          pub document_written : document ≡ (write_of history id content).document
+          document_written : document ≡ (write_of history id content).document
           document_written = document_is ∙ ap (λ r. revised content r) rev_same
             where
               rev_same : rev ≡ record { generation = generation history id + 1; seq = length history + 1 }
               rev_same = λ i. record { generation = generations i; seq = numbers i }
 
-          pub each_here : KeepsEach (write_of history id content ∷ history) image entries'
+          each_here : KeepsEach (write_of history id content ∷ history) (front ++ (body_of document ++ record_part)) entries'
           each_here =
-              each_written history (write_of history id content) image entries (last_of (start_of gate) rev document) (carried_each (Some next) old image older history entries each)
+              each_written history (write_of history id content) (front ++ (body_of document ++ record_part)) entries (last_of (start_of gate) rev document)
+              (carried_each old (front ++ (body_of document ++ record_part)) (has_all_more old front (body_of document ++ record_part) older) history entries each)
               numbers generations
-              (subst (KeepsDocument id image (last_of (start_of gate) rev document)) document_written (body_written document refl body))
+              (subst (KeepsDocument id (front ++ (body_of document ++ record_part)) (last_of (start_of gate) rev document)) document_written (body_written document refl body))
 
-          pub stands_written : next.number ≡ gate.commits + 1 → StandsFor (Some next) image (write_of history id content ∷ history)
-          stands_written number = record {
+          pub writes_written : next.number ≡ gate.commits + 1 → HoldsWrites (Some next) (front ++ (body_of document ++ record_part)) (write_of history id content ∷ history)
+          writes_written number = record {
             entries = entries';
-            holds = subst (λ n. HoldsRoot (Some next) next.number image n entries') (ap (λ n. n + 1) count ∙ omega arith) (holds_written next.number number);
+            holds = subst (λ n. HoldsRoot (Some next) next.number (front ++ (body_of document ++ record_part)) n entries') (ap (λ n. n + 1) count ∙ omega arith) (holds_written next.number number);
             each = each_here;
           }

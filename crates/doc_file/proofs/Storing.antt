@@ -1,36 +1,37 @@
 -- What a folder tells while a draft is stored.
-use Rattle.std.proofs.Common.{◌≡◌, ◌⊎◌, inl, inr, ⊎_elim, ℕ, ◌+◌, ◌-◌, ◌^◌, ◌<◌, ◌≤◌, List, ◌∷◌, ◌++◌, length, Option, Some, None, Result, Ok, OnOk, refl, sym, ap, ◌∙◌, subst, arith}
+use Rattle.std.proofs.Common.{◌≡◌, ◌⊎◌, inl, ℕ, ◌+◌, ◌-◌, ◌^◌, ◌<◌, List, ◌∷◌, ◌++◌, length, Option, Some, None, Result, Ok, OnOk, refl, sym, ap, ◌∙◌, subst, arith, length-append}
 use Rattle.std.specs.Prelude.{true}
+use Rattle.std.specs.List.{list_all}
 use Rattle.json_terms.specs.Json.{Json}
-use Rattle.view_ports.specs.File.{File, IsImage}
-use Rattle.view_ports.specs.Disk.{Disk, IfTold, Moves, MovesFile, OthersStay, Tells}
+use Rattle.view_ports.specs.File.{File}
+use Rattle.view_ports.specs.Disk.{Disk, IfTold, Moves, OthersStay, Tells}
 use Rattle.view_ports.specs.declared.file_name.FileName.{FileName}
-use Rattle.view_ports.proofs.Told.{told_given, told_still, told_after}
-use Rattle.view_ports.proofs.DiskRuns.{moves_none, moves_wider, on_ok}
+use Rattle.view_ports.specs.declared.file_name.Stem.TheVariants.{Docs as DocsStem}
+use Rattle.view_ports.proofs.Told.{told_still, told_after}
+use Rattle.view_ports.proofs.DiskRuns.{moves_none, on_ok}
 use Rattle.gate_file.specs.declared.root.Root.{Root}
 use Rattle.gate_file.specs.declared.gate.GateFile.{GateFile}
-use Rattle.gate_file.specs.Header.{slot_at, place_of}
-use Rattle.gate_file.specs.GateFile.{commits_of, name_of, root_of, start_of, next_root}
-use Rattle.gate_file.specs.Shown.{Shows}
-use Rattle.gate_file.proofs.SlotFacts.{fit_at}
-use Rattle.gate_file.proofs.Looks.{newest_of, opened_slot}
+use Rattle.gate_file.specs.GateFile.{commits_of, name_of, root_of, start_of}
+use Rattle.gate_file.specs.Pair.{IsOpenPair, own_bytes}
+use Rattle.gate_file.specs.Publish.{IsPublished, Publishes, WillHold, published, published_root}
+use Rattle.gate_file.proofs.Published.{publishing_stands, published_holds, published_open}
 use Rattle.doc_file.specs.declared.docs.Docs.{Docs}
 use Rattle.doc_file.specs.declared.draft.Draft.{Draft}
 use Rattle.doc_file.specs.declared.entry.Entry.{Entry}
-use Rattle.doc_file.specs.Record.{record_bytes}
 use Rattle.doc_file.specs.declared.rev.Rev.{Rev}
-use Rattle.doc_file.specs.History.{Write}
-use Rattle.doc_file.specs.Held.{IsBodyOf, Stands}
-use Rattle.doc_file.specs.Docs.{entries_of, file_of, seq_of, IsAt, IsDocsFile, IsOpen}
-use Rattle.doc_file.specs.Drafts.{IsDraft}
-use Rattle.doc_file.specs.Stored.{body_of, entry_of, last_of, published, revised, write_of, IsPublished, IsStorable, ShowsNew}
-use Rattle.doc_file.proofs.Images.{image_stands}
-use Rattle.std.specs.List.{list_all}
 use Rattle.doc_file.specs.Counts.{are_counted, has_room}
+use Rattle.doc_file.specs.Docs.{bytes_in, entries_of, file_of, seq_of, IsAt, IsDocsFile, IsLoaded, IsOpen}
+use Rattle.doc_file.specs.Drafts.{IsDraft}
+use Rattle.doc_file.specs.Held.{HoldsRoot, HoldsWrites, IsBodyOf, SpellsRoot, Stands}
+use Rattle.doc_file.specs.History.{Write}
+use Rattle.doc_file.specs.Record.{AreEntries, record_bytes}
+use Rattle.doc_file.specs.Stored.{body_of, entry_of, last_of, revised, with_last, write_of, IsStorable}
+use Rattle.doc_file.proofs.Carried.{spells_of_root, writes_of_root}
 use Rattle.doc_file.proofs.CountsKept.{room_of}
 use Rattle.doc_file.proofs.Setting.{list_all-with_last}
-use Rattle.doc_file.proofs.Standing.{counted_written, generation_room, seq_room}
-use Rattle.doc_file.proofs.Stores.{empties, image_now, old_image, stands_new, open_new, at_new}
+use Rattle.doc_file.proofs.Since.{are_entries}
+use Rattle.doc_file.proofs.Standing.{counted_written, generation_room, holds_written, seq_room, writes_written}
+use Rattle.doc_file.proofs.Stores.{at_writes, image_now, writes_at}
 
 abbrev Told : Type 0
 Told = Option (Disk FileName)
@@ -42,14 +43,6 @@ stays_at docs disk history write ends ended at =
     told_still disk (λ d. IsAt docs d.now history) (Moves IsDocsFile (λ image. Stands image history ⊎ Stands image (write ∷ history)) ends)
     (λ d is. moves_none IsDocsFile (λ image. Stands image history ⊎ Stands image (write ∷ history)) ends d (λ image left. inl (image_now docs d.now is.is_open history is image left)) (ended d.now))
     at
-
--- a root that an image shows is that of a commit that a file may have
-number_small : (root : Root) (bytes image : List ℕ) → Shows (Some root) bytes image → root.number ≤ 2 ^ 50
-number_small root bytes image shows =
-    let newest = newest_of image root shows.low shows.high shows.names in
-    let slot = opened_slot (slot_at image (place_of root.number)) root newest.last in
-    let sound = fit_at image shows.low shows.high root.number slot.0 in
-    subst (λ (r : Root). r.number ≤ 2 ^ 50) slot.1 sound.to_most
 
 -- The draft is of the entries and the place that the object has, and its bytes are what is published.
 module _ (docs : Docs) (id : List ℕ) (content : Option Json) (draft : Draft) (start : ℕ) (start_is : start ≡ start_of (file_of docs)) (listed : List Entry) (listed_is : listed ≡ entries_of docs)
@@ -86,7 +79,7 @@ module _ (docs : Docs) (id : List ℕ) (content : Option Json) (draft : Draft) (
       by_content (Some c) all t same = subst (IsBodyOf id) (let s : _ ≡ t = cc in s) (all draft.rev generation_fits).body
 
   abbrev next : Root
-  next = next_root (file_of docs) (start_of (file_of docs) + skipped) (length bytes - skipped)
+  next = published_root (file_of docs) (length bytes) skipped
 
   abbrev last : GateFile
   last = published (file_of docs) (length bytes) skipped
@@ -106,64 +99,76 @@ module _ (docs : Docs) (id : List ℕ) (content : Option Json) (draft : Draft) (
   room_now = ap (list_all has_room) is.entries_are
       ∙ list_all-with_last has_room id (last_of (start_of (file_of docs)) draft.rev (revised content draft.rev)) (entries_of docs) (room_of (entry_of id (last_of (start_of (file_of docs)) draft.rev (revised content draft.rev))) short) docs.room
 
-  -- an image with the new root
-  new_image : (files : FileName → File) (history : List Write) → IsAt docs files history → (image : FileName → List ℕ) → ((n : FileName) → (n ≡ name_of (file_of docs) → ⊥) → IsImage (files n) (image n))
-      → ShowsNew next bytes (files (name_of (file_of docs))) (image (name_of (file_of docs))) → Stands image (write_of history id content ∷ history)
-  new_image files history at image outside new =
-      let name = name_of (file_of docs) in
-      let few : commits_of (file_of docs) < 2 ^ 50 = (let n = number_small next (new.front ++ bytes) (image name) new.shows in omega arith) in
-      image_stands image name at.is_open.own (empties docs files at.is_open image outside) (Some next) (new.front ++ bytes) new.shows (write_of history id content ∷ history)
-      (stands_new docs files at.is_open few id draft.rev (revised content draft.rev) is.rev is.utf8 short is.place body_small draft.entries.items is.entries_are is.few bytes bytes_are skipped skipped_body
-      new.front (image name) new.made new.shows history at content refl body_is)
+  record_long : length bytes - skipped ≡ length (record_bytes (seq_of docs + 1) draft.entries.items)
+  record_long = omega (arith, ap length bytes_are, length-append (body_of (revised content draft.rev)) (record_bytes (seq_of docs + 1) draft.entries.items), skipped_body)
+
+  many : length (with_last id (last_of (start_of (file_of docs)) draft.rev (revised content draft.rev)) (entries_of docs)) < 2 ^ 64
+  many = omega (arith, is.few, ap length is.entries_are)
+
+  module _ (few : commits_of (file_of docs) < 2 ^ 50) (files : FileName → File) (loaded : IsLoaded docs files) where
+    entries_now : AreEntries (entries_of docs)
+    entries_now = are_entries (root_of (file_of docs)) (commits_of (file_of docs)) (bytes_in docs files) (seq_of docs) (entries_of docs) loaded
+
+    -- what the new root record will spell
+    will_spell : WillHold SpellsRoot (file_of docs) (bytes_in docs files) bytes skipped (seq_of docs + 1, draft.entries.items)
+    will_spell front long has =
+        subst (λ b. HoldsRoot (Some next) (commits_of (file_of docs) + 1) (front ++ b) (seq_of docs + 1) draft.entries.items) (sym bytes_are)
+        (subst (HoldsRoot (Some next) (commits_of (file_of docs) + 1) (front ++ (body_of (revised content draft.rev) ++ record_bytes (seq_of docs + 1) draft.entries.items)) (seq_of docs + 1)) (sym is.entries_are)
+        (holds_written (file_of docs) (seq_of docs) (entries_of docs) id draft.rev (revised content draft.rev) is.rev docs.counted few entries_now is.utf8 short is.place body_small
+        front (record_bytes (seq_of docs + 1) draft.entries.items) long many (ap (record_bytes (seq_of docs + 1)) is.entries_are) next
+        (ap (λ n. start_of (file_of docs) + n) skipped_body) record_long (commits_of (file_of docs) + 1) refl))
+
+    -- and the history that the new root will hold
+    will_hold : (history : List Write) → IsAt docs files history → WillHold HoldsWrites (file_of docs) (bytes_in docs files) bytes skipped (write_of history id content ∷ history)
+    will_hold history at front long has =
+        subst (λ b. HoldsWrites (Some next) (front ++ b) (write_of history id content ∷ history)) (sym bytes_are)
+        (writes_written (file_of docs) (seq_of docs) (entries_of docs) id draft.rev (revised content draft.rev) is.rev docs.counted few entries_now is.utf8 short is.place body_small
+        front (record_bytes (seq_of docs + 1) draft.entries.items) long many (ap (record_bytes (seq_of docs + 1)) is.entries_are) next
+        (ap (λ n. start_of (file_of docs) + n) skipped_body) record_long
+        history content refl at.count (bytes_in docs files) has at.each body_is refl)
 
   -- while the draft is published
-  pub publishes : (old new : Told) (history : List Write) (ends : File → File → Type 0) (ends' : (FileName → File) → Type 0)
-      → ((a b : Disk FileName) → IsAt docs a.now history → OthersStay (λ n. n ≡ name_of (file_of docs)) a.now b.now → ends (a.now (name_of (file_of docs))) (b.now (name_of (file_of docs))) → ends' b.now)
+  pub publishes : {T E : Type 0} (old new : Told) (history : List Write) (result : Result T E) (ends : (FileName → File) → Type 0)
+      → ((a b : Disk FileName) → IsAt docs a.now history → OthersStay (λ n. n ≡ name_of (file_of docs)) a.now b.now → OnOk result (IsPublished last bytes (a.now (name_of (file_of docs))) (b.now (name_of (file_of docs)))) → ends b.now)
       → IfTold old (λ d. IsAt docs d.now history)
-      → Tells old new (MovesFile (name_of (file_of docs)) (λ f image. Shows (root_of (file_of docs)) f.durable image ⊎ ShowsNew next bytes f image) ends)
-      → Tells old new (Moves IsDocsFile (λ image. Stands image history ⊎ Stands image (write_of history id content ∷ history)) ends')
-  publishes old new history ends ends' endings at moves =
-      let name = name_of (file_of docs) in
-      let leaves : File → List ℕ → Type 0 = λ f image. Shows (root_of (file_of docs)) f.durable image ⊎ ShowsNew next bytes f image in
-      told_given old new (λ d. IsAt docs d.now history) (MovesFile name leaves ends) (Moves IsDocsFile (λ image. Stands image history ⊎ Stands image (write_of history id content ∷ history)) ends')
-      (λ a b is_at moved.
-      moves_wider (λ n. n ≡ name) IsDocsFile (λ image. leaves (a.now name) (image name)) (λ image. Stands image history ⊎ Stands image (write_of history id content ∷ history))
-      (λ files. ends (a.now name) (files name)) ends' a b
-      (λ n same. subst IsDocsFile (sym same) is_at.is_open.own)
-      (λ image framed. ⊎_elim
-      (λ shows. inl (old_image docs a.now is_at.is_open history is_at image framed.outside shows))
-      (λ shows. inr (new_image a.now history is_at image framed.outside shows))
-      framed.inside)
-      (λ others ended. endings a b is_at others ended)
-      moved)
-      at moves
+      → Tells old new (Publishes (file_of docs) bytes skipped result)
+      → Tells old new (Moves IsDocsFile (λ image. Stands image history ⊎ Stands image (write_of history id content ∷ history)) ends)
+  publishes old new history result ends endings at moves =
+      publishing_stands DocsStem (file_of docs) bytes skipped HoldsWrites writes_of_root old new (λ files. IsAt docs files history) history (write_of history id content ∷ history) result ends
+      (λ files here. record { is_open = here.is_open.pair; holds = writes_at docs files here.is_open history here; will = λ few. will_hold few files here.is_open.loaded history here })
+      endings at moves
 
   -- and once it is
   module _ (few : commits_of (file_of docs) < 2 ^ 50) (now : Docs) (file_now : file_of now ≡ last) (seq_new : seq_of now ≡ seq_of docs + 1) (entries_now : entries_of now ≡ draft.entries.items) where
-    pub published_open : (a b : Disk FileName) → IsOpen docs a.now → OthersStay (λ n. n ≡ name_of (file_of docs)) a.now b.now
-        → IsPublished last bytes (a.now (name_of (file_of docs))) (b.now (name_of (file_of docs))) → IsOpen now b.now
-    published_open a b is_open others done =
-        open_new docs a.now is_open few id draft.rev (revised content draft.rev) is.rev is.utf8 short is.place body_small draft.entries.items is.entries_are is.few bytes bytes_are skipped skipped_body
-        done.front (b.now (name_of (file_of docs))).seen done.made done.shows now b.now others file_now seq_new entries_now done.whole done.keeps
+    module _ (a b : Disk FileName) (others : OthersStay (λ n. n ≡ name_of (file_of docs)) a.now b.now) (done : IsPublished last bytes (a.now (name_of (file_of docs))) (b.now (name_of (file_of docs)))) where
+      loaded_now : IsOpen docs a.now → IsLoaded now b.now
+      loaded_now is_open =
+          subst (λ (g : GateFile). HoldsRoot (root_of g) (commits_of g) (own_bytes g b.now) (seq_of now) (entries_of now)) (sym file_now)
+          (subst (λ n. HoldsRoot (root_of last) (commits_of last) (own_bytes last b.now) n (entries_of now)) (sym seq_new)
+          (subst (HoldsRoot (root_of last) (commits_of last) (own_bytes last b.now) (seq_of docs + 1)) (sym entries_now)
+          (published_holds DocsStem (file_of docs) bytes skipped a.now is_open.pair b.now others done SpellsRoot spells_of_root (seq_of docs + 1, draft.entries.items) (will_spell few a.now is_open.loaded))))
 
-    pub published_at : (a b : Disk FileName) (history : List Write) → IsAt docs a.now history → OthersStay (λ n. n ≡ name_of (file_of docs)) a.now b.now
-        → IsPublished last bytes (a.now (name_of (file_of docs))) (b.now (name_of (file_of docs))) → IsAt now b.now (write_of history id content ∷ history)
-    published_at a b history at others done =
-        at_new docs a.now at.is_open few id draft.rev (revised content draft.rev) is.rev is.utf8 short is.place body_small draft.entries.items is.entries_are is.few bytes bytes_are skipped skipped_body
-        done.front (b.now (name_of (file_of docs))).seen done.made done.shows now b.now others file_now seq_new entries_now done.whole done.keeps history at content refl body_is
+      published_now : IsOpen docs a.now → IsOpen now b.now
+      published_now is_open = record {
+        pair = subst (λ (g : GateFile). IsOpenPair DocsStem g b.now) (sym file_now) (published_open DocsStem (file_of docs) bytes skipped a.now is_open.pair b.now others done);
+        loaded = loaded_now is_open;
+      }
+
+      published_at : (history : List Write) → IsAt docs a.now history → IsAt now b.now (write_of history id content ∷ history)
+      published_at history at =
+          at_writes now b.now (published_now at.is_open) (write_of history id content ∷ history)
+          (subst (λ (g : GateFile). HoldsWrites (root_of g) (own_bytes g b.now) (write_of history id content ∷ history)) (sym file_now)
+          (published_holds DocsStem (file_of docs) bytes skipped a.now at.is_open.pair b.now others done HoldsWrites writes_of_root (write_of history id content ∷ history) (will_hold few a.now at.is_open.loaded history at)))
 
     -- what is told of it, by a result that is Ok
     module _ {T E : Type 0} (result : Result T E) (value : T) (was : result ≡ Ok value) where
-      abbrev Publishes : Disk FileName → Disk FileName → Type 0
-      Publishes = MovesFile (name_of (file_of docs)) (λ f image. Shows (root_of (file_of docs)) f.durable image ⊎ ShowsNew next bytes f image) (λ f n. OnOk result (IsPublished last bytes f n))
-
-      pub told_open : (old new : Told) → IfTold old (λ d. IsOpen docs d.now) → Tells old new Publishes → IfTold new (λ d. IsOpen now d.now)
+      pub told_open : (old new : Told) → IfTold old (λ d. IsOpen docs d.now) → Tells old new (Publishes (file_of docs) bytes skipped result) → IfTold new (λ d. IsOpen now d.now)
       told_open old new is_open moves =
-          told_after old new (λ d. IsOpen docs d.now) (λ d. IsOpen now d.now) Publishes
-          (λ a b is_open moved. published_open a b is_open moved.others (on_ok result value (IsPublished last bytes (a.now (name_of (file_of docs))) (b.now (name_of (file_of docs)))) was moved.ended)) is_open moves
+          told_after old new (λ d. IsOpen docs d.now) (λ d. IsOpen now d.now) (Publishes (file_of docs) bytes skipped result)
+          (λ a b is_open moved. published_now a b moved.others (on_ok result value (IsPublished last bytes (a.now (name_of (file_of docs))) (b.now (name_of (file_of docs)))) was moved.ended) is_open) is_open moves
 
-      pub told_at : (old new : Told) (history : List Write) → IfTold old (λ d. IsAt docs d.now history) → Tells old new Publishes
+      pub told_at : (old new : Told) (history : List Write) → IfTold old (λ d. IsAt docs d.now history) → Tells old new (Publishes (file_of docs) bytes skipped result)
           → Tells old new (Moves IsDocsFile (λ image. Stands image history ⊎ Stands image (write_of history id content ∷ history)) (λ files. IsAt now files (write_of history id content ∷ history)))
       told_at old new history at moves =
-          publishes old new history (λ f n. OnOk result (IsPublished last bytes f n)) (λ files. IsAt now files (write_of history id content ∷ history))
-          (λ a b is_at others done. published_at a b history is_at others (on_ok result value (IsPublished last bytes (a.now (name_of (file_of docs))) (b.now (name_of (file_of docs)))) was done)) at moves
+          publishes old new history result (λ files. IsAt now files (write_of history id content ∷ history))
+          (λ a b is_at others done. published_at a b others (on_ok result value (IsPublished last bytes (a.now (name_of (file_of docs))) (b.now (name_of (file_of docs)))) was done) history is_at) at moves

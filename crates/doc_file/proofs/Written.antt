@@ -2,13 +2,13 @@
 use Rattle.std.specs.Prelude.{IfErr}
 use Rattle.std.specs.Result.{IsErrAnd}
 use Rattle.std.proofs.lemmas.Result.{err_from_is_err_and}
-use Rattle.std.proofs.Common.{◌≡◌, ◌⊎◌, ℕ, List, Result, Ok, Err, Option, Some, None, inl, inr, refl, sym, subst, ⊎_elim, arith}
+use Rattle.std.proofs.Common.{◌≡◌, ◌⊎◌, ℕ, List, Result, Ok, Err, Option, inl, inr, refl, sym, subst, ⊎_elim, arith}
 use Rattle.json_terms.specs.Json.{Json}
 use Rattle.view_ports.specs.declared.folder.Folder.{Ghosts as Folders}
 use Rattle.view_ports.proofs.Told.{told_all}
 use Rattle.gate_file.specs.declared.fault.GateFault.{GateFault}
-use Rattle.gate_file.specs.declared.fault.GateFault.TheVariants.{DiskFault, Full}
-use Rattle.gate_file.specs.GateFile.{length_of, name_of}
+use Rattle.gate_file.specs.declared.fault.GateFault.TheVariants.{DiskFault}
+use Rattle.gate_file.specs.Calls.{too_long, used_up}
 use Rattle.doc_file.specs.declared.docs.Docs.{Docs}
 use Rattle.doc_file.specs.declared.fault.DocFault.{DocFault}
 use Rattle.doc_file.specs.declared.fault.DocFault.TheVariants.{Gate, NoMemory}
@@ -26,9 +26,9 @@ module _ {F : Type 0} (f : Folders F) (docs : Docs) (folder : F) (id : List ℕ)
     revision = tt;
     is_open = told_all (f.disk folder) (λ d. Unit {0}) (λ d. tt);
     stands = λ history at. stays_at docs (f.disk folder) history (write_of history id content) (λ files. Unit {0}) (λ files. tt) at;
-    long = λ is. absurd (other (Full (name_of (file_of docs)) (Some (length_of (file_of docs)))) (let same : fault ≡ Gate (Full (name_of (file_of docs)) (Some (length_of (file_of docs)))) = cc in same));
+    long = λ is. absurd (other (too_long (file_of docs)) (let same : fault ≡ Gate (too_long (file_of docs)) = cc in same));
     short = tt;
-    spent = λ is. absurd (other (Full (name_of (file_of docs)) None) (let same : fault ≡ Gate (Full (name_of (file_of docs)) None) = cc in same));
+    spent = λ is. absurd (other (used_up (file_of docs)) (let same : fault ≡ Gate (used_up (file_of docs)) = cc in same));
     few = tt;
     cause = record { later = omega arith; failed = λ is. absurd (other DiskFault is) };
     reads = refl;

@@ -1,26 +1,31 @@
 -- What a write of the documents promises, whole: the next write of an id is stored, or refused, or a fault came.
-use Rattle.std.specs.Prelude.{◌≡◌, ◌⊎◌, ◌+◌, ◌<◌, ◌≤◌, ◌^◌, ◌∷◌, ℕ, List, Result, Err, Option, Some, None, IfErr, IfOk, OnOk}
+use Rattle.std.specs.Prelude.{◌≡◌, ◌⊎◌, ◌+◌, ◌<◌, ◌≤◌, ◌^◌, ◌∷◌, ℕ, List, Result, Err, Option, None, IfErr, IfOk, OnOk}
 use Rattle.json_terms.specs.Json.{Json}
-use Rattle.view_ports.specs.Causes.{HasCauseIf}
 use Rattle.view_ports.specs.Disk.{IfTold, Moves, Tells}
 use Rattle.view_ports.specs.declared.folder.Folder.{Ghosts as Folders}
-use Rattle.gate_file.specs.declared.fault.GateFault.TheVariants.{DiskFault, Full}
-use Rattle.gate_file.specs.GateFile.{commits_of, length_of, name_of, start_of}
+use Rattle.gate_file.specs.Calls.{too_long, used_up}
+use Rattle.gate_file.specs.GateFile.{commits_of, start_of}
 use Rattle.design_docs.specs.Documents.{id_of}
 use Rattle.doc_file.specs.declared.docs.Docs.{Docs}
 use Rattle.doc_file.specs.declared.fault.DocFault.{DocFault}
 use Rattle.doc_file.specs.declared.fault.DocFault.TheVariants.{Gate, NoMemory}
+use Rattle.doc_file.specs.declared.incoming.Incoming.{Incoming}
 use Rattle.doc_file.specs.declared.rev.Rev.{Rev}
 use Rattle.doc_file.specs.Accepted.{state_in}
 use Rattle.doc_file.specs.Docs.{entries_of, file_of, last_of, seq_of, IsAt, IsDocsFile, IsOpen, IsSame}
 use Rattle.doc_file.specs.Held.{Stands}
 use Rattle.doc_file.specs.History.{Write}
+use Rattle.doc_file.specs.Reads.{IsCounted}
 use Rattle.doc_file.specs.Stored.{next_rev, size_of, write_of}
-use Rattle.doc_file.specs.Writes.{content_of, IsAcceptedDelete, IsAcceptedPut, IsFileFault, IsRefusedDelete, IsRefusedPut}
+use Rattle.doc_file.specs.Writes.{content_of, write_refusal, IsAcceptedDelete, IsAcceptedPut, IsFileFault, IsRefusedDelete, IsRefusedPut}
 
 -- the length of the documents' file with the next write of an id
 abbrev pub length_with : Docs → List ℕ → Option Json → ℕ
 length_with docs id content = start_of (file_of docs) + size_of (start_of (file_of docs)) (seq_of docs) (entries_of docs) id content
+
+-- why the last write of its id refuses a document that is put
+abbrev pub refusal_of : Docs → Incoming → Option DocFault
+refusal_of docs incoming = write_refusal (state_in (last_of docs incoming.id)) incoming.deletes incoming.given
 
 -- the documents and the folder are as they were
 abbrev pub IsUntouched : {F : Type 0} → Docs → Docs → F → F → Type 0
@@ -36,11 +41,11 @@ module _ {F : Type 0} (f : Folders F) (docs docs' : Docs) (old new : F) where
         (Moves IsDocsFile (λ image. Stands image history ⊎ Stands image (write_of history id content ∷ history))
         (λ files. OnOk result (IsAt docs' files (write_of history id content ∷ history))))
     -- the file is full exactly where it would be too long, and where it has all of its commits
-    pub long : result ≡ Err (Gate (Full (name_of (file_of docs)) (Some (length_of (file_of docs))))) → 2 ^ 40 < length_with docs id content
+    pub long : result ≡ Err (Gate (too_long (file_of docs))) → 2 ^ 40 < length_with docs id content
     pub short : OnOk result (length_with docs id content ≤ 2 ^ 40)
-    pub spent : result ≡ Err (Gate (Full (name_of (file_of docs)) None)) → 2 ^ 50 ≤ commits_of (file_of docs)
+    pub spent : result ≡ Err (Gate (used_up (file_of docs))) → 2 ^ 50 ≤ commits_of (file_of docs)
     pub few : OnOk result (commits_of (file_of docs) < 2 ^ 50)
-    pub cause : HasCauseIf (λ e. e ≡ Gate DiskFault) (f.faults old) (f.faults new) result
+    pub cause : IsCounted f old new result
     pub reads : f.reads new ≡ f.reads old
 
   -- a put or a deletion, by the rules that accept and refuse it

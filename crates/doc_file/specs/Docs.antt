@@ -1,17 +1,18 @@
 -- What the object keeps of the documents.
-use Rattle.std.specs.Prelude.{◌≡◌, ◌≢◌, ◌⊎◌, ℕ, List, [], Bool, false, not, count_by, is_none, length, Option, Some, None}
+use Rattle.std.specs.Prelude.{◌≡◌, ℕ, List, Bool, false, not, count_by, is_none, length, Option, Some, None}
 use Rattle.json_terms.specs.Json.{Json}
 use Rattle.gate_file.specs.declared.gate.GateFile.{GateFile}
-use Rattle.gate_file.specs.GateFile.{name_of, root_of, commits_of, Keeps as KeepsFile}
-use Rattle.gate_file.specs.Open.{IsFirstDamage, opened}
+use Rattle.gate_file.specs.GateFile.{name_of}
+use Rattle.gate_file.specs.Pair.{IsOpenPair, PairHolds, own_bytes}
+use Rattle.gate_file.specs.RootPlace.{IsPairDamage}
 use Rattle.view_ports.specs.declared.file_name.FileName.{FileName}
 use Rattle.view_ports.specs.declared.file_name.Stem.TheVariants.{Docs as DocsStem}
-use Rattle.view_ports.specs.File.{File, settled}
+use Rattle.view_ports.specs.File.{File}
 use Rattle.doc_file.specs.declared.docs.Docs.{Docs}
 use Rattle.doc_file.specs.declared.docs.Info.{Info}
 use Rattle.doc_file.specs.declared.entry.LastWrite.{LastWrite}
 use Rattle.doc_file.specs.declared.entry.Entry.{Entry}
-use Rattle.doc_file.specs.Held.{HasBody, HoldsRoot, IsRootDamage, KeepsEach, Stands, find_last}
+use Rattle.doc_file.specs.Held.{HasBody, HoldsIn, HoldsWrites, KeepsEach, SpellsRoot, find_last}
 use Rattle.doc_file.specs.History.{Write, last_writes, live, update_seq}
 
 abbrev pub file_of : Docs → GateFile
@@ -31,22 +32,19 @@ last_of docs id = find_last id (entries_of docs)
 
 -- the bytes of the documents' file
 abbrev pub bytes_in : Docs → (FileName → File) → List ℕ
-bytes_in docs files = (files (name_of (file_of docs))).seen
+bytes_in docs files = own_bytes (file_of docs) files
 
 -- what the object keeps is what the root record of its file holds
 abbrev pub IsLoaded : Docs → (FileName → File) → Type 0
-IsLoaded docs files = HoldsRoot (root_of (file_of docs)) (commits_of (file_of docs)) (bytes_in docs files) (seq_of docs) (entries_of docs)
+IsLoaded docs files = HoldsIn (file_of docs) files (seq_of docs) (entries_of docs)
 
 -- a file of the documents
 abbrev pub IsDocsFile : FileName → Type 0
 IsDocsFile name = name.stem ≡ DocsStem
 
--- What the object keeps is what the folder holds: its file, of which nothing is pending, and beside it a side without bytes.
+-- what the object keeps is what the folder holds: its pair is open, and the root record is loaded
 pub record IsOpen (docs : Docs) (files : FileName → File) : Type 0 where
-  pub own : IsDocsFile (name_of (file_of docs))
-  pub keeps : KeepsFile (file_of docs) (files (name_of (file_of docs)))
-  pub whole : files (name_of (file_of docs)) ≡ settled (bytes_in docs files)
-  pub other : (name : FileName) → IsDocsFile name → name ≢ name_of (file_of docs) → files name ≡ settled []
+  pub pair : IsOpenPair DocsStem (file_of docs) files
   pub loaded : IsLoaded docs files
 
 -- the object and the folder are at the end of this history
@@ -56,13 +54,12 @@ pub record IsAt (docs : Docs) (files : FileName → File) (history : List Write)
   pub each : KeepsEach history (bytes_in docs files) (entries_of docs)
 
 -- nothing is pending of the documents' files, and they stand for this history
-pub record HoldsHistory (files : FileName → File) (history : List Write) : Type 0 where
-  pub whole : (name : FileName) → IsDocsFile name → files name ≡ settled (files name).seen
-  pub stands : Stands (λ name. (files name).seen) history
+abbrev pub HoldsHistory : (FileName → File) → List Write → Type 0
+HoldsHistory files history = PairHolds DocsStem HoldsWrites files history
 
--- what is damaged of the documents' files as they are opened: their first damaged slot, or their root record
+-- what is damaged of the documents' files as they are opened: their first damaged slot, or else their root record
 abbrev pub IsDamagedAt : (FileName → File) → FileName → ℕ → Type 0
-IsDamagedAt files name at = IsFirstDamage DocsStem files name at ⊎ IsRootDamage (opened DocsStem files) (files (name_of (opened DocsStem files))).seen name at
+IsDamagedAt files name at = IsPairDamage DocsStem SpellsRoot files name at
 
 -- nothing has changed of what is kept
 pub record IsSame (old new : Docs) : Type 0 where
@@ -83,6 +80,10 @@ IsLive id bytes (Some last) document = (last.deleted ≡ false) × HasBody id by
 abbrev pub IsSpoiled : List ℕ → List ℕ → Option LastWrite → ℕ → Type 0
 IsSpoiled id bytes None at = ⊥
 IsSpoiled id bytes (Some last) at = (at ≡ last.offset) × ((document : Json) → HasBody id bytes last document → ⊥)
+
+-- the same in the file of the documents, which is the one of this name
+abbrev pub IsSpoiledIn : Docs → (FileName → File) → List ℕ → FileName → ℕ → Type 0
+IsSpoiledIn docs files id name at = (name ≡ name_of (file_of docs)) × IsSpoiled id (bytes_in docs files) (last_of docs id) at
 
 abbrev pub info_of : Docs → Info
 info_of docs = record {

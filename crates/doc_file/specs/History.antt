@@ -60,3 +60,11 @@ abbrev pub changes_after : ℕ → List Write → List (ℕ × Write)
 changes_after seq [] = []
 changes_after seq (write ∷ older) =
     if nat_lt seq (length (write ∷ older)) then of_others write.id (changes_after seq older) ++ (length (write ∷ older), write) ∷ [] else []
+
+-- what a write leaves to be mapped: its document beside its id, unless it is a deletion or a design document
+abbrev pub mapped_by : Write → Option (List ℕ × Json)
+mapped_by write = if is_design_id write.id then None else option_map (λ document. (write.id, document)) write.document
+
+-- the documents that views map of the last writes after the first `seq` writes, in the order of their numbers
+abbrev pub mapped_after : ℕ → List Write → List (List ℕ × Json)
+mapped_after seq history = filter_map (λ change. mapped_by change.1) (changes_after seq history)

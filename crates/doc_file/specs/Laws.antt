@@ -1,5 +1,6 @@
 -- What the definitions of documents say together.
-use Rattle.std.specs.Prelude.{◌≡◌, ℕ, List, []}
+use Rattle.std.specs.Prelude.{◌≡◌, ◌<◌, ℕ, List, [], Some, filter, nat_lt, All, AllPairs}
+use Rattle.std.specs.List.Sorted.{IsPermutation}
 use Rattle.view_ports.specs.File.{File, settled}
 use Rattle.view_ports.specs.Disk.{IsImageOf}
 use Rattle.view_ports.specs.declared.file_name.FileName.{FileName}
@@ -7,11 +8,15 @@ use Rattle.doc_file.specs.declared.docs.Docs.{Docs}
 use Rattle.doc_file.specs.Accepted.{state_in, state_of}
 use Rattle.doc_file.specs.Docs.{last_of, HoldsHistory, IsAt, IsDocsFile}
 use Rattle.doc_file.specs.Held.{Stands}
-use Rattle.doc_file.specs.History.{Write}
+use Rattle.doc_file.specs.History.{Write, changes_after, last_seq, last_write, mapped, mapped_after}
 
 -- a crash leaves of open documents what stands for their history
 abbrev pub ImagesStand : Type 0
 ImagesStand = (docs : Docs) (files : FileName → File) (history : List Write) → IsAt docs files history → (image : FileName → List ℕ) → IsImageOf files image → Stands image history
+
+-- documents at a history leave their files holding it
+abbrev pub FilesHold : Type 0
+FilesHold = (docs : Docs) (files : FileName → File) (history : List Write) → IsAt docs files history → HoldsHistory files history
 
 -- what is kept of an id tells its state
 abbrev pub StatesAreTold : Type 0
@@ -20,3 +25,16 @@ StatesAreTold = (docs : Docs) (files : FileName → File) (history : List Write)
 -- a folder whose documents' files have no bytes, and of which nothing is pending, holds the history without writes
 abbrev pub EmptyFoldersHoldNoWrites : Type 0
 EmptyFoldersHoldNoWrites = (files : FileName → File) → ((name : FileName) → IsDocsFile name → files name ≡ settled []) → HoldsHistory files []
+
+-- the documents that views map are the same in byte order of id and in the order of their writes
+abbrev pub MappedAreListed : Type 0
+MappedAreListed = (history : List Write) → IsPermutation (mapped history) (mapped_after 0 history)
+
+-- of those whose last write came after the first `seq` writes too
+abbrev pub LaterAreListed : Type 0
+LaterAreListed = (seq : ℕ) (history : List Write) → IsPermutation (filter (λ entry. nat_lt seq (last_seq history entry.0)) (mapped history)) (mapped_after seq history)
+
+-- each change is the last write of its id, with the number of this, and the numbers rise
+abbrev pub ChangesAreNumbered : Type 0
+ChangesAreNumbered = (seq : ℕ) (history : List Write) → AllPairs (λ change later. change.0 < later.0) (changes_after seq history)
+    × All (λ change. (last_write history (change.1).id ≡ Some change.1) × (last_seq history (change.1).id ≡ change.0)) (changes_after seq history)

@@ -16,3 +16,4 @@ pub mod Docs
 pub mod Calls
 pub mod Laws
 pub mod Changes
+pub mod Reads

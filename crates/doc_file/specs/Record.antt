@@ -60,6 +60,18 @@ pub record IsRoot (seq : ℕ) (entries : List Entry) : Type 0 where
   pub few : length entries < 2 ^ 64
   pub each : AreEntries entries
 
+-- the bytes are the root record of these
+abbrev pub IsRecordOf : List ℕ → ℕ → List Entry → Type 0
+IsRecordOf bytes seq entries = IsRoot seq entries × (bytes ≡ record_bytes seq entries)
+
+-- and of no others
+abbrev pub IsOneRecord : List ℕ → ℕ → List Entry → Type 0
+IsOneRecord bytes seq entries = (s : ℕ) (es : List Entry) → IsRoot s es → bytes ≡ record_bytes s es → (s ≡ seq) × (es ≡ entries)
+
+-- the bytes are no root record
+abbrev pub IsNoRecord : List ℕ → Type 0
+IsNoRecord bytes = (seq : ℕ) (entries : List Entry) → IsRoot seq entries → bytes ≡ record_bytes seq entries → ⊥
+
 -- no id is too long to be written
 abbrev pub IdsFit : List Entry → Type 0
 IdsFit [] = Unit {0}

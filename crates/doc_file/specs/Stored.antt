@@ -1,14 +1,9 @@
 -- What is stored of an accepted write: its body, its entry, and the root record with it.
-use Rattle.std.specs.Prelude.{◌≡◌, ℕ, ◌+◌, ◌-◌, ◌^◌, ◌<◌, List, [], ◌∷◌, ◌++◌, length, Bool, is_none, Option, Some, None, option_map, if◌then◌else◌}
+use Rattle.std.specs.Prelude.{ℕ, ◌+◌, ◌^◌, ◌<◌, List, [], ◌∷◌, ◌++◌, length, Bool, is_none, Option, Some, None, option_map, if◌then◌else◌}
 use Rattle.std.specs.Ordering.{nat_cmp, match_ordering}
 use Rattle.std.specs.Cmp.Lexicographic.{slice_cmp}
 use Rattle.json_terms.specs.Json.{Json}
 use Rattle.term_codec.specs.Spelling.{spelling}
-use Rattle.view_ports.specs.File.{File, settled}
-use Rattle.gate_file.specs.declared.root.Root.{Root}
-use Rattle.gate_file.specs.declared.gate.GateFile.{GateFile}
-use Rattle.gate_file.specs.Shown.{Shows, IsFront}
-use Rattle.gate_file.specs.GateFile.{root_of, start_of, appended, next_root, committed, Keeps}
 use Rattle.doc_file.specs.declared.entry.LastWrite.{LastWrite}
 use Rattle.doc_file.specs.declared.entry.Entry.{Entry}
 use Rattle.doc_file.specs.declared.rev.Rev.{Rev}
@@ -64,25 +59,6 @@ bytes_of start seq entries id rev document = body_of document ++ record_bytes (s
 -- how many bytes are appended for the next write of an id, after so many writes
 abbrev pub size_of : ℕ → ℕ → List Entry → List ℕ → Option Json → ℕ
 size_of start seq entries id content = let rev = next_rev seq entries id in length (bytes_of start seq entries id rev (revised content rev))
-
--- the file after bytes were appended to it, and what stands behind the first `skipped` of them became its root
-abbrev pub published : GateFile → ℕ → ℕ → GateFile
-published gate size skipped = let longer = appended gate size in committed longer (next_root longer (start_of gate + skipped) (size - skipped))
-
--- what a crash leaves of the file with its new root
-pub record ShowsNew (root : Root) (bytes : List ℕ) (file : File) (image : List ℕ) : Type 0 where
-  pub front : List ℕ
-  pub made : IsFront file.seen front
-  pub shows : Shows (Some root) (front ++ bytes) image
-
--- the file with its new root: nothing is pending
-pub record IsPublished (gate : GateFile) (bytes : List ℕ) (old new : File) : Type 0 where
-  pub front : List ℕ
-  pub made : IsFront old.seen front
-  pub shows : Shows (root_of gate) (front ++ bytes) new.seen
-  pub size : length new.seen ≡ length (front ++ bytes)
-  pub whole : new ≡ settled new.seen
-  pub keeps : Keeps gate new
 
 -- ---- over the history
 

@@ -14,8 +14,11 @@ use std::alloc::Global;
 /// is given for an id that was never written, and where none is given for a live document. Want of memory may come where a
 /// revision is given.
 pub fn may_put(alloc: Global, last: Option<LastWrite>, given: Option<&str>) -> Result<(), DocFault>
-    ensures ok { OnOk result (put_conflicts (state_in last) (option_map (λ text. text.now) given.entry) ≡ false) }
-    ensures err { IfErr result (λ e. ((e ≡ DocFault.Conflict) × (put_conflicts (state_in last) (option_map (λ text. text.now) given.entry) ≡ true)) ⊎ (e ≡ DocFault.NoMemory)) }
+    ensures ok { OnOk result
+        (put_conflicts (state_in last) (option_map (λ text. text.now) given.entry) ≡ false) }
+    ensures err { IfErr result (λ e. ((e ≡ DocFault.Conflict)
+        × (put_conflicts (state_in last) (option_map (λ text. text.now) given.entry) ≡ true))
+        ⊎ (e ≡ DocFault.NoMemory)) }
 {
     match last {
         Some(last) => match given {
@@ -47,8 +50,11 @@ pub fn may_delete(
     last: Option<LastWrite>,
     given: Option<&str>,
 ) -> Result<(), DocFault>
-    ensures ok { OnOk result (delete_refusal (state_in last) (option_map (λ text. text.now) given.entry) ≡ None) }
-    ensures err { IfErr result (λ e. (delete_refusal (state_in last) (option_map (λ text. text.now) given.entry) ≡ Some e) ⊎ (e ≡ DocFault.NoMemory)) }
+    ensures ok { OnOk result
+        (delete_refusal (state_in last) (option_map (λ text. text.now) given.entry) ≡ None) }
+    ensures err { IfErr result
+        (λ e. (delete_refusal (state_in last) (option_map (λ text. text.now) given.entry) ≡ Some e)
+        ⊎ (e ≡ DocFault.NoMemory)) }
 {
     match last {
         Some(last) => {

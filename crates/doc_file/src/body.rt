@@ -10,17 +10,15 @@ ghost use Rattle.doc_file.specs.Held.{IsBodyOf, IsDocument, IsObject};
 
 use crate::content::unrevised;
 use design_docs::{is_design_id, is_plain, is_plain_design};
-use json_terms::{NoMemory, Term, depth_within};
+use json_terms::{DOCUMENT_DEPTH, NoMemory, Term, depth_within};
 use std::alloc::Global;
 use term_codec::{CodecFault, decode_term};
-
-/// The greatest depth of a document.
-const DEPTH_LIMIT: u32 = 64;
 
 /// The document of an id that these bytes spell, whole, or none where they spell no object of depth 64 at most, or, under the
 /// id of a design document, one that but for its `_rev` isn't plain or has no plain design. The one error is want of memory.
 pub fn read_body(alloc: Global, id: &str, bytes: &[u8]) -> Result<Option<Term>, NoMemory>
-    ensures some { IfOk result (λ found. IfSome found (λ t. IsBodyOf id.now (json t) × (bytes.now ≡ spelling (json t)))) }
+    ensures some { IfOk result
+        (λ found. IfSome found (λ t. IsBodyOf id.now (json t) × (bytes.now ≡ spelling (json t)))) }
     ensures none { result ≡ Ok None → (t : Json) → IsBodyOf id.now t → bytes.now ≡ spelling t → ⊥ }
 {
     match read_document(alloc, bytes)? {
@@ -42,9 +40,11 @@ pub fn read_body(alloc: Global, id: &str, bytes: &[u8]) -> Result<Option<Term>, 
 
 /// The document that these bytes spell, whole, or none where they spell no object of depth 64 at most.
 fn read_document(alloc: Global, bytes: &[u8]) -> Result<Option<Term>, NoMemory>
-    ensures some { IfOk result (λ found. IfSome found (λ t. IsDocument (json t) × (bytes.now ≡ spelling (json t)))) }
+    ensures some { IfOk result
+        (λ found. IfSome found (λ t. IsDocument (json t) × (bytes.now ≡ spelling (json t)))) }
     ensures none { result ≡ Ok None → (t : Json) → IsDocument t → bytes.now ≡ spelling t → ⊥ }
-    ensures only { IfOk result (λ found. IfSome found (λ t. (u : Json) → IsDocument u → bytes.now ≡ spelling u → u ≡ json t)) }
+    ensures only { IfOk result (λ found. IfSome found
+        (λ t. (u : Json) → IsDocument u → bytes.now ≡ spelling u → u ≡ json t)) }
 {
     match decode_term(alloc, bytes, 0) {
         Ok((term, end)) => {
@@ -54,7 +54,7 @@ fn read_document(alloc: Global, bytes: &[u8]) -> Result<Option<Term>, NoMemory>
             if !is_object(&term) {
                 return Ok(None);
             }
-            if !depth_within(&term, DEPTH_LIMIT) {
+            if !depth_within(&term, DOCUMENT_DEPTH) {
                 return Ok(None);
             }
             Ok(Some(term))

@@ -40,18 +40,18 @@ pub struct Info {
 }
 
 impl Docs {
-    ghost use Rattle.std.specs.Prelude.{◌≡◌, ◌↔◌, ◌⊎◌, ℕ, List, Some, None, true, Err, IfOk, IfErr};
+    ghost use Rattle.std.specs.Prelude.{◌≡◌, ◌↔◌, List, Some, None, true, Err, IfOk, IfErr, OnOk};
     ghost use Rattle.json_terms.specs.Seen.{json};
-    ghost use Rattle.view_ports.specs.Causes.{HasCauseIf, RisesBy};
-    ghost use Rattle.view_ports.specs.Disk.{IfTold, Tells, Moves, MovesNone};
-    ghost use Rattle.view_ports.specs.declared.file_name.FileName.{FileName as Name};
-    ghost use Rattle.gate_file.specs.GateFile.{name_of};
-    ghost use Rattle.gate_file.specs.Open.{opened, IsOpened, WhileOpening};
-    ghost use Rattle.doc_file.specs.Accepted.{is_deletion};
-    ghost use Rattle.doc_file.specs.Held.{IsBodyOf, Stands};
-    ghost use Rattle.doc_file.specs.History.{Write, last_write, live_document};
+    ghost use Rattle.view_ports.specs.Disk.{MovesNone};
     ghost use Rattle.view_ports.specs.File.{File};
-    ghost use Rattle.doc_file.specs.Docs.{bytes_in, file_of, info_in, info_of, last_of, is_deleted, HoldsHistory, IsAt, IsDamagedAt, IsDocsFile, IsLoaded, IsLive, IsOpen, IsSpoiled};
+    ghost use Rattle.view_ports.specs.declared.file_name.FileName.{FileName as Name};
+    ghost use Rattle.gate_file.specs.Calls.{Moved, ReadsUpTo, Told};
+    ghost use Rattle.gate_file.specs.Open.{opened, AreFitSlots};
+    ghost use Rattle.doc_file.specs.Accepted.{is_deletion};
+    ghost use Rattle.doc_file.specs.Docs.{bytes_in, file_of, info_in, info_of, last_of, is_deleted, HoldsHistory, IsAt, IsDamagedAt, IsLive, IsOpen, IsSpoiledIn};
+    ghost use Rattle.doc_file.specs.Held.{IsBodyOf};
+    ghost use Rattle.doc_file.specs.History.{Write, last_write, live_document};
+    ghost use Rattle.doc_file.specs.Reads.{AtHistory, FindsDamage, FindsNoDamage, IsCounted, IsGetFault, IsReadFault, Opens, StaysAt};
 
     /// Opens the documents' file. Without a commit there was no write.
     ///
@@ -60,18 +60,19 @@ impl Docs {
     /// a history, so does each image from then on, and so does the object; no file is `Damaged`. At each moment a crash
     /// leaves what it might have left before, or, once both sides are synced, the side that is taken as it is.
     pub fn open<F: Folder>(alloc: Global, folder: &mut F) -> Result<Docs, DocFault>
-        ensures opened { IfTold (F.disk folder.old) (λ d. IfOk result (λ docs. file_of docs ≡ opened Stem.Docs d.now)) }
-        ensures loaded { IfTold (F.disk folder.new) (λ d. IfOk result (λ docs. IsLoaded docs d.now)) }
-        ensures open { IfTold (F.disk folder.new) (λ d. IfOk result (λ docs. IsOpen docs d.now)) }
-        ensures stands { (history : List Write) → IfTold (F.disk folder.old) (λ d. HoldsHistory d.now history) → Tells (F.disk folder.old) (F.disk folder.new)
-            (Moves IsDocsFile (λ image. Stands image history) (λ files. IfOk result (λ docs. IsAt docs files history))) }
-        ensures sound { (history : List Write) → IfTold (F.disk folder.old) (λ d. HoldsHistory d.now history → (name : Name) (at : ℕ) → result ≡ Err (DocFault.Gate (GateFault.Damaged name at)) → ⊥) }
-        ensures damaged { IfTold (F.disk folder.old) (λ d. (name : Name) (at : ℕ) → result ≡ Err (DocFault.Gate (GateFault.Damaged name at)) → IsDamagedAt d.now name at) }
-        ensures faults { IfErr result (λ e. (e ≡ DocFault.Gate GateFault.DiskFault) ⊎ (e ≡ DocFault.NoMemory) ⊎ ((name : Name) × (at : ℕ) × (e ≡ DocFault.Gate (GateFault.Damaged name at)))) }
-        ensures disk { Tells (F.disk folder.old) (F.disk folder.new)
-            (λ old new. Moves (λ name. name.stem ≡ Stem.Docs) (WhileOpening Stem.Docs old.now) (λ files. IfOk result (λ docs. IsOpened (file_of docs) old.now files)) old new) }
-        ensures cause { HasCauseIf (λ e. e ≡ DocFault.Gate GateFault.DiskFault) (F.faults folder.old) (F.faults folder.new) result }
-        ensures reads { RisesBy 5 (F.reads folder.old) (F.reads folder.new) }
+        ensures opened { Told F.Folder folder.old
+            (λ d. IfOk result (λ docs. file_of docs ≡ opened Stem.Docs d.now)) }
+        ensures open { Told F.Folder folder.new (λ d. IfOk result (λ docs. IsOpen docs d.now)) }
+        ensures stands { (history : List Write) → Told F.Folder folder.old (λ d. HoldsHistory d.now history) →
+            Moved F.Folder folder.old folder.new (StaysAt history result) }
+        ensures sound { (history : List Write) → Told F.Folder folder.old
+            (λ d. HoldsHistory d.now history → FindsNoDamage result) }
+        ensures fit { Told F.Folder folder.old (λ d. OnOk result (AreFitSlots Stem.Docs d.now)) }
+        ensures damaged { Told F.Folder folder.old (λ d. FindsDamage (IsDamagedAt d.now) result) }
+        ensures faults { IfErr result IsReadFault }
+        ensures disk { Moved F.Folder folder.old folder.new (Opens result) }
+        ensures cause { IsCounted F.Folder folder.old folder.new result }
+        ensures reads { ReadsUpTo F.Folder 5 folder.old folder.new }
     {
         let file = GateFile::open(folder, Stem::Docs)?;
         let root = load_root(alloc, folder, &file)?;
@@ -88,22 +89,26 @@ impl Docs {
     /// file is `Damaged` at the place of the body exactly where no object of depth 64 at most is spelled there.
     pub fn get<F: Folder>(&self, alloc: Global, folder: &mut F, id: &str) -> Result<Term, DocFault>
         // Over a history: the live document, or why there is none, and never damage.
-        ensures document { (history : List Write) → IfTold (F.disk folder.old) (λ d. IsAt self.now d.now history → IfOk result (λ t. live_document history id.now ≡ Some (json t))) }
-        ensures never_written { (history : List Write) → IfTold (F.disk folder.old) (λ d. IsAt self.now d.now history → (result ≡ Err DocFault.Missing) ↔ (last_write history id.now ≡ None)) }
-        ensures deletion { (history : List Write) → IfTold (F.disk folder.old) (λ d. IsAt self.now d.now history → (result ≡ Err DocFault.Deleted) ↔ (is_deletion (last_write history id.now) ≡ true)) }
-        ensures sound { (history : List Write) → IfTold (F.disk folder.old) (λ d. IsAt self.now d.now history → (name : Name) (at : ℕ) → result ≡ Err (DocFault.Gate (GateFault.Damaged name at)) → ⊥) }
+        ensures document { AtHistory F.Folder self.now folder.old
+            (λ history. IfOk result (λ t. live_document history id.now ≡ Some (json t))) }
+        ensures never_written { AtHistory F.Folder self.now folder.old
+            (λ history. (result ≡ Err DocFault.Missing) ↔ (last_write history id.now ≡ None)) }
+        ensures deletion { AtHistory F.Folder self.now folder.old
+            (λ history. (result ≡ Err DocFault.Deleted) ↔ (is_deletion (last_write history id.now) ≡ true)) }
+        ensures sound { AtHistory F.Folder self.now folder.old (λ history. FindsNoDamage result) }
 
         // Also where the file stands for no history.
         ensures body { IfOk result (λ t. IsBodyOf id.now (json t)) }
-        ensures live { IfTold (F.disk folder.old) (λ d. IfOk result (λ t. IsLive id.now (bytes_in self.now d.now) (last_of self.now id.now) (json t))) }
+        ensures live { Told F.Folder folder.old
+            (λ d. IfOk result (λ t. IsLive id.now (bytes_in self.now d.now) (last_of self.now id.now) (json t))) }
         ensures missing { (result ≡ Err DocFault.Missing) ↔ (last_of self.now id.now ≡ None) }
         ensures deleted { (result ≡ Err DocFault.Deleted) ↔ (is_deleted (last_of self.now id.now) ≡ true) }
-        ensures damaged { IfTold (F.disk folder.old) (λ d. (name : Name) (at : ℕ) → result ≡ Err (DocFault.Gate (GateFault.Damaged name at)) →
-            (name ≡ name_of (file_of self.now)) × IsSpoiled id.now (bytes_in self.now d.now) (last_of self.now id.now) at) }
-        ensures faults { IfErr result (λ e. (e ≡ DocFault.Missing) ⊎ (e ≡ DocFault.Deleted) ⊎ (e ≡ DocFault.Gate GateFault.DiskFault) ⊎ (e ≡ DocFault.NoMemory) ⊎ ((name : Name) × (at : ℕ) × (e ≡ DocFault.Gate (GateFault.Damaged name at)))) }
-        ensures disk { Tells (F.disk folder.old) (F.disk folder.new) MovesNone }
-        ensures cause { HasCauseIf (λ e. e ≡ DocFault.Gate GateFault.DiskFault) (F.faults folder.old) (F.faults folder.new) result }
-        ensures reads { RisesBy 1 (F.reads folder.old) (F.reads folder.new) }
+        ensures damaged { Told F.Folder folder.old
+            (λ d. FindsDamage (IsSpoiledIn self.now d.now id.now) result) }
+        ensures faults { IfErr result IsGetFault }
+        ensures disk { Moved F.Folder folder.old folder.new MovesNone }
+        ensures cause { IsCounted F.Folder folder.old folder.new result }
+        ensures reads { ReadsUpTo F.Folder 1 folder.old folder.new }
     {
         match find_last(id, self.entries.as_slice()) {
             Some(last) => {
@@ -119,7 +124,8 @@ impl Docs {
     /// How many documents are live and deleted, and how many writes were accepted. It takes no memory.
     pub fn info(&self) -> Info
         ensures kept { result ≡ info_of self.now }
-        ensures history { (files : Name → File) (history : List Write) → IsAt self.now files history → result ≡ info_in history }
+        ensures history { (files : Name → File) (history : List Write) → IsAt self.now files history →
+            result ≡ info_in history }
     {
         Info {
             doc_count: self

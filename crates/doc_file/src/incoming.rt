@@ -12,18 +12,14 @@ ghost use Rattle.doc_file.specs.Revision as revision;
 
 use crate::fault::DocFault;
 use crate::rev::is_revision;
-use design_docs::{DESIGN_PREFIX, id_of, is_design_id};
-use json_terms::{Chars, Member, Members, NoMemory, Term, depth_within, member, write_term};
+use design_docs::{DESIGN_PREFIX, SIZE_LIMIT, id_of, is_design_id};
+use json_terms::{
+    Chars, DOCUMENT_DEPTH, Member, Members, NoMemory, Term, depth_within, member, write_term,
+};
 use std::alloc::Global;
-
-/// The greatest length of a document's text, in bytes.
-const SIZE_LIMIT: usize = 524_288;
 
 /// Room for the text of most documents, in bytes.
 const USUAL_SIZE: usize = 512;
-
-/// The greatest depth of a document.
-const DEPTH_LIMIT: u32 = 64;
 
 /// A document that is put.
 #[derive(Drop)]
@@ -79,7 +75,7 @@ pub(crate) fn read_incoming(alloc: Global, document: Term) -> Result<Incoming, D
     if !has_revision(&document) {
         return Err(DocFault::BadRev);
     }
-    let is_shallow = depth_within(&document, DEPTH_LIMIT);
+    let is_shallow = depth_within(&document, DOCUMENT_DEPTH);
     let id = Chars::from_text(alloc, id_of(&document))?;
     let given = given_revision(alloc, &document)?;
     let deletes = deletes(&document);

@@ -1,10 +1,15 @@
 //! Laws of the documents' file. Each holds for all values, and its function does nothing.
 
-ghost use Rattle.doc_file.specs.Laws.{EmptyFoldersHoldNoWrites, ImagesStand, StatesAreTold};
+ghost use Rattle.doc_file.specs.Laws.{ChangesAreNumbered, EmptyFoldersHoldNoWrites, FilesHold, ImagesStand, LaterAreListed, MappedAreListed, StatesAreTold};
 
 /// Each image that a crash may leave of open documents stands for their history.
 pub fn images_of_open_documents_stand()
     ensures { ImagesStand }
+{}
+
+/// The files of open documents hold their history.
+pub fn files_of_open_documents_hold()
+    ensures { FilesHold }
 {}
 
 /// What is kept of an id tells the state that it has in the history.
@@ -15,4 +20,19 @@ pub fn states_are_told()
 /// A folder without bytes of documents holds the history without writes.
 pub fn empty_folders_hold_no_writes()
     ensures { EmptyFoldersHoldNoWrites }
+{}
+
+/// The documents that views map are the same in byte order of id and in the order of their writes.
+pub fn mapped_documents_are_listed()
+    ensures { MappedAreListed }
+{}
+
+/// So are those of them whose last write came after the first so many writes.
+pub fn later_documents_are_listed()
+    ensures { LaterAreListed }
+{}
+
+/// What has changed is the last write of its id, and is listed in the order of the numbers.
+pub fn changes_are_numbered()
+    ensures { ChangesAreNumbered }
 {}

@@ -12,17 +12,18 @@ mod incoming;
 mod last_writes;
 mod laws;
 mod load;
-mod publish;
 mod record;
 mod rev;
 
 pub use accept::{may_delete, may_put};
-pub use body::read_body;
 pub use docs::changes::{Change, Changes};
 pub use docs::{Docs, Info};
 pub use entry::{Entry, LastWrite};
 pub use fault::DocFault;
-pub use laws::{empty_folders_hold_no_writes, images_of_open_documents_stand, states_are_told};
-pub use load::{load_body, load_root};
+pub use laws::{
+    changes_are_numbered, empty_folders_hold_no_writes, files_of_open_documents_hold,
+    images_of_open_documents_stand, later_documents_are_listed, mapped_documents_are_listed,
+    states_are_told,
+};
 pub use record::{RootRecord, read_root, write_root};
 pub use rev::{Rev, is_revision};

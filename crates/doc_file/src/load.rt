@@ -4,13 +4,14 @@ ghost use Rattle.std.specs.Prelude.{◌≡◌, ◌⊎◌, ℕ, List, Err, IfOk, 
 ghost use Rattle.std.specs.List.{list_all};
 ghost use Rattle.json_terms.specs.Json.{Json};
 ghost use Rattle.json_terms.specs.Seen.{json};
-ghost use Rattle.view_ports.specs.Causes.{HasCauseIf, RisesBy};
-ghost use Rattle.view_ports.specs.Disk.{IfTold, Tells, MovesNone};
-ghost use Rattle.view_ports.specs.declared.file_name.FileName.{FileName as Name};
-ghost use Rattle.gate_file.specs.GateFile.{commits_of, name_of, root_of};
+ghost use Rattle.view_ports.specs.Disk.{MovesNone};
+ghost use Rattle.gate_file.specs.Calls.{Moved, ReadsUpTo, Told};
+ghost use Rattle.gate_file.specs.GateFile.{commits_of};
+ghost use Rattle.gate_file.specs.RootPlace.{IsRootPlace};
 ghost use Rattle.doc_file.specs.declared.entry.Entry.{Entry as EntryValue};
 ghost use Rattle.doc_file.specs.Counts.{are_counted, has_room};
-ghost use Rattle.doc_file.specs.Held.{HasBody, HoldsRoot, IsBodyOf, IsRootPlace};
+ghost use Rattle.doc_file.specs.Held.{HasBody, HoldsIn, IsBodyOf};
+ghost use Rattle.doc_file.specs.Reads.{FindsDamage, IsCounted, IsReadFault};
 
 use crate::body::read_body;
 use crate::entry::LastWrite;
@@ -28,15 +29,17 @@ pub fn load_root<F: Folder>(
     folder: &mut F,
     file: &GateFile,
 ) -> Result<RootRecord, DocFault>
-    ensures counted { IfOk result (λ root. IsTrue (are_counted (commits_of file.now) root.seq root.entries.items) × IsTrue (list_all has_room root.entries.items)) }
-    ensures held { IfTold (F.disk folder.old) (λ d. IfOk result (λ root. HoldsRoot (root_of file.now) (commits_of file.now) (d.now (name_of file.now)).seen root.seq root.entries.items)) }
-    ensures damaged { IfTold (F.disk folder.old) (λ d. (name : Name) (at : ℕ) → result ≡ Err (DocFault.Gate (GateFault.Damaged name at)) →
-        (seq : ℕ) (entries : List EntryValue) → HoldsRoot (root_of file.now) (commits_of file.now) (d.now (name_of file.now)).seen seq entries → ⊥) }
-    ensures place { (name : Name) (at : ℕ) → result ≡ Err (DocFault.Gate (GateFault.Damaged name at)) → IsRootPlace file.now name at }
-    ensures faults { IfErr result (λ e. (e ≡ DocFault.Gate GateFault.DiskFault) ⊎ (e ≡ DocFault.NoMemory) ⊎ ((name : Name) × (at : ℕ) × (e ≡ DocFault.Gate (GateFault.Damaged name at)))) }
-    ensures disk { Tells (F.disk folder.old) (F.disk folder.new) MovesNone }
-    ensures cause { HasCauseIf (λ e. e ≡ DocFault.Gate GateFault.DiskFault) (F.faults folder.old) (F.faults folder.new) result }
-    ensures reads { RisesBy 1 (F.reads folder.old) (F.reads folder.new) }
+    ensures counted { IfOk result (λ root. IsTrue (are_counted (commits_of file.now) root.seq root.entries.items)
+        × IsTrue (list_all has_room root.entries.items)) }
+    ensures held { Told F.Folder folder.old
+        (λ d. IfOk result (λ root. HoldsIn file.now d.now root.seq root.entries.items)) }
+    ensures damaged { Told F.Folder folder.old (λ d. FindsDamage
+        (λ name at. (seq : ℕ) (entries : List EntryValue) → HoldsIn file.now d.now seq entries → ⊥) result) }
+    ensures place { FindsDamage (IsRootPlace file.now) result }
+    ensures faults { IfErr result IsReadFault }
+    ensures disk { Moved F.Folder folder.old folder.new MovesNone }
+    ensures cause { IsCounted F.Folder folder.old folder.new result }
+    ensures reads { ReadsUpTo F.Folder 1 folder.old folder.new }
 {
     match file.root() {
         Some((offset, length)) => {
@@ -64,12 +67,16 @@ pub fn load_body<F: Folder>(
     last: LastWrite,
 ) -> Result<Term, DocFault>
     ensures body { IfOk result (λ t. IsBodyOf id.now (json t)) }
-    ensures held { IfTold (F.disk folder.old) (λ d. IfOk result (λ t. HasBody id.now (d.now name).seen last (json t))) }
-    ensures damaged { IfTold (F.disk folder.old) (λ d. result ≡ Err (DocFault.Gate (GateFault.Damaged name last.offset)) → (t : Json) → HasBody id.now (d.now name).seen last t → ⊥) }
-    ensures faults { IfErr result (λ e. (e ≡ DocFault.Gate GateFault.DiskFault) ⊎ (e ≡ DocFault.NoMemory) ⊎ (e ≡ DocFault.Gate (GateFault.Damaged name last.offset))) }
-    ensures disk { Tells (F.disk folder.old) (F.disk folder.new) MovesNone }
-    ensures cause { HasCauseIf (λ e. e ≡ DocFault.Gate GateFault.DiskFault) (F.faults folder.old) (F.faults folder.new) result }
-    ensures reads { RisesBy 1 (F.reads folder.old) (F.reads folder.new) }
+    ensures held { Told F.Folder folder.old
+        (λ d. IfOk result (λ t. HasBody id.now (d.now name).seen last (json t))) }
+    ensures damaged { Told F.Folder folder.old
+        (λ d. result ≡ Err (DocFault.Gate (GateFault.Damaged name last.offset)) →
+        (t : Json) → HasBody id.now (d.now name).seen last t → ⊥) }
+    ensures faults { IfErr result (λ e. (e ≡ DocFault.Gate GateFault.DiskFault) ⊎ (e ≡ DocFault.NoMemory)
+        ⊎ (e ≡ DocFault.Gate (GateFault.Damaged name last.offset))) }
+    ensures disk { Moved F.Folder folder.old folder.new MovesNone }
+    ensures cause { IsCounted F.Folder folder.old folder.new result }
+    ensures reads { ReadsUpTo F.Folder 1 folder.old folder.new }
 {
     let bytes = GateFile::read(alloc, folder, name, last.offset, u64::from(last.length))?;
     match read_body(alloc, id, bytes.as_slice())? {

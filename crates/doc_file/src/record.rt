@@ -1,10 +1,9 @@
 //! The root record: the number of accepted writes, and the last write of each id.
 
-ghost use Rattle.std.specs.Prelude.{◌≡◌, ℕ, ◌+◌, ◌<◌, ◌≤◌, ◌^◌, ◌++◌, length, List, None, Ok, IfOk, OnOk, IfSome, IsTrue, option_map};
+ghost use Rattle.std.specs.Prelude.{◌≡◌, ◌+◌, ◌<◌, ◌≤◌, ◌^◌, ◌++◌, length, None, Ok, IfOk, OnOk, IfSome, IsTrue, option_map};
 ghost use Rattle.std.specs.List.{list_all};
-ghost use Rattle.doc_file.specs.declared.entry.Entry.{Entry as EntryValue};
 ghost use Rattle.doc_file.specs.Counts.{has_room, is_counted};
-ghost use Rattle.doc_file.specs.Record.{whole_bytes, entry_bytes, entries_bytes, record_bytes, IsRoot, IdsFit};
+ghost use Rattle.doc_file.specs.Record.{whole_bytes, entry_bytes, entries_bytes, record_bytes, IdsFit, IsNoRecord, IsOneRecord, IsRecordOf};
 ghost use Rattle.doc_file.specs.Reading.{whole_in, last_in, entry_of_id, entry_of_size, entry_in, follows, entry_after, whole_entries, root_of, root_in};
 
 use crate::entry::{Entry, LAST_LENGTH, LastWrite};
@@ -97,16 +96,20 @@ fn put_entry(entry: &Entry, out: &mut Vec<u8>) -> Result<(), NoMemory>
 /// id isn't UTF-8, the ids don't rise strictly by bytes, a length isn't that of its entry, or a tombstone has a body. The
 /// one error is want of memory.
 pub fn read_root(alloc: Global, bytes: &[u8]) -> Result<Option<RootRecord>, NoMemory>
-    ensures some { IfOk result (λ found. IfSome found (λ root. IsRoot root.seq root.entries.items × (bytes.now ≡ record_bytes root.seq root.entries.items))) }
-    ensures only { IfOk result (λ found. IfSome found (λ root. (seq : ℕ) (entries : List EntryValue) → IsRoot seq entries → bytes.now ≡ record_bytes seq entries → (seq ≡ root.seq) × (entries ≡ root.entries.items))) }
-    ensures room { IfOk result (λ found. IfSome found (λ root. IsTrue (list_all has_room root.entries.items))) }
-    ensures none { result ≡ Ok None → (seq : ℕ) (entries : List EntryValue) → IsRoot seq entries → bytes.now ≡ record_bytes seq entries → ⊥ }
+    ensures some { IfOk result
+        (λ found. IfSome found (λ root. IsRecordOf bytes.now root.seq root.entries.items)) }
+    ensures only { IfOk result
+        (λ found. IfSome found (λ root. IsOneRecord bytes.now root.seq root.entries.items)) }
+    ensures room { IfOk result
+        (λ found. IfSome found (λ root. IsTrue (list_all has_room root.entries.items))) }
+    ensures none { result ≡ Ok None → IsNoRecord bytes.now }
 {
     parse_root(alloc, bytes)
 }
 
 fn parse_root(alloc: Global, bytes: &[u8]) -> Result<Option<RootRecord>, NoMemory>
-    ensures { IfOk result (λ found. option_map (λ r. (r.seq, r.entries.items)) found ≡ root_in bytes.now) }
+    ensures { IfOk result
+        (λ found. option_map (λ r. (r.seq, r.entries.items)) found ≡ root_in bytes.now) }
 {
     match read_whole(bytes) {
         Some((seq, rest)) => read_root_of(alloc, seq, rest),
@@ -115,7 +118,8 @@ fn parse_root(alloc: Global, bytes: &[u8]) -> Result<Option<RootRecord>, NoMemor
 }
 
 fn read_root_of(alloc: Global, seq: u64, bytes: &[u8]) -> Result<Option<RootRecord>, NoMemory>
-    ensures { IfOk result (λ found. option_map (λ r. (r.seq, r.entries.items)) found ≡ root_of seq bytes.now) }
+    ensures { IfOk result
+        (λ found. option_map (λ r. (r.seq, r.entries.items)) found ≡ root_of seq bytes.now) }
 {
     match read_whole(bytes) {
         Some((count, rest)) => match read_entries(alloc, count, rest)? {
@@ -127,7 +131,8 @@ fn read_root_of(alloc: Global, seq: u64, bytes: &[u8]) -> Result<Option<RootReco
 }
 
 fn read_entries(alloc: Global, count: u64, bytes: &[u8]) -> Result<Option<Vec<Entry>>, NoMemory>
-    ensures { IfOk result (λ found. option_map (λ es. es.items) found ≡ whole_entries count bytes.now) }
+    ensures { IfOk result
+        (λ found. option_map (λ es. es.items) found ≡ whole_entries count bytes.now) }
 {
     if count > bytes.len() as u64 {
         return Ok(None);
@@ -156,7 +161,8 @@ fn read_next<'a>(
     entries: &Vec<Entry>,
     bytes: &'a [u8],
 ) -> Result<Option<(Entry, &'a [u8])>, NoMemory>
-    ensures { IfOk result (λ found. option_map (λ r. (r.0, r.1.now)) found ≡ entry_after entries.now.items bytes.now) }
+    ensures { IfOk result
+        (λ found. option_map (λ r. (r.0, r.1.now)) found ≡ entry_after entries.now.items bytes.now) }
 {
     match read_entry(alloc, bytes)? {
         Some((entry, rest)) => {
@@ -193,7 +199,8 @@ fn read_entry_of(
     size: usize,
     bytes: &[u8],
 ) -> Result<Option<(Entry, &[u8])>, NoMemory>
-    ensures { IfOk result (λ found. option_map (λ r. (r.0, r.1.now)) found ≡ entry_of_size size bytes.now) }
+    ensures { IfOk result
+        (λ found. option_map (λ r. (r.0, r.1.now)) found ≡ entry_of_size size bytes.now) }
 {
     match read_text(bytes) {
         Some((id, rest)) => read_entry_of_id(alloc, size, id, rest),
@@ -207,7 +214,8 @@ fn read_entry_of_id<'a>(
     id: &str,
     bytes: &'a [u8],
 ) -> Result<Option<(Entry, &'a [u8])>, NoMemory>
-    ensures { IfOk result (λ found. option_map (λ r. (r.0, r.1.now)) found ≡ entry_of_id size id.now bytes.now) }
+    ensures { IfOk result
+        (λ found. option_map (λ r. (r.0, r.1.now)) found ≡ entry_of_id size id.now bytes.now) }
 {
     match read_last(bytes) {
         Some((last, rest)) => {

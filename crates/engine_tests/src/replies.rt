@@ -1,4 +1,5 @@
-// The replies of the engine.
+//! The replies of the engine.
+
 use crash_disk::MemoryFolder;
 use std::alloc::Global;
 use std::test::Fail;
@@ -14,7 +15,7 @@ pub fn reply_in<C: Servers>(
     line: &str,
 ) -> Result<Vec<u8>, Fail> {
     let languages = [String::from_str(alloc, "script=sh")?];
-    let mut engine = Engine::open(alloc, folder, &languages)?;
+    let mut engine = Engine::open(alloc, folder, 1, &languages)?;
     let mut out = Vec::new(alloc);
     engine.step(alloc, folder, servers, line.as_bytes(), &mut out)?;
     engine.finish(servers);

@@ -1,4 +1,5 @@
-// Request lines and their reply lines.
+//! Request lines and their reply lines.
+
 use crate::replies::reply_in;
 use crate::runs::RUNS;
 use crash_disk::MemoryFolder;

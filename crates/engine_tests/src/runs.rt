@@ -1,5 +1,5 @@
-// Request lines, each with its reply line behind it. Each run of them begins with a new folder, and its designs are of the
-// language `field`, whose map functions name a member.
+//! Request lines, each with its reply line behind it. Each run of them begins with a new folder, and its designs are of the
+//! language `field`, whose map functions name a member.
 
 /// Lines that are refused while nothing was written.
 const REFUSED: &str = r#"{"info":true

@@ -1,7 +1,9 @@
-// What a stop within a call on the folder leaves of the lines that were answered.
+//! What a stop within a call on the folder leaves of the lines that were answered.
+
 use crate::replies::reply_in;
 use crash_disk::MemoryFolder;
 use std::test::Fail;
+use test_tools::may_be_left;
 use view_ports::FieldServers;
 
 const LINES: [&str; 4] = [
@@ -20,17 +22,6 @@ const COUNTS: [&str; 5] = [
     "{\"doc_count\":2,\"doc_del_count\":1,\"update_seq\":4}\n",
 ];
 
-/// Whether a stop within this call may leave these counts, where the lines ended at these calls: the counts of the lines before
-/// it, or those of its line too.
-fn may_be_left(ends: &[u64], call: u64, counts: &[u8]) -> bool {
-    let done = ends.iter().filter(|end| **end <= call).count();
-    COUNTS
-        .iter()
-        .skip(done)
-        .take(2)
-        .any(|want| want.as_bytes() == counts)
-}
-
 #[test]
 fn a_stop_within_any_call_leaves_first_lines(rt: HostRuntime) -> Result<(), Fail> {
     let alloc = rt.alloc();
@@ -46,7 +37,7 @@ fn a_stop_within_any_call_leaves_first_lines(rt: HostRuntime) -> Result<(), Fail
             let mut image = folder.image_at(alloc, call, choice)?;
             let counts = reply_in(alloc, &mut image, &mut servers, "{\"info\":true}")?;
             assert!(rt;
-                may_be_left(&ends, call, &counts),
+                may_be_left(&COUNTS, &ends, call, &counts),
                 "call {call}, choice {choice}"
             );
         }

@@ -1,4 +1,5 @@
-// The changes since a write.
+//! The changes since a write.
+
 use crate::documents::{folder_of, since, told};
 use std::test::Fail;
 

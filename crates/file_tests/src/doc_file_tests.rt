@@ -1,4 +1,5 @@
-// Revisions, root records, and which writes are accepted.
+//! Revisions, root records, and which writes are accepted.
+
 use doc_file::{
     DocFault, LastWrite, Rev, RootRecord, is_revision, may_delete, may_put, read_root, write_root,
 };

@@ -1,4 +1,5 @@
-// Files of documents, calls on documents that are opened anew, and their outcomes as bytes.
+//! Files of documents, calls on documents that are opened anew, and their outcomes as bytes.
+
 use crash_disk::MemoryFolder;
 use design_docs::{id_of, is_design_id};
 use doc_file::{Changes, DocFault, Docs, Rev};

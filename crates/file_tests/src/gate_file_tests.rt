@@ -1,4 +1,5 @@
-// Files whose commits are all or nothing: their bytes, what is found in them, and what failed calls and stops leave.
+//! Files whose commits are all or nothing: their bytes, what is found in them, and what failed calls and stops leave.
+
 use crate::documents::{DOCS, told};
 use crash_disk::MemoryFolder;
 use doc_file::DocFault;

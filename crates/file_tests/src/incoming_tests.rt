@@ -1,4 +1,5 @@
-// Documents that are put and deleted: what they must be, what of them is stored, and what the last write of an id allows.
+//! Documents that are put and deleted: what they must be, what of them is stored, and what the last write of an id allows.
+
 use crate::documents::{delete, put, since, told};
 use crash_disk::MemoryFolder;
 use doc_file::DocFault;

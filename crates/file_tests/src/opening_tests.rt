@@ -1,4 +1,5 @@
-// What is found in the documents' file when it is opened.
+//! What is found in the documents' file when it is opened.
+
 use crate::documents::{folder_of, told};
 use crash_disk::MemoryFolder;
 use doc_file::{DocFault, Docs, Info, empty_folders_hold_no_writes};

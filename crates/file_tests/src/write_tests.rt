@@ -1,4 +1,5 @@
-// What a stop within a call on the folder leaves of the documents.
+//! What a stop within a call on the folder leaves of the documents.
+
 use crate::documents::{delete, put, since};
 use crash_disk::MemoryFolder;
 use doc_file::{DocFault, Rev};

@@ -6,7 +6,7 @@ use Rattle.view_ports.specs.File.{File, IsIn, IsOneOf, IsImage, settled, grew, s
 use Rattle.gate_file.specs.declared.root.Root.{Root}
 use Rattle.gate_file.specs.declared.gate.GateFile.{GateFile}
 use Rattle.gate_file.specs.Header.{place_of, slot_at, IsOpen, open_root}
-use Rattle.gate_file.specs.Shown.{Shows, KeepsDurable, IsFront}
+use Rattle.gate_file.specs.Shown.{HasAll, Shows, KeepsDurable, IsFront}
 use Rattle.gate_file.specs.GateFile.{IsOlder, Keeps, start_of, appended, IsAppended}
 use Rattle.gate_file.specs.Append.{IsZeros, IsGrown, IsMade}
 use Rattle.gate_file.specs.Commit.{Holds}
@@ -141,14 +141,19 @@ module _ (gate : GateFile) (file : File) (keeps : Keeps gate file) where
     pub there_shows : (image : List ℕ) → IsImage file image → Shows gate.root file.durable image
     there_shows image is = durable_shows gate.commits gate.root file image keeps.durable (keeps_holds gate file some keeps) is
 
+pub has_all_then : (a b c : List ℕ) → HasAll a b → HasAll b c → HasAll a c
+has_all_then a b c first second = record {
+  long = omega (arith, first.long, second.long);
+  rest = λ place behind within. second.rest place behind (omega (arith, first.long)) ∙ first.rest place behind within;
+}
+
 -- what is shown of the bytes that are shown
 pub shows_then : (root : Option Root) (a b c : List ℕ) → Shows root a b → Shows root b c → Shows root a c
 shows_then root a b c first second = record {
   names = second.names;
   low = second.low;
   high = second.high;
-  long = omega (arith, first.long, second.long);
-  rest = λ place behind within. second.rest place behind (omega (arith, first.long)) ∙ first.rest place behind within;
+  has = has_all_then a b c first.has second.has;
 }
 
 -- Bytes are added to a file that is made.

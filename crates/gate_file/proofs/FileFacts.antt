@@ -1,11 +1,12 @@
 -- What a crash leaves of a file of which nothing durable may be lost, and its states between the steps of a commit.
-use Rattle.std.proofs.Common.{◌≡◌, ◌⊎◌, inl, inr, ℕ, ◌+◌, ◌<◌, ◌≤◌, List, [], ◌∷◌, length, get_or, take, drop, Option, refl, ◌∙◌, arith}
+use Rattle.std.proofs.Common.{◌≡◌, ◌⊎◌, inl, inr, ℕ, ◌+◌, ◌<◌, ◌≤◌, List, [], ◌∷◌, length, get_or, take, drop, Option, refl, sym, ap, ◌∙◌, arith, length-take, length-drop}
 use Rattle.std.proofs.lemmas.Bool.{cases_lt}
 use Rattle.view_ports.specs.File.{File, IsIn, IsOneOf, IsImage, settled, splice, wrote}
 use Rattle.view_ports.proofs.Images.{length-splice, splice_before, splice_behind}
 use Rattle.gate_file.specs.declared.root.Root.{Root}
-use Rattle.gate_file.specs.Header.{slot_at}
-use Rattle.gate_file.specs.Shown.{KeepsDurable, Shows}
+use Rattle.gate_file.specs.Header.{data_start, slot_at}
+use Rattle.gate_file.specs.Shown.{HasAll, KeepsDurable, Shows}
+use Rattle.gate_file.specs.Open.{IsPart}
 use Rattle.gate_file.specs.Commit.{Continues}
 use Rattle.gate_file.proofs.Windows.{window-same, part_same}
 
@@ -125,8 +126,10 @@ module _ {root : Option Root} where
     names = shows.names;
     low = shows.low;
     high = shows.high;
-    long = omega (arith, shows.long, continues.long);
-    rest = λ place behind within. shows.rest place behind (omega (arith, continues.long)) ∙ continues.durable place behind within;
+    has = record {
+      long = omega (arith, shows.has.long, continues.long);
+      rest = λ place behind within. shows.has.rest place behind (omega (arith, continues.long)) ∙ continues.durable place behind within;
+    };
   }
 
   pub shows_seen : (old new : File) (image : List ℕ) → Continues old new → Shows root new.seen image → Shows root old.seen image
@@ -134,11 +137,23 @@ module _ {root : Option Root} where
     names = shows.names;
     low = shows.low;
     high = shows.high;
-    long = omega (arith, shows.long, continues.size);
-    rest = λ place behind within. shows.rest place behind (omega (arith, continues.size)) ∙ continues.seen place behind within;
+    has = record {
+      long = omega (arith, shows.has.long, continues.size);
+      rest = λ place behind within. shows.has.rest place behind (omega (arith, continues.size)) ∙ continues.seen place behind within;
+    };
   }
 
--- a part behind the slots stands in what shows the bytes as it stands in the bytes
-pub shows_part : (root : Option Root) (bytes image : List ℕ) (offset count : ℕ) → Shows root bytes image → 8192 ≤ offset → offset + count ≤ length bytes → take count (drop offset image) ≡ take count (drop offset bytes)
-shows_part root bytes image offset count shows behind fits =
-    part_same image bytes offset count (omega (arith, shows.long)) fits (λ i within. shows.rest (offset + i) (omega arith) (omega arith))
+-- a part behind the slots stands in what has all of the bytes as it stands in the bytes
+part_kept : (bytes image : List ℕ) (offset count : ℕ) → HasAll bytes image → data_start ≤ offset → offset + count ≤ length bytes → take count (drop offset image) ≡ take count (drop offset bytes)
+part_kept bytes image offset count has behind fits =
+    part_same image bytes offset count (omega (arith, has.long)) fits (λ i within. has.rest (offset + i) (omega arith) (omega arith))
+
+pub part_carried : (bytes image : List ℕ) → HasAll bytes image → (offset count : ℕ) (part : List ℕ) → data_start ≤ offset → IsPart bytes offset count part → IsPart image offset count part
+part_carried bytes image has offset count part behind is = record { long = is.long; same = is.same ∙ sym (same_bytes (cases_lt 0 count)) }
+  where
+    same_bytes : (0 < count) ⊎ (count ≤ 0) → take count (drop offset image) ≡ take count (drop offset bytes)
+    same_bytes (inl some) =
+        let whole : length (take count (drop offset bytes)) ≡ count = sym (ap length is.same) ∙ is.long in
+        part_kept bytes image offset count has behind (omega (arith, length-take count (drop offset bytes), length-drop offset bytes))
+    same_bytes (inr none) = let zero_there : count ≡ 0 = omega arith in
+        ap (λ n. take n (drop offset image)) zero_there ∙ sym (ap (λ n. take n (drop offset bytes)) zero_there)

@@ -9,3 +9,9 @@ pub mod Appends
 pub mod Looks
 pub mod Pairs
 pub mod Openings
+pub mod Images
+pub mod Taken
+pub mod Beside
+pub mod Opened
+pub mod Published
+pub mod Stretches

@@ -98,7 +98,7 @@ pub found-same : (name : FileName) (size : ℕ) (low high : Option Root) (bytes 
 found-same name size low high bytes p q r = λ i. found_from name (p i) (q i) (r i)
 
 -- What a file with an open gate keeps by itself.
-option_cases : (o : Option Root) → (o ≡ None) ⊎ ((root : Root) × (o ≡ Some root))
+pub option_cases : (o : Option Root) → (o ≡ None) ⊎ ((root : Root) × (o ≡ Some root))
 option_cases None = inl refl
 option_cases (Some root) = inr (root, refl)
 

@@ -9,11 +9,8 @@ use Rattle.gate_file.specs.declared.root.Root.{Root}
 use Rattle.gate_file.specs.declared.gate.GateFile.{GateFile}
 use Rattle.gate_file.specs.Open.{side_of, opened, IsDropped, BeforeOpening, WhileOpening, IsOpened, IsPair, IsSettledPair}
 use Rattle.gate_file.proofs.Cuts.{Cut}
+use Rattle.gate_file.proofs.Looks.{option_cases}
 use Rattle.gate_file.proofs.Pairs.{sides, apart, emptied_one, emptied_both, name_is, has_root, taken, taken_new, opens_second, opens_first, opens_new}
-
-root_cases : (o : Option Root) → (o ≡ None) ⊎ ((root : Root) × (o ≡ Some root))
-root_cases None = inl refl
-root_cases (Some root) = inr (root, refl)
 
 -- nothing is said of what is opened where nothing is
 pub failed_open : {T E : Type 0} (result : Result T E) (P : T → Type 0) → IsErr result → IfOk result P
@@ -57,7 +54,7 @@ module _ (stem : Stem) (a b : Disk FileName) (first second : GateFile) (pair : I
   dropped_second falls = ⊎_elim
       (λ none. dropped_new (side_of stem true) falls none)
       (λ some. dropped_other first (side_of stem false) (side_of stem true) (opens_first stem a.now first second pair falls some.0 some.1) first_name (apart stem))
-      (root_cases first.root)
+      (option_cases first.root)
 
   -- The second is taken.
   pub take_second : first.commits < second.commits → (E : File → File → Type 0) (X : (FileName → File) → Type 0) (c : Disk FileName)

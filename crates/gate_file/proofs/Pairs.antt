@@ -165,10 +165,10 @@ module _ (gate : GateFile) (name : FileName) (bytes : List ℕ) (is : gate ≡ f
   pub name_is : gate.name ≡ name
   name_is = ap (λ (g : GateFile). g.name) is ∙ found_name name (length bytes) (open_root (slot_at bytes 0)) (open_root (slot_at bytes 4096)) (newer (open_root (slot_at bytes 0)) (open_root (slot_at bytes 4096)))
 
-  length_is : gate.length ≡ length bytes
+  pub length_is : gate.length ≡ length bytes
   length_is = ap (λ (g : GateFile). g.length) is ∙ found_length name (length bytes) (open_root (slot_at bytes 0)) (open_root (slot_at bytes 4096)) (newer (open_root (slot_at bytes 0)) (open_root (slot_at bytes 4096)))
 
-  root_is : gate.root ≡ newer (open_root (slot_at bytes 0)) (open_root (slot_at bytes 4096))
+  pub root_is : gate.root ≡ newer (open_root (slot_at bytes 0)) (open_root (slot_at bytes 4096))
   root_is = ap (λ (g : GateFile). g.root) is ∙ found_root name (length bytes) (open_root (slot_at bytes 0)) (open_root (slot_at bytes 4096)) (newer (open_root (slot_at bytes 0)) (open_root (slot_at bytes 4096)))
 
   pub has_root : 0 < gate.commits → (root : Root) × (gate.root ≡ Some root)
@@ -187,7 +187,7 @@ module _ (gate : GateFile) (name : FileName) (bytes : List ℕ) (is : gate ≡ f
   }
 
   -- the object that is opened, where it has none
-  rootless : gate.root ≡ None → gate ≡ record { name = name; length = length bytes; commits = 0; root = None; next_is_open = false }
+  pub rootless : gate.root ≡ None → gate ≡ record { name = name; length = length bytes; commits = 0; root = None; next_is_open = false }
   rootless none = is ∙ ap (λ o. found_newest name (length bytes) (open_root (slot_at bytes 0)) (open_root (slot_at bytes 4096)) o) (sym root_is ∙ none)
 
   empty_closed : (at : ℕ) → IsOpen (slot_at [] at) → ⊥

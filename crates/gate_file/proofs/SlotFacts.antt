@@ -99,15 +99,13 @@ shows_at k root bytes image last next fit fit' long rest = elim (places k) [
     names = newest_at image k root last next;
     low = subst (λ at. IsFit at image) even.0 fit;
     high = subst (λ at. IsFit at image) even.1 fit';
-    long = long;
-    rest = rest;
+    has = record { long = long; rest = rest };
   }
   | inr odd ↦ record {
     names = newest_at image k root last next;
     low = subst (λ at. IsFit at image) odd.1 fit';
     high = subst (λ at. IsFit at image) odd.0 fit;
-    long = long;
-    rest = rest;
+    has = record { long = long; rest = rest };
   }
 ]
 

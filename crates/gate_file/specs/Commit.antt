@@ -4,7 +4,7 @@ use Rattle.std.specs.Int.{to_le_bytes, w64}
 use Rattle.view_ports.specs.File.{File, settled}
 use Rattle.gate_file.specs.declared.root.Root.{Root}
 use Rattle.gate_file.specs.declared.gate.GateFile.{GateFile}
-use Rattle.gate_file.specs.Header.{slot_at, place_of, IsOpen, IsFit, open_root}
+use Rattle.gate_file.specs.Header.{data_start, slot_at, place_of, IsOpen, IsFit, open_root}
 use Rattle.gate_file.specs.Shown.{KeepsDurable}
 use Rattle.gate_file.specs.GateFile.{IsOlder}
 
@@ -19,7 +19,7 @@ pub record HasHeader (root : Root) (slot : List ℕ) : Type 0 where
 
 -- the bytes have this root in the slot of commit `k`, and an older one or none in the slot of the next
 pub record Holds (k : ℕ) (root : Option Root) (bytes : List ℕ) : Type 0 where
-  pub made : 8192 ≤ length bytes
+  pub made : data_start ≤ length bytes
   pub last : open_root (slot_at bytes (place_of k)) ≡ root
   pub next : IsOlder (open_root (slot_at bytes (place_of (k + 1)))) root
   pub fit : IsFit (place_of k) bytes
@@ -28,9 +28,9 @@ pub record Holds (k : ℕ) (root : Option Root) (bytes : List ℕ) : Type 0 wher
 -- one file's bytes behind the slots go on as another's: all durable ones, and all that are seen
 pub record Continues (old new : File) : Type 0 where
   pub size : length new.seen ≡ length old.seen
-  pub seen : (place : ℕ) → 8192 ≤ place → place < length old.seen → slice_index new.seen place ≡ slice_index old.seen place
+  pub seen : (place : ℕ) → data_start ≤ place → place < length old.seen → slice_index new.seen place ≡ slice_index old.seen place
   pub long : length old.durable ≤ length new.durable
-  pub durable : (place : ℕ) → 8192 ≤ place → place < length old.durable → slice_index new.durable place ≡ slice_index old.durable place
+  pub durable : (place : ℕ) → data_start ≤ place → place < length old.durable → slice_index new.durable place ≡ slice_index old.durable place
 
 -- the gate of the slot of the next commit is closed
 pub record IsReady (gate : GateFile) (file : File) : Type 0 where
@@ -50,5 +50,5 @@ pub record IsStaged (gate : GateFile) (root : Root) (file : File) : Type 0 where
 pub record IsNext (gate : GateFile) (root : Root) : Type 0 where
   pub number : root.number ≡ gate.commits + 1
   pub most : root.number ≤ 2 ^ 50
-  pub behind : 8192 ≤ root.offset
+  pub behind : data_start ≤ root.offset
   pub within : root.offset + root.length ≤ gate.length

@@ -1,10 +1,10 @@
 -- What a gate file keeps, and what its calls do.
-use Rattle.std.specs.Prelude.{◌≡◌, ℕ, ◌+◌, ◌<◌, ◌≤◌, List, [], ◌++◌, length, Option, Some, None, IfSome, IsTrue, ◌↔◌, max, is_some}
+use Rattle.std.specs.Prelude.{◌≡◌, ℕ, ◌+◌, ◌<◌, ◌≤◌, List, [], ◌++◌, length, Option, Some, None, option_map, IfSome, IsTrue, ◌↔◌, max, is_some}
 use Rattle.view_ports.specs.File.{File, settled}
 use Rattle.view_ports.specs.declared.file_name.FileName.{FileName}
 use Rattle.gate_file.specs.declared.root.Root.{Root}
 use Rattle.gate_file.specs.declared.gate.GateFile.{GateFile}
-use Rattle.gate_file.specs.Header.{slot_at, place_of, IsOpen, IsFit, open_root}
+use Rattle.gate_file.specs.Header.{data_start, slot_at, place_of, IsOpen, IsFit, open_root}
 use Rattle.gate_file.specs.Shown.{Shows, KeepsDurable, IsFront}
 
 abbrev pub name_of : GateFile → FileName
@@ -22,6 +22,10 @@ commits_of gate = gate.commits
 abbrev pub root_of : GateFile → Option Root
 root_of gate = gate.root
 
+-- the place and the length of the root record
+abbrev pub root_record : GateFile → Option (ℕ × ℕ)
+root_record gate = option_map (λ root. (root.offset, root.length)) (root_of gate)
+
 -- what is in the slot is older than the root
 abbrev pub IsOlder : Option Root → Option Root → Type 0
 IsOlder None root = Unit {0}
@@ -33,7 +37,7 @@ IsOlder (Some old) (Some root) = old.number < root.number
 pub record Keeps (gate : GateFile) (file : File) : Type 0 where
   pub size : length file.seen ≡ gate.length
   pub new : gate.length ≡ 0 → file ≡ settled []
-  pub made : 0 < gate.length → 8192 ≤ length file.durable
+  pub made : 0 < gate.length → data_start ≤ length file.durable
   pub durable : KeepsDurable file
   pub last : open_root (slot_at file.durable (place_of gate.commits)) ≡ gate.root
   pub counted : IfSome gate.root (λ root. root.number ≡ gate.commits)
@@ -44,7 +48,7 @@ pub record Keeps (gate : GateFile) (file : File) : Type 0 where
 
 -- the place of the next bytes that are appended: the end of the file, or behind the slots of a new one
 abbrev pub start_of : GateFile → ℕ
-start_of gate = max 8192 gate.length
+start_of gate = max data_start gate.length
 
 -- the object after so many bytes were appended
 abbrev pub appended : GateFile → ℕ → GateFile

@@ -10,6 +10,10 @@ use Rattle.gate_file.specs.declared.slot.Slot.TheVariants.{Closed, Open, Damaged
 unfoldable pub window : List ℕ → ℕ → ℕ → List ℕ
 window bytes at count = map (λ i. slice_index bytes (at + i)) (range_with_len 0 count)
 
+-- where the data of a file begins: behind its two slots
+abbrev pub data_start : ℕ
+data_start = 8192
+
 -- the place of the slot of the commit with this number
 abbrev pub place_of : ℕ → ℕ
 place_of number = 4096 * (number % 2)
@@ -40,7 +44,7 @@ pub record IsSound (at size : ℕ) (slot : List ℕ) : Type 0 where
   pub from_one : 0 < (root_in slot).number
   pub to_most : (root_in slot).number ≤ 2 ^ 50
   pub own_place : place_of (root_in slot).number ≡ at
-  pub behind_slots : 8192 ≤ (root_in slot).offset
+  pub behind_slots : data_start ≤ (root_in slot).offset
   pub within : (root_in slot).offset + (root_in slot).length ≤ size
 
 -- the slot is closed, or sound

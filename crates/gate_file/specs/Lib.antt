@@ -4,3 +4,9 @@ pub mod GateFile
 pub mod Commit
 pub mod Append
 pub mod Open
+pub mod Pair
+pub mod RootPlace
+pub mod Publish
+pub mod Calls
+pub mod Opens
+pub mod Steps

@@ -33,9 +33,13 @@ side_of stem side = record { stem = stem; side = side }
 abbrev pub opened_of : GateFile → GateFile → GateFile
 opened_of first second = if nat_lt first.commits second.commits then second else if is_none first.root then record first { length = 0 } else first
 
+-- the side of a pair that is opened, as an image of the disk has it
+abbrev pub side_in : Stem → (FileName → List ℕ) → GateFile
+side_in stem image = opened_of (found (side_of stem false) (image (side_of stem false))) (found (side_of stem true) (image (side_of stem true)))
+
 -- what is opened in a folder with these files
 abbrev pub opened : Stem → (FileName → File) → GateFile
-opened stem files = opened_of (found (side_of stem false) (files (side_of stem false)).seen) (found (side_of stem true) (files (side_of stem true)).seen)
+opened stem files = side_in stem (λ name. (files name).seen)
 
 -- a side that is emptied: one that isn't opened, or that has no root
 abbrev pub IsDropped : GateFile → FileName → Type 0
@@ -67,6 +71,10 @@ slots_of stem = (side_of stem false, 0) ∷ (side_of stem false, 4096) ∷ (side
 
 abbrev pub IsFitSlot : (FileName → File) → FileName × ℕ → Type 0
 IsFitSlot files slot = IsFit slot.1 (files slot.0).seen
+
+-- no slot of the pair is damaged
+abbrev pub AreFitSlots : Stem → (FileName → File) → Type 0
+AreFitSlots stem files = All (IsFitSlot files) (slots_of stem)
 
 -- the first slot of a pair that is damaged
 pub record IsFirstDamage (stem : Stem) (files : FileName → File) (name : FileName) (at : ℕ) : Type 0 where

@@ -1,6 +1,7 @@
 //! A file whose commits are all or nothing.
 
 mod open;
+mod publish;
 
 use crate::fault::GateFault;
 use crate::root::{DATA, MAX_COMMITS, MAX_LENGTH, Root, place_of};
@@ -22,19 +23,17 @@ pub struct GateFile {
 }
 
 impl GateFile {
-    ghost use Rattle.std.specs.Prelude.{◌≡◌, ◌↔◌, ◌⊎◌, ◌+◌, ◌<◌, ◌≤◌, ◌^◌, Some, None, length, option_map, OnOk, OnErr, IfOk, IfErr, IfSome};
-    ghost use Rattle.view_ports.specs.Causes.{HasCauseIf};
-    ghost use Rattle.view_ports.specs.Disk.{IfTold, Tells, MovesFile};
+    ghost use Rattle.std.specs.Prelude.{◌≡◌, ◌↔◌, ◌⊎◌, ◌+◌, ◌<◌, ◌≤◌, ◌^◌, Some, length, OnOk, OnErr, IfOk, IfErr, IfSome, IsTrue};
     ghost use Rattle.view_ports.specs.Faults.{HasCause};
-    ghost use Rattle.gate_file.specs.Header.{place_of};
-    ghost use Rattle.gate_file.specs.Shown.{Shows};
-    ghost use Rattle.gate_file.specs.GateFile.{name_of, length_of, commits_of, root_of, start_of, appended, next_root, committed, Keeps, IsAppended, IsCommitted};
+    ghost use Rattle.gate_file.specs.Header.{data_start, place_of};
+    ghost use Rattle.gate_file.specs.GateFile.{name_of, length_of, commits_of, root_record, start_of, appended, next_root, committed};
     ghost use Rattle.gate_file.specs.Append.{IsMade};
+    ghost use Rattle.gate_file.specs.Calls.{too_long, used_up, Appends, Commits, IsCounted, KeepsIn, KeepsRoot, Moved, Told};
     ghost use Rattle.gate_file.specs.Commit.{Continues, IsNext, IsReady, IsStaged};
 
     /// The place and the length of the root record of the last commit, where there is one.
     pub fn root(&self) -> Option<(u64, u64)>
-        ensures { result ≡ option_map (λ root. record { 0 = root.offset; 1 = root.length }) (root_of self.now) }
+        ensures { result ≡ root_record self.now }
     {
         self.root.map(|root| (root.offset, root.length))
     }
@@ -60,8 +59,9 @@ impl GateFile {
         self.length
     }
 
-    /// The place of the next bytes that are appended.
-    fn start(&self) -> u64
+    /// The place of the next bytes that are appended: the end of the file, or behind the slots of a
+    /// new one, which is 8,192.
+    pub fn start(&self) -> u64
         ensures { result ≡ start_of self.now }
     {
         self.length.max(DATA)
@@ -69,9 +69,9 @@ impl GateFile {
 
     /// Makes room for the slots, where the file is new.
     fn make<F: Folder>(&self, folder: &mut F) -> Result<(), PortFault>
-        requires { IfTold (F.disk folder.old) (λ d. Keeps self.now (d.now self.now.name)) }
-        ensures disk { Tells (F.disk folder.old) (F.disk folder.new)
-            (MovesFile self.now.name (λ file image. Shows self.now.root file.durable image) (λ file now. OnOk result (IsMade self.now file now))) }
+        requires { Told F.Folder folder.old (KeepsIn self.now) }
+        ensures disk { Moved F.Folder folder.old folder.new
+            (KeepsRoot self.now result (IsMade self.now)) }
         ensures cause { HasCause (F.faults folder.old) (F.faults folder.new) result }
         ensures reads { F.reads folder.new ≡ F.reads folder.old }
     {
@@ -82,22 +82,27 @@ impl GateFile {
         Ok(())
     }
 
+    /// Whether the file may get so many bytes more.
+    fn has_room(&self, count: u64) -> bool
+        ensures { IsTrue result ↔ (start_of self.now + count ≤ 2 ^ 40) }
+    {
+        let start = self.start();
+        start <= MAX_LENGTH && count <= MAX_LENGTH - start
+    }
+
     /// Adds bytes at the end of the file, and answers where they stand. A new file is made first, with
     /// 8,192 bytes that come on top. At each moment a crash leaves the root and what was durable. After
     /// a fault the object is not to be used again.
     pub fn append<F: Folder>(&mut self, folder: &mut F, bytes: &[u8]) -> Result<u64, GateFault>
-        requires { IfTold (F.disk folder.old) (λ d. Keeps self.old (d.now (name_of self.old))) }
+        requires { Told F.Folder folder.old (KeepsIn self.old) }
         ensures place { IfOk result (λ at. at ≡ start_of self.old) }
         ensures done { OnOk result (self.new ≡ appended self.old (length bytes.now)) }
-        ensures disk { Tells (F.disk folder.old) (F.disk folder.new)
-            (MovesFile (name_of self.old)
-            (λ file image. Shows (root_of self.old) file.durable image)
-            (λ file now. OnOk result (IsAppended (appended self.old (length bytes.now)) bytes.now file now))) }
+        ensures disk { Moved F.Folder folder.old folder.new (Appends self.old bytes.now result) }
 
         // It fails exactly where the file would be too long, and where the disk fails.
-        ensures full { (2 ^ 40 < start_of self.old + length bytes.now) ↔ (result ≡ Err (GateFault.Full (name_of self.old) (Some (length_of self.old)))) }
-        ensures faults { IfErr result (λ e. (e ≡ GateFault.DiskFault) ⊎ (e ≡ GateFault.Full (name_of self.old) (Some (length_of self.old)))) }
-        ensures cause { HasCauseIf (λ e. e ≡ GateFault.DiskFault) (F.faults folder.old) (F.faults folder.new) result }
+        ensures full { (2 ^ 40 < start_of self.old + length bytes.now) ↔ (result ≡ Err (too_long self.old)) }
+        ensures faults { IfErr result (λ e. (e ≡ GateFault.DiskFault) ⊎ (e ≡ too_long self.old)) }
+        ensures cause { IsCounted F.Folder folder.old folder.new result }
 
         ensures err { OnErr result (self.new ≡ self.old) }
         ensures untouched { 2 ^ 40 < start_of self.old + length bytes.now → folder.new ≡ folder.old }
@@ -105,7 +110,7 @@ impl GateFile {
     {
         let start = self.start();
         let count = bytes.len() as u64;
-        if start > MAX_LENGTH || count > MAX_LENGTH - start {
+        if !self.has_room(count) {
             return Err(GateFault::Full {
                 name: self.name,
                 length: Some(self.length),
@@ -129,9 +134,9 @@ impl GateFile {
     fn shut<F: Folder>(&self, folder: &mut F) -> Result<(), PortFault>
         requires few { self.now.commits < 2 ^ 50 }
         requires made { 0 < self.now.length }
-        requires keeps { IfTold (F.disk folder.old) (λ d. Keeps self.now (d.now self.now.name)) }
-        ensures disk { Tells (F.disk folder.old) (F.disk folder.new)
-            (MovesFile self.now.name (λ file image. Shows self.now.root file.durable image) (λ file now. OnOk result (IsReady self.now now × Continues file now))) }
+        requires keeps { Told F.Folder folder.old (KeepsIn self.now) }
+        ensures disk { Moved F.Folder folder.old folder.new
+            (KeepsRoot self.now result (λ file now. IsReady self.now now × Continues file now)) }
         ensures cause { HasCause (F.faults folder.old) (F.faults folder.new) result }
         ensures reads { F.reads folder.new ≡ F.reads folder.old }
     {
@@ -146,9 +151,9 @@ impl GateFile {
     /// appended.
     fn stage<F: Folder>(&self, folder: &mut F, root: Root) -> Result<(), PortFault>
         requires few { self.now.commits < 2 ^ 50 }
-        requires ready { IfTold (F.disk folder.old) (λ d. IsReady self.now (d.now self.now.name)) }
-        ensures disk { Tells (F.disk folder.old) (F.disk folder.new)
-            (MovesFile self.now.name (λ file image. Shows self.now.root file.durable image) (λ file now. OnOk result (IsStaged self.now root now × Continues file now))) }
+        requires ready { Told F.Folder folder.old (λ d. IsReady self.now (d.now self.now.name)) }
+        ensures disk { Moved F.Folder folder.old folder.new
+            (KeepsRoot self.now result (λ file now. IsStaged self.now root now × Continues file now)) }
         ensures cause { HasCause (F.faults folder.old) (F.faults folder.new) result }
         ensures reads { F.reads folder.new ≡ F.reads folder.old }
     {
@@ -157,16 +162,15 @@ impl GateFile {
     }
 
     /// Opens the gate of the next commit.
-    fn publish<F: Folder>(&mut self, folder: &mut F, root: Root) -> Result<(), PortFault>
+    fn open_gate<F: Folder>(&mut self, folder: &mut F, root: Root) -> Result<(), PortFault>
         requires few { self.old.commits < 2 ^ 50 }
         requires next { IsNext self.old root }
-        requires known { IfTold (F.disk folder.old) (λ d. IfSome self.old.root (λ r. r.number ≡ self.old.commits)) }
-        requires staged { IfTold (F.disk folder.old) (λ d. IsStaged self.old root (d.now self.old.name)) }
+        requires known { Told F.Folder folder.old
+            (λ d. IfSome self.old.root (λ r. r.number ≡ self.old.commits)) }
+        requires staged { Told F.Folder folder.old (λ d. IsStaged self.old root (d.now self.old.name)) }
         ensures done { OnOk result (self.new ≡ committed self.old root) }
         ensures err { OnErr result (self.new ≡ self.old) }
-        ensures disk { Tells (F.disk folder.old) (F.disk folder.new)
-            (MovesFile self.old.name (λ file image. Shows self.old.root file.durable image ⊎ Shows (Some root) file.seen image)
-            (λ file now. OnOk result (IsCommitted (committed self.old root) file now))) }
+        ensures disk { Moved F.Folder folder.old folder.new (Commits self.old root result) }
         ensures cause { HasCause (F.faults folder.old) (F.faults folder.new) result }
         ensures reads { F.reads folder.new ≡ F.reads folder.old }
     {
@@ -186,18 +190,16 @@ impl GateFile {
         root: u64,
         len: u64,
     ) -> Result<(), GateFault>
-        requires keeps { IfTold (F.disk folder.old) (λ d. Keeps self.old (d.now (name_of self.old))) }
-        requires inside { (8192 ≤ root) × (root + len ≤ length_of self.old) }
+        requires keeps { Told F.Folder folder.old (KeepsIn self.old) }
+        requires inside { (data_start ≤ root) × (root + len ≤ length_of self.old) }
         ensures done { OnOk result (self.new ≡ committed self.old (next_root self.old root len)) }
-        ensures disk { Tells (F.disk folder.old) (F.disk folder.new)
-            (MovesFile (name_of self.old)
-            (λ file image. Shows (root_of self.old) file.durable image ⊎ Shows (Some (next_root self.old root len)) file.seen image)
-            (λ file now. OnOk result (IsCommitted (committed self.old (next_root self.old root len)) file now))) }
+        ensures disk { Moved F.Folder folder.old folder.new
+            (Commits self.old (next_root self.old root len) result) }
 
         // It fails exactly where the file has all of its commits, and where the disk fails.
-        ensures full { (2 ^ 50 ≤ commits_of self.old) ↔ (result ≡ Err (GateFault.Full (name_of self.old) None)) }
-        ensures faults { IfErr result (λ e. (e ≡ GateFault.DiskFault) ⊎ (e ≡ GateFault.Full (name_of self.old) None)) }
-        ensures cause { HasCauseIf (λ e. e ≡ GateFault.DiskFault) (F.faults folder.old) (F.faults folder.new) result }
+        ensures full { (2 ^ 50 ≤ commits_of self.old) ↔ (result ≡ Err (used_up self.old)) }
+        ensures faults { IfErr result (λ e. (e ≡ GateFault.DiskFault) ⊎ (e ≡ used_up self.old)) }
+        ensures cause { IsCounted F.Folder folder.old folder.new result }
 
         ensures err { OnErr result (self.new ≡ self.old) }
         ensures untouched { 2 ^ 50 ≤ commits_of self.old → folder.new ≡ folder.old }
@@ -216,7 +218,7 @@ impl GateFile {
         };
         self.shut(folder)?;
         self.stage(folder, next)?;
-        self.publish(folder, next)?;
+        self.open_gate(folder, next)?;
         Ok(())
     }
 }

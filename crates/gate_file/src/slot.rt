@@ -1,8 +1,9 @@
 //! The bytes of a slot, and what they say.
 
-ghost use Rattle.std.specs.Prelude.{◌≡◌, ◌+◌, ◌≤◌, ◌<◌, ◌^◌, ◌++◌, ◌↔◌, IsTrue, length, codes, slice_range};
-ghost use Rattle.std.specs.Int.{from_le_bytes, to_le_bytes, w64};
-ghost use Rattle.gate_file.specs.Header.{root_in, place_of, IsFound};
+ghost use Rattle.std.specs.Prelude.{◌≡◌, ◌+◌, ◌≤◌, ◌<◌, ◌^◌, ◌↔◌, IsTrue, length, slice_range};
+ghost use Rattle.std.specs.Int.{from_le_bytes, w64};
+ghost use Rattle.gate_file.specs.Commit.{header as header_bytes};
+ghost use Rattle.gate_file.specs.Header.{data_start, root_in, place_of, IsFound};
 
 use crate::root::{DATA, MAX_COMMITS, Root, place_of};
 
@@ -27,7 +28,7 @@ pub(crate) enum Slot {
 
 /// The bytes of a slot before its gate.
 pub(crate) fn header_of(root: Root) -> [u8; 32]
-    ensures { result ≡ codes "CVIEW001" ++ to_le_bytes w64 root.number ++ to_le_bytes w64 root.offset ++ to_le_bytes w64 root.length }
+    ensures { result ≡ header_bytes root }
 {
     let mut header = *b"CVIEW001........................";
     header[8..16].copy_from_slice(&root.number.to_le_bytes());
@@ -58,7 +59,7 @@ fn root_of(slot: &[u8]) -> Root
 
 /// Whether a record stands in the data of a file with this length.
 fn is_inside(root: Root, size: u64) -> bool
-    ensures { IsTrue result ↔ ((8192 ≤ root.offset) × (root.offset + root.length ≤ size)) }
+    ensures { IsTrue result ↔ ((data_start ≤ root.offset) × (root.offset + root.length ≤ size)) }
 {
     root.offset >= DATA && root.offset <= size && root.length <= size - root.offset
 }

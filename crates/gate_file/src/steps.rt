@@ -1,11 +1,14 @@
 //! The calls on a folder from which those on a gate file are made: each leaves the file synced, or
 //! only adds bytes behind those that are there.
 
-ghost use Rattle.std.specs.Prelude.{◌≡◌, ◌⊎◌, ◌+◌, ◌≤◌, ◌^◌, [], length, OnOk};
-ghost use Rattle.view_ports.specs.Disk.{IfTold, Tells, MovesFile};
+ghost use Rattle.std.specs.Prelude.{◌≡◌, ◌+◌, ◌≤◌, ◌^◌, [], length, OnOk};
+ghost use Rattle.view_ports.specs.Disk.{MovesFile};
 ghost use Rattle.view_ports.specs.Faults.{HasCause};
-ghost use Rattle.view_ports.specs.File.{IsImage, grew, settled, synced, wrote};
+ghost use Rattle.view_ports.specs.File.{grew, settled, wrote};
 ghost use Rattle.gate_file.specs.Append.{IsZeros, IsGrown};
+ghost use Rattle.gate_file.specs.Calls.{Moved, Told};
+ghost use Rattle.gate_file.specs.Opens.{Empties};
+ghost use Rattle.gate_file.specs.Steps.{Adds, SyncsStep};
 
 use view_ports::{FileName, Folder, PortFault};
 
@@ -16,9 +19,8 @@ pub(crate) fn put_synced<F: Folder>(
     at: u64,
     bytes: &[u8],
 ) -> Result<(), PortFault>
-    requires { IfTold (F.disk folder.old) (λ d. at + length bytes.now ≤ length (d.now name).seen) }
-    ensures disk { Tells (F.disk folder.old) (F.disk folder.new)
-        (MovesFile name (λ file image. IsImage (wrote at bytes.now file) image) (λ file now. OnOk result (now ≡ synced (wrote at bytes.now file)))) }
+    requires { Told F.Folder folder.old (λ d. at + length bytes.now ≤ length (d.now name).seen) }
+    ensures disk { Moved F.Folder folder.old folder.new (SyncsStep name (wrote at bytes.now) result) }
     ensures cause { HasCause (F.faults folder.old) (F.faults folder.new) result }
     ensures reads { F.reads folder.new ≡ F.reads folder.old }
 {
@@ -33,9 +35,8 @@ pub(crate) fn grow_synced<F: Folder>(
     name: FileName,
     by: u64,
 ) -> Result<(), PortFault>
-    requires { IfTold (F.disk folder.old) (λ d. length (d.now name).seen + by ≤ 2 ^ 40) }
-    ensures disk { Tells (F.disk folder.old) (F.disk folder.new)
-        (MovesFile name (λ file image. IsImage (grew by file) image) (λ file now. OnOk result (now ≡ synced (grew by file)))) }
+    requires { Told F.Folder folder.old (λ d. length (d.now name).seen + by ≤ 2 ^ 40) }
+    ensures disk { Moved F.Folder folder.old folder.new (SyncsStep name (grew by) result) }
     ensures cause { HasCause (F.faults folder.old) (F.faults folder.new) result }
     ensures reads { F.reads folder.new ≡ F.reads folder.old }
 {
@@ -51,8 +52,8 @@ pub(crate) fn grow_new<F: Folder>(
     size: u64,
 ) -> Result<(), PortFault>
     requires few { size ≤ 2 ^ 40 }
-    requires new { IfTold (F.disk folder.old) (λ d. d.now name ≡ settled []) }
-    ensures disk { Tells (F.disk folder.old) (F.disk folder.new)
+    requires new { Told F.Folder folder.old (λ d. d.now name ≡ settled []) }
+    ensures disk { Moved F.Folder folder.old folder.new
         (MovesFile name (λ file image. IsZeros image) (λ file now. OnOk result (IsGrown size now))) }
     ensures cause { HasCause (F.faults folder.old) (F.faults folder.new) result }
     ensures reads { F.reads folder.new ≡ F.reads folder.old }
@@ -68,10 +69,9 @@ pub(crate) fn add<F: Folder>(
     at: u64,
     bytes: &[u8],
 ) -> Result<(), PortFault>
-    requires { IfTold (F.disk folder.old) (λ d. (length (d.now name).seen ≡ at) × (at + length bytes.now ≤ 2 ^ 40)) }
-    ensures disk { Tells (F.disk folder.old) (F.disk folder.new)
-        (MovesFile name (λ file image. IsImage (wrote at bytes.now (grew (length bytes.now) file)) image)
-        (λ file now. OnOk result (now ≡ wrote at bytes.now (grew (length bytes.now) file)))) }
+    requires { Told F.Folder folder.old
+        (λ d. (length (d.now name).seen ≡ at) × (at + length bytes.now ≤ 2 ^ 40)) }
+    ensures disk { Moved F.Folder folder.old folder.new (Adds name at bytes.now result) }
     ensures cause { HasCause (F.faults folder.old) (F.faults folder.new) result }
     ensures reads { F.reads folder.new ≡ F.reads folder.old }
 {
@@ -82,8 +82,7 @@ pub(crate) fn add<F: Folder>(
 
 /// Takes all bytes away, and syncs the file.
 pub(crate) fn cut_synced<F: Folder>(folder: &mut F, name: FileName) -> Result<(), PortFault>
-    ensures disk { Tells (F.disk folder.old) (F.disk folder.new)
-        (MovesFile name (λ file image. IsImage file image ⊎ (image ≡ [])) (λ file now. OnOk result (now ≡ settled []))) }
+    ensures disk { Moved F.Folder folder.old folder.new (Empties name result) }
     ensures cause { HasCause (F.faults folder.old) (F.faults folder.new) result }
     ensures reads { F.reads folder.new ≡ F.reads folder.old }
 {

@@ -1,4 +1,5 @@
-// Copies of terms.
+//! Copies of terms.
+
 ghost use Rattle.std.specs.Prelude.{◌≡◌, map, IfOk};
 ghost use Rattle.json_terms.specs.Seen.{json};
 

@@ -1,4 +1,5 @@
-// Why a text is no term, and want of memory.
+//! Why a text is no term, and want of memory.
+
 ghost use Rattle.std.specs.Prelude.{◌≡◌};
 ghost use Rattle.json_terms.specs.declared.fault.TermFault.TheVariants.{NoMemory as OutOfMemory};
 

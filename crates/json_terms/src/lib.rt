@@ -7,6 +7,7 @@
 
 mod copy;
 mod fault;
+mod limits;
 mod look;
 mod read;
 mod rows;
@@ -15,6 +16,7 @@ mod write;
 
 pub use copy::copy_term;
 pub use fault::{NoMemory, TermFault};
+pub use limits::{DEPTH_LIMIT, DOCUMENT_DEPTH};
 pub use look::{depth_within, member};
 pub use read::read_term;
 pub use rows::{Emission, Emissions, RowLists};

@@ -1,4 +1,5 @@
-// Looking into a term. Nothing here takes memory.
+//! Looking into a term. Nothing here takes memory.
+
 ghost use Rattle.std.specs.Prelude.{◌≡◌, ◌≤◌, ◌↔◌, IsTrue, option_map};
 ghost use Rattle.json_terms.specs.Json.{depth, items_of, items_depth, members_of, members_depth};
 ghost use Rattle.json_terms.specs.Find.{find, member_of};

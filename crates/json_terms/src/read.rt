@@ -1,4 +1,5 @@
-// A term from the bytes of its JSON text.
+//! A term from the bytes of its JSON text.
+
 ghost use Rattle.std.specs.Prelude.{◌≡◌, ◌≢◌, ◌⊎◌, None, Some, IfOk, IfErr};
 ghost use Rattle.serde_json.specs.View.{view, items_view, members_view};
 ghost use Rattle.json_terms.specs.Json.{items_of, members_of};
@@ -6,13 +7,11 @@ ghost use Rattle.json_terms.specs.Seen.{json};
 ghost use Rattle.json_terms.specs.Reading.{reading, value_of, items_value_of, members_value_of};
 
 use crate::fault::TermFault;
+use crate::limits::DEPTH_LIMIT;
 use crate::look::depth_within;
 use crate::term::{Chars, Members, Term, Terms};
 use serde_json::{Map, Value};
 use std::alloc::Global;
-
-/// The deepest term that is read.
-const DEPTH_LIMIT: u32 = 100;
 
 /// The term that the bytes spell. Want of memory aside, the answer is what the definition `reading` says.
 ///
@@ -50,7 +49,8 @@ pub fn read_term(alloc: Global, bytes: &[u8]) -> Result<Term, TermFault>
 #[cycle(convert)]
 fn convert(alloc: Global, value: Value) -> Result<Term, TermFault>
     ensures ok { IfOk result (λ t. value_of (view value) ≡ Some (json t)) }
-    ensures err { IfErr result (λ e. ((e ≡ TermFault.NotWhole) × (value_of (view value) ≡ None)) ⊎ (e ≡ TermFault.NoMemory)) }
+    ensures err { IfErr result (λ e. ((e ≡ TermFault.NotWhole) × (value_of (view value) ≡ None))
+        ⊎ (e ≡ TermFault.NoMemory)) }
 {
     match value {
         Value::Null => Ok(Term::Null),
@@ -68,7 +68,8 @@ fn convert(alloc: Global, value: Value) -> Result<Term, TermFault>
 #[cycle(convert)]
 fn convert_items(alloc: Global, values: Vec<Value>) -> Result<Terms, TermFault>
     ensures ok { IfOk result (λ ts. items_value_of (items_view values.items) ≡ Some (items_of ts)) }
-    ensures err { IfErr result (λ e. ((e ≡ TermFault.NotWhole) × (items_value_of (items_view values.items) ≡ None)) ⊎ (e ≡ TermFault.NoMemory)) }
+    ensures err { IfErr result (λ e. ((e ≡ TermFault.NotWhole)
+        × (items_value_of (items_view values.items) ≡ None)) ⊎ (e ≡ TermFault.NoMemory)) }
 {
     let mut terms = Terms::with_capacity(alloc, values.len())?;
     for value in values {
@@ -79,8 +80,10 @@ fn convert_items(alloc: Global, values: Vec<Value>) -> Result<Terms, TermFault>
 
 #[cycle(convert)]
 fn convert_members(alloc: Global, map: Map<String, Value>) -> Result<Members, TermFault>
-    ensures ok { IfOk result (λ ms. members_value_of (members_view map.entries) ≡ Some (members_of ms)) }
-    ensures err { IfErr result (λ e. ((e ≡ TermFault.NotWhole) × (members_value_of (members_view map.entries) ≡ None)) ⊎ (e ≡ TermFault.NoMemory)) }
+    ensures ok { IfOk result (λ ms. members_value_of (members_view map.entries) ≡ Some
+        (members_of ms)) }
+    ensures err { IfErr result (λ e. ((e ≡ TermFault.NotWhole)
+        × (members_value_of (members_view map.entries) ≡ None)) ⊎ (e ≡ TermFault.NoMemory)) }
 {
     let mut members = Members::with_capacity(alloc, map.len().saturating_add(1))?;
     for (name, value) in map {

@@ -1,4 +1,5 @@
-// What map functions emit: lists of keys and values.
+//! What map functions emit: lists of keys and values.
+
 ghost use Rattle.std.specs.Prelude.{◌≡◌, ◌++◌, ◌∷◌, [], map, length, IfOk, OnOk, OnErr};
 
 use crate::fault::NoMemory;

@@ -1,4 +1,5 @@
-// Terms and the three types that their parts stand in. To contracts these are plain lists.
+//! Terms and the three types that their parts stand in. To contracts these are plain lists.
+
 ghost use Rattle.std.specs.Prelude.{◌≡◌, ◌↔◌, ◌++◌, ◌∷◌, [], List, map, string_bytes, IfOk, OnOk, OnErr, IsTrue, length};
 ghost use Rattle.json_terms.specs.Json.{Json, members_of};
 ghost use Rattle.json_terms.specs.Terms.{IsTerm, AreMembers, ComesAfter};
@@ -254,7 +255,8 @@ impl Members {
     /// Sets the member with this name: its value where the name is there, and else a new member where the order of the
     /// names wants it. Where memory runs out the members are as they were. It goes over the names in turn.
     pub fn insert(&mut self, name: Chars, value: Term) -> Result<(), NoMemory>
-        ensures ok { OnOk result (members_of self.new ≡ with_member name (json value) (members_of self.old)) }
+        ensures ok { OnOk result (members_of self.new ≡ with_member name (json value)
+            (members_of self.old)) }
         ensures err { OnErr result (self.new ≡ self.old) }
     {
         value.validity();

@@ -1,4 +1,5 @@
-// The text of a term.
+//! The text of a term.
+
 ghost use Rattle.std.specs.Prelude.{◌≡◌, ◌≢◌, ◌≤◌, ◌++◌, Ok, map, All, OnOk, OnErr};
 ghost use Rattle.json_terms.specs.Json.{string, depth, items_of, members_of};
 ghost use Rattle.json_terms.specs.Seen.{json, pair_of};
@@ -20,7 +21,8 @@ use std::mem;
 pub fn write_term(alloc: Global, term: &Term, out: &mut Vec<u8>) -> Result<(), NoMemory>
     ensures ok { OnOk result (out.new.items ≡ out.old.items ++ text_of (json term.now)) }
     ensures err { OnErr result (out.new.items ≡ out.old.items) }
-    ensures reads { OnOk result (depth (json term.now) ≤ depth_limit → reading (text_of (json term.now)) ≡ Ok (json term.now)) }
+    ensures reads { OnOk result (depth (json term.now) ≤ depth_limit
+        → reading (text_of (json term.now)) ≡ Ok (json term.now)) }
 {
     term.validity();
     let len = out.len();
@@ -66,7 +68,8 @@ pub fn text_is_line(term: &Term)
 // The tokens of a term. Where memory runs out some of them may be written.
 #[cycle(put)]
 fn put_term(term: &Term, writer: &mut Writer) -> Result<(), AllocError>
-    ensures tokens { OnOk result (writer.new.tokens ≡ writer.old.tokens ++ tokens_of (json term.now)) }
+    ensures tokens { OnOk result (writer.new.tokens ≡ writer.old.tokens ++ tokens_of
+        (json term.now)) }
     ensures before { writer.new.before ≡ writer.old.before }
 {
     match term {
@@ -90,7 +93,8 @@ fn put_term(term: &Term, writer: &mut Writer) -> Result<(), AllocError>
 // The tokens of a term. Where memory runs out some of them may be written.
 #[cycle(put)]
 fn put_terms(terms: &[Term], writer: &mut Writer) -> Result<(), AllocError>
-    ensures tokens { OnOk result (writer.new.tokens ≡ writer.old.tokens ++ items_tokens_of (items_of (map json terms.now))) }
+    ensures tokens { OnOk result (writer.new.tokens ≡ writer.old.tokens ++ items_tokens_of
+        (items_of (map json terms.now))) }
     ensures before { writer.new.before ≡ writer.old.before }
 {
     for term in terms {
@@ -102,7 +106,8 @@ fn put_terms(terms: &[Term], writer: &mut Writer) -> Result<(), AllocError>
 // The members and the closing bracket.
 #[cycle(put)]
 fn put_members(members: &[Member], writer: &mut Writer) -> Result<(), AllocError>
-    ensures tokens { OnOk result (writer.new.tokens ≡ writer.old.tokens ++ members_tokens_of (members_of (map pair_of members.now))) }
+    ensures tokens { OnOk result (writer.new.tokens ≡ writer.old.tokens ++ members_tokens_of
+        (members_of (map pair_of members.now))) }
     ensures before { writer.new.before ≡ writer.old.before }
 {
     for member in members {

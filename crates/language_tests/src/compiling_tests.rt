@@ -1,9 +1,10 @@
-// What compiles, worked out by hand from the language's description.
-use crate::programs::nested;
+//! What compiles, worked out by hand from the language's description.
+
 use json_terms::NoMemory;
 use map_lang::{ParseFault, compiles_once, parse};
 use std::alloc::Global;
 use std::test::Fail;
+use test_tools::nested;
 
 // Sources of the grammar.
 const PROPER: &[&str] = &[

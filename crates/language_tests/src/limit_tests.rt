@@ -1,8 +1,10 @@
-// Where a run ends.
-use crate::programs::{mapped, nested};
+//! Where a run ends.
+
+use crate::programs::mapped;
 use map_lang::runs_stay_within_bounds;
 use std::alloc::Global;
 use std::test::Fail;
+use test_tools::nested;
 
 const TEXTS: &str = "emit doc.t, 1 emit 1, 1";
 

@@ -1,10 +1,11 @@
-// Sessions, servers in the process, and whole runs over ports in memory.
+//! Sessions, servers in the process, and whole runs over ports in memory.
+
 ghost use Rattle.std.specs.Prelude.{◌≢◌};
 
-use crate::programs::{assert_text, nested};
 use map_server::{LINE_LIMIT, PickServers, Session, serve_lines};
 use std::alloc::Global;
 use std::test::Fail;
+use test_tools::{nested, same_text};
 use view_ports::{InProcess, MemorySink, MemorySource, Servers, ServersFault};
 
 const COMPLAINT: &str = r#"["error","compilation_error","source"]"#;
@@ -71,7 +72,7 @@ fn answered(session: &mut Session, alloc: Global, line: &str) -> Result<String, 
 fn a_session_answers_each_line(rt: HostRuntime) -> Result<(), Fail> {
     let mut session = Session::new(rt.alloc())?;
     for (line, want) in SESSION {
-        assert_text(&rt, answered(&mut session, rt.alloc(), line), want, line)?;
+        same_text(answered(&mut session, rt.alloc(), line), want, line)?;
     }
     Ok(())
 }
@@ -111,7 +112,7 @@ fn the_deepest_values_are_answered(rt: HostRuntime) -> Result<(), Fail> {
     for (line, depth, answer, shown) in DEEP {
         let want = around(rt.alloc(), *shown, answer[0], answer[1])?;
         let given = deep_answer(rt.alloc(), *depth, line[0], line[1]);
-        assert_text(&rt, given, want.as_str(), line[0])?;
+        same_text(given, want.as_str(), line[0])?;
     }
     Ok(())
 }

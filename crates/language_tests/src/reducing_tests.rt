@@ -1,9 +1,10 @@
-// What the reduces give.
-use crate::programs::{assert_text, text_of};
+//! What the reduces give.
+
 use json_terms::{NoMemory, Row, Term};
 use map_lang::{parse_reduce, reduce_in_parts, run_reduce, run_rereduce};
 use std::alloc::Global;
 use std::test::Fail;
+use test_tools::{same_text, text_of};
 use view_ports::{Command, read_command};
 
 fn reduced(alloc: Global, source: &str, rows: &[Row]) -> Result<Option<Term>, NoMemory> {
@@ -93,7 +94,7 @@ const LINES: &[(&str, &str)] = &[
 fn rows_and_results_of_parts_are_reduced(rt: HostRuntime) -> Result<(), Fail> {
     reduce_in_parts();
     for (line, want) in LINES {
-        assert_text(&rt, shown(rt.alloc(), line), want, line)?;
+        same_text(shown(rt.alloc(), line), want, line)?;
     }
     Ok(())
 }

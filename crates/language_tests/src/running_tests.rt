@@ -1,6 +1,8 @@
-// What programs give, worked out by hand from the language's description.
-use crate::programs::{assert_text, mapped};
+//! What programs give, worked out by hand from the language's description.
+
+use crate::programs::mapped;
 use std::test::Fail;
+use test_tools::same_text;
 
 // Programs, documents, and the rows of these.
 const PROGRAMS: &[(&str, &str, &str)] = &[
@@ -91,7 +93,7 @@ const PROGRAMS: &[(&str, &str, &str)] = &[
 #[test]
 fn programs_give_their_rows(rt: HostRuntime) -> Result<(), Fail> {
     for (source, document, rows) in PROGRAMS {
-        assert_text(&rt, mapped(rt.alloc(), source, document), rows, source)?;
+        same_text(mapped(rt.alloc(), source, document), rows, source)?;
     }
     Ok(())
 }

@@ -8,6 +8,7 @@ pub mod SeenStatements
 pub mod FallsStatements
 pub mod Tokens
 pub mod Grammar
+pub mod Refusing
 pub mod Readings
 pub mod Lexing
 pub mod Meaning

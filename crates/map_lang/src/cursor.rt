@@ -1,4 +1,5 @@
-// Taking tokens from the front of those that are left.
+//! Taking tokens from the front of those that are left.
+
 ghost use Rattle.std.specs.Prelude.{◌≡◌, None};
 ghost use Rattle.map_lang.specs.Tokens.{keyword_of};
 ghost use Rattle.map_lang.specs.Readings.{begins_step, ends_block, first_mark, first_keyword, TakesIf, TakesKeywordIf, TakesName};

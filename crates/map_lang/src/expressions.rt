@@ -1,11 +1,13 @@
-// Reading expressions.
-ghost use Rattle.std.specs.Prelude.{◌≡◌, ℕ, ◌∷◌, List, IfOk, IfErr, MatchOption, None, Some};
+//! Reading expressions.
+
+ghost use Rattle.std.specs.Prelude.{◌≡◌, ℕ, ◌∷◌, List, IfOk, MatchOption, None, Some};
 ghost use Rattle.map_lang.specs.declared.token.Token.{Token};
 ghost use Rattle.map_lang.specs.declared.syntax.Step.{Step};
 ghost use Rattle.map_lang.specs.Syntax.{Expr, Exprs, exprs_of};
 ghost use Rattle.map_lang.specs.SeenExpressions.{expr_of};
 ghost use Rattle.map_lang.specs.Grammar.{is_among, step_before};
 ghost use Rattle.map_lang.specs.Readings.{begins_step, ReadsSteps, ReadsExpr, ReadsExprs};
+ghost use Rattle.map_lang.specs.Refusing.{IfRefused, ReadsNone};
 
 use crate::cursor::{begins_step, take};
 use crate::fault::ParseFault;
@@ -23,8 +25,9 @@ pub fn expression(
     tokens: &mut VecDeque<Token>,
     room: u32,
 ) -> Result<Expression, ParseFault>
-    ensures found { IfOk result (λ e. ReadsExpr bound.now room tokens.old.items (expr_of e) tokens.new.items) }
-    ensures refused { IfErr result (λ fault. fault ≡ ParseFault.Refused → (e : Expr) (rest : List Token) → ReadsExpr bound.now room tokens.old.items e rest → ⊥) }
+    ensures found { IfOk result (λ e. ReadsExpr bound.now room tokens.old.items
+        (expr_of e) tokens.new.items) }
+    ensures refused { IfRefused result (ReadsNone (ReadsExpr bound.now room tokens.old.items)) }
 {
     match tokens.pop_front() {
         Some(Token::Word(word)) => worded(alloc, bound, tokens, word),
@@ -49,8 +52,9 @@ fn parts(
     tokens: &mut VecDeque<Token>,
     room: u32,
 ) -> Result<Expressions, ParseFault>
-    ensures found { IfOk result (λ es. ReadsExprs bound.now room tokens.old.items (exprs_of es) tokens.new.items) }
-    ensures refused { IfErr result (λ fault. fault ≡ ParseFault.Refused → (es : Exprs) (rest : List Token) → ReadsExprs bound.now room tokens.old.items es rest → ⊥) }
+    ensures found { IfOk result (λ es. ReadsExprs bound.now room tokens.old.items
+        (exprs_of es) tokens.new.items) }
+    ensures refused { IfRefused result (ReadsNone (ReadsExprs bound.now room tokens.old.items)) }
 {
     let mut items = Expressions::new(alloc);
     if take(tokens, Mark::CloseBracket) {
@@ -75,8 +79,10 @@ fn worded(
     tokens: &mut VecDeque<Token>,
     word: Chars,
 ) -> Result<Expression, ParseFault>
-    ensures found { IfOk result (λ e. (room : ℕ) → ReadsExpr bound.now room (Token.Word word ∷ tokens.old.items) (expr_of e) tokens.new.items) }
-    ensures refused { IfErr result (λ fault. fault ≡ ParseFault.Refused → (room : ℕ) (e : Expr) (rest : List Token) → ReadsExpr bound.now room (Token.Word word ∷ tokens.old.items) e rest → ⊥) }
+    ensures found { IfOk result (λ e. (room : ℕ) → ReadsExpr bound.now room
+        (Token.Word word ∷ tokens.old.items) (expr_of e) tokens.new.items) }
+    ensures refused { IfRefused result ((room : ℕ) → ReadsNone
+        (ReadsExpr bound.now room (Token.Word word ∷ tokens.old.items))) }
 {
     match keyword_of(word.as_str()) {
         Some(Keyword::True) => Ok(Expression::Literal(Literal::True)),
@@ -107,8 +113,9 @@ pub fn is_among(name: &str, names: &[Chars]) -> bool
 
 // Reads all steps that stand first.
 fn steps(alloc: Global, tokens: &mut VecDeque<Token>) -> Result<Vec<Step>, ParseFault>
-    ensures found { IfOk result (λ steps. ReadsSteps tokens.old.items steps.items tokens.new.items) }
-    ensures refused { IfErr result (λ fault. fault ≡ ParseFault.Refused → (steps : List Step) (rest : List Token) → ReadsSteps tokens.old.items steps rest → ⊥) }
+    ensures found { IfOk result (λ steps.
+        ReadsSteps tokens.old.items steps.items tokens.new.items) }
+    ensures refused { IfRefused result (ReadsNone (ReadsSteps tokens.old.items)) }
 {
     let mut steps = Vec::new(alloc);
     'steps: while begins_step(tokens) {
@@ -122,7 +129,9 @@ fn steps(alloc: Global, tokens: &mut VecDeque<Token>) -> Result<Vec<Step>, Parse
 
 // Reads one step.
 fn step(tokens: &mut VecDeque<Token>) -> Option<Step>
-    ensures { MatchOption result ((s : Step) (rest : List Token) → tokens.old.items ≡ step_before s rest → ⊥) (λ s. tokens.old.items ≡ step_before s tokens.new.items) }
+    ensures { MatchOption result ((s : Step) (rest : List Token)
+        → tokens.old.items ≡ step_before s rest → ⊥) (λ s.
+        tokens.old.items ≡ step_before s tokens.new.items) }
 {
     if take(tokens, Mark::Dot) {
         let Some(Token::Word(name)) = tokens.pop_front() else {

@@ -1,4 +1,5 @@
-// Why a source gives no program.
+//! Why a source gives no program.
+
 ghost use Rattle.std.specs.Prelude.{◌≡◌};
 ghost use Rattle.map_lang.specs.declared.fault.ParseFault.TheVariants.{NoMemory as OutOfMemory};
 

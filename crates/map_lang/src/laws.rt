@@ -1,4 +1,5 @@
-// The laws of the language. Each function states one, and does nothing.
+//! The laws of the language. Each function states one, and does nothing.
+
 ghost use Rattle.map_lang.specs.Laws.{ReducesInParts, CompilesOnce, StaysWithinBounds};
 
 /// Rows may be reduced in parts, of which none is empty, and the results of the parts reduced again: this gives what all

@@ -1,10 +1,12 @@
-// The tokens of a source.
+//! The tokens of a source.
+
 ghost use Rattle.std.specs.Prelude.{◌≡◌, ◌<◌, ◌≤◌, ℕ, ◌∷◌, ◌++◌, List, IfOk, IfErr, MatchOption, length, take, drop, true, false, slice_index};
 ghost use Rattle.std.specs.Fmt.{signed_decimal};
 ghost use Rattle.map_lang.specs.declared.token.Token.{Token};
 ghost use Rattle.map_lang.specs.declared.token.Token.TheVariants.{Integer};
 ghost use Rattle.map_lang.specs.Tokens.{AreTokens, IsWhole, text_of, mark_text, all_pass, first_passes, is_letter, is_digit, is_in_text};
-ghost use Rattle.map_lang.specs.Lexing.{passes, IsTokenAt, IsBlankBefore, IsDigitRun, IsSignedRun};
+ghost use Rattle.map_lang.specs.Lexing.{passes, HasNoInteger, HasNoText, HasNoToken, IsTokenAt, IsBlankBefore, IsDigitRun, IsSignedRun};
+ghost use Rattle.map_lang.specs.Refusing.{IfRefused};
 
 use crate::fault::ParseFault;
 use crate::token::{Mark, Token};
@@ -16,7 +18,7 @@ use std::collections::VecDeque;
 /// The tokens of a source: it is blanks and these, each as long as it can be. `Refused` comes exactly where it has none.
 pub fn lex(alloc: Global, source: &str) -> Result<VecDeque<Token>, ParseFault>
     ensures found { IfOk result (λ tokens. AreTokens source.now tokens.items) }
-    ensures refused { IfErr result (λ fault. fault ≡ ParseFault.Refused → (tokens : List Token) → AreTokens source.now tokens → ⊥) }
+    ensures refused { IfRefused result ((tokens : List Token) → AreTokens source.now tokens → ⊥) }
 {
     let mut tokens = VecDeque::new(alloc);
     let mut rest = after_blanks(source);
@@ -85,7 +87,7 @@ fn after_blanks(source: &str) -> &str
 fn token_at(alloc: Global, source: &str) -> Result<(Token, usize), ParseFault>
     requires { 0 < length source.now }
     ensures found { IfOk result (λ found. IsTokenAt source.now found.0 found.1) }
-    ensures refused { IfErr result (λ fault. fault ≡ ParseFault.Refused → (token : Token) (rest : List ℕ) → source.now ≡ text_of token ++ rest → IsWhole token rest → ⊥) }
+    ensures refused { IfRefused result (HasNoToken source.now) }
 {
     let bytes = source.as_bytes();
     let first = bytes[0];
@@ -119,7 +121,7 @@ fn word_at(alloc: Global, source: &str) -> Result<(Token, usize), ParseFault>
 fn integer_at(source: &str) -> Result<(Token, usize), ParseFault>
     requires { 0 < length source.now }
     ensures found { IfOk result (λ found. IsTokenAt source.now found.0 found.1) }
-    ensures refused { IfErr result (λ fault. fault ≡ ParseFault.Refused → (n : _) (rest : List ℕ) → source.now ≡ signed_decimal n ++ rest → IsWhole (Integer n) rest → ⊥) }
+    ensures refused { IfRefused result (HasNoInteger source.now) }
 {
     let len = integer_len(source.as_bytes());
     let text = &source[..len];
@@ -153,7 +155,7 @@ fn text_at(alloc: Global, source: &str) -> Result<(Token, usize), ParseFault>
     requires some { 0 < length source.now }
     requires quoted { slice_index source.now 0 ≡ 39 }
     ensures found { IfOk result (λ found. IsTokenAt source.now found.0 found.1) }
-    ensures refused { IfErr result (λ fault. fault ≡ ParseFault.Refused → (text rest : List ℕ) → source.now ≡ 39 ∷ text ++ 39 ∷ rest → all_pass is_in_text text ≡ true → ⊥) }
+    ensures refused { IfRefused result (HasNoText source.now) }
 {
     let bytes = source.as_bytes();
     let len = run_of(Class::InText, &bytes[1..]);
@@ -166,8 +168,10 @@ fn text_at(alloc: Global, source: &str) -> Result<(Token, usize), ParseFault>
 
 // The mark that stands first, and its length.
 fn mark_at(bytes: &[u8]) -> Option<(Mark, usize)>
-    ensures { MatchOption result ((mark : _) (rest : List ℕ) → bytes.now ≡ mark_text mark ++ rest → ⊥)
-        (λ found. (found.1 ≤ length bytes.now) × (0 < found.1) × (bytes.now ≡ mark_text found.0 ++ drop found.1 bytes.now)) }
+    ensures { MatchOption result ((mark : _) (rest : List ℕ) → bytes.now ≡ mark_text mark ++ rest
+        → ⊥)
+        (λ found. (found.1 ≤ length bytes.now) × (0 < found.1)
+        × (bytes.now ≡ mark_text found.0 ++ drop found.1 bytes.now)) }
 {
     match bytes {
         [b',', ..] => Some((Mark::Comma, 1)),

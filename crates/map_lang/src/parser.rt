@@ -1,7 +1,9 @@
-// The parser: programs from sources.
-ghost use Rattle.std.specs.Prelude.{◌≡◌, IfOk, IfErr};
+//! The parser: programs from sources.
+
+ghost use Rattle.std.specs.Prelude.{◌≡◌, IfOk};
 ghost use Rattle.map_lang.specs.Syntax.{Stmts};
 ghost use Rattle.map_lang.specs.Grammar.{Compiles};
+ghost use Rattle.map_lang.specs.Refusing.{IfRefused};
 
 use crate::fault::ParseFault;
 use crate::lex::lex;
@@ -18,7 +20,7 @@ const NESTING: u32 = 16;
 /// blocks and arrays nest more than 16 deep.
 pub fn parse(alloc: Global, source: &str) -> Result<Program, ParseFault>
     ensures found { IfOk result (λ program. Compiles source.now program) }
-    ensures refused { IfErr result (λ fault. fault ≡ ParseFault.Refused → (program : Stmts) → Compiles source.now program → ⊥) }
+    ensures refused { IfRefused result ((program : Stmts) → Compiles source.now program → ⊥) }
 {
     let mut tokens = lex(alloc, source)?;
     let mut bound = Vec::new(alloc);

@@ -1,4 +1,5 @@
-// The five reduces.
+//! The five reduces.
+
 ghost use Rattle.std.specs.Prelude.{◌≡◌, ◌≢◌, ◌<◌, ◌-◌, ◌^◌, min, map, length, [], IfOk, sum_by, slice_index_or};
 ghost use Rattle.json_terms.specs.Seen.{json};
 ghost use Rattle.map_lang.specs.Reduce.{reduce_named, reduce_of, rereduce_of, least, greatest, counted};
@@ -44,7 +45,8 @@ pub fn parse_reduce(source: &str) -> Option<PickReduce>
 /// Reduces the values of rows, of which there is one at least. The one error is want of memory.
 pub fn run_reduce(alloc: Global, how: PickReduce, rows: &[Row]) -> Result<Term, NoMemory>
     requires { rows.now ≢ [] }
-    ensures { IfOk result (λ term. json term ≡ reduce_of how (map (λ row. json row.value) rows.now)) }
+    ensures { IfOk result (λ term. json term ≡ reduce_of how
+        (map (λ row. json row.value) rows.now)) }
 {
     match how {
         PickReduce::Rows => Ok(Term::Int((rows.len() as u64).min(MOST) as i64)),
@@ -100,7 +102,8 @@ impl Valued for Term {
 fn least_of<V: Valued>(holders: &[V]) -> usize
     requires { holders.now ≢ [] }
     ensures within { result < length holders.now }
-    ensures least { (holder : V) → V.value_of (slice_index_or holders.now result holder) ≡ least (map V.value_of holders.now) }
+    ensures least { (holder : V) → V.value_of (slice_index_or holders.now result holder) ≡ least
+        (map V.value_of holders.now) }
 {
     let mut best = 0;
     for place in 1..holders.len() {
@@ -115,7 +118,9 @@ fn least_of<V: Valued>(holders: &[V]) -> usize
 fn greatest_of<V: Valued>(holders: &[V]) -> usize
     requires { holders.now ≢ [] }
     ensures within { result < length holders.now }
-    ensures greatest { (holder : V) → V.value_of (slice_index_or holders.now result holder) ≡ greatest (map V.value_of holders.now) }
+    ensures greatest { (holder : V)
+        → V.value_of (slice_index_or holders.now result holder) ≡ greatest
+        (map V.value_of holders.now) }
 {
     let mut best = 0;
     for place in 1..holders.len() {

@@ -1,4 +1,5 @@
-// Running programs on documents.
+//! Running programs on documents.
+
 ghost use Rattle.std.specs.Prelude.{◌≡◌, ◌∷◌, ◌++◌, [], IfOk, OnOk, Some, map, Ok, true, false};
 ghost use Rattle.json_terms.specs.Seen.{json};
 ghost use Rattle.map_lang.specs.Syntax.{stmts_of};
@@ -77,7 +78,9 @@ fn run_block(
     bound: &mut Vec<Variable>,
     progress: &mut Progress,
 ) -> Result<(), NoMemory>
-    ensures run { OnOk result (run_of progress.new ≡ after (run_of progress.old) (all_events (stmts_of (map stmt_of statements.now)) (scope_of document.now bound.old.items))) }
+    ensures run { OnOk result (run_of progress.new ≡ after (run_of progress.old)
+        (all_events (stmts_of (map stmt_of statements.now))
+        (scope_of document.now bound.old.items))) }
     ensures bound { OnOk result (bound.new.items ≡ bound.old.items) }
 {
     for statement in statements {
@@ -94,7 +97,8 @@ fn run_statement(
     bound: &mut Vec<Variable>,
     progress: &mut Progress,
 ) -> Result<(), NoMemory>
-    ensures run { OnOk result (run_of progress.new ≡ after (run_of progress.old) (events_of (stmt_of statement.now) (scope_of document.now bound.old.items))) }
+    ensures run { OnOk result (run_of progress.new ≡ after (run_of progress.old)
+        (events_of (stmt_of statement.now) (scope_of document.now bound.old.items))) }
     ensures bound { OnOk result (bound.new.items ≡ bound.old.items) }
 {
     if progress.ended {
@@ -135,7 +139,9 @@ fn repeat(
     progress: &mut Progress,
 ) -> Result<(), NoMemory>
     ensures run { OnOk result (run_of progress.new ≡ after (run_of progress.old) (each_turn
-        (λ v. all_events (stmts_of (map stmt_of block.now)) (scope_of document.now bound.old.items ++ (name.now, v) ∷ [])) (map json values.items))) }
+        (λ v. all_events (stmts_of (map stmt_of block.now))
+        (scope_of document.now bound.old.items ++ (name.now, v) ∷ []))
+        (map json values.items))) }
     ensures bound { OnOk result (bound.new.items ≡ bound.old.items) }
 {
     values.reverse();
@@ -161,7 +167,8 @@ fn elements_of(
     bound: &[Variable],
     source: &Expression,
 ) -> Result<Vec<Term>, NoMemory>
-    ensures { IfOk result (λ values. map json values.items ≡ turns_of (value_of (scope_of document.now bound.now) (expr_of source.now))) }
+    ensures { IfOk result (λ values. map json values.items ≡ turns_of
+        (value_of (scope_of document.now bound.now) (expr_of source.now))) }
 {
     match evaluate(alloc, document, bound, source)? {
         Some(Term::Array(terms)) => Ok(terms.into_vec()),
@@ -177,7 +184,9 @@ fn are_equal(
     left: &Expression,
     right: &Expression,
 ) -> Result<bool, NoMemory>
-    ensures { IfOk result (λ equal. equal ≡ are_equal (value_of (scope_of document.now bound.now) (expr_of left.now)) (value_of (scope_of document.now bound.now) (expr_of right.now))) }
+    ensures { IfOk result (λ equal.
+        equal ≡ are_equal (value_of (scope_of document.now bound.now) (expr_of left.now))
+        (value_of (scope_of document.now bound.now) (expr_of right.now))) }
 {
     let Some(left) = evaluate(alloc, document, bound, left)? else {
         return Ok(false);
@@ -198,7 +207,8 @@ fn emit(
     progress: &mut Progress,
 ) -> Result<(), NoMemory>
     ensures { OnOk result (run_of progress.new ≡ after (run_of progress.old) (emitted
-        (value_of (scope_of document.now bound.now) (expr_of key.now)) (value_of (scope_of document.now bound.now) (expr_of value.now)))) }
+        (value_of (scope_of document.now bound.now) (expr_of key.now))
+        (value_of (scope_of document.now bound.now) (expr_of value.now)))) }
 {
     let Some(key) = evaluate(alloc, document, bound, key)? else {
         return Ok(());
@@ -241,7 +251,8 @@ impl Progress {
 
     // An emission, or the end of the run in its place.
     fn emit(&mut self, alloc: Global, key: Term, value: Term) -> Result<(), NoMemory>
-        ensures { OnOk result (run_of self.new ≡ step (run_of self.old) (emission (json key) (json value))) }
+        ensures { OnOk result (run_of self.new ≡ step (run_of self.old)
+            (emission (json key) (json value))) }
     {
         if self.ended {
             return Ok(());

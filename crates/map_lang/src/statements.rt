@@ -1,11 +1,13 @@
-// Reading statements.
-ghost use Rattle.std.specs.Prelude.{◌≡◌, ◌∷◌, List, IfOk, OnOk, IfErr};
+//! Reading statements.
+
+ghost use Rattle.std.specs.Prelude.{◌≡◌, ◌∷◌, List, IfOk, OnOk};
 ghost use Rattle.map_lang.specs.declared.token.Token.{Token};
 ghost use Rattle.map_lang.specs.declared.token.Keyword.TheVariants as keyword;
 ghost use Rattle.map_lang.specs.Syntax.{Stmt, Stmts, stmts_of};
 ghost use Rattle.map_lang.specs.SeenStatements.{stmt_of};
 ghost use Rattle.map_lang.specs.Grammar.{word};
 ghost use Rattle.map_lang.specs.Readings.{ReadsStmt, ReadsStmts, ReadsBlock};
+ghost use Rattle.map_lang.specs.Refusing.{IfRefused, ReadsNone};
 
 use crate::cursor::{ends_block, take, take_keyword, take_name};
 use crate::expressions::{expression, is_among};
@@ -24,8 +26,10 @@ pub fn block(
     tokens: &mut VecDeque<Token>,
     room: u32,
 ) -> Result<Block, ParseFault>
-    ensures found { IfOk result (λ b. ReadsStmts bound.old.items room tokens.old.items (stmts_of b) tokens.new.items) }
-    ensures refused { IfErr result (λ fault. fault ≡ ParseFault.Refused → (ss : Stmts) (rest : List Token) → ReadsStmts bound.old.items room tokens.old.items ss rest → ⊥) }
+    ensures found { IfOk result (λ b. ReadsStmts bound.old.items room tokens.old.items
+        (stmts_of b) tokens.new.items) }
+    ensures refused { IfRefused result
+        (ReadsNone (ReadsStmts bound.old.items room tokens.old.items)) }
     ensures bound { OnOk result (bound.new.items ≡ bound.old.items) }
 {
     let mut statements = Block::new(alloc);
@@ -44,8 +48,10 @@ fn statement(
     tokens: &mut VecDeque<Token>,
     room: u32,
 ) -> Result<Statement, ParseFault>
-    ensures found { IfOk result (λ s. ReadsStmt bound.old.items room tokens.old.items (stmt_of s) tokens.new.items) }
-    ensures refused { IfErr result (λ fault. fault ≡ ParseFault.Refused → (s : Stmt) (rest : List Token) → ReadsStmt bound.old.items room tokens.old.items s rest → ⊥) }
+    ensures found { IfOk result (λ s. ReadsStmt bound.old.items room tokens.old.items
+        (stmt_of s) tokens.new.items) }
+    ensures refused { IfRefused result
+        (ReadsNone (ReadsStmt bound.old.items room tokens.old.items)) }
     ensures bound { OnOk result (bound.new.items ≡ bound.old.items) }
 {
     if take_keyword(tokens, Keyword::Emit) {
@@ -67,8 +73,10 @@ fn emission(
     tokens: &mut VecDeque<Token>,
     room: u32,
 ) -> Result<Statement, ParseFault>
-    ensures found { IfOk result (λ s. ReadsStmt bound.now room (word keyword.Emit ∷ tokens.old.items) (stmt_of s) tokens.new.items) }
-    ensures refused { IfErr result (λ fault. fault ≡ ParseFault.Refused → (s : Stmt) (rest : List Token) → ReadsStmt bound.now room (word keyword.Emit ∷ tokens.old.items) s rest → ⊥) }
+    ensures found { IfOk result (λ s. ReadsStmt bound.now room
+        (word keyword.Emit ∷ tokens.old.items) (stmt_of s) tokens.new.items) }
+    ensures refused { IfRefused result
+        (ReadsNone (ReadsStmt bound.now room (word keyword.Emit ∷ tokens.old.items))) }
 {
     let key = expression(alloc, bound, tokens, room)?;
     if !take(tokens, Mark::Comma) {
@@ -86,8 +94,10 @@ fn condition(
     tokens: &mut VecDeque<Token>,
     room: u32,
 ) -> Result<Statement, ParseFault>
-    ensures found { IfOk result (λ s. ReadsStmt bound.old.items room (word keyword.If ∷ tokens.old.items) (stmt_of s) tokens.new.items) }
-    ensures refused { IfErr result (λ fault. fault ≡ ParseFault.Refused → (s : Stmt) (rest : List Token) → ReadsStmt bound.old.items room (word keyword.If ∷ tokens.old.items) s rest → ⊥) }
+    ensures found { IfOk result (λ s. ReadsStmt bound.old.items room
+        (word keyword.If ∷ tokens.old.items) (stmt_of s) tokens.new.items) }
+    ensures refused { IfRefused result
+        (ReadsNone (ReadsStmt bound.old.items room (word keyword.If ∷ tokens.old.items))) }
     ensures bound { OnOk result (bound.new.items ≡ bound.old.items) }
 {
     let left = expression(alloc, bound, tokens, room)?;
@@ -110,8 +120,10 @@ fn repetition(
     tokens: &mut VecDeque<Token>,
     room: u32,
 ) -> Result<Statement, ParseFault>
-    ensures found { IfOk result (λ s. ReadsStmt bound.old.items room (word keyword.For ∷ tokens.old.items) (stmt_of s) tokens.new.items) }
-    ensures refused { IfErr result (λ fault. fault ≡ ParseFault.Refused → (s : Stmt) (rest : List Token) → ReadsStmt bound.old.items room (word keyword.For ∷ tokens.old.items) s rest → ⊥) }
+    ensures found { IfOk result (λ s. ReadsStmt bound.old.items room
+        (word keyword.For ∷ tokens.old.items) (stmt_of s) tokens.new.items) }
+    ensures refused { IfRefused result
+        (ReadsNone (ReadsStmt bound.old.items room (word keyword.For ∷ tokens.old.items))) }
     ensures bound { OnOk result (bound.new.items ≡ bound.old.items) }
 {
     let Some(name) = take_name(tokens) else {
@@ -141,8 +153,10 @@ fn braced(
     tokens: &mut VecDeque<Token>,
     room: u32,
 ) -> Result<Block, ParseFault>
-    ensures found { IfOk result (λ b. ReadsBlock bound.old.items room tokens.old.items (stmts_of b) tokens.new.items) }
-    ensures refused { IfErr result (λ fault. fault ≡ ParseFault.Refused → (ss : Stmts) (rest : List Token) → ReadsBlock bound.old.items room tokens.old.items ss rest → ⊥) }
+    ensures found { IfOk result (λ b. ReadsBlock bound.old.items room tokens.old.items
+        (stmts_of b) tokens.new.items) }
+    ensures refused { IfRefused result
+        (ReadsNone (ReadsBlock bound.old.items room tokens.old.items)) }
     ensures bound { OnOk result (bound.new.items ≡ bound.old.items) }
 {
     if !take(tokens, Mark::OpenBrace) {

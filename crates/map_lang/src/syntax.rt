@@ -1,4 +1,5 @@
-// The syntax of programs.
+//! The syntax of programs.
+
 ghost use Rattle.std.specs.Prelude.{◌≡◌, ◌++◌, ◌∷◌, [], List, map, OnOk};
 
 use json_terms::{Chars, NoMemory};

@@ -1,4 +1,5 @@
-// The tokens of a source.
+//! The tokens of a source.
+
 ghost use Rattle.std.specs.Prelude.{◌≡◌};
 ghost use Rattle.map_lang.specs.Tokens.{keyword_of};
 

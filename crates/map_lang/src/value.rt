@@ -1,4 +1,5 @@
-// The values of expressions.
+//! The values of expressions.
+
 ghost use Rattle.std.specs.Prelude.{◌≡◌, IfOk, Some, None, option_map, map};
 ghost use Rattle.json_terms.specs.Seen.{json};
 ghost use Rattle.map_lang.specs.Syntax.{exprs_of};
@@ -25,7 +26,8 @@ pub fn evaluate(
     bound: &[Variable],
     expression: &Expression,
 ) -> Result<Option<Term>, NoMemory>
-    ensures { IfOk result (λ value. option_map json value ≡ value_of (scope_of document.now bound.now) (expr_of expression.now)) }
+    ensures { IfOk result (λ value. option_map json value ≡ value_of
+        (scope_of document.now bound.now) (expr_of expression.now)) }
 {
     match expression {
         Expression::Path(name, steps) => {
@@ -53,7 +55,8 @@ fn evaluate_all(
     bound: &[Variable],
     parts: &[Expression],
 ) -> Result<Option<Terms>, NoMemory>
-    ensures { IfOk result (λ values. values ≡ values_of (scope_of document.now bound.now) (exprs_of (map expr_of parts.now))) }
+    ensures { IfOk result (λ values. values ≡ values_of (scope_of document.now bound.now)
+        (exprs_of (map expr_of parts.now))) }
 {
     let mut terms = Terms::with_capacity(alloc, parts.len())?;
     for part in parts {
@@ -80,7 +83,8 @@ fn constant(alloc: Global, literal: &Literal) -> Result<Term, NoMemory>
 
 // The value of the variable with this name. The document is the first.
 fn find_variable<'a>(document: &'a Term, bound: &'a [Variable], name: &str) -> Option<&'a Term>
-    ensures { option_map (λ t. json t.now) result ≡ value_of_name name.now (scope_of document.now bound.now) }
+    ensures { option_map (λ t. json t.now) result ≡ value_of_name name.now
+        (scope_of document.now bound.now) }
 {
     if "doc" == name {
         return Some(document);
@@ -95,7 +99,8 @@ fn find_variable<'a>(document: &'a Term, bound: &'a [Variable], name: &str) -> O
 
 // Where the steps lead, one after another.
 fn walk<'a>(from: Option<&'a Term>, steps: &[Step]) -> Option<&'a Term>
-    ensures { option_map (λ t. json t.now) result ≡ walked steps.now (option_map (λ t. json t.now) from.entry) }
+    ensures { option_map (λ t. json t.now) result ≡ walked steps.now
+        (option_map (λ t. json t.now) from.entry) }
 {
     let Some(mut term) = from else {
         return None;

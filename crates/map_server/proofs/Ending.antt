@@ -1,143 +1,80 @@
--- The ends of a dialogue, and what serving then did.
-use Rattle.std.specs.Prelude.{◌≡◌, ◌≢◌, ◌<◌, ◌≤◌, ◌⊎◌, ℕ, List, [], ◌++◌, Option, Some, None, length}
-use Rattle.std.proofs.Common.{refl, sym, ap, ◌∙◌, subst, arith, inl, inr, length-append, append_assoc, append-nil, lit≤}
-use Rattle.std.proofs.KnownBytes.{Consumes-nil, Appends-nil, Appends-trans}
-use Rattle.std.specs.Io.KnownBytes.{Appends, Consumes}
+-- What serving did, by what the loop over its lines did.
+use Rattle.std.specs.Prelude.{◌≡◌, ◌<◌, ◌⊎◌, ℕ, List, [], Option, Some, None, length}
+use Rattle.std.proofs.Common.{refl, sym, ap, ◌∙◌, subst, arith, inl, inr, length-append, lit≤}
+use Rattle.std.proofs.KnownBytes.{Consumes-nil, Appends-nil}
+use Rattle.std.specs.Io.KnownBytes.{Consumes}
 use Rattle.view_ports.specs.declared.run_end.RunEnd.{RunEnd}
 use Rattle.view_ports.specs.declared.run_end.RunEnd.TheVariants.{InputEnded, SinkFailed, SourceFailed, OutOfMemory, InputTooLong}
-use Rattle.view_ports.specs.Lines.{IsLine, ended}
 use Rattle.view_ports.specs.Exchanges.{Exchange, text_of}
-use Rattle.view_ports.specs.Runs.{HasRead, status_of, input_limit}
-use Rattle.view_ports.proofs.Exchanging.{IsPrefixOf-after, IsPrefixOf-text_of-push}
-use Rattle.view_ports.proofs.Reaching.{reached_start, reached_line, Run-ended, Run-ended_last, Run-source_failed, Run-too_long, Run-out_of_memory, Run-sink_failed, Run-sink_failed_last}
+use Rattle.view_ports.specs.Runs.{HasRead, Run, status_of, input_limit}
+use Rattle.view_ports.proofs.Reaching.{reached_start, Run-out_of_memory}
+use Rattle.json_terms.specs.declared.fault.NoMemory.{NoMemory}
+use Rattle.line_loop.specs.declared.loop_end.LoopEnd.TheVariants as loop_end
+use Rattle.line_loop.specs.declared.responder.Responder.{Ghosts as Responds}
+use Rattle.line_loop.specs.Loops.{Loops, Steps}
+use Rattle.line_loop.proofs.Ending.{Run-cut_short}
+use Rattle.line_loop.proofs.Seeing.{Run-seen}
 use Rattle.map_server.specs.declared.dialogue.Dialogue.{Dialogue}
-use Rattle.map_server.specs.declared.dialogue.StopCause.{StopCause}
-use Rattle.map_server.specs.declared.dialogue.StopCause.TheVariants as cause
-use Rattle.map_server.specs.Dialogues.{Progress, Answered, AnswerFails, Stopped, Ended, end_of}
 use Rattle.map_server.specs.Serving.{AnswersLine, Outside, Serves, StopsAtLimit, IsShort}
 
-pub Ended-same : (before now : Option (List ℕ)) (bytes bytes' : List ℕ) (end : RunEnd) → bytes ≡ bytes' → Ended before now bytes end → Ended before now bytes' end
-Ended-same before now bytes bytes' end same ended = subst (λ (bs : List ℕ). Ended before now bs end) same ended
+-- the session has these sources
+abbrev HasSources : Dialogue → List (List ℕ) → Type 0
+HasSources dialogue sources = dialogue.session ≡ sources
 
-module _ {before now : Option (List ℕ)} {bytes : List ℕ} {dialogue : Dialogue} (progress : Progress before now bytes dialogue) where
-  -- the sink failed in the reply to a line that ended
-  pub Ended-line : (end more : List ℕ) → IsLine end → (now' : Option (List ℕ)) (after : List (List ℕ))
-      → Answered (Stopped now now') progress.reached.after (progress.reached.rest ++ end) after → Ended before now' (bytes ++ ended end ++ more) SinkFailed
-  Ended-line end more plain now' after answered =
-      let exchange : Exchange = record { line = progress.reached.rest ++ end; text = answered.text } in
-      let part = answered.wrote.0 in record {
-        gained = text_of progress.reached.exchanges ++ part;
-        sources = after;
-        run =
-            Run-sink_failed (reached_line progress.reached end plain answered.text after answered.answers) more (text_of progress.reached.exchanges ++ part)
-            (IsPrefixOf-text_of-push progress.reached.exchanges exchange part answered.wrote.1);
-        wrote = Appends-trans _ _ _ _ _ progress.wrote answered.wrote.2;
+module _ (r : Responds Dialogue NoMemory) (steps : (before after : Dialogue) (e : Exchange) → Steps r before e after → AnswersLine before.session e after.session) where
+  -- what the loop did is a run of answers, from the sources that the session has
+  run_of : (start after : Dialogue) (bytes gained : List ℕ) (end : RunEnd) → start.session ≡ [] → Run (Steps r) start bytes gained end after
+      → (sources : List (List ℕ)) × Run AnswersLine [] bytes gained end sources × HasSources after sources
+  run_of start after bytes gained end none run =
+      Run-seen HasSources
+      (λ before next sources e seen step. (next.session, subst (λ (ss : List (List ℕ)). AnswersLine ss e next.session) seen (steps before next e step), refl))
+      start after [] bytes gained end none run
+
+  -- the loop ended as a run ends
+  pub Serves-ended : (start last : Dialogue) (before after : Outside) (end : RunEnd) → start.session ≡ [] → Loops r start last before.left after.left before.held after.held (loop_end.Run end) → Serves before after (status_of end)
+  Serves-ended start last before after end none loops =
+      let seen = run_of start last loops.bytes loops.ends.gained end none loops.ends.run in record {
+        bytes = loops.bytes;
+        gained = loops.ends.gained;
+        end = end;
+        sources = seen.0;
+        ends = refl;
+        reads = loops.reads;
+        counts = loops.counts;
+        writes = loops.ends.wrote;
+        runs = seen.1;
       }
 
-  -- there was no memory to keep what comes next
-  pub Ended-out_of_memory : (more : List ℕ) → Ended before now (bytes ++ more) OutOfMemory
-  Ended-out_of_memory more = record {
-    gained = text_of progress.reached.exchanges;
-    sources = progress.reached.after;
-    run = Run-out_of_memory progress.reached more;
-    wrote = progress.wrote;
-  }
-
-  pub Ended-source_failed : Ended before now bytes SourceFailed
-  Ended-source_failed = record {
-    gained = text_of progress.reached.exchanges;
-    sources = progress.reached.after;
-    run = Run-source_failed progress.reached;
-    wrote = progress.wrote;
-  }
-
-  pub Ended-too_long : Ended before now bytes InputTooLong
-  Ended-too_long = record {
-    gained = text_of progress.reached.exchanges;
-    sources = progress.reached.after;
-    run = Run-too_long progress.reached;
-    wrote = progress.wrote;
-  }
-
-  -- the input ended behind a newline, or was empty
-  pub Ended-input : progress.reached.rest ≡ [] → Ended before now bytes InputEnded
-  Ended-input none = record {
-    gained = text_of progress.reached.exchanges;
-    sources = progress.reached.after;
-    run = Run-ended progress.reached none;
-    wrote = progress.wrote;
-  }
-
-  -- the input ended in a line without a newline, which was answered
-  pub Ended-last : progress.reached.rest ≢ [] → (now' : Option (List ℕ)) (after : List (List ℕ)) → Answered (Appends now now') progress.reached.after progress.reached.rest after
-      → Ended before now' bytes InputEnded
-  Ended-last some now' after answered = record {
-    gained = text_of progress.reached.exchanges ++ answered.text;
-    sources = after;
-    run = Run-ended_last progress.reached some answered.text after answered.answers;
-    wrote = Appends-trans _ _ _ _ _ progress.wrote answered.wrote;
-  }
-
-  -- the sink failed in the reply to that line
-  pub Ended-last_failed : progress.reached.rest ≢ [] → (now' : Option (List ℕ)) (after : List (List ℕ)) → Answered (Stopped now now') progress.reached.after progress.reached.rest after
-      → Ended before now' bytes SinkFailed
-  Ended-last_failed some now' after answered =
-      let gained = text_of progress.reached.exchanges ++ answered.wrote.0 in record {
-        gained = gained;
-        sources = after;
-        run =
-            Run-sink_failed_last progress.reached some answered.text after answered.answers gained
-            (IsPrefixOf-after (text_of progress.reached.exchanges) answered.wrote.0 answered.text answered.wrote.1);
-        wrote = Appends-trans _ _ _ _ _ progress.wrote answered.wrote.2;
+  -- there was no memory to answer a line
+  pub Serves-stopped : (start last : Dialogue) (before after : Outside) (error : NoMemory) → start.session ≡ [] → Loops r start last before.left after.left before.held after.held (loop_end.Stopped error)
+      → Serves before after (status_of OutOfMemory)
+  Serves-stopped start last before after error none loops =
+      let cut = loops.ends in
+      let seen = run_of start cut.mid loops.bytes (text_of cut.exchanges) OutOfMemory none (Run-cut_short cut) in record {
+        bytes = loops.bytes;
+        gained = text_of cut.exchanges;
+        end = OutOfMemory;
+        sources = seen.0;
+        ends = refl;
+        reads = loops.reads;
+        counts = loops.counts;
+        writes = cut.wrote;
+        runs = seen.1;
       }
-
-  -- a line that ended wasn't answered
-  pub Ended-fails : (stop : StopCause) (end more : List ℕ) → IsLine end → (now' : Option (List ℕ)) (sources : List (List ℕ)) (line : List ℕ)
-      → ((after : List (List ℕ)) → Answered (Stopped now now') sources line after → Answered (Stopped now now') progress.reached.after (progress.reached.rest ++ end) after)
-      → AnswerFails stop now now' sources line → Ended before now' (bytes ++ ended end ++ more) (end_of stop)
-  Ended-fails cause.SinkFailed end more plain now' sources line here (after, answered) = Ended-line end more plain now' after (here after answered)
-  Ended-fails cause.OutOfMemory end more plain now' sources line here same =
-      subst (λ (h : Option (List ℕ)). Ended before h (bytes ++ ended end ++ more) OutOfMemory) (sym same)
-      (Ended-same before now (bytes ++ (ended end ++ more)) (bytes ++ ended end ++ more) OutOfMemory (sym (append_assoc bytes (ended end) more)) (Ended-out_of_memory (ended end ++ more)))
-
-  -- the last line, without a newline, wasn't answered
-  pub Ended-last_fails : (stop : StopCause) → progress.reached.rest ≢ [] → (now' : Option (List ℕ)) (sources : List (List ℕ)) (line : List ℕ)
-      → ((after : List (List ℕ)) → Answered (Stopped now now') sources line after → Answered (Stopped now now') progress.reached.after progress.reached.rest after)
-      → AnswerFails stop now now' sources line → Ended before now' bytes (end_of stop)
-  Ended-last_fails cause.SinkFailed some now' sources line here (after, answered) = Ended-last_failed some now' after (here after answered)
-  Ended-last_fails cause.OutOfMemory some now' sources line here same =
-      subst (λ (h : Option (List ℕ)). Ended before h bytes OutOfMemory) (sym same)
-      (Ended-same before now (bytes ++ []) bytes OutOfMemory (append-nil bytes) (Ended-out_of_memory []))
-
-pub Serves-ended : (before after : Outside) (bytes : List ℕ) (end : RunEnd) → Consumes before.left after.left bytes → HasRead end (length bytes)
-    → Ended before.held after.held bytes end → Serves before after (status_of end)
-Serves-ended before after bytes end reads counts ended = record {
-  bytes = bytes;
-  gained = ended.gained;
-  end = end;
-  sources = ended.sources;
-  ends = refl;
-  reads = reads;
-  counts = counts;
-  writes = ended.wrote;
-  runs = ended.run;
-}
-
--- a session that can't go on may have read any number of bytes
-pub HasRead-stopped : (stop : StopCause) (count : ℕ) → count ≤ input_limit → HasRead (end_of stop) count
-HasRead-stopped cause.SinkFailed count within = within
-HasRead-stopped cause.OutOfMemory count within = within
 
 -- nothing was read or written, since there was no memory to begin
 pub Serves-unopened : (outside : Outside) → Serves outside outside (status_of OutOfMemory)
-Serves-unopened outside =
-    Serves-ended outside outside [] OutOfMemory (Consumes-nil outside.left) (lit≤ tt)
-    (record {
-      gained = [];
-      sources = [];
-      run = Run-out_of_memory (reached_start AnswersLine []) [];
-      wrote = Appends-nil outside.held;
-    })
+Serves-unopened outside = record {
+  bytes = [];
+  gained = [];
+  end = OutOfMemory;
+  sources = [];
+  ends = refl;
+  reads = Consumes-nil outside.left;
+  counts = lit≤ tt;
+  writes = Appends-nil outside.held;
+  runs = Run-out_of_memory (reached_start AnswersLine []) [];
+}
 
 -- what is consumed is no longer than what was left
 consumed_short : (before after : Option (List ℕ)) (bytes : List ℕ) → Consumes before after bytes → IsShort before → length bytes < input_limit

@@ -3,5 +3,4 @@ pub mod Reducing
 pub mod Answering
 pub mod Mapping
 pub mod Keeping
-pub mod Progressing
 pub mod Ending

@@ -9,5 +9,4 @@ pub mod Pick
 pub mod Replies
 pub mod Changes
 pub mod Serving
-pub mod Dialogues
 pub mod Laws

@@ -14,4 +14,5 @@ mod session;
 pub use laws::programs_follow_the_grammar;
 pub use pick_session::{PickServers, PickSession};
 pub use serve::serve_lines;
-pub use session::{LINE_LIMIT, Session};
+pub use session::Session;
+pub use view_ports::LINE_LIMIT;

@@ -25,7 +25,8 @@ impl MapFunction {
 
     /// The function of a source, or none where the source doesn't compile. The one error is want of memory.
     pub fn compile(alloc: Global, source: Chars) -> Result<Option<MapFunction>, NoMemory>
-        ensures { IfOk result (λ function. option_map (λ f. f.source) function ≡ (if pick_compiles source then Some source else None)) }
+        ensures { IfOk result (λ function. option_map (λ f. f.source) function ≡
+            (if pick_compiles source then Some source else None)) }
     {
         match parse(alloc, source.as_str()) {
             Ok(program) => Ok(Some(MapFunction { source, program })),
@@ -36,7 +37,8 @@ impl MapFunction {
 
     /// The rows of a document, as `[[KEY,VALUE],...]`. The one error is want of memory.
     pub fn rows(&self, alloc: Global, document: &Term) -> Result<Term, NoMemory>
-        ensures { IfOk result (λ rows. (members : _) → json document.now ≡ object (members_of members) → json rows ≡ rows_term (pick_map self.now.source members)) }
+        ensures { IfOk result (λ rows. (members : _) → json document.now ≡ object
+            (members_of members) → json rows ≡ rows_term (pick_map self.now.source members)) }
     {
         rows_of_program(alloc, &self.program, document)
     }
@@ -44,7 +46,8 @@ impl MapFunction {
 
 /// The rows that a program gives of a document.
 fn rows_of_program(alloc: Global, program: &Program, document: &Term) -> Result<Term, NoMemory>
-    ensures { IfOk result (λ rows. json rows ≡ rows_term (rows_of program.now (json document.now))) }
+    ensures { IfOk result (λ rows. json rows ≡ rows_term
+        (rows_of program.now (json document.now))) }
 {
     let mut lists = run_map(alloc, program, document)?.into_vec();
     let Some(emissions) = lists.pop() else {

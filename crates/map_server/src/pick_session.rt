@@ -53,8 +53,10 @@ impl PickSession {
     /// What a line is answered, and what becomes of the functions then. Nothing has changed yet. The one error is want of
     /// memory.
     pub fn reply(&self, alloc: Global, line: &[u8]) -> Result<Reply, NoMemory>
-        ensures text { IfOk result (λ reply. IsTextOf (answer_of self.now (command line.now)) reply.text.items) }
-        ensures change { IfOk result (λ reply. changed self.now reply.change ≡ sources_then self.now (command line.now)) }
+        ensures text { IfOk result (λ reply.
+            IsTextOf (answer_of self.now (command line.now)) reply.text.items) }
+        ensures change { IfOk result (λ reply.
+            changed self.now reply.change ≡ sources_then self.now (command line.now)) }
     {
         match read_command(alloc, line)? {
             Command::Reset => forget(alloc),
@@ -83,7 +85,8 @@ impl PickSession {
 
     /// The rows that each function gives of the document.
     fn map_document(&self, alloc: Global, document: Members) -> Result<Vec<u8>, NoMemory>
-        ensures { IfOk result (λ text. IsTextOf (lists_term (rows_of pick self.now document)) text.items) }
+        ensures { IfOk result (λ text.
+            IsTextOf (lists_term (rows_of pick self.now document)) text.items) }
     {
         let lists = rows_of_each(alloc, self.functions.as_slice(), &Term::Object(document))?;
         answer_text(alloc, &Term::Array(lists))
@@ -96,7 +99,8 @@ fn rows_of_each(
     functions: &[MapFunction],
     document: &Term,
 ) -> Result<Terms, NoMemory>
-    ensures { IfOk result (λ lists. (members : _) → json document.now ≡ object (members_of members) → lists ≡ map (λ f. rows_term (pick_map f.source members)) functions.now) }
+    ensures { IfOk result (λ lists. (members : _) → json document.now ≡ object (members_of members)
+        → lists ≡ map (λ f. rows_term (pick_map f.source members)) functions.now) }
 {
     let mut lists = Terms::with_capacity(alloc, functions.len())?;
     for function in functions {

@@ -18,7 +18,8 @@ use view_ports::{ReduceRows, answer_text, compilation_error_text, true_text};
 
 /// The reply to `reset`.
 pub fn forget(alloc: Global) -> Result<Reply, NoMemory>
-    ensures { IfOk result (λ reply. IsTextOf is_true reply.text.items × (reply.change ≡ change.Clear)) }
+    ensures { IfOk result (λ reply. IsTextOf is_true reply.text.items
+        × (reply.change ≡ change.Clear)) }
 {
     Ok(Reply {
         text: true_text(alloc)?,
@@ -28,8 +29,10 @@ pub fn forget(alloc: Global) -> Result<Reply, NoMemory>
 
 /// The reply to `add_fun`.
 pub fn add(alloc: Global, source: Chars) -> Result<Reply, NoMemory>
-    ensures text { IfOk result (λ reply. (sources : List (List ℕ)) → IsTextOf (answer_of sources (command.AddFun source)) reply.text.items) }
-    ensures change { IfOk result (λ reply. (sources : List (List ℕ)) → changed sources reply.change ≡ sources_then sources (command.AddFun source)) }
+    ensures text { IfOk result (λ reply. (sources : List (List ℕ))
+        → IsTextOf (answer_of sources (command.AddFun source)) reply.text.items) }
+    ensures change { IfOk result (λ reply. (sources : List (List ℕ))
+        → changed sources reply.change ≡ sources_then sources (command.AddFun source)) }
 {
     match MapFunction::compile(alloc, source)? {
         Some(function) => Ok(Reply {
@@ -46,7 +49,8 @@ pub fn add(alloc: Global, source: Chars) -> Result<Reply, NoMemory>
 /// The answer to `reduce`.
 pub fn reduce(alloc: Global, source: Chars, rows: ReduceRows) -> Result<Vec<u8>, NoMemory>
     requires { IsReducible (command.Reduce source rows) }
-    ensures { IfOk result (λ text. (sources : List (List ℕ)) → IsTextOf (answer_of sources (command.Reduce source rows)) text.items) }
+    ensures { IfOk result (λ text. (sources : List (List ℕ))
+        → IsTextOf (answer_of sources (command.Reduce source rows)) text.items) }
 {
     let Some(how) = parse_reduce(source.as_str()) else {
         return compilation_error_text(alloc);
@@ -57,7 +61,8 @@ pub fn reduce(alloc: Global, source: Chars, rows: ReduceRows) -> Result<Vec<u8>,
 /// The answer to `rereduce`.
 pub fn rereduce(alloc: Global, source: Chars, values: Terms) -> Result<Vec<u8>, NoMemory>
     requires { IsReducible (command.Rereduce source values) }
-    ensures { IfOk result (λ text. (sources : List (List ℕ)) → IsTextOf (answer_of sources (command.Rereduce source values)) text.items) }
+    ensures { IfOk result (λ text. (sources : List (List ℕ))
+        → IsTextOf (answer_of sources (command.Rereduce source values)) text.items) }
 {
     let Some(how) = parse_reduce(source.as_str()) else {
         return compilation_error_text(alloc);

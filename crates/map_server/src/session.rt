@@ -9,10 +9,7 @@ use crate::pick_session::PickSession;
 use json_terms::NoMemory;
 use std::alloc::Global;
 use std::marker::Model;
-use view_ports::{ServerSession, bad_line_text};
-
-/// How many bytes a line has at most.
-pub const LINE_LIMIT: usize = 134_217_728;
+use view_ports::{LINE_LIMIT, ServerSession, bad_line_text};
 
 /// A session of the map server, seen by contracts as the list of the sources that were added and not forgotten.
 #[derive(Drop)]

@@ -1,9 +1,11 @@
-use crate::texts::assert_text;
+//! Documents mapped through servers that answer, fail and print what they shouldn't.
+
 use child_pool::{DocRowLists, Document, Pool, PoolFault};
 use design_docs::{Design, is_plain_design, read_design};
 use json_terms::{Chars, NoMemory, RowLists, Term, depth_within, read_term, write_term};
 use std::alloc::Global;
 use std::test::Fail;
+use test_tools::same_text;
 use view_ports::{Answer, FieldServers, ScriptServers, Servers};
 
 /// Appends the keys and values of the rows of each view.
@@ -77,7 +79,7 @@ fn mapped<C: Servers>(
     if design.views.len() > 32 {
         return Err(PoolFault::NoMemory);
     }
-    match pool.prepare(alloc, servers, design) {
+    match pool.prepare(alloc, servers, design, 1) {
         Ok(()) => pool.map_batch(alloc, servers, design, documents),
         Err(fault) => Err(fault),
     }
@@ -98,7 +100,7 @@ fn answered<C: Servers>(
 
 /// What a pool without children answers for a document and a view of its member `a`.
 fn outcome<C: Servers>(alloc: Global, servers: &mut C) -> Result<String, Fail> {
-    let mut pool = Pool::new(alloc, &[])?;
+    let mut pool = Pool::new(alloc, 1, &[])?;
     answered(alloc, &mut pool, servers, FIELD_A, &[DOCUMENT])
 }
 
@@ -154,7 +156,7 @@ fn with_failing_calls(alloc: Global, fail: &[u64; 2]) -> Result<String, Fail> {
 #[test]
 fn one_failed_call_is_made_good_and_two_are_a_fault(rt: HostRuntime) -> Result<(), Fail> {
     for (fail, want) in FAILING {
-        assert_text(&rt, with_failing_calls(rt.alloc(), fail), want, "")?;
+        same_text(with_failing_calls(rt.alloc(), fail), want, "")?;
     }
     Ok(())
 }
@@ -218,7 +220,7 @@ const SCRIPTS: &[([&str; 3], u32, &str)] = &[
 #[test]
 fn replies_that_are_not_proper_are_shown(rt: HostRuntime) -> Result<(), Fail> {
     for (lines, logs, want) in SCRIPTS {
-        assert_text(&rt, with_script(rt.alloc(), lines, *logs), want, lines[2])?;
+        same_text(with_script(rt.alloc(), lines, *logs), want, lines[2])?;
     }
     Ok(())
 }
@@ -243,10 +245,10 @@ const REQUESTS: &[(&str, &[&str], &str)] = &[
 #[test]
 fn a_child_is_kept_and_a_stopped_one_is_started_anew(rt: HostRuntime) -> Result<(), Fail> {
     let mut servers = FieldServers::new(rt.alloc(), [13, 14].to_vec(rt.alloc())?)?;
-    let mut pool = Pool::new(rt.alloc(), &[])?;
+    let mut pool = Pool::new(rt.alloc(), 1, &[])?;
     for (design, documents, want) in REQUESTS {
         let given = answered(rt.alloc(), &mut pool, &mut servers, design, documents);
-        assert_text(&rt, given, want, design)?;
+        same_text(given, want, design)?;
     }
     pool.stop_all(&mut servers);
     Ok(())
@@ -258,7 +260,7 @@ fn pool_of(alloc: Global, words: &[&str]) -> Result<Pool, NoMemory> {
     for word in words {
         list.push(String::from_str(alloc, word)?)?;
     }
-    Pool::new(alloc, list.as_slice())
+    Pool::new(alloc, 1, list.as_slice())
 }
 
 /// The path of a language where the words are given, or `-`.
@@ -294,7 +296,7 @@ const PATHS: &[(&[&str], &str, &str)] = &[
 #[test]
 fn words_name_paths_of_languages(rt: HostRuntime) -> Result<(), Fail> {
     for (words, language, want) in PATHS {
-        assert_text(&rt, path_of(rt.alloc(), words, language), want, language)?;
+        same_text(path_of(rt.alloc(), words, language), want, language)?;
     }
     Ok(())
 }

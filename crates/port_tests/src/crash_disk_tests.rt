@@ -1,3 +1,5 @@
+//! A folder in memory: its calls, those that fail, and the images that a stop leaves.
+
 use crate::folders::{DOCS, Step, bytes, read, run, take};
 use crash_disk::MemoryFolder;
 use json_terms::NoMemory;

@@ -1,4 +1,5 @@
-// Steps on any folder, and what its files hold then.
+//! Steps on any folder, and what its files hold then.
+
 ghost use Rattle.std.specs.Io.{ReadsAtMost};
 
 use json_terms::NoMemory;

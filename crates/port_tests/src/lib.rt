@@ -13,6 +13,4 @@ mod real_folder_tests;
 #[cfg(test)]
 mod real_servers_tests;
 #[cfg(test)]
-mod texts;
-#[cfg(test)]
 mod view_ports_tests;

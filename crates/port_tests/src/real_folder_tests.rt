@@ -1,4 +1,5 @@
 //! What no contract says: what the files of the real folder hold, and which calls on it fail.
+
 use crate::folders::{DOCS, Step, bytes, read, run};
 use json_terms::NoMemory;
 use real_ports::{Diagnostics, FILE_TEXT_LIMIT, Program, RealFolder, file_text, read_file_name};

@@ -1,56 +1,14 @@
 //! What no contract says: real children answer, and each side of a switch gets its own calls.
+
 ghost use Rattle.std.specs.Prelude.{◌≡◌, codes};
 
-use crate::texts::assert_text;
+use Call::{Ask, Receive, Send, Start, Stop};
 use json_terms::{Chars, NoMemory};
 use real_ports::{BuiltInPath, Diagnostics, Program, RealServers, Switch};
 use std::alloc::Global;
 use std::test::Fail;
+use test_tools::{Call, called, same_text, shown};
 use view_ports::{Answer, FieldServers, ScriptServers, Servers, ServersFault};
-
-/// A call on the child of a slot. `Start` has a program's path, and `Ask` sends the line and receives the answer.
-#[derive(Clone, Copy)]
-enum Call {
-    Start,
-    Send,
-    Receive,
-    Ask,
-    Stop,
-}
-
-use Call::{Ask, Receive, Send, Start, Stop};
-
-/// What the call gives: a line, or nothing.
-fn called(
-    servers: &mut RealServers,
-    alloc: Global,
-    slot: u32,
-    call: Call,
-    line: &str,
-) -> Result<Vec<u8>, ServersFault> {
-    if slot >= 9 {
-        return Err(ServersFault::Failed);
-    }
-    match call {
-        Start => servers.start(alloc, slot, line)?,
-        Send => servers.send(alloc, slot, line.as_bytes())?,
-        Receive => return servers.receive(alloc, slot),
-        Ask => {
-            servers.send(alloc, slot, line.as_bytes())?;
-            return servers.receive(alloc, slot);
-        }
-        Stop => servers.stop(slot),
-    }
-    Ok(Vec::new(alloc))
-}
-
-/// The line that a call gave, or its fault.
-fn shown(alloc: Global, given: Result<Vec<u8>, ServersFault>) -> Result<String, Fail> {
-    match given {
-        Ok(line) => Ok(String::from_utf8(line)?),
-        Err(fault) => Ok(format!(in alloc; "{fault}")?),
-    }
-}
 
 const FAILED: &str = "the query server failed";
 
@@ -99,7 +57,7 @@ fn children_answer_each_line(rt: HostRuntime) -> Result<(), Fail> {
     let mut servers = servers(rt)?;
     for (slot, call, line, want) in CALLS {
         let given = called(&mut servers, rt.alloc(), *slot, *call, line);
-        assert_text(&rt, shown(rt.alloc(), given), want, line)?;
+        same_text(shown(rt.alloc(), given), want, line)?;
     }
     Ok(())
 }

@@ -1,3 +1,5 @@
+//! Sources and sinks in memory.
+
 ghost use Rattle.std.specs.Io.{ReadsAtMost};
 
 use json_terms::NoMemory;

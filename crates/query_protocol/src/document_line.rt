@@ -14,9 +14,11 @@ use view_ports::Command;
 /// Appends `["map_doc",DOC]` for an object. The one error is want of memory, and `out` is then as it was.
 pub fn map_line(alloc: Global, doc: &Term, out: &mut Vec<u8>) -> Result<(), NoMemory>
     requires { IsDocument (json doc.now) }
-    ensures ok { OnOk result (out.new.items ≡ out.old.items ++ command_line (Command.MapDoc (document_of (json doc.now)))) }
+    ensures ok { OnOk result (out.new.items ≡ out.old.items ++ command_line
+        (Command.MapDoc (document_of (json doc.now)))) }
     ensures err { OnErr result (out.new.items ≡ out.old.items) }
-    ensures whole { OnOk result (IsWhole (command_line (Command.MapDoc (document_of (json doc.now))))) }
+    ensures whole { OnOk result (IsWhole (command_line
+        (Command.MapDoc (document_of (json doc.now))))) }
     ensures reads { OnOk result (ReadsBack (Command.MapDoc (document_of (json doc.now)))) }
 {
     doc.validity();

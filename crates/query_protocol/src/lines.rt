@@ -32,7 +32,8 @@ fn reset_term(alloc: Global) -> Result<Term, NoMemory>
 
 /// Appends `["add_fun",SOURCE]`. The one error is want of memory, and `out` is then as it was.
 pub fn add_fun_line(alloc: Global, source: &str, out: &mut Vec<u8>) -> Result<(), NoMemory>
-    ensures ok { OnOk result (out.new.items ≡ out.old.items ++ command_line (Command.AddFun source.now)) }
+    ensures ok { OnOk result (out.new.items ≡ out.old.items ++ command_line
+        (Command.AddFun source.now)) }
     ensures err { OnErr result (out.new.items ≡ out.old.items) }
     ensures whole { OnOk result (IsWhole (command_line (Command.AddFun source.now))) }
     ensures reads { OnOk result (ReadsBack (Command.AddFun source.now)) }

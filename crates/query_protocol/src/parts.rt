@@ -9,12 +9,7 @@ ghost use Rattle.query_protocol.specs.Replies as spec;
 
 use json_terms::{NoMemory, Term, depth_within, write_term};
 use std::alloc::Global;
-
-/// The longest text of a key, a value or a result, in bytes.
-const PART_LIMIT: usize = 1_048_576;
-
-/// The greatest depth of a key, a value or a result.
-const PART_DEPTH: u32 = 96;
+use view_ports::{PART_DEPTH, PART_LIMIT};
 
 /// Whether a key, a value or a result is within the bounds: its text has 1,048,576 bytes at most, and its depth is 96 at most.
 pub fn is_within_bounds(alloc: Global, term: &Term) -> Result<bool, NoMemory>
@@ -27,7 +22,8 @@ pub fn is_within_bounds(alloc: Global, term: &Term) -> Result<bool, NoMemory>
 
 /// The element of an array of one.
 pub fn one_of(term: &Term) -> Option<&Term>
-    ensures { option_map (λ t. json t.now) result ≡ option_and_then one_in (items_in (json term.now)) }
+    ensures { option_map (λ t. json t.now) result ≡ option_and_then one_in
+        (items_in (json term.now)) }
 {
     let Some(terms) = term.as_array() else {
         return None;

@@ -21,10 +21,13 @@ pub fn reduce_line(
     rows: &[Row],
     out: &mut Vec<u8>,
 ) -> Result<(), NoMemory>
-    requires { depth (command_term (Command.Reduce source.now (map reduce_row rows.now))) ≤ depth_limit }
-    ensures ok { OnOk result (out.new.items ≡ out.old.items ++ command_line (Command.Reduce source.now (map reduce_row rows.now))) }
+    requires { depth (command_term (Command.Reduce source.now
+        (map reduce_row rows.now))) ≤ depth_limit }
+    ensures ok { OnOk result (out.new.items ≡ out.old.items ++ command_line
+        (Command.Reduce source.now (map reduce_row rows.now))) }
     ensures err { OnErr result (out.new.items ≡ out.old.items) }
-    ensures whole { OnOk result (IsWhole (command_line (Command.Reduce source.now (map reduce_row rows.now)))) }
+    ensures whole { OnOk result (IsWhole (command_line
+        (Command.Reduce source.now (map reduce_row rows.now)))) }
     ensures reads { OnOk result (ReadsBack (Command.Reduce source.now (map reduce_row rows.now))) }
 {
     let term = reduce_term(alloc, source, rows)?;
@@ -32,7 +35,8 @@ pub fn reduce_line(
 }
 
 fn reduce_term(alloc: Global, source: &str, rows: &[Row]) -> Result<Term, NoMemory>
-    ensures { IfOk result (λ t. json t ≡ command_term (Command.Reduce source.now (map reduce_row rows.now))) }
+    ensures { IfOk result (λ t. json t ≡ command_term (Command.Reduce source.now
+        (map reduce_row rows.now))) }
 {
     let rows = rows_term(alloc, rows)?;
     with_source(alloc, "reduce", source, rows)
@@ -46,10 +50,13 @@ pub fn rereduce_line(
     values: &[Term],
     out: &mut Vec<u8>,
 ) -> Result<(), NoMemory>
-    requires { depth (command_term (Command.Rereduce source.now (map json values.now))) ≤ depth_limit }
-    ensures ok { OnOk result (out.new.items ≡ out.old.items ++ command_line (Command.Rereduce source.now (map json values.now))) }
+    requires { depth (command_term (Command.Rereduce source.now
+        (map json values.now))) ≤ depth_limit }
+    ensures ok { OnOk result (out.new.items ≡ out.old.items ++ command_line
+        (Command.Rereduce source.now (map json values.now))) }
     ensures err { OnErr result (out.new.items ≡ out.old.items) }
-    ensures whole { OnOk result (IsWhole (command_line (Command.Rereduce source.now (map json values.now)))) }
+    ensures whole { OnOk result (IsWhole (command_line
+        (Command.Rereduce source.now (map json values.now)))) }
     ensures reads { OnOk result (ReadsBack (Command.Rereduce source.now (map json values.now))) }
 {
     let term = rereduce_term(alloc, source, values)?;
@@ -57,7 +64,8 @@ pub fn rereduce_line(
 }
 
 fn rereduce_term(alloc: Global, source: &str, values: &[Term]) -> Result<Term, NoMemory>
-    ensures { IfOk result (λ t. json t ≡ command_term (Command.Rereduce source.now (map json values.now))) }
+    ensures { IfOk result (λ t. json t ≡ command_term (Command.Rereduce source.now
+        (map json values.now))) }
 {
     let values = values_term(alloc, values)?;
     with_source(alloc, "rereduce", source, values)
@@ -65,7 +73,8 @@ fn rereduce_term(alloc: Global, source: &str, values: &[Term]) -> Result<Term, N
 
 /// An array of a name, a source in an array, and one more term.
 fn with_source(alloc: Global, name: &str, source: &str, term: Term) -> Result<Term, NoMemory>
-    ensures { IfOk result (λ t. json t ≡ list3 (string name.now) (list1 (string source.now)) (json term)) }
+    ensures { IfOk result (λ t. json t ≡ list3 (string name.now) (list1 (string source.now))
+        (json term)) }
 {
     let mut sources = Terms::with_capacity(alloc, 1)?;
     sources.push(Term::Text(Chars::from_text(alloc, source)?))?;
@@ -87,7 +96,8 @@ fn values_term(alloc: Global, values: &[Term]) -> Result<Term, NoMemory>
 }
 
 fn rows_term(alloc: Global, rows: &[Row]) -> Result<Term, NoMemory>
-    ensures { IfOk result (λ t. json t ≡ array (items_of (map reduce_row_term (map reduce_row rows.now)))) }
+    ensures { IfOk result (λ t. json t ≡ array (items_of
+        (map reduce_row_term (map reduce_row rows.now)))) }
 {
     let mut terms = Terms::with_capacity(alloc, rows.len())?;
     for row in rows {

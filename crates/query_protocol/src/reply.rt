@@ -12,9 +12,7 @@ use crate::results::result_in;
 use crate::rows::lists_in;
 use json_terms::{NoMemory, RowLists, Term, TermFault, read_term};
 use std::alloc::Global;
-
-/// The longest line of an answer, in bytes.
-const LINE_LIMIT: usize = 134_217_728;
+use view_ports::LINE_LIMIT;
 
 /// What a line is a reply to.
 #[derive(Clone, Copy, Debug, PartialEq, Eq)]
@@ -164,7 +162,8 @@ fn is_complaint(term: &Term) -> bool
 }
 
 fn is_compilation_error(how: Option<&str>, name: Option<&str>, reason: Option<&str>) -> bool
-    ensures { result ≡ complains (option_map (λ t. t.now) how.entry) (option_map (λ t. t.now) name.entry) (option_map (λ t. t.now) reason.entry) }
+    ensures { result ≡ complains (option_map (λ t. t.now) how.entry)
+        (option_map (λ t. t.now) name.entry) (option_map (λ t. t.now) reason.entry) }
 {
     match (how, name, reason) {
         (Some(how), Some(name), Some(_)) => (how == "error" || how == "fatal")

@@ -1,4 +1,5 @@
-// The order of terms and of rows. Nothing here takes memory.
+//! The order of terms and of rows. Nothing here takes memory.
+
 ghost use Rattle.std.specs.Prelude.{◌≡◌, map};
 ghost use Rattle.json_terms.specs.Json.{items_of, members_of};
 ghost use Rattle.json_terms.specs.Seen.{json, pair_of};
@@ -40,7 +41,8 @@ fn compare_items(xs: &[Term], ys: &[Term]) -> Ordering
 
 #[cycle(compare)]
 fn compare_members(ms: &[Member], ns: &[Member]) -> Ordering
-    ensures { result ≡ members_cmp (members_of (map pair_of ms.now)) (members_of (map pair_of ns.now)) }
+    ensures { result ≡ members_cmp (members_of (map pair_of ms.now))
+        (members_of (map pair_of ns.now)) }
 {
     for (m, n) in ms.iter().zip(ns) {
         let names = m.name.as_str().cmp(n.name.as_str());

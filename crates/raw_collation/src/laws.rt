@@ -1,4 +1,5 @@
-// The laws of the two orders. Each function states one, and does nothing.
+//! The laws of the two orders. Each function states one, and does nothing.
+
 ghost use Rattle.std.specs.Prelude.{◌≡◌, ◌↔◌};
 ghost use Rattle.std.specs.Cmp.{IsTotalOrder};
 ghost use Rattle.json_terms.specs.Seen.{json};

@@ -1,4 +1,5 @@
-// Rows in raw order.
+//! Rows in raw order.
+
 ghost use Rattle.std.specs.Prelude.{◌≡◌};
 ghost use Rattle.raw_collation.specs.Sorting.{sorted_rows};
 

@@ -2,7 +2,7 @@
 
 ghost use Rattle.std.specs.Prelude.{◌≡◌, ◌≤◌, ◌<◌, ◌+◌, ◌-◌, IfOk, OnOk, length, vec_len};
 ghost use Rattle.real_ports.specs.Printed.{IsThere, IsUnended};
-ghost use Rattle.real_ports.specs.declared.child_lines.TheConstants.{LINE_LIMIT, PIECE};
+ghost use Rattle.view_ports.specs.declared.limits.TheConstants.{LINE_LIMIT, PIECE};
 ghost use Rattle.view_ports.specs.Lines.{IsLine};
 
 use crate::child_fault::ChildFault;
@@ -14,15 +14,11 @@ use std::alloc::Global;
 use std::io::{ErrorKind, Read};
 use std::os::fd::AsRawFd;
 use std::process::ChildStdout;
+use view_ports::{LINE_LIMIT, PIECE};
 
-/// How many bytes a line has at most, its newline aside. A child that has printed more than this, unread and without an
-/// end of a line, or while it doesn't take what it is sent, is given up.
-pub const LINE_LIMIT: usize = 134_217_728;
-
-/// How many bytes are read at a time, at most.
-pub const PIECE: usize = 65_536;
-
-/// The output of a child. What was read of it and not yet taken is kept: `LINE_LIMIT` bytes and one piece at most.
+/// The output of a child. What was read of it and not yet taken is kept: `LINE_LIMIT` bytes and one piece at most. A child
+/// that has printed more than `LINE_LIMIT` bytes, unread and without an end of a line, or while it doesn't take what it is
+/// sent, is given up.
 #[derive(Drop)]
 pub struct ChildLines {
     pipe: ChildStdout,

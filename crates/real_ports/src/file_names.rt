@@ -38,7 +38,8 @@ pub fn is_file_name(name: &FileName) -> bool
 /// The name whose text this is. `None` where it is not the text of a name that a file may have.
 pub fn read_file_name(text: &[u8]) -> Option<FileName>
     ensures given { IfSome result (λ name. IsFileName name × (file_text name ≡ text.now)) }
-    ensures all { (name : FileName) → IsFileName name → file_text name ≡ text.now → result ≡ Some name }
+    ensures all { (name : FileName) → IsFileName name → file_text name ≡ text.now
+        → result ≡ Some name }
 {
     match text {
         [stem @ .., b'.', b'0'] => read_stem(stem).map(|stem| FileName { stem, side: false }),

@@ -1,11 +1,11 @@
 //! A child process with a pipe to it and a pipe from it.
 
 ghost use Rattle.std.specs.Prelude.{◌≤◌, IfOk, length, vec_len};
-ghost use Rattle.real_ports.specs.declared.child_lines.TheConstants.{PIECE};
+ghost use Rattle.view_ports.specs.declared.limits.TheConstants.{LINE_LIMIT, PIECE};
 ghost use Rattle.view_ports.specs.Lines.{IsLine};
 
 use crate::child_fault::ChildFault;
-use crate::child_lines::{ChildLines, LINE_LIMIT, PIECE};
+use crate::child_lines::ChildLines;
 use crate::child_name::ChildName;
 use libc::net::{POLLOUT, poll};
 use libc::types::pollfd;
@@ -13,6 +13,7 @@ use std::alloc::Global;
 use std::io::{ErrorKind, Write};
 use std::os::fd::AsRawFd;
 use std::process::{Child, ChildStdin, Command, ExitStatus, Stdio};
+use view_ports::PIECE;
 
 /// How often it is looked whether a child ends that has closed a pipe, and how many milliseconds apart.
 const LOOKS: u32 = 20;

@@ -1,16 +1,15 @@
 //! Query servers that are child processes.
 
 ghost use Rattle.std.specs.Prelude.{◌≡◌, ◌↔◌, ◌≤◌, ◌<◌, vec_len};
-ghost use Rattle.real_ports.specs.declared.child_lines.TheConstants.{PIECE};
+ghost use Rattle.view_ports.specs.declared.limits.TheConstants.{LINE_LIMIT, PIECE};
 
 use crate::child_fault::ChildFault;
-use crate::child_lines::{LINE_LIMIT, PIECE};
 use crate::child_name::ChildName;
 use crate::diagnostics::Diagnostics;
 use crate::piped_child::PipedChild;
 use json_terms::NoMemory;
 use std::alloc::Global;
-use view_ports::{SLOT_COUNT, Servers, ServersFault};
+use view_ports::{LINE_LIMIT, PIECE, SLOT_COUNT, Servers, ServersFault};
 
 /// Query servers that are child processes, one a slot. A path is a program's, and is looked up in `PATH` where it has no
 /// slash; it is started without arguments.
@@ -138,7 +137,8 @@ impl Servers for RealServers {
     fn receive(&mut self, alloc: Global, slot: u32) -> Result<Vec<u8>, ServersFault>
         requires { slot < SLOT_COUNT }
         ensures told { Goes Anything Anything (receive slot (line_of result)) }
-        ensures answers { IfOk result (λ line. (calls : List Call) → Anything calls → AnswersChild (λ path. field) (λ path. ⊥) (child slot calls) line.items) }
+        ensures answers { IfOk result (λ line. (calls : List Call) → Anything calls
+            → AnswersChild (λ path. field) (λ path. ⊥) (child slot calls) line.items) }
         ensures cause { HasCauseOf ServersFault.Failed self.old.faults self.new.faults result }
         ensures child { LeavesChild slot self.old self.new result }
         ensures gave { OnOk result (has_child self.old slot ≡ true) }

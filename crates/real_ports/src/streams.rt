@@ -1,4 +1,5 @@
 //! Ports over the streams of the process.
+
 ghost use Rattle.std.specs.Prelude.{◌≡◌};
 
 use crate::diagnostics::Diagnostics;

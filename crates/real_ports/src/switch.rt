@@ -33,7 +33,9 @@ impl<P: BuiltInPath, A: Servers, B: Servers> Switch<P, A, B> {
 
     /// Servers without children, where neither part has any.
     pub fn over(built_in: A, others: B) -> Switch<P, A, B>
-        ensures calls { A.may_follow built_in [] → B.may_follow others [] → Follows P.bytes (A.may_follow result.built_in) (B.may_follow result.others) result.sides [] }
+        ensures calls { A.may_follow built_in [] → B.may_follow others []
+            → Follows P.bytes (A.may_follow result.built_in)
+            (B.may_follow result.others) result.sides [] }
         ensures parts { (result.built_in ≡ built_in) × (result.others ≡ others) }
     {
         Switch {

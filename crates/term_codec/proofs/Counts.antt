@@ -6,7 +6,7 @@ use Rattle.std.proofs.lemmas.List.{append_assoc}
 use Rattle.json_terms.specs.Json.{Json, array, object, items_of, members_of}
 use Rattle.json_terms.specs.Seen.{json, pair_of}
 use Rattle.term_codec.specs.Spelling.{spelling, items_spelling, members_spelling, items_count, members_count, count_bytes}
-use Rattle.term_codec.specs.Stands.{CountsFit, ItemsFit, MembersFit}
+use Rattle.term_codec.specs.SpelledAt.{CountsFit, ItemsFit, MembersFit}
 
 pub items_count-items_of : (ts : List Json) → items_count (items_of ts) ≡ length ts
 items_count-items_of [] = refl

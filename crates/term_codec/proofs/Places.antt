@@ -5,13 +5,13 @@ use Rattle.std.proofs.Math.Seq.{take-append_seam}
 use Rattle.std.proofs.lemmas.List.{length-take-le}
 use Rattle.json_terms.specs.Json.{Json}
 use Rattle.term_codec.specs.Spelling.{spelling}
-use Rattle.term_codec.specs.Stands.{Stands}
+use Rattle.term_codec.specs.SpelledAt.{IsSpelledAt}
 use Rattle.term_codec.specs.Reading.{reading}
 use Rattle.term_codec.proofs.Spelled.{reading-spelled, spelling-long}
 use Rattle.term_codec.proofs.Read.{reading-read}
 
-pub Stands-read : (bytes : List ℕ) (at end : ℕ) (t : Json) (rest : List ℕ) → at ≤ length bytes → reading 100 (drop at bytes) ≡ Some (t, rest) → end ≡ length bytes - length rest → Stands t bytes at end
-Stands-read bytes at end t rest inside found is =
+pub IsSpelledAt-read : (bytes : List ℕ) (at end : ℕ) (t : Json) (rest : List ℕ) → at ≤ length bytes → reading 100 (drop at bytes) ≡ Some (t, rest) → end ≡ length bytes - length rest → IsSpelledAt t bytes at end
+IsSpelledAt-read bytes at end t rest inside found is =
     let read = reading-read 100 (drop at bytes) t rest found in
     let long : length (drop at bytes) ≡ length (spelling t ++ rest) = ap length read.is in
     let whole = length-append (spelling t) rest in
@@ -24,15 +24,15 @@ Stands-read bytes at end t rest inside found is =
       spelled = (λ i. take (size i) (read.is i)) ∙ take-append_seam (spelling t) rest;
     }
 
-pub reading-Stands : (bytes : List ℕ) (at end : ℕ) (t : Json) → Stands t bytes at end → reading 100 (drop at bytes) ≡ Some (t, drop (end - at) (drop at bytes))
-reading-Stands bytes at end t stands =
+pub reading-IsSpelledAt : (bytes : List ℕ) (at end : ℕ) (t : Json) → IsSpelledAt t bytes at end → reading 100 (drop at bytes) ≡ Some (t, drop (end - at) (drop at bytes))
+reading-IsSpelledAt bytes at end t stands =
     let rest : List ℕ = drop (end - at) (drop at bytes) in
     let is : drop at bytes ≡ spelling t ++ rest = sym (take-append-drop (end - at) (drop at bytes)) ∙ ap (λ bs. bs ++ rest) stands.spelled in
     ap (reading 100) is ∙ reading-spelled 100 t rest stands.within.depth stands.term stands.within.counts
 
 -- the end of what stands there, from what is left
-pub end-Stands : (bytes : List ℕ) (at end : ℕ) (t : Json) (rest : List ℕ) → at ≤ length bytes → Stands t bytes at end → drop (end - at) (drop at bytes) ≡ rest → end ≡ length bytes - length rest
-end-Stands bytes at end t rest inside stands is =
+pub end-IsSpelledAt : (bytes : List ℕ) (at end : ℕ) (t : Json) (rest : List ℕ) → at ≤ length bytes → IsSpelledAt t bytes at end → drop (end - at) (drop at bytes) ≡ rest → end ≡ length bytes - length rest
+end-IsSpelledAt bytes at end t rest inside stands is =
     let some = spelling-long t in
     let long : length (take (end - at) (drop at bytes)) ≡ length (spelling t) = ap length stands.spelled in
     let left = length-drop at bytes in

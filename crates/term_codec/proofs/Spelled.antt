@@ -8,7 +8,7 @@ use Rattle.json_terms.specs.Json.{Json, number, is_false, is_null, is_true, obje
 use Rattle.json_terms.specs.Terms.{IsTerm, AreTerms, AreMembers, ComesBefore}
 use Rattle.json_terms.proofs.Sames.{items_of-list_of_items, members_of-list_of_members}
 use Rattle.term_codec.specs.Spelling.{spelling, items_spelling, members_spelling, items_count, members_count, count_bytes, text_bytes}
-use Rattle.term_codec.specs.Stands.{CountsFit, ItemsFit, MembersFit, IsWithin}
+use Rattle.term_codec.specs.SpelledAt.{CountsFit, ItemsFit, MembersFit, IsWithin}
 use Rattle.term_codec.specs.Reading.{reading, text_in, string_in, count_in, array_in, array_of_count, items_from, object_in, object_of_count, members_from, member_after, follows, Reader}
 use Rattle.term_codec.proofs.Words.{count_in-spelled, number_in-spelled, some-pair}
 use Rattle.term_codec.proofs.Texts.{text_in-spelled}

@@ -1,3 +1,3 @@
 pub mod Spelling
-pub mod Stands
+pub mod SpelledAt
 pub mod Reading

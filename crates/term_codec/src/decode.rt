@@ -4,16 +4,13 @@
 ghost use Rattle.std.specs.Prelude.{◌≡◌, ℕ, ◌≤◌, ◌⊎◌, ◌↔◌, List, length, Option, option_map, IfOk, IfErr, IsTrue, true};
 ghost use Rattle.json_terms.specs.Json.{Json};
 ghost use Rattle.json_terms.specs.Seen.{json, pair_of};
-ghost use Rattle.term_codec.specs.Stands.{Stands};
+ghost use Rattle.term_codec.specs.SpelledAt.{IsSpelledAt};
 ghost use Rattle.term_codec.specs.Spelling.{count_bytes, number_bytes};
 ghost use Rattle.term_codec.specs.Reading.{count_in, number_in, text_of_length, text_in, string_in, array_in, array_of_count, object_in, object_of_count, member_after, follows, reading};
 
 use crate::fault::CodecFault;
-use json_terms::{Chars, Member, Members, NoMemory, Term, Terms};
+use json_terms::{Chars, DEPTH_LIMIT, Member, Members, NoMemory, Term, Terms};
 use std::alloc::Global;
-
-/// The deepest term that is read.
-const DEPTH_LIMIT: u32 = 100;
 
 /// The term whose spelling stands at the place `at`, and the place behind it. `at` isn't past the end.
 ///
@@ -23,10 +20,12 @@ const DEPTH_LIMIT: u32 = 100;
 /// it, so the memory and the time grow as the bytes do.
 pub fn decode_term(alloc: Global, bytes: &[u8], at: usize) -> Result<(Term, usize), CodecFault>
     requires { at ≤ length bytes.now }
-    ensures ok { IfOk result (λ r. Stands (json r.0) bytes.now at r.1) }
-    ensures only { IfOk result (λ r. (t : Json) (end : ℕ) → Stands t bytes.now at end → (t ≡ json r.0) × (end ≡ r.1)) }
+    ensures ok { IfOk result (λ r. IsSpelledAt (json r.0) bytes.now at r.1) }
+    ensures only { IfOk result (λ r. (t : Json) (end : ℕ) → IsSpelledAt t bytes.now at end
+        → (t ≡ json r.0) × (end ≡ r.1)) }
     ensures err { IfErr result (λ e. (e ≡ CodecFault.NotATerm at) ⊎ (e ≡ CodecFault.NoMemory)) }
-    ensures none { result ≡ Err (CodecFault.NotATerm at) → (t : Json) (end : ℕ) → Stands t bytes.now at end → ⊥ }
+    ensures none { result ≡ Err (CodecFault.NotATerm at) → (t : Json) (end : ℕ)
+        → IsSpelledAt t bytes.now at end → ⊥ }
 {
     let (_, behind) = bytes.split_at(at);
     match read_value(alloc, behind, DEPTH_LIMIT)? {
@@ -94,7 +93,8 @@ pub fn read_text(bytes: &[u8]) -> Option<(&str, &[u8])>
 }
 
 fn read_chars(alloc: Global, bytes: &[u8]) -> Result<Option<(Term, &[u8])>, NoMemory>
-    ensures { IfOk result (λ found. option_map (λ r. (json r.0, r.1.now)) found ≡ string_in bytes.now) }
+    ensures { IfOk result (λ found.
+        option_map (λ r. (json r.0, r.1.now)) found ≡ string_in bytes.now) }
 {
     match read_text(bytes) {
         Some((text, rest)) => Ok(Some((Term::Text(Chars::from_text(alloc, text)?), rest))),
@@ -115,7 +115,8 @@ fn follows(name: &str, members: &Members) -> bool
 // A value that nests at most `limit` deep.
 #[cycle(read)]
 fn read_value(alloc: Global, bytes: &[u8], limit: u32) -> Result<Option<(Term, &[u8])>, NoMemory>
-    ensures { IfOk result (λ found. option_map (λ r. (json r.0, r.1.now)) found ≡ reading limit bytes.now) }
+    ensures { IfOk result (λ found.
+        option_map (λ r. (json r.0, r.1.now)) found ≡ reading limit bytes.now) }
 {
     match bytes.split_first() {
         Some((kind, rest)) => match *kind {
@@ -134,7 +135,8 @@ fn read_value(alloc: Global, bytes: &[u8], limit: u32) -> Result<Option<(Term, &
 
 #[cycle(read)]
 fn read_array(alloc: Global, bytes: &[u8], limit: u32) -> Result<Option<(Term, &[u8])>, NoMemory>
-    ensures { IfOk result (λ found. option_map (λ r. (json r.0, r.1.now)) found ≡ array_in (reading limit) bytes.now) }
+    ensures { IfOk result (λ found. option_map (λ r. (json r.0, r.1.now)) found ≡ array_in
+        (reading limit) bytes.now) }
 {
     match read_count(bytes) {
         Some((count, rest)) => read_terms(alloc, count, rest, limit),
@@ -149,7 +151,8 @@ fn read_terms(
     bytes: &[u8],
     limit: u32,
 ) -> Result<Option<(Term, &[u8])>, NoMemory>
-    ensures { IfOk result (λ found. option_map (λ r. (json r.0, r.1.now)) found ≡ array_of_count (reading limit) count bytes.now) }
+    ensures { IfOk result (λ found. option_map (λ r. (json r.0, r.1.now)) found ≡ array_of_count
+        (reading limit) count bytes.now) }
 {
     if count > bytes.len() {
         return Ok(None);
@@ -170,7 +173,8 @@ fn read_terms(
 
 #[cycle(read)]
 fn read_object(alloc: Global, bytes: &[u8], limit: u32) -> Result<Option<(Term, &[u8])>, NoMemory>
-    ensures { IfOk result (λ found. option_map (λ r. (json r.0, r.1.now)) found ≡ object_in (reading limit) bytes.now) }
+    ensures { IfOk result (λ found. option_map (λ r. (json r.0, r.1.now)) found ≡ object_in
+        (reading limit) bytes.now) }
 {
     match read_count(bytes) {
         Some((count, rest)) => read_members(alloc, count, rest, limit),
@@ -185,7 +189,8 @@ fn read_members(
     bytes: &[u8],
     limit: u32,
 ) -> Result<Option<(Term, &[u8])>, NoMemory>
-    ensures { IfOk result (λ found. option_map (λ r. (json r.0, r.1.now)) found ≡ object_of_count (reading limit) count bytes.now) }
+    ensures { IfOk result (λ found. option_map (λ r. (json r.0, r.1.now)) found ≡ object_of_count
+        (reading limit) count bytes.now) }
 {
     if count > bytes.len() {
         return Ok(None);
@@ -212,7 +217,8 @@ fn read_member<'a>(
     bytes: &'a [u8],
     limit: u32,
 ) -> Result<Option<(Member, &'a [u8])>, NoMemory>
-    ensures { IfOk result (λ found. option_map (λ r. (pair_of r.0, r.1.now)) found ≡ member_after (reading limit) members.now bytes.now) }
+    ensures { IfOk result (λ found. option_map (λ r. (pair_of r.0, r.1.now)) found ≡ member_after
+        (reading limit) members.now bytes.now) }
 {
     match read_text(bytes) {
         Some((name, behind)) => {

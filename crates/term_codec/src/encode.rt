@@ -4,7 +4,7 @@ ghost use Rattle.std.specs.Prelude.{◌≡◌, ◌^◌, ◌<◌, ◌++◌, lengt
 ghost use Rattle.json_terms.specs.Json.{items_of, members_of};
 ghost use Rattle.json_terms.specs.Seen.{json, pair_of};
 ghost use Rattle.term_codec.specs.Spelling.{spelling, items_spelling, members_spelling, count_bytes, number_bytes, text_bytes};
-ghost use Rattle.term_codec.specs.Stands.{IsWithin, CountsFit, ItemsFit, MembersFit};
+ghost use Rattle.term_codec.specs.SpelledAt.{IsWithin, CountsFit, ItemsFit, MembersFit};
 
 use json_terms::{Member, NoMemory, Term};
 use std::alloc::Global;
@@ -94,7 +94,8 @@ fn put_term(term: &Term, out: &mut Vec<u8>) -> Result<(), NoMemory>
 #[cycle(put)]
 fn put_terms(terms: &[Term], out: &mut Vec<u8>) -> Result<(), NoMemory>
     requires { ItemsFit (items_of (map json terms.now)) }
-    ensures { OnOk result (out.new.items ≡ out.old.items ++ items_spelling (items_of (map json terms.now))) }
+    ensures { OnOk result (out.new.items ≡ out.old.items ++ items_spelling
+        (items_of (map json terms.now))) }
 {
     for term in terms {
         put_term(term, out)?;
@@ -105,7 +106,8 @@ fn put_terms(terms: &[Term], out: &mut Vec<u8>) -> Result<(), NoMemory>
 #[cycle(put)]
 fn put_members(members: &[Member], out: &mut Vec<u8>) -> Result<(), NoMemory>
     requires { MembersFit (members_of (map pair_of members.now)) }
-    ensures { OnOk result (out.new.items ≡ out.old.items ++ members_spelling (members_of (map pair_of members.now))) }
+    ensures { OnOk result (out.new.items ≡ out.old.items ++ members_spelling
+        (members_of (map pair_of members.now))) }
 {
     for member in members {
         put_text(member.name.as_str(), out)?;

@@ -1,5 +1,5 @@
 -- A run's last world has exactly the writes that were answered `ok`.
-use Rattle.std.specs.Prelude.{◌≡◌, ℕ, List, [], ◌∷◌, Bool, true, false, if◌then◌else◌, None, Result, Ok, Err}
+use Rattle.std.specs.Prelude.{◌≡◌, ℕ, List, [], ◌∷◌, ◌++◌, Bool, true, false, if◌then◌else◌, None, Result, Ok, Err}
 use Rattle.std.proofs.Common.{refl, ap, ◌∙◌, inl, inr}
 use Rattle.view_ports.specs.Lines.{ended}
 use Rattle.view_ports.specs.Exchanges.{Exchange, LeadsTo}
@@ -70,3 +70,8 @@ module _ (functions : List ℕ → Functions) (honest : List ℕ → Type 0) (la
   LeadsTo-accepted before [] after leads = ap (λ (m : Moment). m.world) leads
   LeadsTo-accepted before (e ∷ exchanges) after leads =
       LeadsTo-accepted leads.0 exchanges after leads.2 ∙ ap (λ w. accepted w exchanges) (Answers-accepted before e leads.0 leads.1)
+
+-- lines that are answered after others add their writes to those of the others
+pub accepted_in_turn : (world : World) (first second : List Exchange) → accepted world (first ++ second) ≡ accepted (accepted world first) second
+accepted_in_turn world [] second = refl
+accepted_in_turn world (e ∷ first) second = accepted_in_turn (after_exchange world e) first second

@@ -50,7 +50,7 @@ module _ {F C : Type 0} (f : Folders F) (s : Servers C) (docs docs' : Docs) (poo
       record {
         text = ended done.reply;
         after = with_world before left.after;
-        is_at = record { documents = left.is_at; child = record { child = at.child.child; follows = at.child.follows; counts = at.child.counts } };
+        is_at = record { documents = left.is_at; child = record { width = at.child.width; child = at.child.child; follows = at.child.follows; counts = at.child.counts } };
         allowed = told_now (f.disk old) (λ d. DoesHere before.world request done.reply left.after)
             (λ d. DoesRequestText s.functions s.honest (languages_of pool) before (Ok request) (ended done.reply) (with_world before left.after))
             (λ d does. (done.reply, inl (performs_here s.functions s.honest (languages_of pool) request before done.reply left.after does), refl)) left.allowed;
@@ -60,7 +60,7 @@ module _ {F C : Type 0} (f : Folders F) (s : Servers C) (docs docs' : Docs) (poo
       let left = refused before.world at.documents in
       record {
         after = with_world before left.after;
-        is_at = record { documents = left.is_at; child = record { child = at.child.child; follows = at.child.follows; counts = at.child.counts } };
+        is_at = record { documents = left.is_at; child = record { width = at.child.width; child = at.child.child; follows = at.child.follows; counts = at.child.counts } };
         allowed = told_now (f.disk old) (λ d. (left.after ≡ before.world) × IsRefusedHere before.world request refusal)
             (λ d. DoesRequest s.functions s.honest (languages_of pool) before (Ok request) (refusal_text refusal) (with_world before left.after)
             × MayHaveCalled (languages_of pool) before (Ok request) (with_world before left.after))
@@ -73,7 +73,7 @@ module _ {F C : Type 0} (f : Folders F) (s : Servers C) (docs docs' : Docs) (poo
       let left = spent before.world at.documents in
       record {
         after = with_world before left.after;
-        is_at = record { documents = left.is_at; child = record { child = at.child.child; follows = at.child.follows; counts = at.child.counts } };
+        is_at = record { documents = left.is_at; child = record { width = at.child.width; child = at.child.child; follows = at.child.follows; counts = at.child.counts } };
         allowed = told_now (f.disk old) (λ d. left.after ≡ before.world) (λ d. MayHaveCalled (languages_of pool) before (Ok request) (with_world before left.after))
             (λ d same. same_called s.functions s.honest (languages_of pool) request before left.after same) left.allowed;
       }
@@ -91,7 +91,7 @@ acted {f = f} {s = s} {docs = docs} {docs' = docs'} {pool = pool} {old = old} {n
       silent = acts.silent;
       disk = acts.disk;
       why = acts.why;
-      stays = record { languages = refl; disk_faults = acts.later; server_faults = omega arith };
+      stays = record { languages = refl; width = refl; disk_faults = acts.later; server_faults = omega arith };
     })
 
 module _ {F C : Type 0} {f : Folders F} {s : Servers C} {now : Scene F C} {request : Result Request Refusal} {out : List ℕ} where
@@ -106,7 +106,7 @@ module _ {F C : Type 0} {f : Folders F} {s : Servers C} {now : Scene F C} {reque
     silent = refl;
     disk = disk_still is_open;
     why = tt;
-    stays = record { languages = refl; disk_faults = omega arith; server_faults = omega arith };
+    stays = record { languages = refl; width = refl; disk_faults = omega arith; server_faults = omega arith };
   }
 
   -- nothing was called, and the request is refused
@@ -123,5 +123,5 @@ module _ {F C : Type 0} {f : Folders F} {s : Servers C} {now : Scene F C} {reque
     silent = refl;
     disk = disk_still is_open;
     why = tt;
-    stays = record { languages = refl; disk_faults = omega arith; server_faults = omega arith };
+    stays = record { languages = refl; width = refl; disk_faults = omega arith; server_faults = omega arith };
   }

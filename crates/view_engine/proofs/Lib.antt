@@ -2,7 +2,7 @@ pub mod LastWrites
 pub mod LiveDocuments
 pub mod Places
 pub mod EmittedRows
-pub mod LineLimit
+pub mod RequestLimit
 pub mod OtherForms
 pub mod Pieces
 pub mod PlainPuts
@@ -25,6 +25,7 @@ pub mod Stepping
 pub mod AcceptedWrites
 pub mod Worlds
 pub mod Still
+pub mod OwnFiles
 pub mod OnDisk
 pub mod Acting
 pub mod Stored

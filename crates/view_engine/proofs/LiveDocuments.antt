@@ -1,58 +1,17 @@
 -- The live documents: each id once, in order, with what its last write stored.
 use Rattle.std.specs.Prelude.{◌≡◌, ℕ, List, [], ◌∷◌, Bool, true, false, Option, Some, None, option_map, option_and_then, bytes_eq, if◌then◌else◌}
 use Rattle.std.proofs.Common.{refl, sym, ap, ◌∙◌, subst}
-use Rattle.std.specs.declared.cmp.Ordering.{Ordering}
-use Rattle.std.specs.declared.cmp.Ordering.TheVariants.{Less, Equal, Greater}
-use Rattle.std.specs.Ordering.{is_eq, nat_cmp, match_ordering, ordering_reverse}
-use Rattle.std.specs.Cmp.Lexicographic.{slice_cmp, nat_list_cmp_total}
+use Rattle.std.specs.declared.cmp.Ordering.TheVariants.{Less}
 use Rattle.std.specs.List.{filter_map, cons_option, AllByRecursion}
 use Rattle.std.specs.List.Sorted.{IsStrictlySortedBy}
 use Rattle.std.specs.Map.{lookup, keys_of}
-use Rattle.std.specs.BTreeMap.{insert_entry}
 use Rattle.std.proofs.lemmas.Slice.Eq.{bytes_eq-Decides}
 use Rattle.std.proofs.lemmas.Map.Text.{is_eq-slice_cmp}
 use Rattle.json_terms.specs.Json.{Json}
 use Rattle.doc_file.specs.History.{Write, last_writes, stored, live}
+use Rattle.doc_file.proofs.LastWrites.{IsBelow, Rises, last_writes_rise, order, unlike}
 use Rattle.view_engine.specs.Laws.{HasLastWrites, HasLiveDocuments, IsInOrderOfId}
 use Rattle.view_engine.proofs.LastWrites.{last_write-lookup}
-
-abbrev order : List ℕ → List ℕ → Ordering
-order = slice_cmp nat_cmp
-
--- the id is below each of these
-abbrev IsBelow : {X : Type 0} → List ℕ → List (List ℕ × X) → Type 0
-IsBelow id [] = Unit {0}
-IsBelow id (e ∷ es) = (order id e.0 ≡ Less) × IsBelow id es
-
-abbrev Rises : {X : Type 0} → List (List ℕ × X) → Type 0
-Rises [] = Unit {0}
-Rises (e ∷ es) = IsBelow e.0 es × Rises es
-
-below_below : {X : Type 0} (low id : List ℕ) (es : List (List ℕ × X)) → order low id ≡ Less → IsBelow id es → IsBelow low es
-below_below low id [] less below = tt
-below_below low id (e ∷ es) less below = (nat_list_cmp_total.trans low id e.0 less below.0, below_below low id es less below.1)
-
-IsBelow-insert : {X : Type 0} (low id : List ℕ) (x : X) (es : List (List ℕ × X)) → order low id ≡ Less → IsBelow low es → IsBelow low (insert_entry order es id x)
-IsBelow-insert low id x [] less below = (less, tt)
-IsBelow-insert low id x (e ∷ es) less below =
-    elim (order id e.0) as (λ o. IsBelow low (match_ordering o ((id, x) ∷ e ∷ es) ((e.0, x) ∷ es) (e ∷ insert_entry order es id x))) [
-      | Less ↦ (less, below)
-      | Equal ↦ (below.0, below.1)
-      | Greater ↦ (below.0, IsBelow-insert low id x es less below.1)
-    ]
-
-Rises-insert : {X : Type 0} (id : List ℕ) (x : X) (es : List (List ℕ × X)) → Rises es → Rises (insert_entry order es id x)
-Rises-insert id x [] rises = (tt, tt)
-Rises-insert id x (e ∷ es) rises =
-    elim (order id e.0) as (λ o. order id e.0 ≡ o → Rises (match_ordering o ((id, x) ∷ e ∷ es) ((e.0, x) ∷ es) (e ∷ insert_entry order es id x))) [
-      | Less ↦ λ is. ((is, below_below id e.0 es is rises.0), rises)
-      | Equal ↦ λ is. rises
-      | Greater ↦ λ is. (IsBelow-insert e.0 id x es (nat_list_cmp_total.antisymm e.0 id ∙ ap ordering_reverse is) rises.0, Rises-insert id x es rises.1)
-    ] refl
-
-last_writes_rise : (history : List Write) → Rises (last_writes history)
-last_writes_rise [] = tt
-last_writes_rise (write ∷ older) = Rises-insert write.id write (last_writes older) (last_writes_rise older)
 
 -- ---- those that are stored
 
@@ -76,9 +35,6 @@ Rises-stored (w ∷ ws) rises =
     ]
 
 -- an id that is below others is none of them
-unlike : (id other : List ℕ) → order id other ≡ Less → bytes_eq id other ≡ false
-unlike id other less = sym (is_eq-slice_cmp id other) ∙ ap is_eq less
-
 missing : {X : Type 0} (id : List ℕ) (es : List (List ℕ × X)) → IsBelow id es → lookup (bytes_eq id) es ≡ None
 missing id [] below = refl
 missing {X} id (e ∷ es) below =

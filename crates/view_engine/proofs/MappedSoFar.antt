@@ -13,9 +13,9 @@ use Rattle.query_protocol.specs.CommandLines.{document_of, IsDocument}
 use Rattle.doc_file.specs.declared.docs.changes.Change.{Change}
 use Rattle.doc_file.specs.Changes.{numbered, HasDocument}
 use Rattle.doc_file.specs.Held.{IsBodyOf, IsObject}
+use Rattle.doc_file.specs.History.{mapped_by}
 use Rattle.view_engine.specs.declared.mapped.Mapped.{Mapped}
 use Rattle.view_engine.specs.Mapped.{AreMappedOf}
-use Rattle.view_engine.specs.World.{mapped_by}
 
 abbrev left : List Change → List (List ℕ × Json)
 left changes = filter_map (λ change. mapped_by change.1) (map numbered changes)

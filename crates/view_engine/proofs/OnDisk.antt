@@ -22,6 +22,7 @@ use Rattle.view_engine.specs.declared.request.Request.{Request}
 use Rattle.view_engine.specs.Disks.{AreOpen, IfStopped, IsReadReason, IsReason, KeepsDisk, Reads, ReadsDocuments}
 use Rattle.view_engine.specs.Halts.{halted_as, IsDamage}
 use Rattle.view_engine.proofs.Keeping.{moments_none, moments_still, open_none, stands_none, stands_still}
+use Rattle.view_engine.proofs.OwnFiles.{own_none, own_still}
 use Rattle.view_engine.proofs.SameDocs.{IsOpen-same}
 use Rattle.view_engine.proofs.SameFiles.{damage_back}
 use Rattle.view_engine.proofs.Still.{still_same}
@@ -32,6 +33,7 @@ module _ {F : Type 0} {f : Folders F} {docs : Docs} {request : Result Request Re
   pub disk_still : {folder : F} → AreOpen f docs folder → KeepsDisk f docs docs folder folder request GivenUp GoesOn
   disk_still {folder} is_open = record {
     moments = λ world at. moments_still docs (f.disk folder) request world at;
+    own = λ world at. own_still (f.disk folder);
     unmoved = λ given. told_refl (f.disk folder) MovesNone none_refl;
     unwritten = λ given world at. stands_still docs (f.disk folder) world.history at;
     still = λ world at never. still_same docs (f.disk folder) request world at never;
@@ -42,6 +44,7 @@ module _ {F : Type 0} {f : Folders F} {docs : Docs} {request : Result Request Re
   pub disk_read : {old new : F} → Tells (f.disk old) (f.disk new) MovesNone → AreOpen f docs old → KeepsDisk f docs docs old new request GivenUp GoesOn
   disk_read {old} {new} none is_open = record {
     moments = λ world at. moments_none docs (f.disk old) (f.disk new) none request world at;
+    own = λ world at. own_none (f.disk old) (f.disk new) none;
     unmoved = λ given. none;
     unwritten = λ given world at. stands_none docs (f.disk old) (f.disk new) none world.history at;
     still = λ world at never. none;
@@ -53,6 +56,7 @@ module _ {F : Type 0} {f : Folders F} {docs : Docs} {request : Result Request Re
   disk_same {docs'} {old} {new} same is_open =
       let there : KeepsDisk f docs docs' old old request GivenUp GoesOn = record {
         moments = λ world at. moments_still docs (f.disk old) request world at;
+        own = λ world at. own_still (f.disk old);
         unmoved = λ given. told_refl (f.disk old) MovesNone none_refl;
         unwritten = λ given world at. stands_still docs (f.disk old) world.history at;
         still = λ world at never. still_same docs (f.disk old) request world at never;
@@ -65,6 +69,7 @@ module _ {F : Type 0} {f : Folders F} {docs : Docs} {request : Result Request Re
       → KeepsDisk f docs docs' old new request GivenUp GoesOn
   disk_ends given goes keeps = record {
     moments = keeps.moments;
+    own = keeps.own;
     unmoved = λ was. keeps.unmoved (given was);
     unwritten = λ was. keeps.unwritten (given was);
     still = keeps.still;

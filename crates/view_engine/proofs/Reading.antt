@@ -1,6 +1,6 @@
 -- A request that only reads the documents.
 use Rattle.std.specs.Result.{IsErrAnd}
-use Rattle.std.proofs.Common.{◌≡◌, ◌≤◌, ◌⊎◌, ◌++◌, ℕ, List, Option, inl, inr, Result, Ok, Err, refl, sym, ap, ◌∙◌, subst}
+use Rattle.std.proofs.Common.{◌≡◌, ◌≤◌, ◌⊎◌, ◌++◌, ℕ, List, true, false, Option, inl, inr, Result, Ok, Err, refl, sym, ap, ◌∙◌, subst}
 use Rattle.std.proofs.lemmas.Result.{err_from_is_err_and}
 use Rattle.view_ports.specs.Causes.{HasCauseIf}
 use Rattle.view_ports.specs.Disk.{IfTold, MovesNone, Tells}
@@ -14,7 +14,7 @@ use Rattle.view_ports.specs.Lines.{ended}
 use Rattle.view_ports.specs.declared.folder.Folder.{Ghosts as Folders}
 use Rattle.view_ports.proofs.Told.{told_all, told_now, told_pair}
 use Rattle.doc_file.specs.declared.docs.Docs.{Docs}
-use Rattle.doc_file.specs.Docs.{bytes_in, file_of, last_of, IsAt as AreAt, IsLoaded, IsOpen, IsSpoiled}
+use Rattle.doc_file.specs.Docs.{bytes_in, file_of, is_deleted, last_of, IsAt as AreAt, IsLoaded, IsOpen, IsSpoiled}
 use Rattle.doc_file.specs.History.{Write}
 use Rattle.view_engine.specs.declared.halt.Halt.{Halt}
 use Rattle.view_engine.specs.declared.halt.Halt.TheVariants.{Refused, Stopped}
@@ -25,7 +25,7 @@ use Rattle.view_engine.specs.Calls.{ActsHere, DoesHere, DoesHereBy, IsRefusedHer
 use Rattle.view_engine.specs.Disks.{AreOpen, IfStopped, IsReadReason, Reads, ReadsDocuments}
 use Rattle.view_engine.specs.Halts.{halted_as, IsDamage}
 use Rattle.view_engine.specs.World.{World}
-use Rattle.view_engine.proofs.HaltedAs.{after_damage, spoiled_damage}
+use Rattle.view_engine.proofs.HaltedAs.{after_damage, not_deleted, spoiled_damage}
 use Rattle.view_engine.proofs.Keeping.{at_none}
 use Rattle.view_engine.proofs.OnDisk.{disk_read, read_halted, read_reason}
 
@@ -104,17 +104,24 @@ not_full_get fault (inr (inr so)) n length is = not_full fault so n length is
 abbrev failed : (T : Type 0) → DocFault → Result T DocFault
 failed T fault = Err fault
 
+-- damage is that of a live document, since a deletion is met as one
+damage_live : (T : Type 0) (docs : Docs) (id : List ℕ) (fault : DocFault) (n : FileName) (at : ℕ) → (is_deleted (last_of docs id) ≡ true → failed T fault ≡ Err doc.Deleted)
+    → fault ≡ doc.Gate (gate.Damaged n at) → is_deleted (last_of docs id) ≡ false
+damage_live T docs id fault n at deleted is =
+    not_deleted (is_deleted (last_of docs id)) (λ so. let clash : failed T (doc.Gate (gate.Damaged n at)) ≡ failed T doc.Deleted = ap (failed T) (sym is) ∙ deleted so in cc)
+
 module _ {F : Type 0} (T : Type 0) (f : Folders F) (docs : Docs) (old new : F) where
   -- `get` failed
   pub why_of_get : (id : List ℕ) (fault : DocFault) → HasCauseIf (λ e. e ≡ doc.Gate gate.DiskFault) (f.faults old) (f.faults new) (failed T fault)
+      → (is_deleted (last_of docs id) ≡ true → failed T fault ≡ Err doc.Deleted)
       → IfTold (f.disk old) (λ d. (n : FileName) (at : ℕ) → failed T fault ≡ Err (doc.Gate (gate.Damaged n at)) → (n ≡ name_of (file_of docs)) × IsSpoiled id (bytes_in docs d.now) (last_of docs id) at)
       → ((history : List Write) → IfTold (f.disk old) (λ d. AreAt docs d.now history → (n : FileName) (at : ℕ) → failed T fault ≡ Err (doc.Gate (gate.Damaged n at)) → ⊥))
       → (fault ≡ doc.Missing) ⊎ (fault ≡ doc.Deleted) ⊎ (fault ≡ doc.Gate gate.DiskFault) ⊎ (fault ≡ doc.NoMemory) ⊎ ((name : FileName) × (at : ℕ) × (fault ≡ doc.Gate (gate.Damaged name at)))
       → IfStopped (IsReadReason f docs old new) (halted_as fault)
-  why_of_get id fault cause damaged sound faults =
+  why_of_get id fault cause deleted damaged sound faults =
       read_reason f docs old new fault cause.failed (λ n at is. (
         told_now (f.disk old) (λ d. (n : FileName) (at : ℕ) → failed T fault ≡ Err (doc.Gate (gate.Damaged n at)) → (n ≡ name_of (file_of docs)) × IsSpoiled id (bytes_in docs d.now) (last_of docs id) at)
-            (λ d. IsDamage docs d.now n at) (λ d there. spoiled_damage docs d.now n id at (there n at (ap Err is))) damaged,
+            (λ d. IsDamage docs d.now n at) (λ d there. spoiled_damage docs d.now n id at (damage_live T docs id fault n at deleted is) (there n at (ap Err is))) damaged,
         λ world. told_now (f.disk old) (λ d. AreAt docs d.now world.history → (n : FileName) (at : ℕ) → failed T fault ≡ Err (doc.Gate (gate.Damaged n at)) → ⊥) (λ d. AreAt docs d.now world.history → ⊥)
             (λ d never here. never here n at (ap Err is)) (sound world.history),
       )) (not_full_get fault faults)
@@ -122,11 +129,12 @@ module _ {F : Type 0} (T : Type 0) (f : Folders F) (docs : Docs) (old new : F) w
 -- the same of a call that only reads
 pub read_of_get : {F T S : Type 0} {f : Folders F} {docs : Docs} {old new : F} (id : List ℕ) (fault : DocFault) → Tells (f.disk old) (f.disk new) MovesNone
     → HasCauseIf (λ e. e ≡ doc.Gate gate.DiskFault) (f.faults old) (f.faults new) (failed T fault)
+    → (is_deleted (last_of docs id) ≡ true → failed T fault ≡ Err doc.Deleted)
     → IfTold (f.disk old) (λ d. (n : FileName) (at : ℕ) → failed T fault ≡ Err (doc.Gate (gate.Damaged n at)) → (n ≡ name_of (file_of docs)) × IsSpoiled id (bytes_in docs d.now) (last_of docs id) at)
     → ((history : List Write) → IfTold (f.disk old) (λ d. AreAt docs d.now history → (n : FileName) (at : ℕ) → failed T fault ≡ Err (doc.Gate (gate.Damaged n at)) → ⊥))
     → (fault ≡ doc.Missing) ⊎ (fault ≡ doc.Deleted) ⊎ (fault ≡ doc.Gate gate.DiskFault) ⊎ (fault ≡ doc.NoMemory) ⊎ ((name : FileName) × (at : ℕ) × (fault ≡ doc.Gate (gate.Damaged name at)))
     → Reads f {T = S} docs old new (Err (halted_as fault))
-read_of_get {T = T} {f = f} {docs = docs} {old = old} {new = new} id fault none cause damaged sound faults = record { disk = none; why = why_of_get T f docs old new id fault cause damaged sound faults; later = cause.later }
+read_of_get {T = T} {f = f} {docs = docs} {old = old} {new = new} id fault none cause deleted damaged sound faults = record { disk = none; why = why_of_get T f docs old new id fault cause deleted damaged sound faults; later = cause.later }
 
 pub read_of_changes : {F T S : Type 0} {f : Folders F} {docs : Docs} {old new : F} (fault : DocFault) → AreOpen f docs old → Tells (f.disk old) (f.disk new) MovesNone
     → HasCauseIf (λ e. e ≡ doc.Gate gate.DiskFault) (f.faults old) (f.faults new) (failed T fault)

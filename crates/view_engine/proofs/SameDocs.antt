@@ -1,12 +1,14 @@
 -- Documents that are kept as they were stand where they stood.
-use Rattle.std.proofs.Common.{◌≡◌, ◌≢◌, List, [], sym, subst, ◌∙◌}
-use Rattle.view_ports.specs.File.{File, settled}
+use Rattle.std.proofs.Common.{List, sym, subst, ◌∙◌}
+use Rattle.view_ports.specs.File.{File}
 use Rattle.view_ports.specs.declared.file_name.FileName.{FileName}
 use Rattle.gate_file.specs.declared.gate.GateFile.{GateFile}
-use Rattle.gate_file.specs.GateFile.{commits_of, name_of, root_of, Keeps as KeepsFile}
+use Rattle.view_ports.specs.declared.file_name.Stem.TheVariants.{Docs as DocsStem}
+use Rattle.gate_file.specs.GateFile.{commits_of, name_of, root_of}
+use Rattle.gate_file.specs.Pair.{IsOpenPair}
 use Rattle.doc_file.specs.declared.docs.Docs.{Docs}
 use Rattle.doc_file.specs.declared.entry.Entry.{Entry}
-use Rattle.doc_file.specs.Docs.{bytes_in, entries_of, file_of, seq_of, IsAt, IsDocsFile, IsLoaded, IsOpen, IsSame}
+use Rattle.doc_file.specs.Docs.{bytes_in, entries_of, file_of, seq_of, IsAt, IsLoaded, IsOpen, IsSame}
 use Rattle.doc_file.specs.Held.{HoldsRoot, KeepsEach}
 use Rattle.doc_file.specs.History.{Write}
 
@@ -19,10 +21,7 @@ module _ (old new : Docs) (files : FileName → File) (same : IsSame old new) wh
 
   pub IsOpen-same : IsOpen old files → IsOpen new files
   IsOpen-same is_open = record {
-    own = subst (λ (g : GateFile). IsDocsFile (name_of g)) (sym same.file) is_open.own;
-    keeps = subst (λ (g : GateFile). KeepsFile g (files (name_of g))) (sym same.file) is_open.keeps;
-    whole = subst (λ (g : GateFile). files (name_of g) ≡ settled (files (name_of g)).seen) (sym same.file) is_open.whole;
-    other = subst (λ (g : GateFile). (name : FileName) → IsDocsFile name → name ≢ name_of g → files name ≡ settled []) (sym same.file) is_open.other;
+    pair = subst (λ (g : GateFile). IsOpenPair DocsStem g files) (sym same.file) is_open.pair;
     loaded = loaded is_open;
   }
 

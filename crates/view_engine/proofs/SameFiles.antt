@@ -21,6 +21,7 @@ module _ (docs : Docs) (old new : Disk FileName) (moves : MovesNone old new) whe
   damage_back name at damage = record {
     own = damage.own;
     id = damage.id;
+    live = damage.live;
     spoiled = subst (λ bytes. IsSpoiled damage.id bytes (last_of docs damage.id) at) (sym bytes_same) damage.spoiled;
   }
 

@@ -59,7 +59,7 @@ module _ {F C : Type 0} {f : Folders F} {s : Servers C} where
     idle = λ none. refl;
     disk = disk_still is_open;
     why = tt;
-    stays = record { languages = refl; disk_faults = omega arith; server_faults = omega arith };
+    stays = record { languages = refl; width = refl; disk_faults = omega arith; server_faults = omega arith };
   }
 
   module _ {old new : Scene F C} {line out : List ℕ} (some : line ≢ []) where
@@ -168,12 +168,12 @@ told_never (Some a) At P never known = λ name at is. never name at is known
 -- a full file is met by a write that is accepted
 told_full : (disk : Option (Disk FileName)) (docs : Docs) (world : World) (request : Result Request Refusal) (P : FileName → Option ℕ → Type 0)
     → ((name : FileName) (length : Option ℕ) → P name length → IsFullFor docs request name length × WouldWrite docs disk request) → IfTold disk (λ d. AreAt docs d.now world.history)
-    → IfTold disk (λ d. (name : FileName) (length : Option ℕ) → P name length → IsFullAt world request name length)
+    → IfTold disk (λ d. (name : FileName) (length : Option ℕ) → P name length → IsFullAt d.now world request name length)
 told_full None docs world request P full known = tt
 told_full (Some d) docs world request P full known = λ name length is.
     let met = full name length is in
     let made = met.1 world known in
-    record { docs = docs; files = d.now; at = known; full = met.0; write = made.0; accepted = made.1 }
+    record { docs = docs; at = known; full = met.0; write = made.0; accepted = made.1 }
 
 module _ {F C : Type 0} {f : Folders F} {s : Servers C} {old new : Scene F C} {line out out' : List ℕ} where
   -- at each moment a crash leaves the world before the line or the one with its write
@@ -198,7 +198,7 @@ module _ {F C : Type 0} {f : Folders F} {s : Servers C} {old new : Scene F C} {l
         (λ name at is. (subst (IsReason f old.engine.docs old.folder new.folder (request_of line)) is step.why).1.1 before.world) at.documents
 
     -- a full file is one with the write of the line
-    pub step_full : IfTold (f.disk old.folder) (λ d. (name : FileName) (length : Option ℕ) → fault ≡ Full name length → IsFullAt before.world (request_of line) name length)
+    pub step_full : IfTold (f.disk old.folder) (λ d. (name : FileName) (length : Option ℕ) → fault ≡ Full name length → IsFullAt d.now before.world (request_of line) name length)
     step_full =
         told_full (f.disk old.folder) old.engine.docs before.world (request_of line) (λ name length. fault ≡ Full name length)
         (λ name length is. subst (IsReason f old.engine.docs old.folder new.folder (request_of line)) is step.why) at.documents

@@ -34,6 +34,7 @@ use Rattle.view_engine.specs.Steps.{IsWrite}
 use Rattle.view_engine.specs.World.{written, World}
 use Rattle.view_engine.proofs.Around.{moves_around}
 use Rattle.view_engine.proofs.OnDisk.{disk_same, disk_still}
+use Rattle.view_engine.proofs.OwnFiles.{own_moved}
 use Rattle.view_engine.proofs.SameDocs.{IsAt-same}
 use Rattle.view_engine.proofs.Still.{still_written}
 
@@ -98,6 +99,7 @@ module _ {F : Type 0} (f : Folders F) (docs docs' : Docs) (old new : F) (request
     disk_moved result accepted ungiven opens stored = record {
       moments = λ world at. moves_around world (Ok request) (write_of world.history id content) (λ files. OnOk result (AreAt docs' files (write_of world.history id content ∷ world.history))) (f.disk old) (f.disk new)
           (told_now (f.disk old) (λ d. AreAt docs d.now world.history) (λ d. IsWrite world (Ok request) (write_of world.history id content)) (λ d is. writes d.now world is accepted) at) (stored.stored.stands world.history at);
+      own = λ world at. own_moved (f.disk old) (f.disk new) _ _ (stored.stored.stands world.history at);
       unmoved = λ given. absurd (ungiven given);
       unwritten = λ given. absurd (ungiven given);
       still = λ world at never. still_written (f.disk old) (f.disk new) world (Ok request) (write_of world.history id content) _

@@ -1,6 +1,6 @@
 -- A view, as its servers answered it.
 use Rattle.std.specs.Prelude.{slice_index_or}
-use Rattle.std.proofs.Common.{◌≡◌, ◌⊎◌, ◌<◌, ◌≤◌, ◌∙◌, ◌++◌, ℕ, zero, suc, List, [], ◌∷◌, length, map, Option, None, Some, Ok, Err, refl, sym, ap, subst, inl, inr, arith}
+use Rattle.std.proofs.Common.{◌≡◌, ◌⊎◌, ◌<◌, ◌≤◌, ◌∙◌, ◌++◌, ℕ, zero, suc, List, [], ◌∷◌, length, map, Option, None, Some, Result, Ok, Err, refl, sym, ap, subst, inl, inr, arith}
 use Rattle.std.proofs.lemmas.List.{length-map}
 use Rattle.json_terms.specs.Json.{Json}
 use Rattle.view_ports.specs.Calls.{Call}
@@ -16,14 +16,15 @@ use Rattle.design_docs.specs.declared.design.Design.{Design}
 use Rattle.design_docs.specs.declared.design.View.{View}
 use Rattle.design_docs.specs.Design.{map_sources}
 use Rattle.query_protocol.specs.CommandLines.{document_of}
+use Rattle.child_pool.specs.declared.doc_rows.DocRowLists.{DocRowLists}
 use Rattle.child_pool.specs.declared.pool.Pool.{Pool}
 use Rattle.child_pool.specs.declared.pool_fault.PoolFault.{PoolFault}
 use Rattle.child_pool.specs.declared.pool_fault.PoolFault.TheVariants as fault
-use Rattle.child_pool.specs.Histories.{Went, talk}
+use Rattle.child_pool.specs.Histories.{WentIn, talk}
 use Rattle.child_pool.specs.Jobs.{Job, job_of}
 use Rattle.child_pool.specs.Languages.{path_in}
-use Rattle.child_pool.specs.Pools.{Stands}
-use Rattle.child_pool.specs.Talk.{AreCutShort, AreTurns, talk_of}
+use Rattle.child_pool.specs.Pools.{HasItsChildren}
+use Rattle.child_pool.specs.Talk.{AreCutShortIn, AreTurns, talk_of}
 use Rattle.child_pool.specs.Outcomes.{IsCaused}
 use Rattle.child_pool.specs.Updates.{AfterUpdate, HasUpdated}
 use Rattle.child_pool.proofs.Honesty.{complains_rightly, no_bad_reply}
@@ -114,7 +115,7 @@ module _ (functions : List ℕ → Functions) (honest : List ℕ → Type 0) (la
   abbrev printed : List (List (List (Json × Json))) → List ℕ
   printed lists = answer (sorted_rows (emitted_rows ids (emitted_by place lists)))
 
-  prints : (lists : List (List (List (Json × Json)))) (rose : Type 0) (added : List Call) → Known → HasUpdated functions honest job rose lists added → PrintsRows functions honest job source before.world (printed lists)
+  prints : (lists : List (List (List (Json × Json)))) (rose : Type 0) (added : List Call) → Known → HasUpdated functions honest job before.width rose lists added → PrintsRows functions honest job source before.world (printed lists)
   prints lists rose added known has = record {
     emitted = emitted_by place lists;
     each = length-map lists (λ (emitted : List (List (Json × Json))). slice_index_or emitted place []) ∙ has.rows.each ∙ ap length known.documents_are
@@ -124,17 +125,24 @@ module _ (functions : List ℕ → Functions) (honest : List ℕ → Type 0) (la
     prints = ap (λ is. answer (sorted_rows (emitted_rows is (emitted_by place lists)))) known.ids_are;
   }
 
-  module _ (may_follow : List Call → Type 0) (old new : ℕ) (pool : Pool) (counts : old ≡ before.faults) (later : old ≤ new) where
+  module _ (may_follow : List Call → Type 0) (old new : ℕ) (pool : Pool) (counts : old ≡ before.faults) (later : old ≤ new) (width : ℕ) (was : width ≡ before.width) (keeps : pool.width ≡ width) where
     later_there : before.faults ≤ new
     later_there = subst (λ (n : ℕ). n ≤ new) counts later
 
+    -- what the pool did, where it has so many children, and the same in the words of the moment
+    abbrev Updates : ℕ → Result DocRowLists PoolFault → Type 0
+    Updates children result = WentIn may_follow job children before.calls (AfterUpdate functions honest job children (Rose old new) pool result before.calls)
+
+    at_moment : (result : Result DocRowLists PoolFault) → Updates width result → Updates before.width result
+    at_moment result w = subst (λ (n : ℕ). Updates n result) was w
+
     abbrev after : List Call → Moment
-    after now = record { world = before.world; calls = now; faults = new }
+    after now = record { world = before.world; width = before.width; calls = now; faults = new }
 
-    asked : (P : List Call → List Call → Type 0) (w : Went may_follow job 0 before.calls P) → Known → MayHaveCalled languages before (Ok (ViewRequest name None)) (after w.now)
-    asked P w known = inr (known.plan.accepted, (job, (source, is_job known, refl, record { added = w.added; is = w.is_now; lawful = w.lawful; later = later_there; holds = tt })))
+    asked : (P : List Call → List Call → Type 0) (w : WentIn may_follow job before.width before.calls P) → Known → MayHaveCalled languages before (Ok (ViewRequest name None)) (after w.now)
+    asked P w known = inr (known.plan.accepted, (job, (source, is_job known, refl, record { added = w.added; is = w.is_now; width = refl; lawful = w.lawful; later = later_there; holds = tt })))
 
-    answered : (lists : List (List (List (Json × Json)))) (w : Went may_follow job 0 before.calls (AfterUpdate functions honest job (Rose old new) pool (Ok lists) before.calls)) → Known
+    answered : (lists : List (List (List (Json × Json)))) (w : Updates before.width (Ok lists)) → Known
         → DoesView functions honest languages before name (printed lists) (after w.now)
     answered lists w known = record {
       accepted = known.plan.accepted;
@@ -145,11 +153,12 @@ module _ (functions : List ℕ → Functions) (honest : List ℕ → Type 0) (la
       called = record {
         added = w.added;
         is = w.is_now;
+        width = refl;
         lawful = w.lawful;
         later = later_there;
         holds = inl (record {
           rows = prints lists (Rose old new) w.added known w.holds.1;
-          talked = subst (λ (n : ℕ). AreTurns (talk_of job.sources job.documents 1) (talk w.added) ⊎ Rose n new) counts w.holds.1.talked;
+          talked = subst (λ (n : ℕ). AreTurns (talk_of job.sources job.documents before.width) (talk w.added) ⊎ Rose n new) counts w.holds.1.talked;
         });
       };
     }
@@ -168,7 +177,7 @@ module _ (functions : List ℕ → Functions) (honest : List ℕ → Type 0) (la
     met fault.NoMemory added now r known caused twice is = absurd (let clash : ⊥ = cc in clash)
     met fault.UnknownLanguage added now r known caused twice is = absurd caused
 
-    refuses : (f : PoolFault) (r : Refusal) (w : Went may_follow job 0 before.calls (AfterUpdate functions honest job (Rose old new) pool (Err f) before.calls)) → Known → (f ≡ fault.ServerFault → RoseBy 2 old new)
+    refuses : (f : PoolFault) (r : Refusal) (w : Updates before.width (Err f)) → Known → (f ≡ fault.ServerFault → RoseBy 2 old new)
         → met_by id f ≡ Refused r → DoesView functions honest languages before name (refusal_text r) (after w.now)
     refuses f r w known twice is = record {
       accepted = known.plan.accepted;
@@ -179,14 +188,15 @@ module _ (functions : List ℕ → Functions) (honest : List ℕ → Type 0) (la
       called = record {
         added = w.added;
         is = w.is_now;
+        width = refl;
         lawful = w.lawful;
         later = later_there;
         holds = inr (record {
           refusal = r;
-          met = met f w.added w.now r known w.holds.1.caused twice is;
+          met = met f w.added w.now r known w.holds.refused.caused twice is;
           prints = refl;
-          stopped = w.holds.0.stopped;
-          talked = subst (λ (n : ℕ). AreCutShort 0 (talk_of job.sources job.documents 1) (talk w.added) ⊎ Rose n new) counts w.holds.1.talked;
+          stopped = w.holds.stopped.stopped;
+          talked = subst (λ (n : ℕ). AreCutShortIn before.width (talk_of job.sources job.documents before.width) (talk w.added) ⊎ Rose n new) counts w.holds.refused.talked;
         });
       };
     }
@@ -194,38 +204,38 @@ module _ (functions : List ℕ → Functions) (honest : List ℕ → Type 0) (la
     -- ---- with the folder, of which no file has changed
 
     module _ (x z : Option (Disk FileName)) (docs : Docs) (documents_at : IfTold z (λ d. AreAt docs d.now before.world.history)) (known : IfTold x (λ d. Known)) where
-      stays_at : (now : List Call) → may_follow now → Stands pool now → IsAt z may_follow new (record { docs = docs; pool = pool }) (after now)
-      stays_at now follows stands = record { documents = documents_at; child = record { child = stands; follows = follows; counts = refl } }
+      stays_at : (now : List Call) → may_follow now → HasItsChildren pool now → IsAt z may_follow new (record { docs = docs; pool = pool }) (after now)
+      stays_at now follows stands = record { documents = documents_at; child = record { width = keeps ∙ was; child = stands; follows = follows; counts = refl } }
 
       abbrev Halts : Halt → Moment → Type 0
       Halts halt left = ((r : Refusal) → halt ≡ Refused r → DoesRequest functions honest languages before (Ok (ViewRequest name None)) (refusal_text r) left) × MayHaveCalled languages before (Ok (ViewRequest name None)) left
 
-      pub done : (lists : List (List (List (Json × Json)))) (was now : List ℕ) → Went may_follow job 0 before.calls (AfterUpdate functions honest job (Rose old new) pool (Ok lists) before.calls)
+      pub done : (lists : List (List (List (Json × Json)))) (was now : List ℕ) → Updates width (Ok lists)
           → now ≡ was ++ ended (printed lists)
           → Appends z may_follow new (record { docs = docs; pool = pool }) (λ text left. IfTold x (λ d. DoesRequestText functions honest languages before (Ok (ViewRequest name None)) text left)) was now
-      done lists was now w appended = record {
+      done lists was now w appended = let v = at_moment (Ok lists) w in record {
         text = ended (printed lists);
-        after = after w.now;
-        is_at = stays_at w.now w.follows w.holds.0;
-        allowed = told_now x (λ d. Known) (λ d. DoesRequestText functions honest languages before (Ok (ViewRequest name None)) (ended (printed lists)) (after w.now))
-            (λ d k. (printed lists, inl (answered lists w k), refl)) known;
+        after = after v.now;
+        is_at = stays_at v.now v.follows v.holds.0;
+        allowed = told_now x (λ d. Known) (λ d. DoesRequestText functions honest languages before (Ok (ViewRequest name None)) (ended (printed lists)) (after v.now))
+            (λ d k. (printed lists, inl (answered lists v k), refl)) known;
         appended = appended;
       }
 
-      pub ran_out : (lists : List (List (List (Json × Json)))) (halt : Halt) → Went may_follow job 0 before.calls (AfterUpdate functions honest job (Rose old new) pool (Ok lists) before.calls) → halt ≡ Stopped NoMemory
+      pub ran_out : (lists : List (List (List (Json × Json)))) (halt : Halt) → Updates width (Ok lists) → halt ≡ Stopped NoMemory
           → Leaves z may_follow new (record { docs = docs; pool = pool }) (λ left. IfTold x (λ d. Halts halt left))
-      ran_out lists halt w memory = record {
-        after = after w.now;
-        is_at = stays_at w.now w.follows w.holds.0;
-        allowed = told_now x (λ d. Known) (λ d. Halts halt (after w.now))
-            (λ d k. (λ r is. absurd (let clash : ⊥ = cc in clash), asked (AfterUpdate functions honest job (Rose old new) pool (Ok lists) before.calls) w k)) known;
+      ran_out lists halt w memory = let v = at_moment (Ok lists) w in record {
+        after = after v.now;
+        is_at = stays_at v.now v.follows v.holds.0;
+        allowed = told_now x (λ d. Known) (λ d. Halts halt (after v.now))
+            (λ d k. (λ r is. absurd (let clash : ⊥ = cc in clash), asked (AfterUpdate functions honest job before.width (Rose old new) pool (Ok lists) before.calls) v k)) known;
       }
 
-      pub refused : (f : PoolFault) (halt : Halt) → Went may_follow job 0 before.calls (AfterUpdate functions honest job (Rose old new) pool (Err f) before.calls) → (f ≡ fault.ServerFault → RoseBy 2 old new) → halt ≡ met_by id f
+      pub refused : (f : PoolFault) (halt : Halt) → Updates width (Err f) → (f ≡ fault.ServerFault → RoseBy 2 old new) → halt ≡ met_by id f
           → Leaves z may_follow new (record { docs = docs; pool = pool }) (λ left. IfTold x (λ d. Halts halt left))
-      refused f halt w twice met_as = record {
-        after = after w.now;
-        is_at = stays_at w.now w.follows (stands_stopped pool w.now w.holds.0);
-        allowed = told_now x (λ d. Known) (λ d. Halts halt (after w.now))
-            (λ d k. (λ r is. inl (refuses f r w k twice (sym met_as ∙ is)), asked (AfterUpdate functions honest job (Rose old new) pool (Err f) before.calls) w k)) known;
+      refused f halt w twice met_as = let v = at_moment (Err f) w in record {
+        after = after v.now;
+        is_at = stays_at v.now v.follows (stands_stopped pool v.now v.holds.stopped);
+        allowed = told_now x (λ d. Known) (λ d. Halts halt (after v.now))
+            (λ d k. (λ r is. inl (refuses f r v k twice (sym met_as ∙ is)), asked (AfterUpdate functions honest job before.width (Rose old new) pool (Err f) before.calls) v k)) known;
       }

@@ -6,6 +6,7 @@ use Rattle.view_ports.specs.declared.folder.Folder.{Ghosts as Folders}
 use Rattle.view_ports.specs.declared.servers.Servers.{Ghosts as Servers}
 use Rattle.view_ports.proofs.Told.{told_now}
 use Rattle.child_pool.specs.declared.pool.Pool.{Pool}
+use Rattle.child_pool.specs.PoolCalls.{StaysAsMade}
 use Rattle.child_pool.specs.Pools.{languages_of}
 use Rattle.child_pool.specs.declared.pool_fault.PoolFault.{PoolFault}
 use Rattle.child_pool.specs.declared.pool_fault.PoolFault.TheVariants as fault
@@ -92,27 +93,27 @@ module _ {F C T : Type 0} {f : Folders F} {s : Servers C} {docs : Docs} {pool po
   pub viewed_halted : {halt : Halt} → ReadsDocuments request → Reads f {T = T} docs folder folder' (Err halt) → out' ≡ out
       → LeavesHalted f s (scene (record { docs = docs; pool = pool }) folder servers) (scene (record { docs = docs; pool = pool' }) folder' servers') request halt
       → LeavesChild f s (scene (record { docs = docs; pool = pool }) folder servers) (scene (record { docs = docs; pool = pool' }) folder' servers') request halt
-      → languages_of pool' ≡ languages_of pool → s.faults servers ≤ s.faults servers'
+      → StaysAsMade pool pool' → s.faults servers ≤ s.faults servers'
       → Performed f s (scene (record { docs = docs; pool = pool }) folder servers) (scene (record { docs = docs; pool = pool' }) folder' servers') request out out' (Err halt)
-  viewed_halted {halt} is_read reads silent leaves child same later = record {
+  viewed_halted {halt} is_read reads silent leaves child keeps later = record {
     does = does_halted f s _ _ request out out' halt leaves child;
     silent = silent;
     disk = disk_read reads.disk is_open;
     why = read_halted f docs folder folder' request halt is_read reads.why;
-    stays = record { languages = same; disk_faults = reads.later; server_faults = later };
+    stays = record { languages = keeps.languages; width = keeps.width; disk_faults = reads.later; server_faults = later };
   }
 
   -- and whose reply was appended, or memory ran out
   pub viewed : {read : Result T Halt} {result : Result (Unit {0}) Halt} → Reads f docs folder folder' read → OnErr result (out' ≡ out) → IfErr result (λ halt. halt ≡ Stopped NoMemory)
       → OnOk result (AppendsReply f s (scene (record { docs = docs; pool = pool }) folder servers) (scene (record { docs = docs; pool = pool' }) folder' servers') request out out')
       → IfErr result (LeavesHalted f s (scene (record { docs = docs; pool = pool }) folder servers) (scene (record { docs = docs; pool = pool' }) folder' servers') request)
-      → languages_of pool' ≡ languages_of pool → s.faults servers ≤ s.faults servers'
+      → StaysAsMade pool pool' → s.faults servers ≤ s.faults servers'
       → Performed f s (scene (record { docs = docs; pool = pool }) folder servers) (scene (record { docs = docs; pool = pool' }) folder' servers') request out out' result
-  viewed {result = result} reads silent memory appends leaves same later = record {
+  viewed {result = result} reads silent memory appends leaves keeps later = record {
     does = does_by f s _ _ request out out' result appends leaves
         (IfErr-weaker result (λ halt. halt ≡ Stopped NoMemory) _ (λ halt spent fault is other. absurd (other (let so : fault ≡ NoMemory = cc in so))) memory);
     silent = silent;
     disk = disk_read reads.disk is_open;
     why = IfErr-weaker result (λ halt. halt ≡ Stopped NoMemory) _ (λ halt spent. subst (IfStopped (IsReason f docs folder folder' request)) (sym spent) tt) memory;
-    stays = record { languages = same; disk_faults = reads.later; server_faults = later };
+    stays = record { languages = keeps.languages; width = keeps.width; disk_faults = reads.later; server_faults = later };
   }

@@ -1,6 +1,6 @@
 -- What is known of worlds that go on from one another, and of an engine at a world.
 use Rattle.std.specs.Prelude.{Bool, true, false, if◌then◌else◌}
-use Rattle.std.proofs.Common.{ℕ, List, [], ◌∷◌, ◌++◌, Option, Result, Ok, refl, sym, ap, ◌∙◌, subst, append_assoc}
+use Rattle.std.proofs.Common.{◌≡◌, ℕ, List, [], ◌∷◌, ◌++◌, Option, Result, Ok, refl, sym, ap, ◌∙◌, subst, append_assoc}
 use Rattle.view_ports.specs.Calls.{Call}
 use Rattle.view_ports.specs.Disk.{Disk, IfTold, IsImageOf}
 use Rattle.view_ports.specs.Exchanges.{Exchange}
@@ -9,7 +9,7 @@ use Rattle.view_ports.specs.Functions.{Functions}
 use Rattle.view_ports.specs.declared.file_name.FileName.{FileName}
 use Rattle.view_ports.proofs.Told.{told_now}
 use Rattle.doc_file.specs.History.{Write}
-use Rattle.doc_file.proofs.Stores.{image_now}
+use Rattle.doc_file.proofs.Stores.{at_holds, image_now}
 use Rattle.view_engine.specs.declared.engine.Engine.{Engine}
 use Rattle.view_engine.specs.declared.refusal.Refusal.{Refusal}
 use Rattle.view_engine.specs.declared.request.Request.{Request}
@@ -20,7 +20,7 @@ use Rattle.view_engine.specs.Moments.{Moment}
 use Rattle.view_engine.specs.Refusals.{request_of}
 use Rattle.view_engine.specs.Steps.{Answers}
 use Rattle.view_engine.specs.World.{World}
-use Rattle.view_engine.specs.Worlds.{at_start, GoesOnFrom, IsAtWorld, IsChildless, StandsFor}
+use Rattle.view_engine.specs.Worlds.{at_start, GoesOnFrom, Holds, IsAtWorld, IsChildless, StandsFor, width}
 use Rattle.view_engine.proofs.AcceptedWrites.{Answers-accepted}
 
 -- ---- worlds
@@ -52,12 +52,21 @@ answers_grow functions honest languages before e after answers =
 pub image_at : (engine : Engine) (files : FileName → File) (world : World) → IsAtWorld engine files world → (image : FileName → List ℕ) → IsImageOf files image → StandsFor image world
 image_at engine files world at image is = image_now engine.docs files at.is_open world.history at image is
 
+-- nothing is pending in its files, and they hold the world
+pub world_held : (engine : Engine) (files : FileName → File) (world : World) → IsAtWorld engine files world → Holds files world
+world_held engine files world at = at_holds engine.docs files at.is_open world.history at
+
 module _ (disk : Option (Disk FileName)) (may_follow : List Call → Type 0) (faults : ℕ) (engine : Engine) where
   -- an engine without a child is at the start of its world, where no call was made on the servers
-  pub starts_at : (world : World) → IfTold disk (λ d. IsAtWorld engine d.now world) → IsChildless engine → may_follow [] → IsAt disk may_follow faults engine (at_start world faults)
-  starts_at world at childless follows = record { documents = at; child = record { child = childless []; follows = follows; counts = refl } }
+  pub starts_at : (world : World) {wide : ℕ} → width engine ≡ wide → IfTold disk (λ d. IsAtWorld engine d.now world) → IsChildless engine → may_follow [] → IsAt disk may_follow faults engine (at_start world wide faults)
+  starts_at world is at childless follows = record { documents = at; child = record { width = is; child = childless []; follows = follows; counts = refl } }
 
   pub images_at : (moment : Moment) → IsAt disk may_follow faults engine moment → IfTold disk (λ d. (image : FileName → List ℕ) → IsImageOf d.now image → StandsFor image moment.world)
   images_at moment at =
       told_now disk (λ d. IsAtWorld engine d.now moment.world) (λ d. (image : FileName → List ℕ) → IsImageOf d.now image → StandsFor image moment.world)
       (λ d here. image_at engine d.now moment.world here) at.documents
+
+  pub holds_at : (moment : Moment) → IsAt disk may_follow faults engine moment → IfTold disk (λ d. Holds d.now moment.world)
+  holds_at moment at =
+      told_now disk (λ d. IsAtWorld engine d.now moment.world) (λ d. Holds d.now moment.world)
+      (λ d here. world_held engine d.now moment.world here) at.documents

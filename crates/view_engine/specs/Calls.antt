@@ -5,7 +5,7 @@ use Rattle.view_ports.specs.Disk.{IfTold}
 use Rattle.view_ports.specs.Lines.{ended}
 use Rattle.view_ports.specs.declared.folder.Folder.{Ghosts as Folders}
 use Rattle.view_ports.specs.declared.servers.Servers.{Ghosts as Servers}
-use Rattle.child_pool.specs.Pools.{languages_of}
+use Rattle.child_pool.specs.Pools.{languages_of, width_of}
 use Rattle.doc_file.specs.declared.docs.Docs.{Docs}
 use Rattle.doc_file.specs.Docs.{IsAt as AreAt}
 use Rattle.view_engine.specs.declared.engine.Engine.{Engine}
@@ -93,6 +93,7 @@ module _ {F C : Type 0} (f : Folders F) (s : Servers C) where
   -- what the two scenes have in common
   pub record Stays (old new : Scene F C) : Type 0 where
     pub languages : languages_of new.engine.pool ≡ languages_of old.engine.pool
+    pub width : width_of new.engine.pool ≡ width_of old.engine.pool
     pub disk_faults : f.faults old.folder ≤ f.faults new.folder
     pub server_faults : s.faults old.servers ≤ s.faults new.servers
 

@@ -14,7 +14,7 @@ use Rattle.view_engine.specs.declared.refusal.Refusal.{Refusal}
 use Rattle.view_engine.specs.declared.request.Request.{Request}
 use Rattle.view_engine.specs.declared.request.Request.TheVariants.{Get, View}
 use Rattle.view_engine.specs.Worlds.{StandsAround, StandsFor}
-use Rattle.view_engine.specs.Halts.{GoesOn, IsDamage, IsFullFor, IsStill, WouldWrite}
+use Rattle.view_engine.specs.Halts.{GoesOn, IsDamage, IsFullFor, IsStill, MovesDocuments, WouldWrite}
 use Rattle.view_engine.specs.World.{World}
 
 -- ---- how a request ends
@@ -56,6 +56,8 @@ module _ {F : Type 0} (f : Folders F) where
   pub record KeepsDisk (docs docs' : Docs) (old new : F) (request : Result Request Refusal) (HasGivenUp GoesOn : Type 0) : Type 0 where
     -- a crash leaves the world before the request, or the one with the write that the request makes
     pub moments : OverWorld docs old (λ world. CrashLeaves old new (StandsAround world request))
+    -- no file changes but those of the documents
+    pub own : OverWorld docs old (λ world. Tells (f.disk old) (f.disk new) MovesDocuments)
     -- where it is refused or memory runs out, no file changes, and a crash leaves the world before it
     pub unmoved : HasGivenUp → Tells (f.disk old) (f.disk new) MovesNone
     pub unwritten : HasGivenUp → OverWorld docs old (λ world. CrashLeaves old new (λ image. StandsFor image world))

@@ -4,14 +4,15 @@ use Rattle.view_ports.specs.Calls.{Call}
 use Rattle.view_ports.specs.Disk.{Disk, IfTold}
 use Rattle.view_ports.specs.declared.file_name.FileName.{FileName}
 use Rattle.child_pool.specs.declared.pool.Pool.{Pool}
-use Rattle.child_pool.specs.Pools.{AreStopped, Stands}
+use Rattle.child_pool.specs.Pools.{AreStopped, HasItsChildren, width_of}
 use Rattle.view_engine.specs.declared.engine.Engine.{Engine}
 use Rattle.view_engine.specs.Moments.{Moment}
 use Rattle.view_engine.specs.Worlds.{IsAtWorld}
 
--- the pool keeps the child that the calls left, and these may be the calls on the servers, which had so many faults
+-- the pool has the moment's width and keeps the children that the calls left, and these may be the calls on the servers, which had so many faults
 pub record HasChild (may_follow : List Call → Type 0) (faults : ℕ) (pool : Pool) (moment : Moment) : Type 0 where
-  pub child : Stands pool moment.calls
+  pub width : width_of pool ≡ moment.width
+  pub child : HasItsChildren pool moment.calls
   pub follows : may_follow moment.calls
   pub counts : faults ≡ moment.faults
 
@@ -42,4 +43,4 @@ KeepsChild may_follow faults engine = HasChild may_follow faults engine.pool
 pub record HasStopped (may_follow : List Call → Type 0) (engine : Engine) (before : List Call) : Type 0 where
   pub added : List Call
   pub follows : may_follow (added ++ before)
-  pub stopped : AreStopped engine.pool (added ++ before)
+  pub stopped : AreStopped (width_of engine.pool) engine.pool (added ++ before)

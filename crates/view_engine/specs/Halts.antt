@@ -1,8 +1,8 @@
 -- What a refusal or a fault of the documents is to a request, and what faults leave.
-use Rattle.std.specs.Prelude.{◌≡◌, ℕ, ◌+◌, ◌^◌, ◌<◌, ◌≤◌, List, Option, Some, None, Result, Ok, Err}
+use Rattle.std.specs.Prelude.{◌≡◌, ℕ, false, ◌+◌, ◌^◌, ◌<◌, ◌≤◌, List, Option, Some, None, Result, Ok, Err}
 use Rattle.json_terms.specs.Json.{Json, object, members_of}
 use Rattle.design_docs.specs.Documents.{id_of}
-use Rattle.view_ports.specs.Disk.{Disk, IfTold, MovesNone, Tells}
+use Rattle.view_ports.specs.Disk.{Disk, IfTold, Moves, MovesNone, Tells}
 use Rattle.view_ports.specs.File.{File}
 use Rattle.view_ports.specs.declared.file_name.FileName.{FileName}
 use Rattle.gate_file.specs.declared.fault.GateFault.TheVariants as gate
@@ -10,7 +10,7 @@ use Rattle.gate_file.specs.GateFile.{commits_of, length_of, name_of, start_of}
 use Rattle.doc_file.specs.declared.docs.Docs.{Docs}
 use Rattle.doc_file.specs.declared.fault.DocFault.{DocFault}
 use Rattle.doc_file.specs.declared.fault.DocFault.TheVariants as doc
-use Rattle.doc_file.specs.Docs.{bytes_in, entries_of, file_of, last_of, seq_of, IsAt, IsSpoiled}
+use Rattle.doc_file.specs.Docs.{bytes_in, entries_of, file_of, is_deleted, last_of, seq_of, IsAt, IsDocsFile, IsSpoiled}
 use Rattle.doc_file.specs.History.{Write}
 use Rattle.doc_file.specs.Stored.{size_of}
 use Rattle.doc_file.specs.Writes.{content_of}
@@ -63,10 +63,11 @@ abbrev pub HasGoneOn : Result (Unit {0}) StepFault → Type 0
 HasGoneOn (Ok done) = Unit {0}
 HasGoneOn (Err fault) = GoesOn (Stopped fault)
 
--- at this place of the documents' file the last write of some id has no body
+-- at this place of the documents' file the last write of some id, which is no deletion, has no body
 pub record IsDamage (docs : Docs) (files : FileName → File) (name : FileName) (at : ℕ) : Type 0 where
   pub own : name ≡ name_of (file_of docs)
   pub id : List ℕ
+  pub live : is_deleted (last_of docs id) ≡ false
   pub spoiled : IsSpoiled id (bytes_in docs files) (last_of docs id) at
 
 -- the next write of an id with this content would make the file of the documents too long, or is one commit too many
@@ -86,6 +87,10 @@ abbrev pub WouldWrite : Docs → Option (Disk FileName) → Result Request Refus
 WouldWrite docs disk request = (world : World) → IfTold disk (λ d. IsAt docs d.now world.history → (write : Write) × IsWrite world request write)
 
 -- ---- what is written
+
+-- only files of the documents change, and of each other file a crash leaves at each moment what it might have left before
+abbrev pub MovesDocuments : Disk FileName → Disk FileName → Type 0
+MovesDocuments = Moves IsDocsFile (λ image. Unit {0}) (λ files. Unit {0})
 
 -- where the request isn't a write that is accepted in the world, no file changes
 abbrev pub IsStill : Docs → Option (Disk FileName) → Option (Disk FileName) → Result Request Refusal → Type 0

@@ -1,13 +1,15 @@
 -- What the definitions say together: those of the history, and those of what a request does.
-use Rattle.std.specs.Prelude.{◌≡◌, ℕ, List, bytes_eq}
+use Rattle.std.specs.Prelude.{◌≡◌, ◌++◌, ℕ, List, bytes_eq}
 use Rattle.std.specs.Ordering.{nat_cmp}
 use Rattle.std.specs.Cmp.Lexicographic.{slice_cmp}
 use Rattle.std.specs.List.Sorted.{IsStrictlySortedBy}
 use Rattle.std.specs.Map.{lookup, keys_of}
+use Rattle.view_ports.specs.Exchanges.{Exchange}
 use Rattle.view_ports.specs.Functions.{Functions}
 use Rattle.doc_file.specs.History.{Write, last_write, last_writes, live, live_document}
 use Rattle.view_engine.specs.declared.refusal.Refusal.{Refusal}
 use Rattle.view_engine.specs.declared.request.Request.{Request}
+use Rattle.view_engine.specs.Accepted.{accepted}
 use Rattle.view_engine.specs.Moments.{Moment}
 use Rattle.view_engine.specs.Steps.{IsRefusedAs, Performs}
 use Rattle.view_engine.specs.World.{World}
@@ -23,6 +25,10 @@ HasLiveDocuments history = (id : List ℕ) → lookup (bytes_eq id) (live histor
 -- the live documents are in strictly rising byte order of id
 abbrev pub IsInOrderOfId : List Write → Type 0
 IsInOrderOfId history = IsStrictlySortedBy (slice_cmp nat_cmp) (keys_of (live history))
+
+-- the writes of two runs of lines, one after the other, are those of all their lines
+abbrev pub IsAcceptedInTurn : Type 0
+IsAcceptedInTurn = (world : World) (first second : List Exchange) → accepted world (first ++ second) ≡ accepted (accepted world first) second
 
 module _ (functions : List ℕ → Functions) (honest : List ℕ → Type 0) (languages : List (List ℕ × List ℕ)) where
   -- before any server is asked a request has one refusal at most

@@ -4,12 +4,14 @@ pub mod Rows
 pub mod Answer
 pub mod Requests
 pub mod Refusals
+pub mod Written
 pub mod Moments
 pub mod Put
 pub mod Delete
 pub mod Get
 pub mod View
 pub mod ViewPlan
+pub mod Planning
 pub mod Steps
 pub mod Replies
 pub mod Mapped
@@ -17,6 +19,7 @@ pub mod Halts
 pub mod Worlds
 pub mod Engine
 pub mod Disks
+pub mod Openings
 pub mod Calls
 pub mod Accepted
 pub mod Laws

@@ -2,9 +2,8 @@
 use Rattle.std.specs.Prelude.{◌≡◌, ℕ, List, map}
 use Rattle.std.specs.List.{filter_map}
 use Rattle.query_protocol.specs.CommandLines.{document_of}
-use Rattle.doc_file.specs.History.{Write, changes_after}
+use Rattle.doc_file.specs.History.{Write, changes_after, mapped_by}
 use Rattle.view_engine.specs.declared.mapped.Mapped.{Mapped}
-use Rattle.view_engine.specs.World.{mapped_by}
 
 -- these are the documents that some last writes leave to be mapped, each beside its id
 pub record AreMappedOf (changes : List (ℕ × Write)) (m : Mapped) : Type 0 where

@@ -1,11 +1,13 @@
 -- What a request acts on: the world, and the query servers with the calls that were made on them.
 use Rattle.std.specs.Prelude.{◌≡◌, ◌≤◌, ℕ, List, ◌++◌}
 use Rattle.view_ports.specs.Calls.{Call}
-use Rattle.child_pool.specs.Jobs.{Job, AllLawful}
+use Rattle.child_pool.specs.Jobs.{Job, AllLawfulIn}
 use Rattle.view_engine.specs.World.{World}
 
 pub record Moment : Type 0 where
   pub world : World
+  -- how many children map documents: those of the slots below this one
+  pub width : ℕ
   -- the calls on the query servers, the newest first
   pub calls : List Call
   -- how many faults they had
@@ -15,10 +17,11 @@ pub record Moment : Type 0 where
 abbrev pub with_world : Moment → World → Moment
 with_world moment world = record moment { world = world }
 
--- what was called on the query servers for a job: each call is lawful, the count of faults never falls, and of the calls `P` holds
+-- what was called on the query servers for a job: each call is lawful on its slot, the count of faults never falls, and of the calls `P` holds
 pub record Called (job : Job) (before after : Moment) (P : List Call → Type 0) : Type 0 where
   pub added : List Call
   pub is : after.calls ≡ added ++ before.calls
-  pub lawful : AllLawful job 0 added before.calls
+  pub width : after.width ≡ before.width
+  pub lawful : AllLawfulIn job before.width added before.calls
   pub later : before.faults ≤ after.faults
   pub holds : P added

@@ -13,8 +13,8 @@ use Rattle.view_engine.specs.declared.refusal.Refusal.TheVariants.{LineTooLong, 
 use Rattle.view_engine.specs.Requests.{form_of}
 
 -- the longest request line, in bytes
-unfoldable pub line_limit : ℕ
-line_limit = 2097152
+unfoldable pub request_limit : ℕ
+request_limit = 2097152
 
 abbrev pub error_name : Refusal → List ℕ
 error_name LineTooLong = codes "line_too_long"
@@ -99,4 +99,4 @@ request_in (Err why) = Err (unread why)
 
 -- the request that the line is, or the first of these refusals: too long, no term, no form
 unfoldable pub request_of : List ℕ → Result Request Refusal
-request_of line = if nat_lt line_limit (length line) then Err LineTooLong else request_in (reading line)
+request_of line = if nat_lt request_limit (length line) then Err LineTooLong else request_in (reading line)

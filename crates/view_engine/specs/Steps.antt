@@ -24,8 +24,8 @@ abbrev pub Acts : (World → World → Type 0) → Moment → Moment → Type 0
 Acts Does before after = (world : World) × Does before.world world × (after ≡ with_world before world)
 
 -- nothing has changed
-abbrev pub Tells : Type 0 → Moment → Moment → Type 0
-Tells Does before after = Does × (after ≡ before)
+abbrev pub ChangesNothing : Type 0 → Moment → Moment → Type 0
+ChangesNothing Does before after = Does × (after ≡ before)
 
 -- a refusal leaves everything as it was
 abbrev pub Refuses : Moment → Refusal → List ℕ → Moment → Type 0
@@ -63,8 +63,8 @@ module _ (functions : List ℕ → Functions) (honest : List ℕ → Type 0) (la
   abbrev pub Performs : Moment → Request → List ℕ → Moment → Type 0
   Performs before (Put document) reply after = Acts (λ world new. DoesPut world (object (members_of document)) reply new) before after
   Performs before (Delete id given) reply after = Acts (λ world new. DoesDelete world id given reply new) before after
-  Performs before (Get id) reply after = Tells (DoesGet before.world id reply) before after
-  Performs before Info reply after = Tells (DoesInfo before.world reply) before after
+  Performs before (Get id) reply after = ChangesNothing (DoesGet before.world id reply) before after
+  Performs before Info reply after = ChangesNothing (DoesInfo before.world reply) before after
   Performs before (View name None) reply after = DoesView functions honest languages before name reply after
   Performs before other reply after = ⊥
 

@@ -2,7 +2,7 @@
 use Rattle.std.specs.Prelude.{◌≡◌, ◌≢◌, ◌⊎◌, ◌++◌, ℕ, List, [], ◌∷◌, map, length, codes, Option, Some, None, option_and_then}
 use Rattle.json_terms.specs.Json.{Json}
 use Rattle.design_docs.specs.Design.{language_of, map_sources, source_of, views_of}
-use Rattle.view_ports.specs.Calls.{Call, child}
+use Rattle.view_ports.specs.Calls.{Call}
 use Rattle.view_ports.specs.Faults.{Rose, RoseBy}
 use Rattle.view_ports.specs.Functions.{Functions}
 use Rattle.query_protocol.specs.CommandLines.{document_of}
@@ -12,8 +12,9 @@ use Rattle.child_pool.specs.Honesty.{SomeSourceFails}
 use Rattle.child_pool.specs.Jobs.{Job}
 use Rattle.child_pool.specs.Languages.{path_in}
 use Rattle.child_pool.specs.Outcomes.{IsCaused}
+use Rattle.child_pool.specs.Pools.{NoneIsLeft}
 use Rattle.child_pool.specs.Sessions.{AllCompile}
-use Rattle.child_pool.specs.Talk.{AreCutShort, AreTurns, talk_of}
+use Rattle.child_pool.specs.Talk.{AreCutShortIn, AreTurns, talk_of}
 use Rattle.raw_collation.specs.Sorting.{sorted_rows}
 use Rattle.view_engine.specs.declared.request.ViewName.{ViewName}
 use Rattle.view_engine.specs.declared.refusal.Refusal.{Refusal}
@@ -86,13 +87,13 @@ module _ (functions : List ℕ → Functions) (honest : List ℕ → Type 0) whe
     pub refusal : Refusal
     pub met : IsMet name job before after added refusal
     pub prints : reply ≡ refusal_text refusal
-    pub stopped : child 0 after.calls ≡ None
-    pub talked : AreCutShort 0 (talk_of job.sources job.documents 1) (talk added) ⊎ Rose before.faults after.faults
+    pub stopped : NoneIsLeft before.width after.calls
+    pub talked : AreCutShortIn before.width (talk_of job.sources job.documents before.width) (talk added) ⊎ Rose before.faults after.faults
 
   -- the rows: the talk is that of an update which maps all documents, where no fault was counted
   pub record IsAnswered (job : Job) (source : List ℕ) (before after : Moment) (reply : List ℕ) (added : List Call) : Type 0 where
     pub rows : PrintsRows job source before.world reply
-    pub talked : AreTurns (talk_of job.sources job.documents 1) (talk added) ⊎ Rose before.faults after.faults
+    pub talked : AreTurns (talk_of job.sources job.documents before.width) (talk added) ⊎ Rose before.faults after.faults
 
   -- a view that isn't refused before any server is asked: the world stays
   pub record DoesView (languages : List (List ℕ × List ℕ)) (before : Moment) (name : ViewName) (reply : List ℕ) (after : Moment) : Type 0 where

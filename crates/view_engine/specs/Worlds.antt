@@ -4,7 +4,7 @@ use Rattle.std.specs.Prelude.{◌≡◌, ◌⊎◌, ℕ, List, [], ◌++◌, Opt
 use Rattle.view_ports.specs.Calls.{Call}
 use Rattle.view_ports.specs.File.{File}
 use Rattle.view_ports.specs.declared.file_name.FileName.{FileName}
-use Rattle.child_pool.specs.Pools.{Stands as HasChildOf, languages_of}
+use Rattle.child_pool.specs.Pools.{HasItsChildren as HasChildOf, languages_of, width_of}
 use Rattle.doc_file.specs.declared.docs.Docs.{Docs}
 use Rattle.doc_file.specs.Docs.{HoldsHistory, IsAt as AreAt, IsOpen as AreOpen}
 use Rattle.doc_file.specs.Held.{Stands}
@@ -23,9 +23,9 @@ use Rattle.view_engine.specs.World.{World, written}
 abbrev pub GoesOnFrom : World → World → Type 0
 GoesOnFrom before after = (newer : List Write) × (after.history ≡ newer ++ before.history)
 
--- a world, and query servers that had so many faults, before any call
-abbrev pub at_start : World → ℕ → Moment
-at_start world faults = record { world = world; calls = []; faults = faults }
+-- a world, and query servers of which so many map documents and that had so many faults, before any call
+abbrev pub at_start : World → ℕ → ℕ → Moment
+at_start world width faults = record { world = world; width = width; calls = []; faults = faults }
 
 -- ---- files, and what a crash leaves of them
 
@@ -45,11 +45,10 @@ StandsAfter world request image = (write : Write) × IsWrite world request write
 abbrev pub StandsAround : World → Result Request Refusal → (FileName → List ℕ) → Type 0
 StandsAround world request image = StandsFor image world ⊎ StandsAfter world request image
 
--- The request is a write that is accepted in this world, and with it a file of the documents there would be too long, or has
--- one commit too many.
-pub record IsFullAt (world : World) (request : Result Request Refusal) (name : FileName) (length : Option ℕ) : Type 0 where
+-- The files hold this world, in which the request is a write that is accepted, and with it the documents' file among them would
+-- be too long, or has one commit too many.
+pub record IsFullAt (files : FileName → File) (world : World) (request : Result Request Refusal) (name : FileName) (length : Option ℕ) : Type 0 where
   pub docs : Docs
-  pub files : FileName → File
   pub at : AreAt docs files world.history
   pub full : IsFullFor docs request name length
   pub write : Write
@@ -60,6 +59,14 @@ pub record IsFullAt (world : World) (request : Result Request Refusal) (name : F
 -- the languages that an engine knows, with their paths
 abbrev pub languages : Engine → List (List ℕ × List ℕ)
 languages engine = languages_of engine.pool
+
+-- an engine knows these languages and no other
+abbrev pub Knows : List (List ℕ × List ℕ) → Engine → Type 0
+Knows known engine = languages engine ≡ known
+
+-- how many children map its documents
+abbrev pub width : Engine → ℕ
+width engine = width_of engine.pool
 
 -- what an engine keeps is what the folder holds
 abbrev pub IsOpen : Engine → (FileName → File) → Type 0

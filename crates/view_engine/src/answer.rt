@@ -1,82 +1,88 @@
-// The replies that print what was asked for. Where memory runs out, part of a reply may be appended.
-ghost use Rattle.std.specs.Prelude.{◌≡◌, ◌++◌, OnOk, map, length};
-ghost use Rattle.view_engine.specs.Answer as print;
+//! The replies that print what was asked for. Where memory runs out, part of one may be written.
 
+ghost use Rattle.std.specs.Prelude.{OnOk};
+ghost use Rattle.view_engine.specs.Answer as print;
+ghost use Rattle.view_engine.specs.Written.{Adds, KeepsBefore};
+
+use crate::reply::Reply;
 use doc_file::Info;
-use itoa::Buffer;
-use json_terms::{NoMemory, Row, write_term, write_text};
+use json_terms::{NoMemory, Row};
 use std::alloc::Global;
 
-/// Appends the reply to an accepted write.
-pub fn write_accepted(alloc: Global, id: &str, rev: &str, out: &mut Vec<u8>) -> Result<(), NoMemory>
-    ensures { OnOk result (out.new.items ≡ out.old.items ++ print.write_text id.now rev.now) }
+/// Writes the reply to an accepted write.
+pub fn write_accepted(alloc: Global, id: &str, rev: &str, reply: &mut Reply) -> Result<(), NoMemory>
+    ensures ok { OnOk result (Adds reply.old reply.new (print.write_text id.now rev.now)) }
+    ensures before { KeepsBefore reply.old reply.new }
 {
-    out.extend_from_slice(b"{\"ok\":true,\"id\":")?;
-    write_text(alloc, id, out)?;
-    out.extend_from_slice(b",\"rev\":\"")?;
-    out.extend_from_slice(rev.as_bytes())?;
-    out.extend_from_slice(b"\"}")?;
+    reply.put(b"{\"ok\":true,\"id\":")?;
+    reply.put_string(alloc, id)?;
+    reply.put(b",\"rev\":\"")?;
+    reply.put(rev.as_bytes())?;
+    reply.put(b"\"}")?;
     Ok(())
 }
 
-/// Appends the reply with the counts of documents.
-pub fn write_info(info: Info, out: &mut Vec<u8>) -> Result<(), NoMemory>
-    ensures { OnOk result (out.new.items ≡ out.old.items ++ print.info_text info) }
+/// Writes the reply with the counts of documents.
+pub fn write_info(info: Info, reply: &mut Reply) -> Result<(), NoMemory>
+    ensures ok { OnOk result (Adds reply.old reply.new (print.info_text info)) }
+    ensures before { KeepsBefore reply.old reply.new }
 {
-    let mut digits = Buffer::new();
-    out.extend_from_slice(b"{\"doc_count\":")?;
-    out.extend_from_slice(digits.format(info.doc_count).as_bytes())?;
-    out.extend_from_slice(b",\"doc_del_count\":")?;
-    out.extend_from_slice(digits.format(info.doc_del_count).as_bytes())?;
-    out.extend_from_slice(b",\"update_seq\":")?;
-    out.extend_from_slice(digits.format(info.update_seq).as_bytes())?;
-    out.extend_from_slice(b"}")?;
+    reply.put(b"{\"doc_count\":")?;
+    reply.put_number(info.doc_count)?;
+    reply.put(b",\"doc_del_count\":")?;
+    reply.put_number(info.doc_del_count)?;
+    reply.put(b",\"update_seq\":")?;
+    reply.put_number(info.update_seq)?;
+    reply.put(b"}")?;
     Ok(())
 }
 
-/// Appends the reply that prints all rows of a view.
-pub fn write_answer(alloc: Global, rows: &[Row], out: &mut Vec<u8>) -> Result<(), NoMemory>
-    ensures { OnOk result (out.new.items ≡ out.old.items ++ print.answer rows.now) }
+/// Writes the reply that prints all rows of a view.
+pub fn write_answer(alloc: Global, rows: &[Row], reply: &mut Reply) -> Result<(), NoMemory>
+    ensures ok { OnOk result (Adds reply.old reply.new (print.answer rows.now)) }
+    ensures before { KeepsBefore reply.old reply.new }
 {
-    let mut count = Buffer::new();
-    out.extend_from_slice(b"{\"total_rows\":")?;
-    out.extend_from_slice(count.format(rows.len()).as_bytes())?;
-    out.extend_from_slice(b",\"offset\":0,\"rows\":[")?;
-    write_rows(alloc, rows, out)?;
-    out.extend_from_slice(b"]}")?;
+    reply.put(b"{\"total_rows\":")?;
+    reply.put_number(rows.len() as u64)?;
+    reply.put(b",\"offset\":0,\"rows\":[")?;
+    write_rows(alloc, rows, reply)?;
+    reply.put(b"]}")?;
     Ok(())
 }
 
-fn write_rows(alloc: Global, rows: &[Row], out: &mut Vec<u8>) -> Result<(), NoMemory>
-    ensures { OnOk result (out.new.items ≡ out.old.items ++ print.rows_text rows.now) }
+fn write_rows(alloc: Global, rows: &[Row], reply: &mut Reply) -> Result<(), NoMemory>
+    ensures ok { OnOk result (Adds reply.old reply.new (print.rows_text rows.now)) }
+    ensures before { KeepsBefore reply.old reply.new }
 {
     let Some((first, others)) = rows.split_first() else {
         return Ok(());
     };
-    write_row(alloc, first, out)?;
-    write_more_rows(alloc, others, out)
+    write_row(alloc, first, reply)?;
+    write_more_rows(alloc, others, reply)
 }
 
-/// Appends each row after a comma.
-fn write_more_rows(alloc: Global, rows: &[Row], out: &mut Vec<u8>) -> Result<(), NoMemory>
-    ensures { OnOk result (out.new.items ≡ out.old.items ++ print.more_rows rows.now) }
+/// Writes each row after a comma.
+fn write_more_rows(alloc: Global, rows: &[Row], reply: &mut Reply) -> Result<(), NoMemory>
+    ensures ok { OnOk result (Adds reply.old reply.new (print.more_rows rows.now)) }
+    ensures before { KeepsBefore reply.old reply.new }
 {
     for row in rows {
-        out.push(b',')?;
-        write_row(alloc, row, out)?;
+        reply.put(b",")?;
+        write_row(alloc, row, reply)?;
     }
     Ok(())
 }
 
-fn write_row(alloc: Global, row: &Row, out: &mut Vec<u8>) -> Result<(), NoMemory>
-    ensures { OnOk result (out.new.items ≡ out.old.items ++ print.row_text row.now) }
+fn write_row(alloc: Global, row: &Row, reply: &mut Reply) -> Result<(), NoMemory>
+    ensures ok { OnOk result (Adds reply.old reply.new (print.row_text row.now)) }
+    ensures before { KeepsBefore reply.old reply.new }
 {
-    out.extend_from_slice(b"{\"id\":")?;
-    write_text(alloc, row.id.as_str(), out)?;
-    out.extend_from_slice(b",\"key\":")?;
-    write_term(alloc, &row.key, out)?;
-    out.extend_from_slice(b",\"value\":")?;
-    write_term(alloc, &row.value, out)?;
-    out.extend_from_slice(b"}")?;
+    reply.put(b"{\"id\":")?;
+    reply.put_string(alloc, row.id.as_str())?;
+    reply.put(b",\"key\":")?;
+    reply.put_term(alloc, &row.key)?;
+    reply.put(b",\"value\":")?;
+    reply.put_term(alloc, &row.value)?;
+    reply.put(b"}")?;
     Ok(())
 }

@@ -1,19 +1,16 @@
-// The engine: the documents, the query servers, and one request line at a time.
-ghost use Rattle.std.specs.Prelude.{◌≡◌, ◌++◌, ℕ, List, IfOk, IfErr, OnOk, OnErr, Option, map, string_bytes, Err, Ok};
+//! The engine: the documents, the query servers, and one request line at a time.
+
+ghost use Rattle.std.specs.Prelude.{◌≡◌, ◌++◌, List, IfOk, IfErr, OnOk, OnErr, map, string_bytes, Ok};
 ghost use Rattle.view_ports.specs.Calls.{Call};
-ghost use Rattle.view_ports.specs.Causes.{HasCauseIf};
-ghost use Rattle.view_ports.specs.Disk.{IfTold, LeavesOnly, Tells};
 ghost use Rattle.view_ports.specs.Lines.{ended};
-ghost use Rattle.view_ports.specs.declared.file_name.FileName.{FileName};
 ghost use Rattle.child_pool.specs.Languages.{languages_in};
-ghost use Rattle.doc_file.specs.Docs.{IsDamagedAt};
 ghost use Rattle.view_engine.specs.Calls.{scene, IsStep, IsToldAs, Performed};
 ghost use Rattle.view_engine.specs.Disks.{AreOpen};
 ghost use Rattle.view_engine.specs.Engine.{HasStopped};
 ghost use Rattle.view_engine.specs.Halts.{fault_of, halted_as};
 ghost use Rattle.view_engine.specs.Refusals.{refusal_text};
-ghost use Rattle.view_engine.specs.World.{World};
-ghost use Rattle.view_engine.specs.Worlds.{Holds, IsAtWorld, IsChildless, IsOpen, StandsFor, languages};
+ghost use Rattle.view_engine.specs.Openings.{FailsByDisk, FillsNone, LeavesWorlds, MeetsDamage, MeetsNoDamage, OpensWhole, OpensWorlds};
+ghost use Rattle.view_engine.specs.Worlds.{IsChildless, Knows, width as width_of};
 
 mod view;
 
@@ -21,6 +18,7 @@ use crate::halt::{Halt, StepFault};
 use crate::line::read_request;
 use crate::reads::{get, info};
 use crate::refusal::Refusal;
+use crate::reply::Reply;
 use crate::request::Request;
 use crate::writes::{delete, put};
 use child_pool::Pool;
@@ -37,7 +35,8 @@ pub struct Engine {
 }
 
 impl Engine {
-    /// Opens the documents of a folder. There are no children yet. The words of the form LANG=PATH name the paths of languages.
+    /// Opens the documents of a folder, with query servers of which `width` map documents. There are no children yet. The words
+    /// of the form LANG=PATH name the paths of languages.
     ///
     /// The documents' file is `Damaged` where a slot of its pair is, and else at the place of its root record, where none
     /// stands there. Where nothing is pending in the files and they hold a world, each image from then on stands for it, and
@@ -45,20 +44,23 @@ impl Engine {
     pub fn open<F: Folder>(
         alloc: Global,
         folder: &mut F,
+        width: u32,
         words: &[String],
     ) -> Result<Engine, StepFault>
-        ensures documents { (world : World) → IfTold (F.disk folder.old) (λ d. Holds d.now world) → IfTold (F.disk folder.new) (λ d. IfOk result (λ engine. IsAtWorld engine d.now world)) }
-        ensures moments { (world : World) → IfTold (F.disk folder.old) (λ d. Holds d.now world) → Tells (F.disk folder.old) (F.disk folder.new) (LeavesOnly (λ image. StandsFor image world)) }
-        ensures open { IfTold (F.disk folder.new) (λ d. IfOk result (λ engine. IsOpen engine d.now)) }
-        ensures childless { IfOk result (λ engine. IsChildless engine) }
-        ensures languages { IfOk result (λ engine. languages engine ≡ languages_in (map string_bytes words.now)) }
-        ensures damaged { IfTold (F.disk folder.old) (λ d. (name : FileName) (at : ℕ) → result ≡ Err (StepFault.Damaged name at) → IsDamagedAt d.now name at) }
-        ensures sound { (world : World) → IfTold (F.disk folder.old) (λ d. Holds d.now world → (name : FileName) (at : ℕ) → result ≡ Err (StepFault.Damaged name at) → ⊥) }
-        ensures room { (name : FileName) (length : Option ℕ) → result ≡ Err (StepFault.Full name length) → ⊥ }
-        ensures cause { HasCauseIf (λ fault. fault ≡ StepFault.DiskFault) (F.faults folder.old) (F.faults folder.new) result }
+        requires width { width ≡ 1 }
+        ensures documents { OpensWorlds F.Folder folder.old folder.new result }
+        ensures moments { LeavesWorlds F.Folder folder.old folder.new }
+        ensures open { OpensWhole F.Folder folder.new result }
+        ensures childless { IfOk result IsChildless }
+        ensures width { IfOk result (λ engine. width_of engine ≡ width) }
+        ensures languages { IfOk result (Knows (languages_in (map string_bytes words.now))) }
+        ensures damaged { MeetsDamage F.Folder folder.old result }
+        ensures sound { MeetsNoDamage F.Folder folder.old result }
+        ensures room { FillsNone result }
+        ensures cause { FailsByDisk F.Folder folder.old folder.new result }
     {
         match Docs::open(alloc, folder) {
-            Ok(docs) => match Pool::new(alloc, words) {
+            Ok(docs) => match Pool::new(alloc, width, words) {
                 Ok(pool) => Ok(Engine { docs, pool }),
                 Err(NoMemory) => Err(StepFault::NoMemory),
             },
@@ -70,8 +72,8 @@ impl Engine {
     ///
     /// The line comes without its newline. Of a line of more than 2,097,152 bytes the first 2,097,153 are enough.
     /// On `NoMemory` nothing is appended and no document has changed. At each moment a crash leaves the documents before the
-    /// request or after it; once a write is answered those after it. Only a write that is accepted changes a file. After
-    /// every other fault the engine is not to be used again.
+    /// request or after it; once a write is answered those after it. Only a write that is accepted changes a file, and only files
+    /// of the documents change. After every other fault the engine is not to be used again.
     pub fn step<F: Folder, C: Servers>(
         &mut self,
         alloc: Global,
@@ -96,9 +98,11 @@ impl Engine {
         }
     }
 
-    /// Stops all children.
+    /// Stops all children. The width stays.
     pub fn finish<C: Servers>(&mut self, servers: &mut C)
-        ensures stopped { (calls : List Call) → C.may_follow servers.old calls → HasStopped (C.may_follow servers.new) self.new calls }
+        ensures stopped { (calls : List Call) → C.may_follow servers.old calls
+            → HasStopped (C.may_follow servers.new) self.new calls }
+        ensures width { width_of self.new ≡ width_of self.old }
         ensures faults { C.faults servers.new ≡ C.faults servers.old }
     {
         self.pool.stop_all(servers);
@@ -115,7 +119,8 @@ impl Engine {
     ) -> Result<(), Halt>
         requires open { AreOpen F.Folder self.old.docs folder.old }
         ensures { Performed F.Folder C.Servers (scene self.old folder.old servers.old)
-            (scene self.new folder.new servers.new) (Ok request) out.old.items out.new.items result }
+            (scene self.new folder.new servers.new)
+            (Ok request) out.old.items out.new.items result }
     {
         match request {
             Request::Put { document } => put(alloc, &mut self.docs, folder, document, out),
@@ -160,11 +165,10 @@ fn append_refusal(alloc: Global, refusal: &Refusal, out: &mut Vec<u8>) -> Result
     ensures silent { OnErr result (out.new.items ≡ out.old.items) }
     ensures memory { IfErr result (λ fault. fault ≡ StepFault.NoMemory) }
 {
-    let Ok(line) = refusal.line(alloc) else {
-        return Err(StepFault::NoMemory);
-    };
-    if out.extend_from_slice(line.as_slice()).is_err() {
-        return Err(StepFault::NoMemory);
+    let mut reply = Reply::behind(alloc, out);
+    let written = refusal.write(alloc, &mut reply);
+    match reply.end(written, out) {
+        Ok(()) => Ok(()),
+        Err(NoMemory) => Err(StepFault::NoMemory),
     }
-    Ok(())
 }

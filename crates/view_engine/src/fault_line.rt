@@ -1,4 +1,5 @@
-// The reply line that must not take memory.
+//! The reply line that must not take memory.
+
 ghost use Rattle.std.specs.Prelude.{◌≡◌};
 ghost use Rattle.view_ports.specs.Lines.{ended};
 ghost use Rattle.view_engine.specs.Refusals.{refusal_text};

@@ -1,4 +1,5 @@
-// Recognising requests: one function for each number of members.
+//! Recognising requests: one function for each number of members.
+
 ghost use Rattle.std.specs.Prelude.{◌≡◌, ◌&&◌, ℕ, List, Option, option_map, unwrap_or, bytes_eq, length, vec_len, [], ◌∷◌, IfNone, IfSome, ◌≢◌};
 ghost use Rattle.json_terms.specs.Json.{Json, list_of_members};
 ghost use Rattle.json_terms.specs.Seen.{json};
@@ -97,7 +98,8 @@ fn recognize_two(first: Member, second: Member) -> Option<Request>
 }
 
 fn recognize_three(first: Member, second: Member, third: Member) -> Option<Request>
-    ensures { result ≡ form_of_three first.name (json first.value) second.name (json second.value) third.name (json third.value) }
+    ensures { result ≡ form_of_three first.name (json first.value) second.name
+        (json second.value) third.name (json third.value) }
 {
     if !are_named(&first, "cursor", &second, "query") || !is_named(&third, "view") {
         return None;

@@ -1,4 +1,5 @@
-// Why a request isn't done: a refusal, or a fault that ends it.
+//! Why a request isn't done: a refusal, or a fault that ends it.
+
 ghost use Rattle.std.specs.Prelude.{◌≡◌};
 ghost use Rattle.view_engine.specs.declared.halt.Halt.TheVariants.{Stopped};
 ghost use Rattle.view_engine.specs.declared.halt.StepFault.TheVariants.{NoMemory as OutOfMemory};

@@ -1,7 +1,8 @@
-// The laws of the definitions. Each function states some, and does nothing.
+//! The laws of the definitions. Each function states some, and does nothing.
+
 ghost use Rattle.std.specs.Prelude.{List, ℕ};
 ghost use Rattle.doc_file.specs.History.{Write};
-ghost use Rattle.view_engine.specs.Laws.{HasLastWrites, HasLiveDocuments, IsInOrderOfId, IsNotRefusedAndDone, IsRefusedOnce};
+ghost use Rattle.view_engine.specs.Laws.{HasLastWrites, HasLiveDocuments, IsAcceptedInTurn, IsInOrderOfId, IsNotRefusedAndDone, IsRefusedOnce};
 
 use view_ports::Servers;
 
@@ -14,6 +15,13 @@ pub fn live_documents_have_their_last_write()
 
 /// A request has one refusal at most before any server is asked, and where it has one, it isn't done.
 pub fn requests_have_one_outcome<C: Servers>()
-    ensures refused { (languages : List (List ℕ × List ℕ)) → IsRefusedOnce C.functions C.honest languages }
-    ensures done { (languages : List (List ℕ × List ℕ)) → IsNotRefusedAndDone C.functions C.honest languages }
+    ensures refused { (languages : List (List ℕ × List ℕ))
+        → IsRefusedOnce C.functions C.honest languages }
+    ensures done { (languages : List (List ℕ × List ℕ))
+        → IsNotRefusedAndDone C.functions C.honest languages }
+{}
+
+/// What lines that are answered one after another write is what each part of them writes, in turn.
+pub fn writes_are_accepted_in_turn()
+    ensures { IsAcceptedInTurn }
 {}

@@ -11,6 +11,7 @@ mod line;
 mod mapped;
 mod reads;
 mod refusal;
+mod reply;
 mod request;
 mod rows;
 mod writes;
@@ -18,7 +19,9 @@ mod writes;
 pub use engine::Engine;
 pub use fault_line::no_memory_line;
 pub use halt::StepFault;
-pub use laws::{live_documents_have_their_last_write, requests_have_one_outcome};
-pub use line::{LINE_LIMIT, read_request};
+pub use laws::{
+    live_documents_have_their_last_write, requests_have_one_outcome, writes_are_accepted_in_turn,
+};
+pub use line::{REQUEST_LIMIT, read_request};
 pub use refusal::Refusal;
 pub use request::{Request, ViewName};

@@ -1,4 +1,5 @@
-// From the bytes of a line to the request.
+//! From the bytes of a line to the request.
+
 ghost use Rattle.std.specs.Prelude.{◌≡◌, ◌≢◌, IfOk, IfErr, Ok, Err};
 ghost use Rattle.view_engine.specs.Refusals.{request_of};
 
@@ -9,14 +10,15 @@ use json_terms::read_term;
 use std::alloc::Global;
 
 /// The longest request line, in bytes.
-pub const LINE_LIMIT: usize = 2_097_152;
+pub const REQUEST_LIMIT: usize = 2_097_152;
 
 /// The request that a line is, or the first of its refusals: too long, no term, no form.
 pub fn read_request(alloc: Global, line: &[u8]) -> Result<Request, Refusal>
     ensures ok { IfOk result (λ request. request_of line.now ≡ Ok request) }
-    ensures err { IfErr result (λ refusal. refusal ≢ Refusal.NoMemory → request_of line.now ≡ Err refusal) }
+    ensures err { IfErr result (λ refusal. refusal ≢ Refusal.NoMemory
+        → request_of line.now ≡ Err refusal) }
 {
-    if line.len() > LINE_LIMIT {
+    if line.len() > REQUEST_LIMIT {
         return Err(Refusal::LineTooLong);
     }
     match read_term(alloc, line) {

@@ -1,4 +1,5 @@
-// The documents that views map, read from their file.
+//! The documents that views map, read from their file.
+
 ghost use Rattle.std.specs.Prelude.{◌≡◌, List, All, IfErr, IfOk, map};
 ghost use Rattle.view_ports.specs.Disk.{IfTold};
 ghost use Rattle.doc_file.specs.Changes.{numbered, HasDocument};
@@ -33,7 +34,8 @@ pub(crate) fn load_mapped<F: Folder>(
     folder: &mut F,
 ) -> Result<Mapped, Halt>
     requires open { AreOpen F.Folder docs.now folder.old }
-    ensures mapped { (history : List Write) → IfTold (F.disk folder.old) (λ d. IsAt docs.now d.now history → IfOk result (AreMapped history)) }
+    ensures mapped { (history : List Write) → IfTold (F.disk folder.old)
+        (λ d. IsAt docs.now d.now history → IfOk result (AreMapped history)) }
     ensures refused { IfErr result (λ halt. (refusal : Refusal) → halt ≡ Halt.Refused refusal → ⊥) }
     ensures reads { Reads F.Folder docs.now folder.old folder.new result }
 {

@@ -1,4 +1,5 @@
-// The requests that read documents alone: `get` and `info`.
+//! The requests that read documents alone: `get` and `info`.
+
 ghost use Rattle.std.specs.Prelude.{◌≡◌, ◌++◌, List, OnErr, OnOk};
 ghost use Rattle.json_terms.specs.Json.{Json};
 ghost use Rattle.json_terms.specs.Text.{text_of};
@@ -14,9 +15,10 @@ ghost use Rattle.view_engine.specs.Get.{DoesInfo};
 
 use crate::answer::write_info;
 use crate::halt::Halt;
+use crate::reply::Reply;
 use crate::request::Request;
 use doc_file::Docs;
-use json_terms::{NoMemory, write_term};
+use json_terms::NoMemory;
 use std::alloc::Global;
 use view_ports::Folder;
 
@@ -31,14 +33,14 @@ pub(crate) fn get<F: Folder>(
     requires open { AreOpen F.Folder docs.now folder.old }
     ensures acts { ActsHere F.Folder docs.now docs.now folder.old folder.new
         (Request.Get id.now) out.old.items out.new.items result }
-    ensures printed { OnOk result ((document : Json) × (out.new.items ≡ out.old.items ++ ended (text_of document))) }
+    ensures printed { OnOk result ((document : Json) ×
+        (out.new.items ≡ out.old.items ++ ended (text_of document))) }
 {
     match docs.get(alloc, folder, id) {
         Ok(document) => {
-            let mut line = Vec::new(alloc);
-            write_term(alloc, &document, &mut line)?;
-            line.push(b'\n')?;
-            out.extend_from_slice(line.as_slice())?;
+            let mut reply = Reply::behind(alloc, out);
+            let written = reply.put_term(alloc, &document);
+            reply.end(written, out)?;
             Ok(())
         }
         Err(fault) => Err(Halt::from(fault)),
@@ -47,13 +49,13 @@ pub(crate) fn get<F: Folder>(
 
 /// Appends the reply line with the counts of the documents and the update sequence.
 pub(crate) fn info(alloc: Global, docs: &Docs, out: &mut Vec<u8>) -> Result<(), NoMemory>
-    ensures ok { OnOk result (out.new.items ≡ out.old.items ++ ended (info_text (info_of docs.now))) }
-    ensures done { (files : FileName → File) (history : List Write) → IsAt docs.now files history → DoesInfo (record { history = history }) (info_text (info_of docs.now)) }
+    ensures ok { OnOk result (out.new.items ≡ out.old.items ++ ended
+        (info_text (info_of docs.now))) }
+    ensures done { (files : FileName → File) (history : List Write) → IsAt docs.now files history
+        → DoesInfo (record { history = history }) (info_text (info_of docs.now)) }
     ensures silent { OnErr result (out.new.items ≡ out.old.items) }
 {
-    let mut line = Vec::new(alloc);
-    write_info(docs.info(), &mut line)?;
-    line.push(b'\n')?;
-    out.extend_from_slice(line.as_slice())?;
-    Ok(())
+    let mut reply = Reply::behind(alloc, out);
+    let written = write_info(docs.info(), &mut reply);
+    reply.end(written, out)
 }

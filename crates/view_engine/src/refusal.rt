@@ -1,9 +1,11 @@
-// Refusals, and the reply lines that name them.
-ghost use Rattle.std.specs.Prelude.{◌≡◌, ◌++◌, IfOk, OnOk};
-ghost use Rattle.view_ports.specs.Lines.{ended};
+//! Refusals, and the reply lines that name them.
 
-use json_terms::{Chars, NoMemory, TermFault, write_text};
-use std::alloc::{AllocError, AllocFailed, Global};
+ghost use Rattle.std.specs.Prelude.{◌≡◌, OnOk};
+ghost use Rattle.view_engine.specs.Written.{Adds, KeepsBefore};
+
+use crate::reply::Reply;
+use json_terms::{Chars, NoMemory, TermFault};
+use std::alloc::Global;
 
 /// Why a request line was not done, in the order in which the causes are looked for.
 #[derive(Drop, Debug)]
@@ -48,39 +50,6 @@ pub enum Refusal {
     ServerReply(Chars),
     /// Memory ran out.
     NoMemory,
-}
-
-impl From<NoMemory> for Refusal {
-    ghost use Rattle.std.specs.Prelude.{◌≡◌};
-    ghost use Rattle.view_engine.specs.declared.refusal.Refusal.TheVariants.{NoMemory};
-
-    ghost from_gives = { λ _ refusal. refusal ≡ NoMemory };
-
-    fn from(_error: json_terms::NoMemory) -> Refusal {
-        Refusal::NoMemory
-    }
-}
-
-impl From<AllocError> for Refusal {
-    ghost use Rattle.std.specs.Prelude.{◌≡◌};
-    ghost use Rattle.view_engine.specs.declared.refusal.Refusal.TheVariants.{NoMemory};
-
-    ghost from_gives = { λ _ refusal. refusal ≡ NoMemory };
-
-    fn from(_error: AllocError) -> Refusal {
-        Refusal::NoMemory
-    }
-}
-
-impl<T: Drop> From<AllocFailed<T>> for Refusal {
-    ghost use Rattle.std.specs.Prelude.{◌≡◌};
-    ghost use Rattle.view_engine.specs.declared.refusal.Refusal.TheVariants.{NoMemory};
-
-    ghost from_gives = { λ _ refusal. refusal ≡ NoMemory };
-
-    fn from(_failed: AllocFailed<T>) -> Refusal {
-        Refusal::NoMemory
-    }
 }
 
 impl From<TermFault> for Refusal {
@@ -128,46 +97,45 @@ impl Refusal {
         }
     }
 
-    /// Appends the reason, as a JSON string.
-    fn write_reason(&self, alloc: Global, out: &mut Vec<u8>) -> Result<(), NoMemory>
-        ensures { OnOk result (out.new.items ≡ out.old.items ++ error_reason self.now) }
+    /// Writes the reason, as a JSON string.
+    fn write_reason(&self, alloc: Global, reply: &mut Reply) -> Result<(), NoMemory>
+        ensures ok { OnOk result (Adds reply.old reply.new (error_reason self.now)) }
+        ensures before { KeepsBefore reply.old reply.new }
     {
         match self {
-            Refusal::LineTooLong => out.extend_from_slice(b"\"line passes 2097152 bytes\"")?,
-            Refusal::NotJson => out.extend_from_slice(b"\"line is not JSON\"")?,
-            Refusal::NotWhole => out.extend_from_slice(b"\"number is not whole\"")?,
-            Refusal::TooDeep => out.extend_from_slice(b"\"line is too deep\"")?,
-            Refusal::UnknownRequest => out.extend_from_slice(b"\"unknown request\"")?,
-            Refusal::NotBuiltYet => out.extend_from_slice(b"\"not built yet\"")?,
-            Refusal::BadId => out.extend_from_slice(b"\"document id is not allowed\"")?,
-            Refusal::BadRev => out.extend_from_slice(b"\"revision is not well formed\"")?,
-            Refusal::DocumentTooLarge => {
-                out.extend_from_slice(b"\"document passes 524288 bytes\"")?
-            }
-            Refusal::DocumentTooDeep => out.extend_from_slice(b"\"document passes depth 64\"")?,
-            Refusal::Missing => out.extend_from_slice(b"\"missing\"")?,
-            Refusal::Deleted => out.extend_from_slice(b"\"deleted\"")?,
-            Refusal::MissingNamedView => out.extend_from_slice(b"\"missing_named_view\"")?,
-            Refusal::Conflict => out.extend_from_slice(b"\"Document update conflict.\"")?,
-            Refusal::ServerFault => out.extend_from_slice(b"\"query server failed twice\"")?,
-            Refusal::NoMemory => out.extend_from_slice(b"\"out of memory\"")?,
+            Refusal::LineTooLong => reply.put(b"\"line passes 2097152 bytes\""),
+            Refusal::NotJson => reply.put(b"\"line is not JSON\""),
+            Refusal::NotWhole => reply.put(b"\"number is not whole\""),
+            Refusal::TooDeep => reply.put(b"\"line is too deep\""),
+            Refusal::UnknownRequest => reply.put(b"\"unknown request\""),
+            Refusal::NotBuiltYet => reply.put(b"\"not built yet\""),
+            Refusal::BadId => reply.put(b"\"document id is not allowed\""),
+            Refusal::BadRev => reply.put(b"\"revision is not well formed\""),
+            Refusal::DocumentTooLarge => { reply.put(b"\"document passes 524288 bytes\"") }
+            Refusal::DocumentTooDeep => reply.put(b"\"document passes depth 64\""),
+            Refusal::Missing => reply.put(b"\"missing\""),
+            Refusal::Deleted => reply.put(b"\"deleted\""),
+            Refusal::MissingNamedView => reply.put(b"\"missing_named_view\""),
+            Refusal::Conflict => reply.put(b"\"Document update conflict.\""),
+            Refusal::ServerFault => reply.put(b"\"query server failed twice\""),
+            Refusal::NoMemory => reply.put(b"\"out of memory\""),
             Refusal::BadMember(text)
             | Refusal::UnknownLanguage(text)
             | Refusal::CompilationError(text)
-            | Refusal::ServerReply(text) => write_text(alloc, text.as_str(), out)?,
+            | Refusal::ServerReply(text) => reply.put_string(alloc, text.as_str()),
         }
-        Ok(())
     }
 
-    /// The reply line of the refusal, with its newline.
-    pub fn line(&self, alloc: Global) -> Result<Vec<u8>, NoMemory>
-        ensures { IfOk result (λ line. line.items ≡ ended (refusal_text self.now)) }
+    /// Writes the reply.
+    pub(crate) fn write(&self, alloc: Global, reply: &mut Reply) -> Result<(), NoMemory>
+        ensures ok { OnOk result (Adds reply.old reply.new (refusal_text self.now)) }
+        ensures before { KeepsBefore reply.old reply.new }
     {
-        let mut line = Vec::from_slice(alloc, b"{\"error\":\"")?;
-        line.extend_from_slice(self.name().as_bytes())?;
-        line.extend_from_slice(b"\",\"reason\":")?;
-        self.write_reason(alloc, &mut line)?;
-        line.extend_from_slice(b"}\n")?;
-        Ok(line)
+        reply.put(b"{\"error\":\"")?;
+        reply.put(self.name().as_bytes())?;
+        reply.put(b"\",\"reason\":")?;
+        self.write_reason(alloc, reply)?;
+        reply.put(b"}")?;
+        Ok(())
     }
 }

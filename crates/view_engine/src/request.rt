@@ -1,4 +1,5 @@
-// The requests.
+//! The requests.
+
 use json_terms::{Chars, Members};
 
 /// A view by the name of its design document, without `_design/`, and its own name.

@@ -1,4 +1,5 @@
-// The rows of a view, made of what its map function emitted.
+//! The rows of a view, made of what its map function emitted.
+
 ghost use Rattle.std.specs.Prelude.{◌≡◌, ◌++◌, [], OnOk, IfOk, map, slice_index_or};
 ghost use Rattle.json_terms.specs.Emitted.{key_value};
 ghost use Rattle.view_engine.specs.Rows.{emitted_by, emitted_rows, rows_from};
@@ -13,7 +14,8 @@ pub fn rows_of(
     lists: &[RowLists],
     function: usize,
 ) -> Result<Vec<Row>, NoMemory>
-    ensures { IfOk result (λ rows. rows.items ≡ emitted_rows ids.now (emitted_by function lists.now)) }
+    ensures { IfOk result (λ rows. rows.items ≡ emitted_rows ids.now
+        (emitted_by function lists.now)) }
 {
     let mut rows = Vec::new(alloc);
     for at in 0..ids.len().min(lists.len()) {
@@ -30,7 +32,8 @@ fn add_document(
     function: usize,
     rows: &mut Vec<Row>,
 ) -> Result<(), NoMemory>
-    ensures { OnOk result (rows.new.items ≡ rows.old.items ++ rows_from 0 id.now (slice_index_or lists.now function [])) }
+    ensures { OnOk result (rows.new.items ≡ rows.old.items ++ rows_from 0 id.now
+        (slice_index_or lists.now function [])) }
 {
     match lists.as_slice().get(function) {
         Some(emissions) => add_rows(alloc, id, emissions.as_slice(), rows),
@@ -45,7 +48,8 @@ fn add_rows(
     emissions: &[Emission],
     rows: &mut Vec<Row>,
 ) -> Result<(), NoMemory>
-    ensures { OnOk result (rows.new.items ≡ rows.old.items ++ rows_from 0 id.now (map key_value emissions.now)) }
+    ensures { OnOk result (rows.new.items ≡ rows.old.items ++ rows_from 0 id.now
+        (map key_value emissions.now)) }
 {
     for (place, emission) in emissions.iter().enumerate() {
         let Ok(place) = u32::try_from(place) else {

@@ -1,34 +1,28 @@
-// The requests that write a document: `put` and `delete`. The reply is made first, so that want of memory writes nothing.
-ghost use Rattle.std.specs.Prelude.{◌≡◌, ◌++◌, ℕ, List, IfErr, IfOk, OnOk, option_map};
+//! The requests that write a document: `put` and `delete`. The reply is written first, so that want of memory stores nothing.
+
+ghost use Rattle.std.specs.Prelude.{◌≡◌, ◌++◌, IfErr, IfOk, OnErr, OnOk, option_map};
 ghost use Rattle.json_terms.specs.Json.{object, members_of};
 ghost use Rattle.json_terms.specs.Seen.{json};
 ghost use Rattle.design_docs.specs.Documents.{id_of as id_in};
-ghost use Rattle.view_ports.specs.File.{File};
 ghost use Rattle.view_ports.specs.Lines.{ended};
-ghost use Rattle.view_ports.specs.declared.file_name.FileName.{FileName};
-ghost use Rattle.doc_file.specs.Docs.{IsAt, IsSame};
-ghost use Rattle.doc_file.specs.History.{Write};
+ghost use Rattle.doc_file.specs.Docs.{IsSame};
 ghost use Rattle.doc_file.specs.Incoming.{deletes as deletes_json};
-ghost use Rattle.doc_file.specs.Stored.{next_revision};
-ghost use Rattle.view_engine.specs.Answer.{write_text};
 ghost use Rattle.view_engine.specs.Calls.{ActsHere};
 ghost use Rattle.view_engine.specs.Disks.{AreOpen};
 ghost use Rattle.view_engine.specs.Halts.{GoesOn};
 ghost use Rattle.view_engine.specs.Put as spec;
-ghost use Rattle.view_engine.specs.Replies.{accepted_reply};
+ghost use Rattle.view_engine.specs.Replies.{accepted_reply, SaysRevision};
 
 use crate::answer::write_accepted;
 use crate::halt::Halt;
 use crate::refusal::Refusal;
+use crate::reply::Reply;
 use crate::request::Request;
 use design_docs::{DESIGN_PREFIX, id_of, is_design_id, is_plain};
 use doc_file::{DocFault, Docs};
 use json_terms::{Chars, Members, NoMemory, Term, member};
 use std::alloc::Global;
 use view_ports::Folder;
-
-/// Room for the reply to most writes, in bytes.
-const USUAL_REPLY: usize = 128;
 
 /// Puts a document and appends the reply line.
 pub(crate) fn put<F: Folder>(
@@ -43,15 +37,15 @@ pub(crate) fn put<F: Folder>(
         (Request.Put document) out.old.items out.new.items result }
     ensures appended { OnOk result (out.new.items ≡ out.old.items
         ++ ended (accepted_reply docs.old (id_in (object (members_of document))))) }
-    ensures kept { IfErr result (λ halt. GoesOn halt → IsSame docs.old docs.new × (folder.new ≡ folder.old)) }
+    ensures kept { IfErr result (λ halt. GoesOn halt → IsSame docs.old docs.new
+        × (folder.new ≡ folder.old)) }
 {
     let document = Term::Object(document);
     if is_unbuilt(alloc, &document)? {
         return Err(Halt::Refused(Refusal::NotBuiltYet));
     }
-    let reply = accepted_line(alloc, docs, id_of(&document))?;
     let start = out.len();
-    out.extend_from_slice(reply.as_slice())?;
+    append_accepted(alloc, docs, id_of(&document), out)?;
     match docs.put(alloc, folder, document) {
         Ok(_rev) => Ok(()),
         Err(fault) => {
@@ -73,12 +67,13 @@ pub(crate) fn delete<F: Folder>(
     requires open { AreOpen F.Folder docs.old folder.old }
     ensures acts { ActsHere F.Folder docs.old docs.new folder.old folder.new
         (Request.Delete id rev) out.old.items out.new.items result }
-    ensures appended { OnOk result (out.new.items ≡ out.old.items ++ ended (accepted_reply docs.old id)) }
-    ensures kept { IfErr result (λ halt. GoesOn halt → IsSame docs.old docs.new × (folder.new ≡ folder.old)) }
+    ensures appended { OnOk result (out.new.items ≡ out.old.items ++ ended
+        (accepted_reply docs.old id)) }
+    ensures kept { IfErr result (λ halt. GoesOn halt → IsSame docs.old docs.new
+        × (folder.new ≡ folder.old)) }
 {
-    let reply = accepted_line(alloc, docs, id.as_str())?;
     let start = out.len();
-    out.extend_from_slice(reply.as_slice())?;
+    append_accepted(alloc, docs, id.as_str(), out)?;
     match docs.delete(alloc, folder, id.as_str(), text_of(&rev)) {
         Ok(_rev) => Ok(()),
         Err(fault) => {
@@ -98,16 +93,17 @@ fn text_of(rev: &Option<Chars>) -> Option<&str>
     }
 }
 
-/// The reply line to the next write of an id, as it will be where it is accepted.
-fn accepted_line(alloc: Global, docs: &Docs, id: &str) -> Result<Vec<u8>, NoMemory>
-    ensures line { IfOk result (λ line. line.items ≡ ended (accepted_reply docs.now id.now)) }
-    ensures history { OnOk result ((files : FileName → File) (history : List Write) → IsAt docs.now files history → accepted_reply docs.now id.now ≡ write_text id.now (next_revision history id.now)) }
+/// Appends the reply line to the next write of an id, as it will be where it is accepted, or nothing.
+fn append_accepted(alloc: Global, docs: &Docs, id: &str, out: &mut Vec<u8>) -> Result<(), NoMemory>
+    ensures ok { OnOk result (out.new.items ≡ out.old.items ++ ended
+        (accepted_reply docs.now id.now)) }
+    ensures silent { OnErr result (out.new.items ≡ out.old.items) }
+    ensures history { OnOk result (SaysRevision docs.now id.now) }
 {
     let rev = docs.next_rev(id).text(alloc)?;
-    let mut line = Vec::with_capacity(alloc, USUAL_REPLY)?;
-    write_accepted(alloc, id, rev.as_str(), &mut line)?;
-    line.push(b'\n')?;
-    Ok(line)
+    let mut reply = Reply::behind(alloc, out);
+    let written = write_accepted(alloc, id, rev.as_str(), &mut reply);
+    reply.end(written, out)
 }
 
 /// Whether a document is put as a design document and isn't one that is taken so far.

@@ -35,7 +35,8 @@ pub fn bad_line_text(alloc: Global) -> Result<Vec<u8>, NoMemory>
 }
 
 fn three_texts(alloc: Global, first: &str, second: &str, third: &str) -> Result<Vec<u8>, NoMemory>
-    ensures { IfOk result (λ text. IsTextOf (three_strings first.now second.now third.now) text.items) }
+    ensures { IfOk result (λ text.
+        IsTextOf (three_strings first.now second.now third.now) text.items) }
 {
     let mut texts = Terms::with_capacity(alloc, 3)?;
     texts.push(Term::Text(Chars::from_text(alloc, first)?))?;

@@ -8,11 +8,10 @@ ghost use Rattle.view_ports.specs.ReduceRow.{json2};
 ghost use Rattle.view_ports.specs.Commands as spec;
 
 use crate::reduce_rows::ReduceRows;
-use json_terms::{Chars, Members, NoMemory, Term, TermFault, Terms, depth_within, read_term};
+use json_terms::{
+    Chars, DOCUMENT_DEPTH, Members, NoMemory, Term, TermFault, Terms, depth_within, read_term,
+};
 use std::alloc::Global;
-
-/// The greatest depth of a document.
-const DOCUMENT_DEPTH: u32 = 64;
 
 /// What a line asks of a query server.
 #[derive(Drop)]
@@ -71,7 +70,8 @@ fn command_of(alloc: Global, term: Term) -> Result<Command, NoMemory>
 
 /// The command of this name with these elements behind it.
 fn named(alloc: Global, name: &str, terms: Vec<Term>) -> Result<Command, NoMemory>
-    ensures command { IfOk result (λ c. c ≡ spec.or_other (spec.named name.now (items_of (map json terms.items)))) }
+    ensures command { IfOk result (λ c. c ≡ spec.or_other
+        (spec.named name.now (items_of (map json terms.items)))) }
     ensures shallow { IfOk result spec.IsShallow }
 {
     match name {
@@ -86,7 +86,8 @@ fn named(alloc: Global, name: &str, terms: Vec<Term>) -> Result<Command, NoMemor
 
 fn add_fun(term: Option<Term>) -> Command
     ensures shallow { spec.IsShallow result }
-    ensures command { result ≡ spec.or_other (option_map Command.AddFun (option_and_then text_in (option_map json term))) }
+    ensures command { result ≡ spec.or_other (option_map Command.AddFun
+        (option_and_then text_in (option_map json term))) }
 {
     match term {
         Some(Term::Text(source)) => Command::AddFun { source },
@@ -96,7 +97,8 @@ fn add_fun(term: Option<Term>) -> Command
 
 fn map_doc(term: Option<Term>) -> Command
     ensures shallow { spec.IsShallow result }
-    ensures command { result ≡ spec.or_other (option_map Command.MapDoc (option_and_then spec.document_in (option_map json term))) }
+    ensures command { result ≡ spec.or_other (option_map Command.MapDoc
+        (option_and_then spec.document_in (option_map json term))) }
 {
     let Some(term) = term else {
         return Command::Other;
@@ -132,7 +134,8 @@ fn shallow(term: Term) -> Option<Term>
 
 fn reduce(alloc: Global, terms: Option<(Term, Term)>) -> Result<Command, NoMemory>
     ensures shallow { IfOk result spec.IsShallow }
-    ensures command { IfOk result (λ c. c ≡ spec.or_other (spec.reduce_in (option_map json2 terms))) }
+    ensures command { IfOk result (λ c. c ≡ spec.or_other
+        (spec.reduce_in (option_map json2 terms))) }
 {
     let Some((source, rows)) = terms else {
         return Ok(Command::Other);

@@ -71,7 +71,8 @@ impl FieldSession {
 
     /// Adds a function, where its source is a name.
     fn add(&mut self, alloc: Global, source: Chars) -> Result<Vec<u8>, NoMemory>
-        ensures text { IfOk result (λ text. Spells text.items (if is_member_name source then is_true else no_compilation)) }
+        ensures text { IfOk result (λ text. Spells text.items
+            (if is_member_name source then is_true else no_compilation)) }
         ensures ok { OnOk result (self.new.sources.items ≡ (if is_member_name source then self.old.sources.items ++ source ∷ [] else self.old.sources.items)) }
         ensures err { OnErr result (self.new.sources.items ≡ self.old.sources.items) }
     {
@@ -87,7 +88,8 @@ impl FieldSession {
 /// What each function emits for the document.
 fn map_document(alloc: Global, sources: &[Chars], document: Members) -> Result<Vec<u8>, NoMemory>
     requires { depth (object (members_of document)) ≤ document_depth }
-    ensures { IfOk result (λ text. IsTextOf (lists_term (rows_of field sources.now document)) text.items) }
+    ensures { IfOk result (λ text.
+        IsTextOf (lists_term (rows_of field sources.now document)) text.items) }
 {
     let document = Term::Object(document);
     let lists = rows_of_each(alloc, sources, &document)?;
@@ -96,7 +98,8 @@ fn map_document(alloc: Global, sources: &[Chars], document: Members) -> Result<V
 
 /// The rows of each function.
 fn rows_of_each(alloc: Global, sources: &[Chars], document: &Term) -> Result<Terms, NoMemory>
-    ensures { IfOk result (λ lists. lists ≡ map (λ source. rows_term (emitted (member_of source (json document.now)))) sources.now) }
+    ensures { IfOk result (λ lists. lists ≡ map (λ source.
+        rows_term (emitted (member_of source (json document.now)))) sources.now) }
 {
     let mut lists = Terms::with_capacity(alloc, sources.len())?;
     for source in sources {
@@ -107,7 +110,8 @@ fn rows_of_each(alloc: Global, sources: &[Chars], document: &Term) -> Result<Ter
 
 /// The rows of one function.
 fn emitted_rows(alloc: Global, found: Option<&Term>) -> Result<Term, NoMemory>
-    ensures { IfOk result (λ rows. json rows ≡ rows_term (emitted (option_map (λ t. json t.now) found.entry))) }
+    ensures { IfOk result (λ rows. json rows ≡ rows_term
+        (emitted (option_map (λ t. json t.now) found.entry))) }
 {
     let mut rows = Terms::new(alloc);
     if let Some(key) = found {

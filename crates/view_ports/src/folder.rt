@@ -37,7 +37,8 @@ pub trait Folder {
 
     /// The length of the file in bytes. A file that isn't there has length 0.
     fn len(&mut self, name: FileName) -> Result<u64, PortFault>
-        ensures length { IfTold (disk self.old) (λ d. IfOk result (λ count. count ≡ length (d.now name).seen)) }
+        ensures length { IfTold (disk self.old) (λ d. IfOk result
+            (λ count. count ≡ length (d.now name).seen)) }
         ensures disk { Tells (disk self.old) (disk self.new) Passes }
         ensures cause { HasCause (faults self.old) (faults self.new) result }
         ensures reads { reads self.new ≡ reads self.old };
@@ -46,7 +47,8 @@ pub trait Folder {
     /// as the file has there and `into` has room for.
     fn read_at(&mut self, name: FileName, at: u64, into: &mut [u8]) -> Result<usize, PortFault>
         ensures bound { ReadsAtMost result into.new }
-        ensures bytes { IfTold (disk self.old) (λ d. IfOk result (λ count. IsReadAt (d.now name).seen at count into.new)) }
+        ensures bytes { IfTold (disk self.old) (λ d. IfOk result
+            (λ count. IsReadAt (d.now name).seen at count into.new)) }
         ensures disk { Tells (disk self.old) (disk self.new) Passes }
         ensures cause { HasCause (faults self.old) (faults self.new) result }
         ensures reads { reads self.new ≡ one_more (reads self.old) };
@@ -54,7 +56,8 @@ pub trait Folder {
     /// Writes the bytes of `from` over those from the place `at` on.
     fn write_at(&mut self, name: FileName, at: u64, from: &[u8]) -> Result<(), PortFault>
         requires { IfTold (disk self.old) (λ d. at + length from.now ≤ length (d.now name).seen) }
-        ensures disk { Tells (disk self.old) (disk self.new) (Changes name (wrote at from.now) result) }
+        ensures disk { Tells (disk self.old) (disk self.new)
+            (Changes name (wrote at from.now) result) }
         ensures cause { HasCause (faults self.old) (faults self.new) result }
         ensures reads { reads self.new ≡ reads self.old };
 
@@ -79,9 +82,11 @@ pub trait Folder {
 
     /// The names of all files of this program that have bytes, each once, in any order.
     fn names(&mut self, alloc: Global) -> Result<Vec<FileName>, FolderFault>
-        ensures names { IfTold (disk self.old) (λ d. IfOk result (λ names. IsListing d.now names.items)) }
+        ensures names { IfTold (disk self.old) (λ d. IfOk result
+            (λ names. IsListing d.now names.items)) }
         ensures disk { Tells (disk self.old) (disk self.new) Passes }
-        ensures cause { HasCauseIf (λ error. error ≡ Failed) (faults self.old) (faults self.new) result }
+        ensures cause { HasCauseIf (λ error. error ≡ Failed) (faults self.old)
+            (faults self.new) result }
         ensures reads { reads self.new ≡ reads self.old };
 
     /// What is read is one of the images that a crash may leave now.

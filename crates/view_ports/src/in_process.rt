@@ -24,8 +24,10 @@ impl<S: ServerSession> Child<S> {
 
     /// Keeps a line until its answer is asked for.
     fn ask(&mut self, alloc: Global, line: &[u8]) -> Result<(), NoMemory>
-        ensures ok { OnOk result ((s : Session) → IsChild S.sources self.old s → IsChild S.sources self.new (asked line.now s)) }
-        ensures err { OnErr result ((s : Session) → IsChild S.sources self.old s → IsChild S.sources self.new (spoiled s)) }
+        ensures ok { OnOk result ((s : Session) → IsChild S.sources self.old s
+            → IsChild S.sources self.new (asked line.now s)) }
+        ensures err { OnErr result ((s : Session) → IsChild S.sources self.old s
+            → IsChild S.sources self.new (spoiled s)) }
     {
         let line = Vec::from_slice(alloc, line)?;
         self.waiting.push(line)?;
@@ -34,9 +36,12 @@ impl<S: ServerSession> Child<S> {
 
     /// Answers the oldest line, or with an empty line where there is none.
     fn answer(&mut self, alloc: Global) -> Result<Vec<u8>, NoMemory>
-        ensures ok { IfOk result (λ text. (s : Session) → IsChild S.sources self.old s → IsChild S.sources self.new (heard (is_log text.items) text.items s)) }
-        ensures answers { IfOk result (λ text. (s : Session) → IsChild S.sources self.old s → AnswersOldest S.functions s s.waiting text.items) }
-        ensures err { OnErr result ((s : Session) → IsChild S.sources self.old s → IsChild S.sources self.new (spoiled s)) }
+        ensures ok { IfOk result (λ text. (s : Session) → IsChild S.sources self.old s
+            → IsChild S.sources self.new (heard (is_log text.items) text.items s)) }
+        ensures answers { IfOk result (λ text. (s : Session) → IsChild S.sources self.old s
+            → AnswersOldest S.functions s s.waiting text.items) }
+        ensures err { OnErr result ((s : Session) → IsChild S.sources self.old s
+            → IsChild S.sources self.new (spoiled s)) }
     {
         if self.waiting.is_empty() {
             return Ok(Vec::new(alloc));
@@ -68,7 +73,8 @@ impl<S: ServerSession> InProcess<S> {
     /// are counted together, from 0.
     pub fn new(alloc: Global, fail: Vec<u64>) -> Result<InProcess<S>, NoMemory>
         ensures calls { IfOk result (λ servers. MayFollow S.sources servers.children.items []) }
-        ensures counts { IfOk result (λ servers. (servers.fail ≡ fail) × (servers.calls ≡ 0) × (servers.faults ≡ 0)) }
+        ensures counts { IfOk result (λ servers. (servers.fail ≡ fail) × (servers.calls ≡ 0)
+            × (servers.faults ≡ 0)) }
     {
         let mut children = Vec::with_capacity(alloc, SLOT_COUNT)?;
         for _slot in 0..SLOT_COUNT {
@@ -119,7 +125,8 @@ impl<S: ServerSession> Servers for InProcess<S> {
 
     fn start(&mut self, alloc: Global, slot: u32, path: &str) -> Result<(), ServersFault>
         requires { slot < SLOT_COUNT }
-        ensures told { Goes (MayFollow S.sources self.old.children.items) (MayFollow S.sources self.new.children.items) (start slot path.now (is_ok result)) }
+        ensures told { Goes (MayFollow S.sources self.old.children.items)
+            (MayFollow S.sources self.new.children.items) (start slot path.now (is_ok result)) }
         ensures cause { HasCauseOf ServersFault.Failed self.old.faults self.new.faults result }
         ensures listed { FailsAsListed self.old self.new result }
     {
@@ -138,7 +145,8 @@ impl<S: ServerSession> Servers for InProcess<S> {
 
     fn send(&mut self, alloc: Global, slot: u32, line: &[u8]) -> Result<(), ServersFault>
         requires { slot < SLOT_COUNT }
-        ensures told { Goes (MayFollow S.sources self.old.children.items) (MayFollow S.sources self.new.children.items) (send slot line.now (is_ok result)) }
+        ensures told { Goes (MayFollow S.sources self.old.children.items)
+            (MayFollow S.sources self.new.children.items) (send slot line.now (is_ok result)) }
         ensures cause { HasCauseOf ServersFault.Failed self.old.faults self.new.faults result }
         ensures listed { FailsAsListed self.old self.new result }
     {
@@ -156,8 +164,11 @@ impl<S: ServerSession> Servers for InProcess<S> {
 
     fn receive(&mut self, alloc: Global, slot: u32) -> Result<Vec<u8>, ServersFault>
         requires { slot < SLOT_COUNT }
-        ensures told { Goes (MayFollow S.sources self.old.children.items) (MayFollow S.sources self.new.children.items) (receive slot (line_of result)) }
-        ensures answers { IfOk result (λ line. (calls : List Call) → MayFollow S.sources self.old.children.items calls → AnswersChild (λ path. S.functions) (λ path. Unit {0}) (child slot calls) line.items) }
+        ensures told { Goes (MayFollow S.sources self.old.children.items)
+            (MayFollow S.sources self.new.children.items) (receive slot (line_of result)) }
+        ensures answers { IfOk result (λ line. (calls : List Call)
+            → MayFollow S.sources self.old.children.items calls
+            → AnswersChild (λ path. S.functions) (λ path. Unit {0}) (child slot calls) line.items) }
         ensures cause { HasCauseOf ServersFault.Failed self.old.faults self.new.faults result }
         ensures listed { FailsAsListed self.old self.new result }
     {
@@ -175,7 +186,8 @@ impl<S: ServerSession> Servers for InProcess<S> {
 
     fn stop(&mut self, slot: u32)
         requires { slot < SLOT_COUNT }
-        ensures told { Goes (MayFollow S.sources self.old.children.items) (MayFollow S.sources self.new.children.items) (stop slot) }
+        ensures told { Goes (MayFollow S.sources self.old.children.items)
+            (MayFollow S.sources self.new.children.items) (stop slot) }
         ensures cause { self.new.faults ≡ self.old.faults }
         ensures uncounted { (self.new.calls ≡ self.old.calls) × (self.new.fail ≡ self.old.fail) }
     {

@@ -34,7 +34,8 @@ impl MemorySink {
     /// are in `fail`, counted from 0, fail and write nothing.
     pub fn new(alloc: Global, piece: usize, fail: Vec<u64>) -> Result<MemorySink, NoMemory>
         requires { piece ≢ 0 }
-        ensures { IfOk result (λ sink. sink ≡ record { held = []; piece = piece; fail = fail.items; calls = 0; faults = 0 }) }
+        ensures { IfOk result (λ sink.
+            sink ≡ record { held = []; piece = piece; fail = fail.items; calls = 0; faults = 0 }) }
     {
         Ok(MemorySink {
             held: Vec::new(alloc),

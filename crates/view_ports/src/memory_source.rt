@@ -65,7 +65,8 @@ impl Source for MemorySource {
         ensures cause { HasCause self.old.faults self.new.faults result }
 
         // A read gives as much as it can, and fails exactly where its number is listed.
-        ensures most { IfOk result (λ count. count ≡ min (length into.new) (min self.old.piece (length self.old.left))) }
+        ensures most { IfOk result (λ count. count ≡ min (length into.new)
+            (min self.old.piece (length self.old.left))) }
         ensures listed { is_err result ≡ is_listed self.old.fail self.old.calls }
 
         ensures ok { OnOk result (self.new ≡ record self.old { left = self.new.left; calls = next_count self.old.calls }) }

@@ -57,7 +57,8 @@ impl ReduceRows {
 }
 
 fn read_rows(alloc: Global, terms: &[Term]) -> Result<Option<Vec<Row>>, NoMemory>
-    ensures { IfOk result (λ rows. option_map (λ rows. map reduce_row rows.items) rows ≡ spec.reduce_rows_of (items_of (map json terms.now))) }
+    ensures { IfOk result (λ rows. option_map (λ rows.
+        map reduce_row rows.items) rows ≡ spec.reduce_rows_of (items_of (map json terms.now))) }
 {
     let mut rows = Vec::with_capacity(alloc, terms.len())?;
     for term in terms {

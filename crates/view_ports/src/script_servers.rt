@@ -59,7 +59,8 @@ impl Servers for ScriptServers {
     ghost honest = { λ path. ⊥ };
 
     fn start(&mut self, _alloc: Global, _slot: u32, _path: &str) -> Result<(), ServersFault>
-        ensures told { Goes (GaveScript self.old) (GaveScript self.new) (start _slot _path.now (is_ok result)) }
+        ensures told { Goes (GaveScript self.old) (GaveScript self.new)
+            (start _slot _path.now (is_ok result)) }
         ensures cause { HasCauseOf ServersFault.Failed self.old.faults self.new.faults result }
         ensures ok { IsOk result }
     {
@@ -67,7 +68,8 @@ impl Servers for ScriptServers {
     }
 
     fn send(&mut self, _alloc: Global, _slot: u32, _line: &[u8]) -> Result<(), ServersFault>
-        ensures told { Goes (GaveScript self.old) (GaveScript self.new) (send _slot _line.now (is_ok result)) }
+        ensures told { Goes (GaveScript self.old) (GaveScript self.new)
+            (send _slot _line.now (is_ok result)) }
         ensures cause { HasCauseOf ServersFault.Failed self.old.faults self.new.faults result }
         ensures ok { IsOk result }
     {
@@ -75,8 +77,10 @@ impl Servers for ScriptServers {
     }
 
     fn receive(&mut self, alloc: Global, _slot: u32) -> Result<Vec<u8>, ServersFault>
-        ensures told { Goes (GaveScript self.old) (GaveScript self.new) (receive _slot (line_of result)) }
-        ensures answers { IfOk result (λ line. (calls : List Call) → GaveScript self.old calls → AnswersChild (λ path. field) (λ path. ⊥) (child _slot calls) line.items) }
+        ensures told { Goes (GaveScript self.old) (GaveScript self.new)
+            (receive _slot (line_of result)) }
+        ensures answers { IfOk result (λ line. (calls : List Call) → GaveScript self.old calls
+            → AnswersChild (λ path. field) (λ path. ⊥) (child _slot calls) line.items) }
         ensures cause { HasCauseOf ServersFault.Failed self.old.faults self.new.faults result }
         ensures next { GivesNext (script_left self.old) (script_left self.new) result }
     {

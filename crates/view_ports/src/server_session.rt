@@ -23,8 +23,10 @@ pub trait ServerSession: Drop {
 
     /// Answers a line. Where memory runs out the session is as it was.
     fn answer(&mut self, alloc: Global, line: &[u8]) -> Result<Vec<u8>, NoMemory>
-        ensures answers { IfOk result (λ text. IsAnswerable (sources self.old) (command line.now) → Answers functions (sources self.old) (command line.now) text.items) }
+        ensures answers { IfOk result (λ text. IsAnswerable (sources self.old) (command line.now)
+            → Answers functions (sources self.old) (command line.now) text.items) }
         ensures silent { IfOk result (λ text. is_log text.items ≡ false) }
-        ensures added { IfOk result (λ text. sources self.new ≡ sources_after (command line.now) (is_yes text.items) (sources self.old)) }
+        ensures added { IfOk result (λ text. sources self.new ≡ sources_after (command line.now)
+            (is_yes text.items) (sources self.old)) }
         ensures same { OnErr result (sources self.new ≡ sources self.old) };
 }

@@ -34,21 +34,25 @@ pub trait Servers {
     /// Starts a child by this path in the slot, in place of the one that is there.
     fn start(&mut self, alloc: Global, slot: u32, path: &str) -> Result<(), ServersFault>
         requires { slot < SLOT_COUNT }
-        ensures told { Goes (may_follow self.old) (may_follow self.new) (start slot path.now (is_ok result)) }
+        ensures told { Goes (may_follow self.old) (may_follow self.new)
+            (start slot path.now (is_ok result)) }
         ensures cause { HasCauseOf ServersFault.Failed (faults self.old) (faults self.new) result };
 
     /// Sends a line, without its newline, to the child of the slot.
     fn send(&mut self, alloc: Global, slot: u32, line: &[u8]) -> Result<(), ServersFault>
         requires slot { slot < SLOT_COUNT }
         requires line { All (λ byte. byte ≢ 10) line.now }
-        ensures told { Goes (may_follow self.old) (may_follow self.new) (send slot line.now (is_ok result)) }
+        ensures told { Goes (may_follow self.old) (may_follow self.new)
+            (send slot line.now (is_ok result)) }
         ensures cause { HasCauseOf ServersFault.Failed (faults self.old) (faults self.new) result };
 
     /// Receives the next line, without its newline, from the child of the slot. It waits until there is one.
     fn receive(&mut self, alloc: Global, slot: u32) -> Result<Vec<u8>, ServersFault>
         requires { slot < SLOT_COUNT }
-        ensures told { Goes (may_follow self.old) (may_follow self.new) (receive slot (line_of result)) }
-        ensures answers { IfOk result (λ line. (calls : List Call) → may_follow self.old calls → AnswersChild functions honest (child slot calls) line.items) }
+        ensures told { Goes (may_follow self.old) (may_follow self.new)
+            (receive slot (line_of result)) }
+        ensures answers { IfOk result (λ line. (calls : List Call) → may_follow self.old calls
+            → AnswersChild functions honest (child slot calls) line.items) }
         ensures cause { HasCauseOf ServersFault.Failed (faults self.old) (faults self.new) result };
 
     /// Ends the child of the slot, if there is one.

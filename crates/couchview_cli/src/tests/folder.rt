@@ -3,6 +3,7 @@ use super::{GIVEN, Given, run_in};
 use crash_disk::MemoryFolder;
 use std::alloc::Global;
 use std::test::Fail;
+use test_tools::may_be_left;
 use view_ports::{FileName, Folder, Stem};
 
 const DOCS: FileName = FileName {
@@ -51,17 +52,6 @@ const COUNTS: [&str; 4] = [
     "{\"doc_count\":1,\"doc_del_count\":1,\"update_seq\":3}\n",
 ];
 
-/// Whether a stop within this call may leave these counts, where the runs ended at these calls: the counts of the runs before
-/// it, or those of its run too.
-fn may_be_left(ends: &[u64], call: u64, counts: &[u8]) -> bool {
-    let done = ends.iter().filter(|end| **end <= call).count();
-    COUNTS
-        .iter()
-        .skip(done)
-        .take(2)
-        .any(|want| want.as_bytes() == counts)
-}
-
 /// A stop within each call of some runs, of one line each.
 #[test]
 fn a_stop_within_any_call_leaves_first_writes(rt: HostRuntime) -> Result<(), Fail> {
@@ -81,7 +71,7 @@ fn a_stop_within_any_call_leaves_first_writes(rt: HostRuntime) -> Result<(), Fai
             let mut image = folder.image_at(alloc, call, choice)?;
             let (counts, _status) = run_in(alloc, &mut image, &info)?;
             assert!(rt;
-                may_be_left(&ends, call, &counts),
+                may_be_left(&COUNTS, &ends, call, &counts),
                 "call {call}, choice {choice}"
             );
         }

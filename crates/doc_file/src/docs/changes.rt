@@ -1,14 +1,14 @@
 //! What has changed since a write: the next last writes, in the order of their numbers.
 
-ghost use Rattle.std.specs.Prelude.{◌≡◌, ◌⊎◌, ◌↔◌, ◌<◌, ◌≤◌, ℕ, List, [], Some, Err, All, IfErr, IfOk, IfSome, IsTrue, false, length, map, option_map, take};
+ghost use Rattle.std.specs.Prelude.{◌≡◌, ◌↔◌, ◌<◌, ◌≤◌, List, [], Some, All, IfErr, IfOk, IfSome, IsTrue, false, length, map, option_map, take};
 ghost use Rattle.json_terms.specs.Seen.{json};
-ghost use Rattle.view_ports.specs.Causes.{HasCauseIf, RisesBy};
-ghost use Rattle.view_ports.specs.Disk.{IfTold, Tells, MovesNone};
-ghost use Rattle.view_ports.specs.declared.file_name.FileName.{FileName as Name};
+ghost use Rattle.view_ports.specs.Disk.{MovesNone};
+ghost use Rattle.gate_file.specs.Calls.{Moved, ReadsUpTo, Told};
 ghost use Rattle.gate_file.specs.GateFile.{name_of};
 ghost use Rattle.doc_file.specs.Changes.{numbered, AreInOrder, AreWhole, HasDocument, IsChange, IsNext, IsSpoiledAfter, IsStored};
-ghost use Rattle.doc_file.specs.Docs.{bytes_in, file_of, IsAt, IsLoaded, IsSpoiled};
-ghost use Rattle.doc_file.specs.History.{Write, changes_after};
+ghost use Rattle.doc_file.specs.Docs.{bytes_in, file_of, IsLoaded, IsSpoiled};
+ghost use Rattle.doc_file.specs.History.{changes_after};
+ghost use Rattle.doc_file.specs.Reads.{AtHistory, FindsDamage, FindsNoDamage, IsCounted, IsReadFault};
 
 use super::Docs;
 use crate::entry::Entry;
@@ -95,22 +95,25 @@ impl Docs {
         seq: u64,
         n: u32,
     ) -> Result<Changes, DocFault>
-        ensures written { (history : List Write) → IfTold (F.disk folder.old) (λ d. IsAt self.now d.now history → IfOk result (λ changes. map numbered changes ≡ take n (changes_after seq history))) }
-        ensures sound { (history : List Write) → IfTold (F.disk folder.old) (λ d. IsAt self.now d.now history → (name : Name) (at : ℕ) → result ≡ Err (DocFault.Gate (GateFault.Damaged name at)) → ⊥) }
+        ensures written { AtHistory F.Folder self.now folder.old
+            (λ history. IfOk result (λ changes. map numbered changes ≡ take n (changes_after seq history))) }
+        ensures sound { AtHistory F.Folder self.now folder.old (λ history. FindsNoDamage result) }
 
         // Also where the file stands for no history.
         ensures order { IfOk result (λ changes. AreInOrder seq changes) }
         ensures few { IfOk result (λ changes. length changes ≤ n) }
         ensures bodies { IfOk result (λ changes. All HasDocument changes) }
         ensures whole { IfOk result (λ changes. AreWhole self.now seq n changes) }
-        ensures each { IfTold (F.disk folder.old) (λ d. IsLoaded self.now d.now → IfOk result (λ changes. All (IsChange self.now (bytes_in self.now d.now)) changes)) }
-        ensures damaged { IfTold (F.disk folder.old) (λ d. IsLoaded self.now d.now → (name : Name) (at : ℕ) → result ≡ Err (DocFault.Gate (GateFault.Damaged name at)) →
-            (name ≡ name_of (file_of self.now)) × IsSpoiledAfter self.now (bytes_in self.now d.now) seq at) }
-        ensures faults { IfErr result (λ e. (e ≡ DocFault.Gate GateFault.DiskFault) ⊎ (e ≡ DocFault.NoMemory) ⊎ ((name : Name) × (at : ℕ) × (e ≡ DocFault.Gate (GateFault.Damaged name at)))) }
-        ensures disk { Tells (F.disk folder.old) (F.disk folder.new) MovesNone }
-        ensures cause { HasCauseIf (λ e. e ≡ DocFault.Gate GateFault.DiskFault) (F.faults folder.old) (F.faults folder.new) result }
-        ensures reads { RisesBy n (F.reads folder.old) (F.reads folder.new) }
-        ensures few_reads { IfOk result (λ changes. RisesBy (length changes) (F.reads folder.old) (F.reads folder.new)) }
+        ensures each { Told F.Folder folder.old (λ d. IsLoaded self.now d.now →
+            IfOk result (λ changes. All (IsChange self.now (bytes_in self.now d.now)) changes)) }
+        ensures damaged { Told F.Folder folder.old (λ d. IsLoaded self.now d.now → FindsDamage
+            (λ name at. (name ≡ name_of (file_of self.now)) × IsSpoiledAfter self.now (bytes_in self.now d.now) seq at)
+            result) }
+        ensures faults { IfErr result IsReadFault }
+        ensures disk { Moved F.Folder folder.old folder.new MovesNone }
+        ensures cause { IsCounted F.Folder folder.old folder.new result }
+        ensures reads { ReadsUpTo F.Folder n folder.old folder.new }
+        ensures few_reads { IfOk result (λ changes. ReadsUpTo F.Folder (length changes) folder.old folder.new) }
     {
         let mut items = Vec::new(alloc);
         let mut after = seq;
@@ -136,13 +139,16 @@ impl Docs {
         ensures seq { IfOk result (λ change. change.seq ≡ (entry.now.last).seq) }
         ensures id { IfOk result (λ change. change.id ≡ entry.now.id) }
         ensures body { IfOk result HasDocument }
-        ensures held { IfTold (F.disk folder.old) (λ d. IfOk result (λ change. IsStored entry.now.id (bytes_in self.now d.now) entry.now.last (option_map json change.doc))) }
-        ensures damaged { IfTold (F.disk folder.old) (λ d. (name : Name) (at : ℕ) → result ≡ Err (DocFault.Gate (GateFault.Damaged name at)) →
-            (name ≡ name_of (file_of self.now)) × ((entry.now.last).deleted ≡ false) × IsSpoiled entry.now.id (bytes_in self.now d.now) (Some entry.now.last) at) }
-        ensures faults { IfErr result (λ e. (e ≡ DocFault.Gate GateFault.DiskFault) ⊎ (e ≡ DocFault.NoMemory) ⊎ ((name : Name) × (at : ℕ) × (e ≡ DocFault.Gate (GateFault.Damaged name at)))) }
-        ensures disk { Tells (F.disk folder.old) (F.disk folder.new) MovesNone }
-        ensures cause { HasCauseIf (λ e. e ≡ DocFault.Gate GateFault.DiskFault) (F.faults folder.old) (F.faults folder.new) result }
-        ensures reads { RisesBy 1 (F.reads folder.old) (F.reads folder.new) }
+        ensures held { Told F.Folder folder.old (λ d. IfOk result
+            (λ change. IsStored entry.now.id (bytes_in self.now d.now) entry.now.last (option_map json change.doc))) }
+        ensures damaged { Told F.Folder folder.old (λ d. FindsDamage
+            (λ name at. (name ≡ name_of (file_of self.now)) × ((entry.now.last).deleted ≡ false)
+            × IsSpoiled entry.now.id (bytes_in self.now d.now) (Some entry.now.last) at)
+            result) }
+        ensures faults { IfErr result IsReadFault }
+        ensures disk { Moved F.Folder folder.old folder.new MovesNone }
+        ensures cause { IsCounted F.Folder folder.old folder.new result }
+        ensures reads { ReadsUpTo F.Folder 1 folder.old folder.new }
     {
         let seq = entry.last.seq;
         let id = entry.id.copy(alloc)?;

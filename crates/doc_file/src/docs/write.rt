@@ -1,21 +1,16 @@
 //! Writing documents: each write is one commit of the documents' file.
 
-ghost use Rattle.std.specs.Prelude.{◌≡◌, ◌⊎◌, ◌+◌, ◌<◌, ◌^◌, List, Some, None, length, false, IsTrue, IfErr, OnOk, option_map};
+ghost use Rattle.std.specs.Prelude.{◌≡◌, ◌⊎◌, ◌+◌, ◌<◌, ◌^◌, List, Some, None, length, IfErr, OnOk, option_map};
 ghost use Rattle.json_terms.specs.Seen.{json};
-ghost use Rattle.view_ports.specs.Disk.{IfTold};
-ghost use Rattle.design_docs.specs.Documents.{id_of, is_design_id};
-ghost use Rattle.design_docs.specs.PlainDocument.{is_plain};
-ghost use Rattle.doc_file.specs.Accepted.{state_in};
-ghost use Rattle.doc_file.specs.Calls.{Deletes, IsUntouched, Puts, Stores};
-ghost use Rattle.doc_file.specs.Content.{content};
-ghost use Rattle.doc_file.specs.Docs.{entries_of, file_of, last_of, seq_of, IsAt, IsOpen};
-ghost use Rattle.doc_file.specs.History.{Write};
-ghost use Rattle.doc_file.specs.Incoming.{deletes, HasId};
-ghost use Rattle.doc_file.specs.Revision.{revision};
 ghost use Rattle.view_ports.specs.File.{File};
 ghost use Rattle.view_ports.specs.declared.file_name.FileName.{FileName as Name};
-ghost use Rattle.doc_file.specs.Writes.{write_refusal, IsFileFault};
+ghost use Rattle.gate_file.specs.Calls.{Told};
+ghost use Rattle.doc_file.specs.Calls.{refusal_of, Deletes, IsUntouched, Puts, Stores};
+ghost use Rattle.doc_file.specs.Docs.{entries_of, file_of, seq_of, IsAt, IsOpen};
+ghost use Rattle.doc_file.specs.History.{Write};
+ghost use Rattle.doc_file.specs.Revision.{revision};
 ghost use Rattle.doc_file.specs.Stored.{next_rev as next_rev_of, next_revision, IsStorable};
+ghost use Rattle.doc_file.specs.Writes.{IsFileFault, IsPlainIfDesign};
 
 use super::Docs;
 use crate::accept::{may_delete, may_put};
@@ -23,7 +18,6 @@ use crate::draft::{Draft, make_draft, next_rev};
 use crate::fault::DocFault;
 use crate::incoming::{Incoming, read_incoming};
 use crate::last_writes::find_last;
-use crate::publish::{next_place, publish};
 use crate::rev::{Rev, is_given};
 use json_terms::{Chars, Term};
 use std::alloc::Global;
@@ -33,7 +27,8 @@ impl Docs {
     /// The revision that the next write of an id will have. It takes no memory.
     pub fn next_rev(&self, id: &str) -> Rev
         ensures kept { result ≡ next_rev_of (seq_of self.now) (entries_of self.now) id.now }
-        ensures history { (files : Name → File) (history : List Write) → IsAt self.now files history → revision result.generation result.seq ≡ next_revision history id.now }
+        ensures history { (files : Name → File) (history : List Write) → IsAt self.now files history →
+            revision result.generation result.seq ≡ next_revision history id.now }
     {
         next_rev(self.seq, self.entries.as_slice(), id)
     }
@@ -53,8 +48,8 @@ impl Docs {
         folder: &mut F,
         document: Term,
     ) -> Result<Rev, DocFault>
-        requires open { IfTold (F.disk folder.old) (λ d. IsOpen self.old d.now) }
-        requires plain { HasId (json document) → IsTrue (is_design_id (id_of (json document))) → deletes (json document) ≡ false → IsTrue (is_plain (content (json document))) }
+        requires open { Told F.Folder folder.old (λ d. IsOpen self.old d.now) }
+        requires plain { IsPlainIfDesign (json document) }
         ensures { Puts F.Folder self.old self.new folder.old folder.new (json document) result }
     {
         document.validity();
@@ -66,8 +61,8 @@ impl Docs {
 
     /// Whether the last write of its id allows a write.
     fn accept(&self, alloc: Global, incoming: &Incoming) -> Result<(), DocFault>
-        ensures ok { OnOk result (write_refusal (state_in (last_of self.now incoming.now.id)) incoming.now.deletes incoming.now.given ≡ None) }
-        ensures err { IfErr result (λ e. (write_refusal (state_in (last_of self.now incoming.now.id)) incoming.now.deletes incoming.now.given ≡ Some e) ⊎ (e ≡ DocFault.NoMemory)) }
+        ensures ok { OnOk result (refusal_of self.now incoming.now ≡ None) }
+        ensures err { IfErr result (λ e. (refusal_of self.now incoming.now ≡ Some e) ⊎ (e ≡ DocFault.NoMemory)) }
     {
         let last = find_last(incoming.id.as_str(), self.entries.as_slice());
         let given = incoming.given_text();
@@ -90,7 +85,7 @@ impl Docs {
         id: &str,
         rev: Option<&str>,
     ) -> Result<Rev, DocFault>
-        requires open { IfTold (F.disk folder.old) (λ d. IsOpen self.old d.now) }
+        requires open { Told F.Folder folder.old (λ d. IsOpen self.old d.now) }
         ensures { Deletes F.Folder self.old self.new folder.old folder.new
             id.now (option_map (λ text. text.now) rev.entry) result }
     {
@@ -111,23 +106,25 @@ impl Docs {
         id: Chars,
         content: Option<Term>,
     ) -> Result<Rev, DocFault>
-        requires open { IfTold (F.disk folder.old) (λ d. IsOpen self.old d.now) }
+        requires open { Told F.Folder folder.old (λ d. IsOpen self.old d.now) }
         requires room { length id + 33 < 2 ^ 32 }
         requires storable { IsStorable id (option_map json content) }
-        ensures stored { Stores F.Folder self.old self.new folder.old folder.new id (option_map json content) result }
+        ensures stored { Stores F.Folder self.old self.new folder.old folder.new
+            id (option_map json content) result }
 
         // Want of memory leaves all as it was. Else the file is full, or the disk failed.
-        ensures kept { IfErr result (λ e. e ≡ DocFault.NoMemory → IsUntouched self.old self.new folder.old folder.new) }
+        ensures kept { IfErr result
+            (λ e. e ≡ DocFault.NoMemory → IsUntouched self.old self.new folder.old folder.new) }
         ensures faults { IfErr result (λ e. IsFileFault (file_of self.old) e ⊎ (e ≡ DocFault.NoMemory)) }
     {
-        let start = next_place(&self.file);
+        let start = self.file.start();
         let Draft {
             rev,
             entries,
             bytes,
             body,
         } = make_draft(alloc, start, self.seq, self.entries.as_slice(), id, content)?;
-        publish(&mut self.file, folder, bytes.as_slice(), body)?;
+        self.file.publish(folder, bytes.as_slice(), body)?;
         self.seq = rev.seq;
         self.entries = entries;
         Ok(rev)

@@ -1,13 +1,13 @@
 //! Opening a pair of files, by what its slots say.
 
-ghost use Rattle.std.specs.Prelude.{◌≡◌, ◌⊎◌, ℕ, ◌<◌, ◌-◌, [], length, All, IfOk, IfErr, OnOk};
-ghost use Rattle.view_ports.specs.Causes.{HasCauseIf, RisesBy, one_more};
-ghost use Rattle.view_ports.specs.Disk.{IfTold, Tells, Moves, MovesFile, MovesNone};
-ghost use Rattle.view_ports.specs.File.{IsImage, settled};
+ghost use Rattle.std.specs.Prelude.{◌≡◌, ◌⊎◌, ℕ, ◌<◌, ◌-◌, length, IfOk, IfErr, OnOk};
+ghost use Rattle.view_ports.specs.Causes.{one_more};
+ghost use Rattle.view_ports.specs.Disk.{MovesNone};
 ghost use Rattle.view_ports.specs.FolderCalls.{Passes};
-ghost use Rattle.gate_file.specs.Header.{slot_at, open_root, IsFit, IsDamaged};
-ghost use Rattle.view_ports.specs.declared.file_name.FileName.{FileName};
-ghost use Rattle.gate_file.specs.Open.{found, found_from, opened, slots_of, IsFirstDamage, IsFirstIn, IsFitSlot, BeforeOpening, IsOpened, IsPair, IsPart, IsSettledPair, WhileOpening};
+ghost use Rattle.gate_file.specs.Header.{IsDamaged};
+ghost use Rattle.gate_file.specs.Calls.{IsCounted, IsDamageOf, IsOpenFault, IsReadFault, Moved, ReadsUpTo, Told};
+ghost use Rattle.gate_file.specs.Opens.{Empties, HasRoot, IsFoundAs, Opens, Syncs, SyncsPair};
+ghost use Rattle.gate_file.specs.Open.{found_from, opened, AreFitSlots, IsFirstDamage, IsFirstIn, IsPair, IsPart};
 
 use super::GateFile;
 use crate::fault::GateFault;
@@ -24,12 +24,13 @@ fn read_slot<F: Folder>(
     at: u64,
     size: u64,
 ) -> Result<Option<Root>, GateFault>
-    requires { IfTold (F.disk folder.old) (λ d. size ≡ length (d.now name).seen) }
-    ensures root { IfTold (F.disk folder.old) (λ d. IfOk result (λ root. (root ≡ open_root (slot_at (d.now name).seen at)) × IsFit at (d.now name).seen)) }
-    ensures damaged { IfTold (F.disk folder.old) (λ d. result ≡ Err (GateFault.Damaged name at) → IsDamaged at (d.now name).seen) }
+    requires { Told F.Folder folder.old (λ d. size ≡ length (d.now name).seen) }
+    ensures root { Told F.Folder folder.old (λ d. IfOk result (HasRoot (d.now name).seen at)) }
+    ensures damaged { Told F.Folder folder.old
+        (λ d. result ≡ Err (GateFault.Damaged name at) → IsDamaged at (d.now name).seen) }
     ensures faults { IfErr result (λ e. (e ≡ GateFault.DiskFault) ⊎ (e ≡ GateFault.Damaged name at)) }
-    ensures disk { Tells (F.disk folder.old) (F.disk folder.new) Passes }
-    ensures cause { HasCauseIf (λ e. e ≡ GateFault.DiskFault) (F.faults folder.old) (F.faults folder.new) result }
+    ensures disk { Moved F.Folder folder.old folder.new Passes }
+    ensures cause { IsCounted F.Folder folder.old folder.new result }
     ensures reads { F.reads folder.new ≡ one_more (F.reads folder.old) }
 {
     let mut slot = [0; SLOT];
@@ -72,13 +73,13 @@ fn found_with(name: FileName, size: u64, low: Option<Root>, high: Option<Root>) 
 
 /// Syncs a file of a pair, and answers what it is by its slots.
 fn look<F: Folder>(folder: &mut F, name: FileName) -> Result<GateFile, GateFault>
-    ensures found { IfTold (F.disk folder.old) (λ d. IfOk result (λ gate. (gate ≡ found name (d.now name).seen) × IsFit 0 (d.now name).seen × IsFit 4096 (d.now name).seen)) }
-    ensures damaged { IfTold (F.disk folder.old) (λ d. (n : FileName) (at : ℕ) → result ≡ Err (GateFault.Damaged n at) → (n ≡ name) × IsFirstIn (d.now name).seen at) }
+    ensures found { Told F.Folder folder.old (λ d. IfOk result (IsFoundAs name (d.now name).seen)) }
+    ensures damaged { Told F.Folder folder.old
+        (λ d. IsDamageOf (λ n at. (n ≡ name) × IsFirstIn (d.now name).seen at) result) }
     ensures faults { IfErr result (λ e. (e ≡ GateFault.DiskFault) ⊎ ((at : ℕ) × (e ≡ GateFault.Damaged name at))) }
-    ensures disk { Tells (F.disk folder.old) (F.disk folder.new)
-        (MovesFile name (λ file image. IsImage file image) (λ file now. OnOk result (now ≡ settled file.seen))) }
-    ensures cause { HasCauseIf (λ e. e ≡ GateFault.DiskFault) (F.faults folder.old) (F.faults folder.new) result }
-    ensures reads { RisesBy 2 (F.reads folder.old) (F.reads folder.new) }
+    ensures disk { Moved F.Folder folder.old folder.new (Syncs name result) }
+    ensures cause { IsCounted F.Folder folder.old folder.new result }
+    ensures reads { ReadsUpTo F.Folder 2 folder.old folder.new }
 {
     folder.sync(name)?;
     let size = folder.len(name)?;
@@ -95,14 +96,14 @@ struct Pair {
 
 /// Syncs both files of a pair, and answers what they are by their slots.
 fn look_at_both<F: Folder>(folder: &mut F, stem: Stem) -> Result<Pair, GateFault>
-    ensures found { IfTold (F.disk folder.old) (λ d. IfOk result (λ pair. IsPair stem d.now pair.first pair.second)) }
-    ensures sound { IfTold (F.disk folder.old) (λ d. OnOk result (All (IsFitSlot d.now) (slots_of stem))) }
-    ensures damaged { IfTold (F.disk folder.old) (λ d. (n : FileName) (at : ℕ) → result ≡ Err (GateFault.Damaged n at) → IsFirstDamage stem d.now n at) }
-    ensures faults { IfErr result (λ e. (e ≡ GateFault.DiskFault) ⊎ ((n : FileName) × (at : ℕ) × (e ≡ GateFault.Damaged n at))) }
-    ensures disk { Tells (F.disk folder.old) (F.disk folder.new)
-        (λ old new. Moves (λ name. name.stem ≡ stem) (BeforeOpening stem old.now) (λ files. OnOk result (IsSettledPair stem old.now files)) old new) }
-    ensures cause { HasCauseIf (λ e. e ≡ GateFault.DiskFault) (F.faults folder.old) (F.faults folder.new) result }
-    ensures reads { RisesBy 4 (F.reads folder.old) (F.reads folder.new) }
+    ensures found { Told F.Folder folder.old
+        (λ d. IfOk result (λ pair. IsPair stem d.now pair.first pair.second)) }
+    ensures sound { Told F.Folder folder.old (λ d. OnOk result (AreFitSlots stem d.now)) }
+    ensures damaged { Told F.Folder folder.old (λ d. IsDamageOf (IsFirstDamage stem d.now) result) }
+    ensures faults { IfErr result IsOpenFault }
+    ensures disk { Moved F.Folder folder.old folder.new (SyncsPair stem result) }
+    ensures cause { IsCounted F.Folder folder.old folder.new result }
+    ensures reads { ReadsUpTo F.Folder 4 folder.old folder.new }
 {
     let first = look(folder, FileName { stem, side: false })?;
     let second = look(folder, FileName { stem, side: true })?;
@@ -115,17 +116,16 @@ impl GateFile {
     /// At each moment a crash leaves what it might have left before, or, once both are synced, the file
     /// that is taken as it is.
     pub fn open<F: Folder>(folder: &mut F, stem: Stem) -> Result<GateFile, GateFault>
-        ensures opened { IfTold (F.disk folder.old) (λ d. IfOk result (λ gate. gate ≡ opened stem d.now)) }
-        ensures disk { Tells (F.disk folder.old) (F.disk folder.new)
-            (λ old new. Moves (λ name. name.stem ≡ stem) (WhileOpening stem old.now) (λ files. IfOk result (λ gate. IsOpened gate old.now files)) old new) }
+        ensures opened { Told F.Folder folder.old (λ d. IfOk result (λ gate. gate ≡ opened stem d.now)) }
+        ensures disk { Moved F.Folder folder.old folder.new (Opens stem result) }
 
         // It fails exactly where a slot is damaged, and where the disk fails.
-        ensures sound { IfTold (F.disk folder.old) (λ d. OnOk result (All (IsFitSlot d.now) (slots_of stem))) }
-        ensures damaged { IfTold (F.disk folder.old) (λ d. (name : FileName) (at : ℕ) → result ≡ Err (GateFault.Damaged name at) → IsFirstDamage stem d.now name at) }
-        ensures faults { IfErr result (λ e. (e ≡ GateFault.DiskFault) ⊎ ((name : FileName) × (at : ℕ) × (e ≡ GateFault.Damaged name at))) }
-        ensures cause { HasCauseIf (λ e. e ≡ GateFault.DiskFault) (F.faults folder.old) (F.faults folder.new) result }
+        ensures sound { Told F.Folder folder.old (λ d. OnOk result (AreFitSlots stem d.now)) }
+        ensures damaged { Told F.Folder folder.old (λ d. IsDamageOf (IsFirstDamage stem d.now) result) }
+        ensures faults { IfErr result IsOpenFault }
+        ensures cause { IsCounted F.Folder folder.old folder.new result }
 
-        ensures reads { RisesBy 4 (F.reads folder.old) (F.reads folder.new) }
+        ensures reads { ReadsUpTo F.Folder 4 folder.old folder.new }
     {
         let Pair { first, second } = look_at_both(folder, stem)?;
         if first.commits < second.commits {
@@ -142,10 +142,9 @@ impl GateFile {
 
     /// Takes all bytes of a file away, and syncs it.
     pub fn clear<F: Folder>(folder: &mut F, name: FileName) -> Result<(), GateFault>
-        ensures disk { Tells (F.disk folder.old) (F.disk folder.new)
-            (MovesFile name (λ file image. IsImage file image ⊎ (image ≡ [])) (λ file now. OnOk result (now ≡ settled []))) }
+        ensures disk { Moved F.Folder folder.old folder.new (Empties name result) }
         ensures faults { IfErr result (λ e. e ≡ GateFault.DiskFault) }
-        ensures cause { HasCauseIf (λ e. e ≡ GateFault.DiskFault) (F.faults folder.old) (F.faults folder.new) result }
+        ensures cause { IsCounted F.Folder folder.old folder.new result }
         ensures reads { F.reads folder.new ≡ F.reads folder.old }
     {
         cut_synced(folder, name)?;
@@ -161,12 +160,14 @@ impl GateFile {
         offset: u64,
         len: u64,
     ) -> Result<Vec<u8>, GateFault>
-        ensures bytes { IfTold (F.disk folder.old) (λ d. IfOk result (λ bytes. IsPart (d.now name).seen offset len bytes.items)) }
-        ensures damaged { IfTold (F.disk folder.old) (λ d. result ≡ Err (GateFault.Damaged name offset) → length (d.now name).seen - offset < len) }
-        ensures faults { IfErr result (λ e. (e ≡ GateFault.DiskFault) ⊎ (e ≡ GateFault.NoMemory) ⊎ (e ≡ GateFault.Damaged name offset)) }
-        ensures disk { Tells (F.disk folder.old) (F.disk folder.new) MovesNone }
-        ensures cause { HasCauseIf (λ e. e ≡ GateFault.DiskFault) (F.faults folder.old) (F.faults folder.new) result }
-        ensures reads { RisesBy 1 (F.reads folder.old) (F.reads folder.new) }
+        ensures bytes { Told F.Folder folder.old
+            (λ d. IfOk result (λ bytes. IsPart (d.now name).seen offset len bytes.items)) }
+        ensures damaged { Told F.Folder folder.old
+            (λ d. result ≡ Err (GateFault.Damaged name offset) → length (d.now name).seen - offset < len) }
+        ensures faults { IfErr result (IsReadFault name offset) }
+        ensures disk { Moved F.Folder folder.old folder.new MovesNone }
+        ensures cause { IsCounted F.Folder folder.old folder.new result }
+        ensures reads { ReadsUpTo F.Folder 1 folder.old folder.new }
     {
         let size = folder.len(name)?;
         if size.saturating_sub(offset) < len {

@@ -1,26 +1,24 @@
-// The request `view`.
+//! The request `view`.
+
 ghost use Rattle.std.specs.Prelude.{◌≡◌, ◌≢◌, ◌++◌, ◌<◌, ◌^◌, bytes_eq, ℕ, List, IfErr, IfOk, OnErr, OnOk, None, Some, Ok, IfSome, option_map, map, length};
 ghost use Rattle.std.specs.Map.{lookup};
-ghost use Rattle.view_ports.specs.Disk.{IfTold};
 ghost use Rattle.view_ports.specs.Lines.{ended};
 ghost use Rattle.raw_collation.specs.Sorting.{sorted_rows};
 ghost use Rattle.design_docs.specs.Laws.{entry_of as named};
-ghost use Rattle.child_pool.specs.Languages.{path_in};
-ghost use Rattle.child_pool.specs.Pools.{languages_of};
-ghost use Rattle.doc_file.specs.Docs.{IsAt as AreAt};
-ghost use Rattle.doc_file.specs.History.{Write};
 ghost use Rattle.view_engine.specs.Answer.{answer};
 ghost use Rattle.view_engine.specs.Calls.{scene, Performed};
 ghost use Rattle.view_engine.specs.Disks.{AreOpen, Reads};
 ghost use Rattle.view_engine.specs.Rows.{emitted_by, emitted_rows};
 ghost use Rattle.view_engine.specs.View as spec;
-ghost use Rattle.view_engine.specs.ViewPlan.{IsPlan, met_by, source_at};
+ghost use Rattle.view_engine.specs.Planning.{HasPath, PlansView, RefusesView};
+ghost use Rattle.view_engine.specs.ViewPlan.{met_by, source_at};
 
 use crate::answer::write_answer;
 use crate::engine::Engine;
 use crate::halt::{Halt, StepFault};
 use crate::mapped::load_mapped;
 use crate::refusal::Refusal;
+use crate::reply::Reply;
 use crate::request::{Request, ViewName};
 use crate::rows::rows_of;
 use child_pool::PoolFault;
@@ -50,7 +48,8 @@ impl Engine {
     ) -> Result<(), Halt>
         requires open { AreOpen F.Folder self.old.docs folder.old }
         ensures { Performed F.Folder C.Servers (scene self.old folder.old servers.old)
-            (scene self.new folder.new servers.new) (Ok (Request.View name None)) out.old.items out.new.items result }
+            (scene self.new folder.new servers.new)
+            (Ok (Request.View name None)) out.old.items out.new.items result }
     {
         let plan = match self.plan(alloc, folder, &name) {
             Ok(plan) => plan,
@@ -77,13 +76,11 @@ impl Engine {
 
     /// What a view request is about, or why it is refused before any server is asked.
     fn plan<F: Folder>(&self, alloc: Global, folder: &mut F, name: &ViewName) -> Result<Plan, Halt>
-        ensures plan { (history : List Write) → IfTold (F.disk folder.old) (λ d. AreAt self.now.docs d.now history
-            → IfOk result (λ plan. (path : List ℕ) → path_in (languages_of self.now.pool) plan.design.language ≡ Some path → IsPlan (languages_of self.now.pool) (record { history = history }) name.now plan.id plan.design plan.place path)) }
+        ensures plan { PlansView F.Folder self.now folder.old name.now result }
         ensures few { IfOk result (λ plan. length plan.design.views < 2 ^ 32) }
         ensures within { IfOk result (λ plan. plan.place < length plan.design.views) }
-        ensures known { IfOk result (λ plan. (path : List ℕ) × (path_in (languages_of self.now.pool) plan.design.language ≡ Some path)) }
-        ensures refused { IfErr result (λ halt. (refusal : Refusal) → halt ≡ Halt.Refused refusal → (history : List Write) → IfTold (F.disk folder.old) (λ d. AreAt self.now.docs d.now history
-            → spec.view_refusal (languages_of self.now.pool) (record { history = history }) name.now ≡ Some refusal)) }
+        ensures known { IfOk result (HasPath self.now) }
+        ensures refused { RefusesView F.Folder self.now folder.old name.now result }
         ensures reads { Reads F.Folder self.now.docs folder.old folder.new result }
     {
         let id = design_id(alloc, name.design.as_str())?;
@@ -105,7 +102,8 @@ impl Engine {
 /// The place of the first of the views with this name.
 fn place_of(views: &[View], name: &str) -> Option<usize>
     ensures within { IfSome result (λ place. place < length views.now) }
-    ensures named { option_map (source_at views.now) result ≡ lookup (λ key. bytes_eq key name.now) (map named views.now) }
+    ensures named { option_map (source_at views.now) result ≡ lookup (λ key. bytes_eq key name.now)
+        (map named views.now) }
 {
     for (place, view) in views.iter().enumerate() {
         if view.name.as_str() == name {
@@ -137,16 +135,16 @@ fn append_rows(
     place: usize,
     out: &mut Vec<u8>,
 ) -> Result<(), Halt>
-    ensures ok { OnOk result (out.new.items ≡ out.old.items ++ ended (answer (sorted_rows (emitted_rows ids.now (emitted_by place lists.now))))) }
+    ensures ok { OnOk result (out.new.items ≡ out.old.items ++ ended
+        (answer (sorted_rows (emitted_rows ids.now (emitted_by place lists.now))))) }
     ensures silent { OnErr result (out.new.items ≡ out.old.items) }
     ensures memory { IfErr result (λ halt. halt ≡ Halt.Stopped StepFault.NoMemory) }
 {
     let mut rows = rows_of(alloc, ids, lists, place)?;
     sort_rows(&mut rows);
-    let mut line = Vec::new(alloc);
-    write_answer(alloc, rows.as_slice(), &mut line)?;
-    line.push(b'\n')?;
-    out.extend_from_slice(line.as_slice())?;
+    let mut reply = Reply::behind(alloc, out);
+    let written = write_answer(alloc, rows.as_slice(), &mut reply);
+    reply.end(written, out)?;
     Ok(())
 }
 

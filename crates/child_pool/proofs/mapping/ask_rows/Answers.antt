@@ -1,11 +1,10 @@
 -- A document's rows are asked for, once.
 use Rattle.std.proofs.Common.{◌≡◌, ◌∙◌, length, Ok, Err, Some, Result, Option, refl, sym, ap, subst, inl}
-use Rattle.json_terms.specs.Seen.{json}
 use Rattle.json_terms.specs.declared.rows.RowLists.{RowLists}
 use Rattle.view_ports.specs.declared.command.Command.{Command}
 use Rattle.view_ports.specs.declared.command.Command.TheVariants.{MapDoc}
 use Rattle.view_ports.specs.Commands.{command}
-use Rattle.query_protocol.specs.CommandLines.{command_line, document_of}
+use Rattle.query_protocol.specs.CommandLines.{command_line}
 use Rattle.child_pool.specs.declared.pool_fault.PoolFault.{PoolFault}
 use Rattle.child_pool.specs.declared.pool_fault.PoolFault.TheVariants.{NoMemory}
 use Rattle.child_pool.specs.Causes.{kind_of}
@@ -25,7 +24,7 @@ returns-in-Ok-Some-clause-went g c = λ path documents calls follows among told.
     let slot = c.args.slot in
     let sources = c.args.sources.now in
     let job = job_of path sources documents in
-    let document = document_of (json c.args.document.now) in
+    let document = c.args.document.now in
     let line = c.as_slice.result.now in
     let spelled : line ≡ command_line (MapDoc document) = c.as_slice.ensures.value ∙ c.in-Ok.ensures.line in
     let is : command line ≡ MapDoc document = ap command c.as_slice.ensures.value ∙ c.in-Ok.ensures.reads in
@@ -40,7 +39,7 @@ returns-in-Ok-None-clause-went g c = λ path documents calls follows among told.
     let slot = c.args.slot in
     let sources = c.args.sources.now in
     let job = job_of path sources documents in
-    let document = document_of (json c.args.document.now) in
+    let document = c.args.document.now in
     let line = c.as_slice.result.now in
     let spelled : line ≡ command_line (MapDoc document) = c.as_slice.ensures.value ∙ c.in-Ok.ensures.line in
     let is : command line ≡ MapDoc document = ap command c.as_slice.ensures.value ∙ c.in-Ok.ensures.reads in
@@ -55,7 +54,7 @@ returns-clause-went g c = λ path documents calls follows among told.
     let slot = c.args.slot in
     let sources = c.args.sources.now in
     let job = job_of path sources documents in
-    let document = document_of (json c.args.document.now) in
+    let document = c.args.document.now in
     let line = c.as_slice.result.now in
     let spelled : line ≡ command_line (MapDoc document) = c.as_slice.ensures.value ∙ c.in-Ok.ensures.line in
     let is : command line ≡ MapDoc document = ap command c.as_slice.ensures.value ∙ c.in-Ok.ensures.reads in
@@ -70,6 +69,6 @@ returns-in-Err-clause-went g c = λ path documents calls follows among told.
     let slot = c.args.slot in
     let sources = c.args.sources.now in
     let job = job_of path sources documents in
-    let document = document_of (json c.args.document.now) in
+    let document = c.args.document.now in
     let dues = asks slot (MapDoc document) (length sources) in
     Went-none follows (AfterAnswer functions honest job slot document dues (Err NoMemory) calls) (record { caused = tt; talked = inl (cut_at_once slot dues) })

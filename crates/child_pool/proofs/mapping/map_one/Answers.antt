@@ -1,10 +1,8 @@
 -- A document is mapped at once, or in a second attempt with a fresh child.
 use Rattle.std.proofs.Common.{◌∙◌, ◌+◌, List, length, Ok, Err, refl, ap, arith}
-use Rattle.json_terms.specs.Seen.{json}
 use Rattle.view_ports.specs.declared.command.Command.TheVariants.{MapDoc}
 use Rattle.view_ports.specs.Calls.{Call, stop}
 use Rattle.view_ports.specs.Faults.{Rose}
-use Rattle.query_protocol.specs.CommandLines.{document_of}
 use Rattle.child_pool.specs.Histories.{Went}
 use Rattle.child_pool.specs.Jobs.{job_of}
 use Rattle.child_pool.specs.declared.pool_fault.PoolFault.TheVariants.{ServerFault}
@@ -22,7 +20,7 @@ returns-in-Ok-Some-clause-went g c = λ documents calls follows among told.
     let sources = c.args.sources.now in
     let path = c.args.path.now in
     let job = job_of path sources documents in
-    let document = document_of (json c.args.document.now) in
+    let document = c.args.document.now in
     let dues = asks slot (MapDoc document) (length sources) in
     let before = g.C.Servers.faults c.args.servers.now in
     let rose = Rose before (g.C.Servers.faults c.ask_rows.new.servers) in
@@ -36,7 +34,7 @@ returns-in-Err-clause-went g c = λ documents calls follows among told.
     let sources = c.args.sources.now in
     let path = c.args.path.now in
     let job = job_of path sources documents in
-    let document = document_of (json c.args.document.now) in
+    let document = c.args.document.now in
     let dues = asks slot (MapDoc document) (length sources) in
     let before = g.C.Servers.faults c.args.servers.now in
     let rose = Rose before (g.C.Servers.faults c.ask_rows.new.servers) in
@@ -50,12 +48,12 @@ returns-in-Ok-false-clause-went g c = λ documents calls follows among told.
     let sources = c.args.sources.now in
     let path = c.args.path.now in
     let job = job_of path sources documents in
-    let document = document_of (json c.args.document.now) in
+    let document = c.args.document.now in
     let dues = asks slot (MapDoc document) (length sources) in
     let before = g.C.Servers.faults c.args.servers.now in
     let rose = Rose before (g.C.Servers.faults c.start_over.new.servers) in
-    let failed : Rose before (g.C.Servers.faults c.ask_rows.new.servers) = c.ask_rows.ensures.failed (c.in-Ok-None.is ∙ ap Ok c.in-Ok-None.field-0-is) in
-    let counted : rose = omega (arith, failed, c.stop.ensures.cause, c.start_over.ensures.later) in
+    let failed : Rose before (g.C.Servers.faults c.ask_rows.new.servers) = c.ask_rows.ensures.ends.failed (c.in-Ok-None.is ∙ ap Ok c.in-Ok-None.field-0-is) in
+    let counted : rose = omega (arith, failed, c.stop.ensures.cause, c.start_over.ensures.ends.later) in
     let w = c.ask_rows.ensures.went path documents calls follows among told in
     let P : List Call → List Call → Type 0 = λ added now. Unit {0} in
     let stopped : Went (g.C.Servers.may_follow c.stop.new.self) job slot w.now P = Went-call (stop slot) c.stop.ensures.told w.follows refl tt P tt in
@@ -71,12 +69,12 @@ returns-in-Err-start_over-clause-went g c = λ documents calls follows among tol
     let sources = c.args.sources.now in
     let path = c.args.path.now in
     let job = job_of path sources documents in
-    let document = document_of (json c.args.document.now) in
+    let document = c.args.document.now in
     let dues = asks slot (MapDoc document) (length sources) in
     let before = g.C.Servers.faults c.args.servers.now in
     let rose = Rose before (g.C.Servers.faults c.start_over.new.servers) in
-    let failed : Rose before (g.C.Servers.faults c.ask_rows.new.servers) = c.ask_rows.ensures.failed (c.in-Ok-None.is ∙ ap Ok c.in-Ok-None.field-0-is) in
-    let counted : rose = omega (arith, failed, c.stop.ensures.cause, c.start_over.ensures.later) in
+    let failed : Rose before (g.C.Servers.faults c.ask_rows.new.servers) = c.ask_rows.ensures.ends.failed (c.in-Ok-None.is ∙ ap Ok c.in-Ok-None.field-0-is) in
+    let counted : rose = omega (arith, failed, c.stop.ensures.cause, c.start_over.ensures.ends.later) in
     let w = c.ask_rows.ensures.went path documents calls follows among told in
     let P : List Call → List Call → Type 0 = λ added now. Unit {0} in
     let stopped : Went (g.C.Servers.may_follow c.stop.new.self) job slot w.now P = Went-call (stop slot) c.stop.ensures.told w.follows refl tt P tt in
@@ -92,12 +90,12 @@ returns-in-Ok-Some-ask_rows-clause-went g c = λ documents calls follows among t
     let sources = c.args.sources.now in
     let path = c.args.path.now in
     let job = job_of path sources documents in
-    let document = document_of (json c.args.document.now) in
+    let document = c.args.document.now in
     let dues = asks slot (MapDoc document) (length sources) in
     let before = g.C.Servers.faults c.args.servers.now in
     let now = g.C.Servers.faults c.ask_rows-2.new.servers in
-    let failed : Rose before (g.C.Servers.faults c.ask_rows.new.servers) = c.ask_rows.ensures.failed (c.in-Ok-None.is ∙ ap Ok c.in-Ok-None.field-0-is) in
-    let rose : Rose before now = omega (arith, failed, c.stop.ensures.cause, c.start_over.ensures.later, c.ask_rows-2.ensures.later) in
+    let failed : Rose before (g.C.Servers.faults c.ask_rows.new.servers) = c.ask_rows.ensures.ends.failed (c.in-Ok-None.is ∙ ap Ok c.in-Ok-None.field-0-is) in
+    let rose : Rose before now = omega (arith, failed, c.stop.ensures.cause, c.start_over.ensures.ends.later, c.ask_rows-2.ensures.ends.later) in
     let w = c.ask_rows.ensures.went path documents calls follows among told in
     let P : List Call → List Call → Type 0 = λ added now. Unit {0} in
     let stopped : Went (g.C.Servers.may_follow c.stop.new.self) job slot w.now P = Went-call (stop slot) c.stop.ensures.told w.follows refl tt P tt in
@@ -115,12 +113,12 @@ returns-in-Ok-None-ask_rows-clause-went g c = λ documents calls follows among t
     let sources = c.args.sources.now in
     let path = c.args.path.now in
     let job = job_of path sources documents in
-    let document = document_of (json c.args.document.now) in
+    let document = c.args.document.now in
     let dues = asks slot (MapDoc document) (length sources) in
     let before = g.C.Servers.faults c.args.servers.now in
     let now = g.C.Servers.faults c.ask_rows-2.new.servers in
-    let failed : Rose before (g.C.Servers.faults c.ask_rows.new.servers) = c.ask_rows.ensures.failed (c.in-Ok-None.is ∙ ap Ok c.in-Ok-None.field-0-is) in
-    let rose : Rose before now = omega (arith, failed, c.stop.ensures.cause, c.start_over.ensures.later, c.ask_rows-2.ensures.later) in
+    let failed : Rose before (g.C.Servers.faults c.ask_rows.new.servers) = c.ask_rows.ensures.ends.failed (c.in-Ok-None.is ∙ ap Ok c.in-Ok-None.field-0-is) in
+    let rose : Rose before now = omega (arith, failed, c.stop.ensures.cause, c.start_over.ensures.ends.later, c.ask_rows-2.ensures.ends.later) in
     let w = c.ask_rows.ensures.went path documents calls follows among told in
     let P : List Call → List Call → Type 0 = λ added now. Unit {0} in
     let stopped : Went (g.C.Servers.may_follow c.stop.new.self) job slot w.now P = Went-call (stop slot) c.stop.ensures.told w.follows refl tt P tt in
@@ -138,12 +136,12 @@ returns-in-Err-ask_rows-clause-went g c = λ documents calls follows among told.
     let sources = c.args.sources.now in
     let path = c.args.path.now in
     let job = job_of path sources documents in
-    let document = document_of (json c.args.document.now) in
+    let document = c.args.document.now in
     let dues = asks slot (MapDoc document) (length sources) in
     let before = g.C.Servers.faults c.args.servers.now in
     let now = g.C.Servers.faults c.ask_rows-2.new.servers in
-    let failed : Rose before (g.C.Servers.faults c.ask_rows.new.servers) = c.ask_rows.ensures.failed (c.in-Ok-None.is ∙ ap Ok c.in-Ok-None.field-0-is) in
-    let rose : Rose before now = omega (arith, failed, c.stop.ensures.cause, c.start_over.ensures.later, c.ask_rows-2.ensures.later) in
+    let failed : Rose before (g.C.Servers.faults c.ask_rows.new.servers) = c.ask_rows.ensures.ends.failed (c.in-Ok-None.is ∙ ap Ok c.in-Ok-None.field-0-is) in
+    let rose : Rose before now = omega (arith, failed, c.stop.ensures.cause, c.start_over.ensures.ends.later, c.ask_rows-2.ensures.ends.later) in
     let w = c.ask_rows.ensures.went path documents calls follows among told in
     let P : List Call → List Call → Type 0 = λ added now. Unit {0} in
     let stopped : Went (g.C.Servers.may_follow c.stop.new.self) job slot w.now P = Went-call (stop slot) c.stop.ensures.told w.follows refl tt P tt in

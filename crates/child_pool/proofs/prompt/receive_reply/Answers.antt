@@ -3,7 +3,7 @@ use Rattle.std.proofs.Common.{◌≡◌, ℕ, [], ◌∷◌, Some, None, Ok, Err
 use Rattle.child_pool.specs.declared.heard.Heard.{Heard}
 use Rattle.child_pool.specs.Histories.{Went}
 use Rattle.child_pool.specs.Outcomes.{AfterLine}
-use Rattle.child_pool.specs.Sessions.{IsAt}
+use Rattle.child_pool.specs.Sessions.{IsInSession}
 use Rattle.child_pool.proofs.Prompts.{logs_more, prompt_later}
 use Rattle.child_pool.proofs.prompt.receive_reply.Goals as goal
 
@@ -36,7 +36,7 @@ returns-in-Err-clause-went g c = λ job sources prompt calls follows is of at.
 
 pub loop-logs-preserved : goal.loop-logs-preserved
 loop-logs-preserved g c = (
-  omega (arith, c.loop-logs.invariant.0, c.in-Ok-Log.ensures.later),
+  omega (arith, c.loop-logs.invariant.0, c.in-Ok-Log.ensures.ends.later),
   λ job sources prompt calls follows is of at.
       let functions = g.C.Servers.functions in
       let honest = g.C.Servers.honest in
@@ -53,7 +53,7 @@ returns-in-Ok-Answer-receive_line-clause-went g c = λ job sources prompt calls 
     let slot = c.args.slot in
     let w = c.loop-logs.invariant.1 job sources prompt calls follows is of at in
     let all : c.loop-logs.logs ≡ 1000 = omega arith in
-    let there : IsAt job.path sources (prompt ∷ []) 1000 slot w.now = subst (λ (logs : ℕ). IsAt job.path sources (prompt ∷ []) logs slot w.now) all w.holds.0 in
+    let there : IsInSession job.path sources (prompt ∷ []) 1000 slot w.now = subst (λ (logs : ℕ). IsInSession job.path sources (prompt ∷ []) logs slot w.now) all w.holds.0 in
     let v = subst (λ (h : Heard). Went (g.C.Servers.may_follow c.receive_line-2.new.servers) job slot w.now (AfterLine functions honest job sources prompt 1000 slot (Ok h) w.now)) c.in-Ok-Answer-receive_line.field-0-is (c.in-Ok-Answer-receive_line.ensures.went job sources prompt w.now w.follows is of there) in
     prompt_later functions honest job sources prompt [] (Ok (Some c.in-Ok-Answer-receive_line.reply)) w w.holds.1 v
 
@@ -64,7 +64,7 @@ returns-in-Ok-Failed-receive_line-clause-went g c = λ job sources prompt calls 
     let slot = c.args.slot in
     let w = c.loop-logs.invariant.1 job sources prompt calls follows is of at in
     let all : c.loop-logs.logs ≡ 1000 = omega arith in
-    let there : IsAt job.path sources (prompt ∷ []) 1000 slot w.now = subst (λ (logs : ℕ). IsAt job.path sources (prompt ∷ []) logs slot w.now) all w.holds.0 in
+    let there : IsInSession job.path sources (prompt ∷ []) 1000 slot w.now = subst (λ (logs : ℕ). IsInSession job.path sources (prompt ∷ []) logs slot w.now) all w.holds.0 in
     let v = subst (λ (h : Heard). Went (g.C.Servers.may_follow c.receive_line-2.new.servers) job slot w.now (AfterLine functions honest job sources prompt 1000 slot (Ok h) w.now)) c.in-Ok-Failed-receive_line.field-0-is (c.in-Ok-Failed-receive_line.ensures.went job sources prompt w.now w.follows is of there) in
     prompt_later functions honest job sources prompt [] (Ok None) w w.holds.1 v
 
@@ -75,6 +75,6 @@ returns-in-Err-receive_line-clause-went g c = λ job sources prompt calls follow
     let slot = c.args.slot in
     let w = c.loop-logs.invariant.1 job sources prompt calls follows is of at in
     let all : c.loop-logs.logs ≡ 1000 = omega arith in
-    let there : IsAt job.path sources (prompt ∷ []) 1000 slot w.now = subst (λ (logs : ℕ). IsAt job.path sources (prompt ∷ []) logs slot w.now) all w.holds.0 in
+    let there : IsInSession job.path sources (prompt ∷ []) 1000 slot w.now = subst (λ (logs : ℕ). IsInSession job.path sources (prompt ∷ []) logs slot w.now) all w.holds.0 in
     let v = c.in-Err-receive_line.ensures.went job sources prompt w.now w.follows is of there in
     prompt_later functions honest job sources prompt [] (Err c.in-Err-receive_line.fault) w w.holds.1 v

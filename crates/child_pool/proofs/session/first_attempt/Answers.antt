@@ -12,7 +12,7 @@ returns-then-fresh-clause-went g c = λ documents calls follows told.
     let sources = c.args.sources.now in
     let path = c.args.path.now in
     let job = job_of path sources documents in
-    subst (λ (n : ℕ). Went (g.C.Servers.may_follow c.start_over.new.servers) job slot calls (AfterStages g.C.Servers.functions g.C.Servers.honest job slot (suc n) (asks slot (stage_command sources n) 0) c.start_over.result calls)) (sym (c.requires.fresh c.if-fresh.true)) (c.start_over.ensures.went documents calls follows)
+    subst (λ (n : ℕ). Went (g.C.Servers.may_follow c.start_over.new.servers) job slot calls (AfterStages g.C.Servers.functions g.C.Servers.honest job slot (suc n) (asks slot (stage_command sources n) 0) c.start_over.result calls)) (sym (c.requires.stage.1 c.if-fresh.true)) (c.start_over.ensures.went documents calls follows)
 
 pub returns-clause-went : goal.returns-clause-went
 returns-clause-went g c = λ documents calls follows told. c.tell.ensures.went c.args.path.now documents calls follows (told c.if-fresh.false)

@@ -71,7 +71,7 @@ returns-in-Err-clause-went g c = λ documents calls follows.
 
 pub loop-stage-preserved : goal.loop-stage-preserved
 loop-stage-preserved g c = (
-  omega (arith, c.loop-stage.invariant.0, c.tell.ensures.later),
+  omega (arith, c.loop-stage.invariant.0, c.tell.ensures.ends.later),
   λ documents calls follows.
       let functions = g.C.Servers.functions in
       let honest = g.C.Servers.honest in

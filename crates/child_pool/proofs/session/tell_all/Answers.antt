@@ -22,7 +22,7 @@ returns-in-Err-bring-clause-went g c = λ documents calls follows told.
     let b = g.C.Servers.faults c.loop-stage.servers in
     let d = g.C.Servers.faults c.bring-in-loop-stage.new.servers in
     let early : a ≤ b = c.loop-stage.invariant.0 in
-    let late : b ≤ d = c.bring-in-loop-stage.ensures.later in
+    let late : b ≤ d = c.bring-in-loop-stage.ensures.ends.later in
     let w = c.loop-stage.invariant.1 documents calls follows told in
     let v = c.bring-in-loop-stage.ensures.went documents w.now w.follows (λ e. w.holds.0) in
     let went = attempts_then functions honest job stage (suc stage) (told_turns slot sources stage) (asks slot (stage_command sources stage) 0) (Rose a b) (Rose b d) (Rose a d) c.bring-in-loop-stage.result (Rose-wider a a b d (omega arith) late) (Rose-wider a b d d early (omega arith)) w v in
@@ -31,7 +31,7 @@ returns-in-Err-bring-clause-went g c = λ documents calls follows told.
 
 pub loop-stage-preserved : goal.loop-stage-preserved
 loop-stage-preserved g c = (
-  omega (arith, c.loop-stage.invariant.0, c.bring-in-loop-stage.ensures.later),
+  omega (arith, c.loop-stage.invariant.0, c.bring-in-loop-stage.ensures.ends.later),
   λ documents calls follows told.
       let functions = g.C.Servers.functions in
       let honest = g.C.Servers.honest in
@@ -44,7 +44,7 @@ loop-stage-preserved g c = (
       let b = g.C.Servers.faults c.loop-stage.servers in
       let d = g.C.Servers.faults c.bring-in-loop-stage.new.servers in
       let early : a ≤ b = c.loop-stage.invariant.0 in
-      let late : b ≤ d = c.bring-in-loop-stage.ensures.later in
+      let late : b ≤ d = c.bring-in-loop-stage.ensures.ends.later in
       let w = c.loop-stage.invariant.1 documents calls follows told in
       let v = c.bring-in-loop-stage.ensures.went documents w.now w.follows (λ e. w.holds.0) in
       let went = attempts_then functions honest job stage (suc stage) (told_turns slot sources stage) (asks slot (stage_command sources stage) 0) (Rose a b) (Rose b d) (Rose a d) c.bring-in-loop-stage.result (Rose-wider a a b d (omega arith) late) (Rose-wider a b d d early (omega arith)) w v in

@@ -3,7 +3,7 @@ use Rattle.std.proofs.Common.{◌++◌, codes, subst}
 use Rattle.std.specs.Io.KnownBytes.{Appends}
 use Rattle.std.proofs.KnownBytes.{Appends-trans}
 use Rattle.real_ports.specs.FileNames.{file_text}
-use Rattle.couchview_cli.specs.Session.{Stopped}
+use Rattle.line_loop.specs.Loops.{FailsIn}
 use Rattle.couchview_cli.proofs.Pieces.{behind, in_front, on_err}
 use Rattle.view_ports.proofs.Results.{OnErr-map, OnOk-map}
 use Rattle.couchview_cli.proofs.closing.write_about.Goals as goal
@@ -28,7 +28,7 @@ returns-in_err-write_all-4-clause-err g c = on_err c.from_residual-in_err-write_
     (behind (g.K.Sink.held c.args.sink.now) (g.K.Sink.held c.write_all.new.sink) (g.K.Sink.held c.write_all-4.new.sink) (codes "{\"error\":\"") (c.args.error.now ++ ((codes "\",\"reason\":\"") ++ ((file_text c.args.name.now) ++ ((codes " ") ++ (c.args.what.now ++ (codes "\"}\n"))))))
     c.in_ok-write_all.ensures.ok (behind (g.K.Sink.held c.write_all.new.sink) (g.K.Sink.held c.write_all-2.new.sink) (g.K.Sink.held c.write_all-4.new.sink) c.args.error.now ((codes "\",\"reason\":\"") ++ ((file_text c.args.name.now) ++ ((codes " ") ++ (c.args.what.now ++ (codes "\"}\n")))))
     c.in_ok-write_all-2.ensures.ok (behind (g.K.Sink.held c.write_all-2.new.sink) (g.K.Sink.held c.write_all-3.new.sink) (g.K.Sink.held c.write_all-4.new.sink) (codes "\",\"reason\":\"") ((file_text c.args.name.now) ++ ((codes " ") ++ (c.args.what.now ++ (codes "\"}\n"))))
-    c.in_ok-write_all-3.ensures.ok (in_front (g.K.Sink.held c.write_all-3.new.sink) (g.K.Sink.held c.write_all-4.new.sink) (file_text c.args.name.now) ((codes " ") ++ (c.args.what.now ++ (codes "\"}\n"))) (subst (Stopped (g.K.Sink.held c.write_all-3.new.sink) (g.K.Sink.held c.write_all-4.new.sink)) c.file_text.ensures c.in_err-write_all-4.ensures.err)))))
+    c.in_ok-write_all-3.ensures.ok (in_front (g.K.Sink.held c.write_all-3.new.sink) (g.K.Sink.held c.write_all-4.new.sink) (file_text c.args.name.now) ((codes " ") ++ (c.args.what.now ++ (codes "\"}\n"))) (subst (FailsIn (g.K.Sink.held c.write_all-3.new.sink) (g.K.Sink.held c.write_all-4.new.sink)) c.file_text.ensures c.in_err-write_all-4.ensures.err)))))
 
 pub returns-in_err-write_all-5-clause-err : goal.returns-in_err-write_all-5-clause-err
 returns-in_err-write_all-5-clause-err g c = on_err c.from_residual-in_err-write_all-5.result _

@@ -4,7 +4,7 @@ use Rattle.json_terms.specs.Json.{depth, items_of, items_depth, members_of, memb
 use Rattle.json_terms.specs.Seen.{json, pair_of}
 use Rattle.json_terms.proofs.Depths.{depth_at, member_depth_at}
 use Rattle.term_codec.specs.Spelling.{spelling, items_spelling, members_spelling, count_bytes}
-use Rattle.term_codec.specs.Stands.{CountsFit, ItemsFit, MembersFit}
+use Rattle.term_codec.specs.SpelledAt.{CountsFit, ItemsFit, MembersFit}
 use Rattle.term_codec.proofs.Counts.{CountsFit-at, MemberFits-at, items_count-items_of, members_count-members_of, put_array, put_object}
 use Rattle.term_codec.proofs.encode.+put.Goals as goal
 

@@ -1,5 +1,5 @@
 -- The document that is printed is the live one, and a fault says what the documents' fault said.
-use Rattle.std.proofs.Common.{◌≡◌, ◌++◌, Some, refl, rules}
+use Rattle.std.proofs.Common.{◌≡◌, ◌++◌, ◌∙◌, Some, refl, rules}
 use Rattle.json_terms.specs.Seen.{json}
 use Rattle.json_terms.specs.Text.{text_of}
 use Rattle.view_ports.specs.Lines.{ended}
@@ -13,21 +13,16 @@ use Rattle.view_engine.specs.Halts.{halted_as}
 use Rattle.view_engine.proofs.Reading.{read_done, read_spent, read_stopped, why_of_get, IsMetIn}
 use Rattle.view_engine.proofs.reads.get.Goals as goal
 
-pub returns-in_err-write_term-in-Ok-clause-acts : goal.returns-in_err-write_term-in-Ok-clause-acts
-returns-in_err-write_term-in-Ok-clause-acts g c = read_spent c.requires.open c.in-Ok.ensures.disk c.in-Ok.ensures.cause.later tt refl c.from_residual.ensures.1
+pub returns-in_err-end-in-Ok-clause-acts : goal.returns-in_err-end-in-Ok-clause-acts
+returns-in_err-end-in-Ok-clause-acts g c =
+    let silent : c.end.new.out.items ≡ c.args.out.now.items = c.in_err-end-in-Ok.ensures.err ∙ c.put_term-written.ensures.before ∙ c.behind-reply.ensures.before in
+    read_spent c.requires.open c.in-Ok.ensures.disk c.in-Ok.ensures.cause.later tt silent c.from_residual.ensures.1
 
-pub returns-in_err-push-in-Ok-clause-acts : goal.returns-in_err-push-in-Ok-clause-acts
-returns-in_err-push-in-Ok-clause-acts g c = read_spent c.requires.open c.in-Ok.ensures.disk c.in-Ok.ensures.cause.later tt refl c.from_residual-in_err-push-in-Ok.ensures.1
-
-pub returns-in_err-extend_from_slice-in-Ok-clause-acts : goal.returns-in_err-extend_from_slice-in-Ok-clause-acts
-returns-in_err-extend_from_slice-in-Ok-clause-acts g c =
-    read_spent c.requires.open c.in-Ok.ensures.disk c.in-Ok.ensures.cause.later tt c.in_err-extend_from_slice-in-Ok.ensures.items c.from_residual-in_err-extend_from_slice-in-Ok.ensures.1
-
-pub returns-in_ok-extend_from_slice-in-Ok-clause-acts : goal.returns-in_ok-extend_from_slice-in-Ok-clause-acts
-returns-in_ok-extend_from_slice-in-Ok-clause-acts g c =
+pub returns-in_ok-end-in-Ok-clause-acts : goal.returns-in_ok-end-in-Ok-clause-acts
+returns-in_ok-end-in-Ok-clause-acts g c =
     let document = json c.in-Ok.document in
     let docs = c.args.docs.now in
-    let appended : c.extend_from_slice.new.self.items ≡ c.args.out.now.items ++ ended (text_of document) = search rules in
+    let appended : c.end.new.out.items ≡ c.args.out.now.items ++ ended (text_of document) = search rules in
     read_done c.requires.open c.in-Ok.ensures.disk c.in-Ok.ensures.cause.later (text_of document) appended (λ world.
     told_now (g.F.Folder.disk c.args.folder.now) (λ d. IsAt docs d.now world.history → live_document world.history c.args.id.now ≡ Some document) _ (λ d live at. ((document, live at, refl), refl))
     (c.in-Ok.ensures.document world.history))
@@ -36,4 +31,4 @@ pub returns-in-Err-clause-acts : goal.returns-in-Err-clause-acts
 returns-in-Err-clause-acts g c =
     let refused : (refusal : Refusal) → halted_as c.in-Err.fault ≡ Refused refusal → IsMetIn g.F.Folder c.args.docs.now c.args.folder.now (λ world. get_refusal world c.args.id.now ≡ Some refusal) = search rules in
     rw c.from.ensures (read_stopped c.requires.open c.in-Err.ensures.disk c.in-Err.ensures.cause.later tt refl refused
-    (why_of_get _ g.F.Folder c.args.docs.now c.args.folder.now c.get.new.folder c.args.id.now c.in-Err.fault c.in-Err.ensures.cause c.in-Err.ensures.damaged c.in-Err.ensures.sound c.in-Err.ensures.faults))
+    (why_of_get _ g.F.Folder c.args.docs.now c.args.folder.now c.get.new.folder c.args.id.now c.in-Err.fault c.in-Err.ensures.cause c.in-Err.ensures.deleted.1 c.in-Err.ensures.damaged c.in-Err.ensures.sound c.in-Err.ensures.faults))

@@ -1,6 +1,6 @@
 -- A deletion is what the documents make of it.
 use Rattle.std.specs.Prelude.{option_map}
-use Rattle.std.proofs.Common.{◌≡◌, ◌∙◌, ◌++◌, ℕ, List, Option, Ok, Err, refl, sym, subst, arith, rules}
+use Rattle.std.proofs.Common.{◌≡◌, ◌∙◌, ◌++◌, ℕ, List, Option, Ok, Err, sym, subst, arith, rules}
 use Rattle.std.proofs.lemmas.Grind.{common_steps}
 use Rattle.view_ports.specs.Lines.{ended}
 use Rattle.doc_file.specs.Accepted.{state_in}
@@ -18,21 +18,18 @@ use Rattle.view_engine.proofs.writes.delete.Goals as goal
 both : {i j : List ℕ} {a b : Option (List ℕ)} (P : List ℕ → Option (List ℕ) → Type 0) → i ≡ j → a ≡ b → P i a → P j b
 both {i} {j} {a} {b} P is same holds = subst (P j) same (subst (λ n. P n a) is holds)
 
-pub returns-in_err-reply-clause-acts : goal.returns-in_err-reply-clause-acts
-returns-in_err-reply-clause-acts g c = spent_here c.requires.open refl c.from_residual.ensures.1
-
-pub returns-in_err-extend_from_slice-clause-acts : goal.returns-in_err-extend_from_slice-clause-acts
-returns-in_err-extend_from_slice-clause-acts g c = spent_here c.requires.open c.in_err-extend_from_slice.ensures.items c.from_residual-in_err-extend_from_slice.ensures.1
+pub returns-in_err-append_accepted-clause-acts : goal.returns-in_err-append_accepted-clause-acts
+returns-in_err-append_accepted-clause-acts g c = spent_here c.requires.open c.in_err-append_accepted.ensures.silent c.from_residual.ensures.1
 
 pub returns-in-Ok-clause-acts : goal.returns-in-Ok-clause-acts
 returns-in-Ok-clause-acts g c =
     let docs = c.args.docs.now in
     let id = c.as_str-2.result.now in
     let given = option_map (λ text. text.now) c.text_of.result in
-    let appended : c.extend_from_slice.new.self.items ≡ c.args.out.now.items ++ ended (accepted_reply docs id) = search rules in
-    both (λ i rev. ActsHere g.F.Folder docs c.delete.new.self c.args.folder.now c.delete.new.folder (Delete i rev) c.args.out.now.items c.extend_from_slice.new.self.items (Ok tt)) c.as_str-2.ensures c.text_of.ensures
-    (wrote_here (accepted_reply docs id) (λ files world at accepted. delete_does docs files world at id given accepted (reply_to docs files world at c.as_str.result.now id (c.as_str.ensures ∙ sym c.as_str-2.ensures) (c.in_ok-reply.ensures.history files world.history at)))
-    (λ files world at accepted. delete_is_write docs files world at id given accepted (reply_to docs files world at c.as_str.result.now id (c.as_str.ensures ∙ sym c.as_str-2.ensures) (c.in_ok-reply.ensures.history files world.history at))) appended c.in-Ok.ensures)
+    let appended : c.append_accepted.new.out.items ≡ c.args.out.now.items ++ ended (accepted_reply docs id) = search rules in
+    both (λ i rev. ActsHere g.F.Folder docs c.delete.new.self c.args.folder.now c.delete.new.folder (Delete i rev) c.args.out.now.items c.append_accepted.new.out.items (Ok tt)) c.as_str-2.ensures c.text_of.ensures
+    (wrote_here (accepted_reply docs id) (λ files world at accepted. delete_does docs files world at id given accepted (reply_to docs files world at c.as_str.result.now id (c.as_str.ensures ∙ sym c.as_str-2.ensures) (c.in_ok-append_accepted.ensures.history files world.history at)))
+    (λ files world at accepted. delete_is_write docs files world at id given accepted (reply_to docs files world at c.as_str.result.now id (c.as_str.ensures ∙ sym c.as_str-2.ensures) (c.in_ok-append_accepted.ensures.history files world.history at))) appended c.in-Ok.ensures)
 
 pub returns-clause-acts : goal.returns-clause-acts
 returns-clause-acts g c =
@@ -41,7 +38,7 @@ returns-clause-acts g c =
     let given = option_map (λ text. text.now) c.text_of.result in
     let silent : c.truncate.new.self.items ≡ c.args.out.now.items = grind (arith, common_steps) in
     rw c.from.ensures (both (λ i rev. ActsHere g.F.Folder docs c.delete.new.self c.args.folder.now c.delete.new.folder (Delete i rev) c.args.out.now.items c.truncate.new.self.items (Err (halted_as c.in-Err.fault)))
-    c.as_str-2.ensures c.text_of.ensures (unwritten_here (accepted_reply docs id) (λ files world at accepted. delete_does docs files world at id given accepted (reply_to docs files world at c.as_str.result.now id (c.as_str.ensures ∙ sym c.as_str-2.ensures) (c.in_ok-reply.ensures.history files world.history at)))
-    (λ files world at accepted. delete_is_write docs files world at id given accepted (reply_to docs files world at c.as_str.result.now id (c.as_str.ensures ∙ sym c.as_str-2.ensures) (c.in_ok-reply.ensures.history files world.history at)))
+    c.as_str-2.ensures c.text_of.ensures (unwritten_here (accepted_reply docs id) (λ files world at accepted. delete_does docs files world at id given accepted (reply_to docs files world at c.as_str.result.now id (c.as_str.ensures ∙ sym c.as_str-2.ensures) (c.in_ok-append_accepted.ensures.history files world.history at)))
+    (λ files world at accepted. delete_is_write docs files world at id given accepted (reply_to docs files world at c.as_str.result.now id (c.as_str.ensures ∙ sym c.as_str-2.ensures) (c.in_ok-append_accepted.ensures.history files world.history at)))
     (delete_not_of_file (state_in (last_of docs id)) given)
     (λ files world at fault is refusal met. delete_refused docs files world at docs.file id given fault refusal is met) (λ name length full. full) silent c.requires.open c.in-Err.ensures))

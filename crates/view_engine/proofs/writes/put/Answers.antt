@@ -19,11 +19,8 @@ returns-in_err-is_unbuilt-clause-acts g c = spent_here c.requires.open refl c.fr
 pub returns-then-branch-clause-acts : goal.returns-then-branch-clause-acts
 returns-then-branch-clause-acts g c = refused_here_at_once c.requires.open (λ world. inl (sym c.in_ok-is_unbuilt.ensures ∙ c.if-branch.true, refl))
 
-pub returns-in_err-reply-clause-acts : goal.returns-in_err-reply-clause-acts
-returns-in_err-reply-clause-acts g c = spent_here c.requires.open refl c.from_residual-in_err-reply.ensures.1
-
-pub returns-in_err-extend_from_slice-clause-acts : goal.returns-in_err-extend_from_slice-clause-acts
-returns-in_err-extend_from_slice-clause-acts g c = spent_here c.requires.open c.in_err-extend_from_slice.ensures.items c.from_residual-in_err-extend_from_slice.ensures.1
+pub returns-in_err-append_accepted-clause-acts : goal.returns-in_err-append_accepted-clause-acts
+returns-in_err-append_accepted-clause-acts g c = spent_here c.requires.open c.in_err-append_accepted.ensures.silent c.from_residual-in_err-append_accepted.ensures.1
 
 pub put-requires-clause-plain : goal.put-requires-clause-plain
 put-requires-clause-plain g c = plain_where_built (members_of c.args.document) (sym c.in_ok-is_unbuilt.ensures ∙ c.if-branch.false)
@@ -33,17 +30,17 @@ returns-in-Ok-clause-acts g c =
     let docs = c.args.docs.now in
     let json : Json = object (members_of c.args.document) in
     let built = sym c.in_ok-is_unbuilt.ensures ∙ c.if-branch.false in
-    let appended : c.extend_from_slice.new.self.items ≡ c.args.out.now.items ++ ended (accepted_reply docs (id_of json)) = search rules in
-    wrote_here (accepted_reply docs (id_of json)) (λ files world at accepted. put_does docs files world at json built accepted (reply_to docs files world at c.id_of.result.now (id_of json) c.id_of.ensures (c.in_ok-reply.ensures.history files world.history at)))
-    (λ files world at accepted. put_is_write docs files world at c.args.document built accepted (reply_to docs files world at c.id_of.result.now (id_of json) c.id_of.ensures (c.in_ok-reply.ensures.history files world.history at))) appended c.in-Ok.ensures
+    let appended : c.append_accepted.new.out.items ≡ c.args.out.now.items ++ ended (accepted_reply docs (id_of json)) = search rules in
+    wrote_here (accepted_reply docs (id_of json)) (λ files world at accepted. put_does docs files world at json built accepted (reply_to docs files world at c.id_of.result.now (id_of json) c.id_of.ensures (c.in_ok-append_accepted.ensures.history files world.history at)))
+    (λ files world at accepted. put_is_write docs files world at c.args.document built accepted (reply_to docs files world at c.id_of.result.now (id_of json) c.id_of.ensures (c.in_ok-append_accepted.ensures.history files world.history at))) appended c.in-Ok.ensures
 
-pub returns-clause-acts : goal.returns-clause-acts
-returns-clause-acts g c =
+pub returns-in-Err-clause-acts : goal.returns-in-Err-clause-acts
+returns-in-Err-clause-acts g c =
     let docs = c.args.docs.now in
     let json : Json = object (members_of c.args.document) in
     let built = sym c.in_ok-is_unbuilt.ensures ∙ c.if-branch.false in
     let silent : c.truncate.new.self.items ≡ c.args.out.now.items = grind (arith, common_steps) in
-    rw c.from.ensures (unwritten_here (accepted_reply docs (id_of json)) (λ files world at accepted. put_does docs files world at json built accepted (reply_to docs files world at c.id_of.result.now (id_of json) c.id_of.ensures (c.in_ok-reply.ensures.history files world.history at)))
-    (λ files world at accepted. put_is_write docs files world at c.args.document built accepted (reply_to docs files world at c.id_of.result.now (id_of json) c.id_of.ensures (c.in_ok-reply.ensures.history files world.history at)))
+    rw c.from.ensures (unwritten_here (accepted_reply docs (id_of json)) (λ files world at accepted. put_does docs files world at json built accepted (reply_to docs files world at c.id_of.result.now (id_of json) c.id_of.ensures (c.in_ok-append_accepted.ensures.history files world.history at)))
+    (λ files world at accepted. put_is_write docs files world at c.args.document built accepted (reply_to docs files world at c.id_of.result.now (id_of json) c.id_of.ensures (c.in_ok-append_accepted.ensures.history files world.history at)))
     (put_not_of_file (state_in (last_of docs (id_of json))) json)
     (λ files world at fault is refusal met. put_refused docs files world at docs.file json fault refusal built is met) (λ name length full. full) silent c.requires.open c.in-Err.ensures)

@@ -1,64 +1,70 @@
--- The child is made ready by the design's path and sources.
-use Rattle.std.proofs.Common.{◌≡◌, ◌∙◌, false, not, Some, None, Ok, Err, Result, sym, ap, subst, inl, inr}
-use Rattle.std.proofs.lemmas.Bool.{not-false}
+-- The children are made ready by the design's path and sources.
+use Rattle.std.proofs.Common.{◌≡◌, ◌∙◌, ◌<◌, ℕ, List, [], max, OnOk, Some, None, Ok, Err, Result, sym, ap, subst, inl, inr, arith}
 use Rattle.view_ports.specs.Faults.{Rose}
 use Rattle.design_docs.specs.Design.{map_sources}
 use Rattle.child_pool.specs.declared.pool_fault.PoolFault.{PoolFault}
-use Rattle.child_pool.specs.Histories.{Went}
+use Rattle.child_pool.specs.declared.pool_fault.PoolFault.TheVariants.{NoMemory}
+use Rattle.child_pool.specs.Histories.{WentIn}
 use Rattle.child_pool.specs.Jobs.{job_of}
-use Rattle.child_pool.specs.Languages.{path_in}
-use Rattle.child_pool.specs.Pools.{languages_of}
-use Rattle.child_pool.specs.Preparing.{AfterPrepare}
-use Rattle.child_pool.specs.Talk.{ready}
-use Rattle.child_pool.proofs.Going.{Went-none}
-use Rattle.child_pool.proofs.Pooled.{child_there, for_job, nothing_done, one_path}
+use Rattle.child_pool.specs.PoolCalls.{path_for}
+use Rattle.child_pool.specs.Pools.{AfterReadying, AfterTrying, IsKeptOf, AreThere}
+use Rattle.child_pool.specs.Refused.{RefusedIn}
+use Rattle.child_pool.specs.Talk.{ready_slots}
+use Rattle.child_pool.proofs.Pooled.{for_job, kept_there, one_path, prepared_pool, unprepared_pool}
+use Rattle.child_pool.proofs.Refusals.{nothing_done}
+use Rattle.child_pool.proofs.Slots.{none_in}
 use Rattle.child_pool.proofs.pool.Pool.try_prepare.Goals as goal
 
 pub returns-in-Err-clause-went : goal.returns-in-Err-clause-went
 returns-in-Err-clause-went g c = λ path documents calls follows known stands.
     let functions = g.C.Servers.functions in
     let honest = g.C.Servers.honest in
-    let sources = map_sources c.args.design.now.views in
-    let job = job_of path sources documents in
+    let job = job_of path (map_sources c.args.design.now.views) documents in
+    let width = c.args.self.now.width in
     let rose = Rose (g.C.Servers.faults c.args.servers.now) (g.C.Servers.faults c.args.servers.now) in
-    Went-none follows (AfterPrepare functions honest job 0 rose (Err c.in-Err.fault) calls) (nothing_done functions honest job (ready 0 sources) rose c.in-Err.fault (elim c.in-Err.ensures.refused [
+    let dues = ready_slots 0 c.args.slots job.sources in
+    let some : 0 < width = omega (arith, c.args.self.now.one_child) in
+    let memory : c.in-Err.fault ≡ NoMemory = elim c.in-Err.ensures.refused [
       | inl memory ↦ memory
-      | inr language ↦
-          let none : path_in (languages_of c.args.self.now) c.args.design.now.language ≡ None = c.plan_of.ensures.unknown.0 (c.in-Err.is ∙ ap Err language) in
-          let never : Some path ≡ None = sym known ∙ none in
-          absurd cc
-    ]))
+      | inr language ↦ let never : Some path ≡ None = sym known ∙ language.1 in absurd cc
+    ] in
+    none_in follows (AfterTrying functions honest job width c.args.slots rose c.args.self.now (Err c.in-Err.fault) calls)
+    (subst (λ (f : PoolFault). RefusedIn functions honest job width dues rose f calls []) (sym memory) (nothing_done functions honest job 0 width some dues rose calls), tt)
 
-pub returns-in-Ok-prepare_slot-clause-went : goal.returns-in-Ok-prepare_slot-clause-went
-returns-in-Ok-prepare_slot-clause-went g c = λ path documents calls follows known stands.
+pub returns-in-Ok-prepare_slots-clause-went : goal.returns-in-Ok-prepare_slots-clause-went
+returns-in-Ok-prepare_slots-clause-went g c = λ path documents calls follows known stands.
     let functions = g.C.Servers.functions in
     let honest = g.C.Servers.honest in
-    let sources = map_sources c.args.design.now.views in
-    let rose = Rose (g.C.Servers.faults c.args.servers.now) (g.C.Servers.faults c.prepare_slot.new.servers) in
-    let mine : c.in-Ok.plan.path ≡ path = one_path (path_in (languages_of c.args.self.now) c.args.design.now.language) c.in-Ok.plan.path path c.in-Ok.ensures.path known in
+    let width = c.args.self.now.width in
+    let slots = c.args.slots in
+    let kept = c.count_of-kept.result in
+    let rose = Rose (g.C.Servers.faults c.args.servers.now) (g.C.Servers.faults c.prepare_slots.new.servers) in
+    let mine : c.in-Ok.plan.path ≡ path = one_path (path_for c.args.self.now c.args.design.now) c.in-Ok.plan.path path c.in-Ok.ensures.path known in
     let same_path : c.as_str-2.result.now ≡ path = c.as_str-2.ensures ∙ mine in
-    let same_sources : c.as_slice.result.now ≡ sources = c.as_slice.ensures.value ∙ c.in-Ok.ensures.sources in
-    let there = λ (e : not c.has_child_of-fresh.result ≡ false).
-    let started = c.has_child_of-fresh.ensures.0 (not-false c.has_child_of-fresh.result e) in
-    child_there c.args.self.now c.as_str-2.result.now calls (started ∙ ap Some (c.as_str.ensures ∙ sym c.as_str-2.ensures)) stands in
-    let went = c.prepare_slot.ensures.went documents calls follows there in
-    let result = subst (λ (r : Result (Unit {0}) PoolFault). Went (g.C.Servers.may_follow c.prepare_slot.new.servers) (job_of c.as_str-2.result.now c.as_slice.result.now documents) 0 calls
-    (AfterPrepare functions honest (job_of c.as_str-2.result.now c.as_slice.result.now documents) 0 rose r calls)) c.in-Ok-prepare_slot.is went in
-    for_job (λ p s. Went (g.C.Servers.may_follow c.prepare_slot.new.servers) (job_of p s documents) 0 calls (AfterPrepare functions honest (job_of p s documents) 0 rose (Ok tt) calls)) same_path same_sources result
+    let same_sources : c.as_slice.result.now ≡ map_sources c.args.design.now.views = c.as_slice.ensures.value ∙ c.in-Ok.ensures.sources in
+    let there = kept_there c.args.self.now path kept calls (subst (λ (p : List ℕ). IsKeptOf c.args.self.now p kept) (c.as_str.ensures ∙ mine) c.count_of-kept.ensures) stands in
+    let here = subst (λ (p : List ℕ). AreThere p kept calls) (sym same_path) there.1 in
+    let result = subst (λ (r : Result (Unit {0}) PoolFault). WentIn (g.C.Servers.may_follow c.prepare_slots.new.servers) (job_of c.as_str-2.result.now c.as_slice.result.now documents) width calls
+    (λ added now. AfterReadying functions honest (job_of c.as_str-2.result.now c.as_slice.result.now documents) width slots rose r calls added now × OnOk r (AreThere c.as_str-2.result.now kept now))) c.in-Ok-prepare_slots.is (c.prepare_slots.ensures.went width documents calls c.requires.slots follows here) in
+    let count = c.max.result in
+    let most : count ≡ max slots kept = c.max.ensures in
+    prepared_pool functions honest (job_of path (map_sources c.args.design.now.views) documents) slots kept count rose (record c.args.self.now { started = Some (record { path = c.in-Ok.plan.path; count = count }) }) most (omega (arith, most, there.0, c.requires.slots)) (ap (λ (p : List ℕ). Some (record { path = p; count = count })) mine)
+    (for_job (λ p s. WentIn (g.C.Servers.may_follow c.prepare_slots.new.servers) (job_of p s documents) width calls (λ added now. AfterReadying functions honest (job_of p s documents) width slots rose (Ok tt) calls added now × AreThere p kept now)) same_path same_sources result)
 
-pub returns-in-Err-prepare_slot-clause-went : goal.returns-in-Err-prepare_slot-clause-went
-returns-in-Err-prepare_slot-clause-went g c = λ path documents calls follows known stands.
+pub returns-in-Err-prepare_slots-clause-went : goal.returns-in-Err-prepare_slots-clause-went
+returns-in-Err-prepare_slots-clause-went g c = λ path documents calls follows known stands.
     let functions = g.C.Servers.functions in
     let honest = g.C.Servers.honest in
-    let sources = map_sources c.args.design.now.views in
-    let rose = Rose (g.C.Servers.faults c.args.servers.now) (g.C.Servers.faults c.prepare_slot.new.servers) in
-    let mine : c.in-Ok.plan.path ≡ path = one_path (path_in (languages_of c.args.self.now) c.args.design.now.language) c.in-Ok.plan.path path c.in-Ok.ensures.path known in
+    let width = c.args.self.now.width in
+    let slots = c.args.slots in
+    let kept = c.count_of-kept.result in
+    let rose = Rose (g.C.Servers.faults c.args.servers.now) (g.C.Servers.faults c.prepare_slots.new.servers) in
+    let mine : c.in-Ok.plan.path ≡ path = one_path (path_for c.args.self.now c.args.design.now) c.in-Ok.plan.path path c.in-Ok.ensures.path known in
     let same_path : c.as_str-2.result.now ≡ path = c.as_str-2.ensures ∙ mine in
-    let same_sources : c.as_slice.result.now ≡ sources = c.as_slice.ensures.value ∙ c.in-Ok.ensures.sources in
-    let there = λ (e : not c.has_child_of-fresh.result ≡ false).
-    let started = c.has_child_of-fresh.ensures.0 (not-false c.has_child_of-fresh.result e) in
-    child_there c.args.self.now c.as_str-2.result.now calls (started ∙ ap Some (c.as_str.ensures ∙ sym c.as_str-2.ensures)) stands in
-    let went = c.prepare_slot.ensures.went documents calls follows there in
-    let result = subst (λ (r : Result (Unit {0}) PoolFault). Went (g.C.Servers.may_follow c.prepare_slot.new.servers) (job_of c.as_str-2.result.now c.as_slice.result.now documents) 0 calls
-    (AfterPrepare functions honest (job_of c.as_str-2.result.now c.as_slice.result.now documents) 0 rose r calls)) c.in-Err-prepare_slot.is went in
-    for_job (λ p s. Went (g.C.Servers.may_follow c.prepare_slot.new.servers) (job_of p s documents) 0 calls (AfterPrepare functions honest (job_of p s documents) 0 rose (Err c.in-Err-prepare_slot.fault) calls)) same_path same_sources result
+    let same_sources : c.as_slice.result.now ≡ map_sources c.args.design.now.views = c.as_slice.ensures.value ∙ c.in-Ok.ensures.sources in
+    let there = kept_there c.args.self.now path kept calls (subst (λ (p : List ℕ). IsKeptOf c.args.self.now p kept) (c.as_str.ensures ∙ mine) c.count_of-kept.ensures) stands in
+    let here = subst (λ (p : List ℕ). AreThere p kept calls) (sym same_path) there.1 in
+    let result = subst (λ (r : Result (Unit {0}) PoolFault). WentIn (g.C.Servers.may_follow c.prepare_slots.new.servers) (job_of c.as_str-2.result.now c.as_slice.result.now documents) width calls
+    (λ added now. AfterReadying functions honest (job_of c.as_str-2.result.now c.as_slice.result.now documents) width slots rose r calls added now × OnOk r (AreThere c.as_str-2.result.now kept now))) c.in-Err-prepare_slots.is (c.prepare_slots.ensures.went width documents calls c.requires.slots follows here) in
+    unprepared_pool functions honest (job_of path (map_sources c.args.design.now.views) documents) slots rose c.args.self.now c.in-Err-prepare_slots.fault
+    (for_job (λ p s. WentIn (g.C.Servers.may_follow c.prepare_slots.new.servers) (job_of p s documents) width calls (λ added now. AfterReadying functions honest (job_of p s documents) width slots rose (Err c.in-Err-prepare_slots.fault) calls added now × Unit {0})) same_path same_sources result)

@@ -4,7 +4,7 @@ use Rattle.std.proofs.lemmas.Result.{IfOk-weaker}
 use Rattle.view_ports.specs.Disk.{IfTold}
 use Rattle.view_ports.specs.declared.file_name.FileName.{FileName}
 use Rattle.crash_disk.specs.declared.did.Did.TheVariants.{Passed}
-use Rattle.crash_disk.specs.declared.log.Moments.{Moments}
+use Rattle.crash_disk.specs.declared.moments.Moments.{Moments}
 use Rattle.crash_disk.specs.Chosen.{IsChosen, IsSound}
 use Rattle.crash_disk.specs.HeldFiles.{bytes_in}
 use Rattle.crash_disk.specs.Moments.{disk_at}

@@ -1,12 +1,12 @@
 -- All that takes memory is done before the disk is asked, and then the draft is published.
-use Rattle.std.proofs.Common.{◌≤◌, ◌∷◌, OnOk, length, option_map, refl, sym, ap, subst, rules}
+use Rattle.std.proofs.Common.{◌≤◌, ◌∷◌, OnOk, option_map, refl, sym, ap, subst, rules}
 use Rattle.json_terms.specs.Seen.{json}
 use Rattle.gate_file.specs.GateFile.{commits_of}
 use Rattle.gate_file.proofs.Stepped.{ended_err}
 use Rattle.doc_file.specs.Docs.{IsAt}
 use Rattle.doc_file.specs.declared.rev.Rev.{Rev}
 use Rattle.doc_file.specs.Held.{find_last}
-use Rattle.doc_file.specs.Stored.{generation_in, published, write_of, IsPublished}
+use Rattle.doc_file.specs.Stored.{generation_in, write_of}
 use Rattle.doc_file.proofs.Standing.{generation_room}
 use Rattle.doc_file.proofs.Storing.{counted_now, publishes, room_now, stays_at, told_at, told_open}
 use Rattle.doc_file.proofs.docs.Docs.store.Goals as goal
@@ -37,10 +37,9 @@ returns-in_err-publish-clause-stored g c = record {
   revision = search rules;
   is_open = search rules;
   stands = λ history at.
-      publishes c.args.self.now c.args.id (option_map json c.args.content) c.in_ok-rev.field-0 c.next_place-start.result c.next_place-start.ensures c.as_slice.result.now c.as_slice.ensures.value c.in_ok-rev.ensures
+      publishes c.args.self.now c.args.id (option_map json c.args.content) c.in_ok-rev.field-0 c.start-start.result c.start-start.ensures c.as_slice.result.now c.as_slice.ensures.value c.in_ok-rev.ensures
       c.requires.room c.requires.storable c.as_slice-2.result.now c.as_slice-2.ensures.value c.in_ok-rev.field-0.body refl
-      (g.F.Folder.disk c.args.folder.now) (g.F.Folder.disk c.publish.new.folder) history
-      (λ f n. OnOk c.publish.result (IsPublished (published c.args.self.now.file (length c.as_slice-2.result.now) c.in_ok-rev.field-0.body) c.as_slice-2.result.now f n)) _
+      (g.F.Folder.disk c.args.folder.now) (g.F.Folder.disk c.publish.new.folder) history c.publish.result _
       (λ a b is_at others ended. ended_err c.from_residual-in_err-publish.result _ c.from_residual-in_err-publish.ensures.0) at c.publish.ensures.disk;
   long = search rules;
   short = search rules;
@@ -52,24 +51,24 @@ returns-in_err-publish-clause-stored g c = record {
 
 pub invariant_of-self-2-clause-counted : goal.invariant_of-self-2-clause-counted
 invariant_of-self-2-clause-counted g c =
-    counted_now c.args.self.now c.args.id (option_map json c.args.content) c.in_ok-rev.field-0 c.next_place-start.result c.next_place-start.ensures c.as_slice.result.now c.as_slice.ensures.value c.in_ok-rev.ensures
-    c.requires.room c.requires.storable c.as_slice-2.result.now c.as_slice-2.ensures.value c.in_ok-rev.field-0.body refl c.in_ok-publish.ensures.few c.publish.new.file c.in_ok-publish.ensures.done
+    counted_now c.args.self.now c.args.id (option_map json c.args.content) c.in_ok-rev.field-0 c.start-start.result c.start-start.ensures c.as_slice.result.now c.as_slice.ensures.value c.in_ok-rev.ensures
+    c.requires.room c.requires.storable c.as_slice-2.result.now c.as_slice-2.ensures.value c.in_ok-rev.field-0.body refl c.in_ok-publish.ensures.few c.publish.new.self c.in_ok-publish.ensures.done
 
 pub invariant_of-self-2-clause-room : goal.invariant_of-self-2-clause-room
 invariant_of-self-2-clause-room g c =
-    room_now c.args.self.now c.args.id (option_map json c.args.content) c.in_ok-rev.field-0 c.next_place-start.result c.next_place-start.ensures c.as_slice.result.now c.as_slice.ensures.value c.in_ok-rev.ensures
+    room_now c.args.self.now c.args.id (option_map json c.args.content) c.in_ok-rev.field-0 c.start-start.result c.start-start.ensures c.as_slice.result.now c.as_slice.ensures.value c.in_ok-rev.ensures
     c.requires.room c.requires.storable c.as_slice-2.result.now c.as_slice-2.ensures.value c.in_ok-rev.field-0.body refl
 
 pub returns-clause-stored : goal.returns-clause-stored
 returns-clause-stored g c = record {
   revision = search rules;
   is_open =
-      told_open c.args.self.now c.args.id (option_map json c.args.content) c.in_ok-rev.field-0 c.next_place-start.result c.next_place-start.ensures c.as_slice.result.now c.as_slice.ensures.value c.in_ok-rev.ensures
+      told_open c.args.self.now c.args.id (option_map json c.args.content) c.in_ok-rev.field-0 c.start-start.result c.start-start.ensures c.as_slice.result.now c.as_slice.ensures.value c.in_ok-rev.ensures
       c.requires.room c.requires.storable c.as_slice-2.result.now c.as_slice-2.ensures.value c.in_ok-rev.field-0.body refl
       c.in_ok-publish.ensures.few _ c.in_ok-publish.ensures.done (ap (λ (r : Rev). r.seq) c.in_ok-rev.ensures.rev) refl
       c.publish.result c.in_ok-publish.field-0 c.in_ok-publish.was (g.F.Folder.disk c.args.folder.now) (g.F.Folder.disk c.publish.new.folder) c.requires.open c.publish.ensures.disk;
   stands = λ history at.
-      told_at c.args.self.now c.args.id (option_map json c.args.content) c.in_ok-rev.field-0 c.next_place-start.result c.next_place-start.ensures c.as_slice.result.now c.as_slice.ensures.value c.in_ok-rev.ensures
+      told_at c.args.self.now c.args.id (option_map json c.args.content) c.in_ok-rev.field-0 c.start-start.result c.start-start.ensures c.as_slice.result.now c.as_slice.ensures.value c.in_ok-rev.ensures
       c.requires.room c.requires.storable c.as_slice-2.result.now c.as_slice-2.ensures.value c.in_ok-rev.field-0.body refl
       c.in_ok-publish.ensures.few _ c.in_ok-publish.ensures.done (ap (λ (r : Rev). r.seq) c.in_ok-rev.ensures.rev) refl
       c.publish.result c.in_ok-publish.field-0 c.in_ok-publish.was (g.F.Folder.disk c.args.folder.now) (g.F.Folder.disk c.publish.new.folder) history at c.publish.ensures.disk;

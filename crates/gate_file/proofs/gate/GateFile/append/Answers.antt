@@ -10,8 +10,8 @@ use Rattle.gate_file.proofs.Cuts.{adding}
 use Rattle.gate_file.proofs.Appends.{append_images, append_ends, still_shows}
 use Rattle.gate_file.proofs.gate.GateFile.append.Goals as goal
 
-pub returns-then-start-gt-MAX_LENGTH-clause-disk : goal.returns-then-start-gt-MAX_LENGTH-clause-disk
-returns-then-start-gt-MAX_LENGTH-clause-disk g c =
+pub returns-then-not-has_room-clause-disk : goal.returns-then-not-has_room-clause-disk
+returns-then-not-has_room-clause-disk g c =
     let gate = c.args.self.now in
     told_file_none gate.name (Keeps gate) (g.F.Folder.disk c.args.folder.now) (λ file image. Shows gate.root file.durable image) (λ file now. Unit {0})
     (λ file image keeps is. still_shows gate file keeps image is) (λ file keeps. tt) c.requires

@@ -37,8 +37,8 @@ returns-in_err-stage-clause-disk g c =
     (λ file mid now keeps ended later. ended_err c.from_residual-in_err-stage.result (IsCommitted (committed gate next) file now) c.from_residual-in_err-stage.ensures.0)
     c.requires.keeps c.shut.ensures.disk c.stage.ensures.disk
 
-pub returns-in_err-publish-clause-disk : goal.returns-in_err-publish-clause-disk
-returns-in_err-publish-clause-disk g c =
+pub returns-in_err-open_gate-clause-disk : goal.returns-in_err-open_gate-clause-disk
+returns-in_err-open_gate-clause-disk g c =
     let gate = c.args.self.now in
     let next = next_root gate c.args.root c.args.len in
     let shut_was = c.in_ok-shut.was in
@@ -52,12 +52,12 @@ returns-in_err-publish-clause-disk g c =
     let late = on_ok c.stage.result c.in_ok-stage.field-0 (IsStaged gate next now × Continues mid now) stage_was later in
     (late.0, continues_then file mid now early.1 late.1))
     c.requires.keeps c.shut.ensures.disk c.stage.ensures.disk in
-    told_file_then gate.name (Keeps gate) (g.F.Folder.disk c.args.folder.now) (g.F.Folder.disk c.stage.new.folder) (g.F.Folder.disk c.publish.new.folder) (λ file image. Shows gate.root file.durable image) (λ file image. Shows gate.root file.durable image ⊎ Shows (Some next) file.seen image) (λ file image. Shows gate.root file.durable image ⊎ Shows (Some next) file.seen image)
-    (λ file now. IsStaged gate next now × Continues file now) (λ file now. OnOk c.publish.result (IsCommitted (committed gate next) file now)) (λ file now. OnOk c.from_residual-in_err-publish.result (IsCommitted (committed gate next) file now))
+    told_file_then gate.name (Keeps gate) (g.F.Folder.disk c.args.folder.now) (g.F.Folder.disk c.stage.new.folder) (g.F.Folder.disk c.open_gate.new.folder) (λ file image. Shows gate.root file.durable image) (λ file image. Shows gate.root file.durable image ⊎ Shows (Some next) file.seen image) (λ file image. Shows gate.root file.durable image ⊎ Shows (Some next) file.seen image)
+    (λ file now. IsStaged gate next now × Continues file now) (λ file now. OnOk c.open_gate.result (IsCommitted (committed gate next) file now)) (λ file now. OnOk c.from_residual-in_err-open_gate.result (IsCommitted (committed gate next) file now))
     (λ file image keeps left. inl left)
     (λ file mid image keeps ended left. either_before gate.root next file mid image ended.1 left)
-    (λ file mid now keeps ended later. ended_err c.from_residual-in_err-publish.result (IsCommitted (committed gate next) file now) c.from_residual-in_err-publish.ensures.0)
-    c.requires.keeps two c.publish.ensures.disk
+    (λ file mid now keeps ended later. ended_err c.from_residual-in_err-open_gate.result (IsCommitted (committed gate next) file now) c.from_residual-in_err-open_gate.ensures.0)
+    c.requires.keeps two c.open_gate.ensures.disk
 
 pub returns-clause-disk : goal.returns-clause-disk
 returns-clause-disk g c =
@@ -74,9 +74,9 @@ returns-clause-disk g c =
     let late = on_ok c.stage.result c.in_ok-stage.field-0 (IsStaged gate next now × Continues mid now) stage_was later in
     (late.0, continues_then file mid now early.1 late.1))
     c.requires.keeps c.shut.ensures.disk c.stage.ensures.disk in
-    told_file_then gate.name (Keeps gate) (g.F.Folder.disk c.args.folder.now) (g.F.Folder.disk c.stage.new.folder) (g.F.Folder.disk c.publish.new.folder) (λ file image. Shows gate.root file.durable image) (λ file image. Shows gate.root file.durable image ⊎ Shows (Some next) file.seen image) (λ file image. Shows gate.root file.durable image ⊎ Shows (Some next) file.seen image)
-    (λ file now. IsStaged gate next now × Continues file now) (λ file now. OnOk c.publish.result (IsCommitted (committed gate next) file now)) (λ file now. IsCommitted (committed gate next) file now)
+    told_file_then gate.name (Keeps gate) (g.F.Folder.disk c.args.folder.now) (g.F.Folder.disk c.stage.new.folder) (g.F.Folder.disk c.open_gate.new.folder) (λ file image. Shows gate.root file.durable image) (λ file image. Shows gate.root file.durable image ⊎ Shows (Some next) file.seen image) (λ file image. Shows gate.root file.durable image ⊎ Shows (Some next) file.seen image)
+    (λ file now. IsStaged gate next now × Continues file now) (λ file now. OnOk c.open_gate.result (IsCommitted (committed gate next) file now)) (λ file now. IsCommitted (committed gate next) file now)
     (λ file image keeps left. inl left)
     (λ file mid image keeps ended left. either_before gate.root next file mid image ended.1 left)
-    (λ file mid now keeps ended later. committed_before (committed gate next) file mid now ended.1 (on_ok c.publish.result c.in_ok-publish.field-0 (IsCommitted (committed gate next) mid now) c.in_ok-publish.was later))
-    c.requires.keeps two c.publish.ensures.disk
+    (λ file mid now keeps ended later. committed_before (committed gate next) file mid now ended.1 (on_ok c.open_gate.result c.in_ok-open_gate.field-0 (IsCommitted (committed gate next) mid now) c.in_ok-open_gate.was later))
+    c.requires.keeps two c.open_gate.ensures.disk

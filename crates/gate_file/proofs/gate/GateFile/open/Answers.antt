@@ -1,15 +1,24 @@
-use Rattle.std.proofs.Common.{◌≡◌, inl, [], OnOk, rules}
+use Rattle.std.proofs.Common.{◌≡◌, inl, [], Err, OnOk, rules}
 use Rattle.std.specs.Prelude.{true, false, IfOk}
 use Rattle.view_ports.specs.File.{settled}
 use Rattle.view_ports.specs.Disk.{Disk, Moves, MovesFile}
 use Rattle.view_ports.specs.declared.file_name.FileName.{FileName}
 use Rattle.view_ports.proofs.Told.{told_map, told_then, told_given, told_now}
 use Rattle.view_ports.proofs.DiskRuns.{moves_wider, on_ok}
-use Rattle.gate_file.specs.Open.{side_of, opened, BeforeOpening, WhileOpening, IsOpened, IsPair, IsSettledPair}
+use Rattle.gate_file.specs.declared.fault.GateFault.TheVariants.{Damaged}
+use Rattle.gate_file.specs.Calls.{IsDamageOf}
+use Rattle.gate_file.specs.Open.{side_of, opened, BeforeOpening, WhileOpening, IsFirstDamage, IsOpened, IsPair, IsSettledPair}
 use Rattle.gate_file.proofs.Cuts.{Cut}
 use Rattle.gate_file.proofs.Pairs.{opens_second}
 use Rattle.gate_file.proofs.Openings.{failed_open, some_root, no_root, take_second, opened_second, drop_second, opened_first, drop_both, opened_new}
 use Rattle.gate_file.proofs.gate.GateFile.open.Goals as goal
+
+pub returns-in_err-first-clause-damaged : goal.returns-in_err-first-clause-damaged
+returns-in_err-first-clause-damaged g c =
+    let stem = c.args.stem in
+    told_now (g.F.Folder.disk c.args.folder.now) (λ d. IsDamageOf (IsFirstDamage stem d.now) c.look_at_both.result) (λ d. IsDamageOf (IsFirstDamage stem d.now) c.from_residual.result)
+    (λ d known n at same. let was : c.look_at_both.result ≡ Err (Damaged n at) = search rules in known n at was)
+    c.look_at_both.ensures.damaged
 
 pub returns-in_err-first-clause-disk : goal.returns-in_err-first-clause-disk
 returns-in_err-first-clause-disk g c =

@@ -18,7 +18,7 @@ use Rattle.view_engine.proofs.Plans.{plain_design, planned, refused_language, re
 use Rattle.view_engine.proofs.engine.Engine.plan.Goals as goal
 
 pub returns-in-Err-clause-reads : goal.returns-in-Err-clause-reads
-returns-in-Err-clause-reads g c = rw c.from.ensures (read_of_get c.as_str-2.result.now c.in-Err.fault c.in-Err.ensures.disk c.in-Err.ensures.cause c.in-Err.ensures.damaged c.in-Err.ensures.sound c.in-Err.ensures.faults)
+returns-in-Err-clause-reads g c = rw c.from.ensures (read_of_get c.as_str-2.result.now c.in-Err.fault c.in-Err.ensures.disk c.in-Err.ensures.cause c.in-Err.ensures.deleted.1 c.in-Err.ensures.damaged c.in-Err.ensures.sound c.in-Err.ensures.faults)
 
 pub returns-in_default-clause-refused : goal.returns-in_default-clause-refused
 returns-in_default-clause-refused g c = λ refusal is_refusal history.

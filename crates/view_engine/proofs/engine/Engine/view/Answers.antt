@@ -28,7 +28,7 @@ returns-in-Err g c = viewed_halted c.requires.open tt c.in-Err.ensures.reads ref
     let halt = c.in-Err.halt in
     unasked g.C.Servers.functions g.C.Servers.honest languages before name halt x (g.F.Folder.disk c.plan.new.folder) (g.C.Servers.may_follow c.args.servers.now) (g.C.Servers.faults c.args.servers.now) c.args.self.now at c.in-Err.ensures.reads.disk
     (told_refused x (λ d. AreAt docs d.now history) languages history name halt at.documents (λ r is. c.in-Err.ensures.refused r is history)))
-    (λ fault is other before child. child) refl (omega arith)
+    (λ fault is other before child. child) (record { languages = refl; width = refl }) (omega arith)
 
 pub returns-in-Err-load_mapped : goal.returns-in-Err-load_mapped
 returns-in-Err-load_mapped g c = viewed_halted c.requires.open tt (reads_then c.in-Ok.ensures.reads c.in-Err-load_mapped.ensures.reads) refl (λ goes_on before at.
@@ -40,7 +40,7 @@ returns-in-Err-load_mapped g c = viewed_halted c.requires.open tt (reads_then c.
     unasked g.C.Servers.functions g.C.Servers.honest languages before name halt x z (g.C.Servers.may_follow c.args.servers.now) (g.C.Servers.faults c.args.servers.now) c.args.self.now at
     (told_none_then x (g.F.Folder.disk c.plan.new.folder) z c.plan.ensures.reads.disk c.load_mapped.ensures.reads.disk)
     (told_all x (λ d. IsRefusedThere languages before.world.history name halt) (λ d r is. absurd (c.in-Err-load_mapped.ensures.refused r is))))
-    (λ fault is other before child. child) refl (omega arith)
+    (λ fault is other before child. child) (record { languages = refl; width = refl }) (omega arith)
 
 pub returns-in-Ok-map_all : goal.returns-in-Ok-map_all
 returns-in-Ok-map_all g c = viewed c.requires.open (reads_then c.in-Ok.ensures.reads c.in-Ok-load_mapped.ensures.reads) c.append_rows.ensures.silent c.append_rows.ensures.memory (
@@ -60,7 +60,7 @@ returns-in-Ok-map_all g c = viewed c.requires.open (reads_then c.in-Ok.ensures.r
     let known = known_at languages before name plan.id plan.design plan.place path documents m x y docs c.as_slice.ensures.value at.documents c.plan.ensures.reads.disk c.in-Ok.ensures.known.1
     (c.in-Ok.ensures.plan history) (c.in-Ok-load_mapped.ensures.mapped history) in
     done g.C.Servers.functions g.C.Servers.honest languages before name plan.id plan.design plan.place path c.in-Ok.ensures.within m.ids.items documents
-    (g.C.Servers.may_follow c.map_all.new.servers) (g.C.Servers.faults c.args.servers.now) (g.C.Servers.faults c.map_all.new.servers) c.map_all.new.self at.child.counts c.map_all.ensures.later
+    (g.C.Servers.may_follow c.map_all.new.servers) (g.C.Servers.faults c.args.servers.now) (g.C.Servers.faults c.map_all.new.servers) c.map_all.new.self at.child.counts c.map_all.ensures.ends.later c.args.self.now.pool.width at.child.width c.map_all.ensures.ends.keeps.width
     x z docs (at_none docs x z (told_none_then x y z c.plan.ensures.reads.disk c.load_mapped.ensures.reads.disk) history at.documents) known lists c.args.out.now.items c.append_rows.new.out.items
     (c.in-Ok-map_all.ensures.went path before.calls at.child.follows c.in-Ok.ensures.known.1 at.child.child)
     (appended ∙ (λ i. c.args.out.now.items ++ ended (answer (sorted_rows (emitted_rows (c.as_slice-in-Ok-map_all.ensures.value i) (emitted_by plan.place (c.as_slice-in-Ok-map_all-2.ensures i))))))))
@@ -81,11 +81,11 @@ returns-in-Ok-map_all g c = viewed c.requires.open (reads_then c.in-Ok.ensures.r
     let known = known_at languages before name plan.id plan.design plan.place path documents m x y docs c.as_slice.ensures.value at.documents c.plan.ensures.reads.disk c.in-Ok.ensures.known.1
     (c.in-Ok.ensures.plan history) (c.in-Ok-load_mapped.ensures.mapped history) in
     ran_out g.C.Servers.functions g.C.Servers.honest languages before name plan.id plan.design plan.place path c.in-Ok.ensures.within m.ids.items documents
-    (g.C.Servers.may_follow c.map_all.new.servers) (g.C.Servers.faults c.args.servers.now) (g.C.Servers.faults c.map_all.new.servers) c.map_all.new.self at.child.counts c.map_all.ensures.later
+    (g.C.Servers.may_follow c.map_all.new.servers) (g.C.Servers.faults c.args.servers.now) (g.C.Servers.faults c.map_all.new.servers) c.map_all.new.self at.child.counts c.map_all.ensures.ends.later c.args.self.now.pool.width at.child.width c.map_all.ensures.ends.keeps.width
     x z docs (at_none docs x z (told_none_then x y z c.plan.ensures.reads.disk c.load_mapped.ensures.reads.disk) history at.documents) known c.in-Ok-map_all.lists halt
     (c.in-Ok-map_all.ensures.went path before.calls at.child.follows c.in-Ok.ensures.known.1 at.child.child) memory)
     c.append_rows.ensures.memory)
-    c.map_all.ensures.languages c.map_all.ensures.later
+    c.map_all.ensures.ends.keeps c.map_all.ensures.ends.later
 
 pub returns : goal.returns
 returns g c = viewed_halted {T = Unit {0}} c.requires.open tt
@@ -104,7 +104,7 @@ returns g c = viewed_halted {T = Unit {0}} c.requires.open tt
     let known = known_at languages before name plan.id plan.design plan.place path documents m x y docs c.as_slice.ensures.value at.documents c.plan.ensures.reads.disk c.in-Ok.ensures.known.1
     (c.in-Ok.ensures.plan history) (c.in-Ok-load_mapped.ensures.mapped history) in
     refused g.C.Servers.functions g.C.Servers.honest languages before name plan.id plan.design plan.place path c.in-Ok.ensures.within m.ids.items documents
-    (g.C.Servers.may_follow c.map_all.new.servers) (g.C.Servers.faults c.args.servers.now) (g.C.Servers.faults c.map_all.new.servers) c.map_all.new.self at.child.counts c.map_all.ensures.later
+    (g.C.Servers.may_follow c.map_all.new.servers) (g.C.Servers.faults c.args.servers.now) (g.C.Servers.faults c.map_all.new.servers) c.map_all.new.self at.child.counts c.map_all.ensures.ends.later c.args.self.now.pool.width at.child.width c.map_all.ensures.ends.keeps.width
     x z docs (at_none docs x z (told_none_then x y z c.plan.ensures.reads.disk c.load_mapped.ensures.reads.disk) history at.documents) known c.in-Err-map_all.fault c.halt_of.result
-    (c.in-Err-map_all.ensures.went path before.calls at.child.follows c.in-Ok.ensures.known.1 at.child.child) (λ is. c.in-Err-map_all.ensures.twice (ap Err is)) c.halt_of.ensures)
-    (λ fault is other. absurd (met_no_fault c.in-Ok.plan.id c.in-Err-map_all.fault fault (sym c.halt_of.ensures ∙ is) other)) c.map_all.ensures.languages c.map_all.ensures.later
+    (c.in-Err-map_all.ensures.went path before.calls at.child.follows c.in-Ok.ensures.known.1 at.child.child) (λ is. c.in-Err-map_all.ensures.ends.twice (ap Err is)) c.halt_of.ensures)
+    (λ fault is other. absurd (met_no_fault c.in-Ok.plan.id c.in-Err-map_all.fault fault (sym c.halt_of.ensures ∙ is) other)) c.map_all.ensures.ends.keeps c.map_all.ensures.ends.later

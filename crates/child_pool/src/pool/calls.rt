@@ -1,0 +1,228 @@
+// The calls of the pool: children are made ready, map documents, and are stopped.
+ghost use Rattle.std.specs.Prelude.{◌≡◌, ◌≤◌, ◌<◌, ◌^◌, ◌⊎◌, IfErr, IfOk, OnOk, None, Some, length, min};
+ghost use Rattle.design_docs.specs.Design.{map_sources};
+ghost use Rattle.child_pool.specs.PoolCalls.{Ends, StaysAsMade, Maps, MapsAll, MapsBatch, Prepares, Readies, RefusesUnknown, StopsAll, path_for};
+ghost use Rattle.child_pool.specs.Pools.{IsKeptOf};
+
+use crate::doc_rows::DocRowLists;
+use crate::document::Document;
+use crate::pool::each::map_each;
+use crate::pool::{Pool, Started};
+use crate::pool_fault::PoolFault;
+use crate::preparing::prepare_slots;
+use design_docs::{Design, View};
+use json_terms::{Chars, NoMemory};
+use std::alloc::Global;
+use view_ports::Servers;
+
+/// What a design asks of the pool: the path of its language, and its sources in order of the views.
+#[derive(Drop)]
+struct SetUp {
+    path: Chars,
+    sources: Vec<Chars>,
+}
+
+impl Pool {
+    /// Makes the children of the first `slots` slots ready for a design: each is started where none is there that was started
+    /// by the path of the design's language, it is reset, and it is told each source in order of the views. There are
+    /// no more slots than the width, and there may be none. After a refusal no child is left.
+    ///
+    /// `UnknownLanguage` comes exactly where the language has no path, `ServerFault` only where two attempts on one prompt
+    /// failed, `BadReply` and `Compile` only of a line that was received in this call, and `NoMemory` where memory runs out.
+    pub fn prepare<C: Servers>(
+        &mut self,
+        alloc: Global,
+        servers: &mut C,
+        design: &Design,
+        slots: u32,
+    ) -> Result<(), PoolFault>
+        requires slots { slots ≤ self.old.width }
+        ensures went { Prepares C.Servers servers.old servers.new
+            self.old design.now slots self.new result }
+        ensures ends { Ends C.Servers servers.old servers.new self.old self.new design.now result }
+        ensures unknown { RefusesUnknown self.old design.now result }
+    {
+        match self.try_prepare(alloc, servers, design, slots) {
+            Ok(()) => Ok(()),
+            Err(fault) => {
+                self.stop_all(servers);
+                Err(fault)
+            }
+        }
+    }
+
+    /// Maps documents, one after another, through the children that were made ready for this design: as many as there are
+    /// documents, up to the width. After a refusal no child is left. The refusals are those of `prepare`.
+    pub fn map_batch<C: Servers>(
+        &mut self,
+        alloc: Global,
+        servers: &mut C,
+        design: &Design,
+        documents: &[Document],
+    ) -> Result<DocRowLists, PoolFault>
+        requires few { length design.now.views < 2 ^ 32 }
+        ensures went { MapsBatch C.Servers servers.old servers.new
+            self.old design.now documents.now self.new result }
+        ensures ends { Ends C.Servers servers.old servers.new self.old self.new design.now result }
+        ensures unknown { RefusesUnknown self.old design.now result }
+    {
+        match self.try_map(alloc, servers, design, documents) {
+            Ok(lists) => Ok(lists),
+            Err(fault) => {
+                self.stop_all(servers);
+                Err(fault)
+            }
+        }
+    }
+
+    /// Maps all documents of a design: as many children are made ready as there are slots and documents for them, and they map
+    /// the documents. Without documents no server is called. After a refusal no child is left. The refusals are those of
+    /// `prepare`.
+    pub fn map_all<C: Servers>(
+        &mut self,
+        alloc: Global,
+        servers: &mut C,
+        design: &Design,
+        documents: &[Document],
+    ) -> Result<DocRowLists, PoolFault>
+        requires few { length design.now.views < 2 ^ 32 }
+        ensures went { MapsAll C.Servers servers.old servers.new
+            self.old design.now documents.now self.new result }
+        ensures ends { Ends C.Servers servers.old servers.new self.old self.new design.now result }
+    {
+        if documents.is_empty() {
+            return Ok(DocRowLists::new(alloc));
+        }
+        let slots = self.slots_for(documents.len());
+        match self.prepare(alloc, servers, design, slots) {
+            Ok(()) => self.map_batch(alloc, servers, design, documents),
+            Err(fault) => Err(fault),
+        }
+    }
+
+    /// How many slots so many documents need.
+    fn slots_for(&self, count: usize) -> u32
+        ensures { result ≡ min self.now.width count }
+    {
+        if count < self.width as usize {
+            count as u32
+        } else {
+            self.width
+        }
+    }
+
+    /// Makes the children ready. After a refusal they may be as they were left.
+    fn try_prepare<C: Servers>(
+        &mut self,
+        alloc: Global,
+        servers: &mut C,
+        design: &Design,
+        slots: u32,
+    ) -> Result<(), PoolFault>
+        requires slots { slots ≤ self.old.width }
+        ensures went { Readies C.Servers servers.old servers.new
+            self.old design.now slots self.new result }
+        ensures ends { Ends C.Servers servers.old servers.new self.old self.new design.now result }
+        ensures unknown { RefusesUnknown self.old design.now result }
+    {
+        let plan = match self.plan_of(alloc, design) {
+            Ok(plan) => plan,
+            Err(fault) => return Err(fault),
+        };
+        let kept = self.count_of(plan.path.as_str());
+        match prepare_slots(
+            alloc,
+            servers,
+            slots,
+            kept,
+            plan.path.as_str(),
+            plan.sources.as_slice(),
+        ) {
+            Ok(()) => {
+                self.started = Some(Started {
+                    path: plan.path,
+                    count: slots.max(kept),
+                });
+                Ok(())
+            }
+            Err(fault) => Err(fault),
+        }
+    }
+
+    /// Maps documents. After a refusal the children may be as they were left.
+    fn try_map<C: Servers>(
+        &self,
+        alloc: Global,
+        servers: &mut C,
+        design: &Design,
+        documents: &[Document],
+    ) -> Result<DocRowLists, PoolFault>
+        requires few { length design.now.views < 2 ^ 32 }
+        ensures went { Maps C.Servers servers.old servers.new
+            self.now design.now documents.now result }
+        ensures ends { Ends C.Servers servers.old servers.new self.now self.now design.now result }
+        ensures unknown { RefusesUnknown self.now design.now result }
+    {
+        match self.plan_of(alloc, design) {
+            Ok(plan) => map_each(
+                alloc,
+                servers,
+                plan.path.as_str(),
+                plan.sources.as_slice(),
+                documents,
+            ),
+            Err(fault) => Err(fault),
+        }
+    }
+
+    /// The path and the sources of a design.
+    fn plan_of(&self, alloc: Global, design: &Design) -> Result<SetUp, PoolFault>
+        ensures path { IfOk result (λ plan. path_for self.now design.now ≡ Some plan.path) }
+        ensures sources { IfOk result (λ plan. plan.sources.items ≡ map_sources design.now.views) }
+        ensures unknown { RefusesUnknown self.now design.now result }
+        ensures refused { IfErr result (λ fault. (fault ≡ PoolFault.NoMemory)
+            ⊎ ((fault ≡ PoolFault.UnknownLanguage) × (path_for self.now design.now ≡ None))) }
+    {
+        let Some(path) = self.path_of(design.language.as_str()) else {
+            return Err(PoolFault::UnknownLanguage);
+        };
+        let path = Chars::from_text(alloc, path)?;
+        let sources = sources_of(alloc, design.views.as_slice())?;
+        Ok(SetUp { path, sources })
+    }
+
+    /// How many children that were started by this path are kept.
+    fn count_of(&self, path: &str) -> u32
+        ensures { IsKeptOf self.now path.now result }
+    {
+        if let Some(started) = &self.started {
+            if started.path.as_str() == path {
+                return started.count;
+            }
+        }
+        0
+    }
+
+    /// Stops all children: those of the slots below the width. No other slot is called.
+    pub fn stop_all<C: Servers>(&mut self, servers: &mut C)
+        ensures went { StopsAll C.Servers servers.old servers.new self.old self.new }
+        ensures keeps { StaysAsMade self.old self.new }
+        ensures faults { C.faults servers.new ≡ C.faults servers.old }
+    {
+        for slot in 0..self.width {
+            servers.stop(slot);
+        }
+        self.started = None;
+    }
+}
+
+/// The sources of a design's map functions, in order of the views.
+fn sources_of(alloc: Global, views: &[View]) -> Result<Vec<Chars>, NoMemory>
+    ensures { IfOk result (λ sources. sources.items ≡ map_sources views.now) }
+{
+    let mut sources = Vec::with_capacity(alloc, views.len())?;
+    for view in views {
+        sources.push(view.map.copy(alloc)?)?;
+    }
+    Ok(sources)
+}

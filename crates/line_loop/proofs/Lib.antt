@@ -1,0 +1,3 @@
+pub mod Progressing
+pub mod Ending
+pub mod Seeing

@@ -1,0 +1,45 @@
+-- What opening an engine promises, over a folder that tells its disk.
+use Rattle.std.specs.Prelude.{◌≡◌, ℕ, Option, Result, Err, IfOk}
+use Rattle.view_ports.specs.Causes.{HasCauseIf}
+use Rattle.view_ports.specs.Disk.{IfTold}
+use Rattle.view_ports.specs.declared.file_name.FileName.{FileName}
+use Rattle.view_ports.specs.declared.folder.Folder.{Ghosts as Folders}
+use Rattle.doc_file.specs.Docs.{IsDamagedAt}
+use Rattle.view_engine.specs.declared.engine.Engine.{Engine}
+use Rattle.view_engine.specs.declared.halt.StepFault.{StepFault}
+use Rattle.view_engine.specs.declared.halt.StepFault.TheVariants.{Damaged, DiskFault, Full}
+use Rattle.view_engine.specs.Disks.{CrashLeaves}
+use Rattle.view_engine.specs.World.{World}
+use Rattle.view_engine.specs.Worlds.{Holds, IsAtWorld, IsOpen, StandsFor}
+
+module _ {F : Type 0} (f : Folders F) where
+  -- at each moment a crash leaves what stands for the world that the folder holds
+  abbrev pub LeavesWorlds : F → F → Type 0
+  LeavesWorlds old new = (world : World) → IfTold (f.disk old) (λ d. Holds d.now world) → CrashLeaves f old new (λ image. StandsFor image world)
+
+  -- what is opened is at the world that the folder holds
+  abbrev pub OpensWorlds : F → F → Result Engine StepFault → Type 0
+  OpensWorlds old new result = (world : World) → IfTold (f.disk old) (λ d. Holds d.now world)
+      → IfTold (f.disk new) (λ d. IfOk result (λ engine. IsAtWorld engine d.now world))
+
+  -- what is opened keeps what the folder holds
+  abbrev pub OpensWhole : F → Result Engine StepFault → Type 0
+  OpensWhole new result = IfTold (f.disk new) (λ d. IfOk result (λ engine. IsOpen engine d.now))
+
+  -- no file is damaged where the folder holds a world
+  abbrev pub MeetsNoDamage : F → Result Engine StepFault → Type 0
+  MeetsNoDamage old result = (world : World) → IfTold (f.disk old)
+      (λ d. Holds d.now world → (name : FileName) (at : ℕ) → result ≡ Err (Damaged name at) → ⊥)
+
+  -- what is named as damaged is
+  abbrev pub MeetsDamage : F → Result Engine StepFault → Type 0
+  MeetsDamage old result = IfTold (f.disk old)
+      (λ d. (name : FileName) (at : ℕ) → result ≡ Err (Damaged name at) → IsDamagedAt d.now name at)
+
+  -- a fault of the disk was counted
+  abbrev pub FailsByDisk : F → F → Result Engine StepFault → Type 0
+  FailsByDisk old new result = HasCauseIf (λ fault. fault ≡ DiskFault) (f.faults old) (f.faults new) result
+
+-- opening fills no file
+abbrev pub FillsNone : Result Engine StepFault → Type 0
+FillsNone result = (name : FileName) (length : Option ℕ) → result ≡ Err (Full name length) → ⊥

@@ -1,0 +1,33 @@
+-- What planning a view promises, over a folder that tells its disk.
+use Rattle.std.specs.Prelude.{◌≡◌, ℕ, List, Result, Some, IfErr, IfOk}
+use Rattle.view_ports.specs.Disk.{IfTold}
+use Rattle.view_ports.specs.declared.folder.Folder.{Ghosts as Folders}
+use Rattle.child_pool.specs.Languages.{path_in}
+use Rattle.child_pool.specs.Pools.{languages_of}
+use Rattle.doc_file.specs.Docs.{IsAt as AreAt}
+use Rattle.doc_file.specs.History.{Write}
+use Rattle.view_engine.specs.declared.engine.Engine.{Engine}
+use Rattle.view_engine.specs.declared.engine.view.Plan.{Plan}
+use Rattle.view_engine.specs.declared.halt.Halt.{Halt}
+use Rattle.view_engine.specs.declared.halt.Halt.TheVariants.{Refused}
+use Rattle.view_engine.specs.declared.refusal.Refusal.{Refusal}
+use Rattle.view_engine.specs.declared.request.ViewName.{ViewName}
+use Rattle.view_engine.specs.View.{view_refusal}
+use Rattle.view_engine.specs.ViewPlan.{IsPlan}
+
+-- the language of a plan has a path
+abbrev pub HasPath : Engine → Plan → Type 0
+HasPath engine plan = (path : List ℕ) × (path_in (languages_of engine.pool) plan.design.language ≡ Some path)
+
+module _ {F : Type 0} (f : Folders F) (engine : Engine) (folder : F) (name : ViewName) (result : Result Plan Halt) where
+  -- over a history it is that of the view
+  abbrev pub PlansView : Type 0
+  PlansView = (history : List Write) → IfTold (f.disk folder) (λ d. AreAt engine.docs d.now history
+      → IfOk result (λ plan. (path : List ℕ) → path_in (languages_of engine.pool) plan.design.language ≡ Some path
+      → IsPlan (languages_of engine.pool) (record { history = history }) name plan.id plan.design plan.place path))
+
+  -- over a history it is refused only as the view is
+  abbrev pub RefusesView : Type 0
+  RefusesView = IfErr result (λ halt. (refusal : Refusal) → halt ≡ Refused refusal → (history : List Write)
+      → IfTold (f.disk folder) (λ d. AreAt engine.docs d.now history
+      → view_refusal (languages_of engine.pool) (record { history = history }) name ≡ Some refusal))
