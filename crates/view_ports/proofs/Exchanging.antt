@@ -25,10 +25,6 @@ IsPrefixOf-refl xs = ([], sym (append-nil xs))
 pub IsPrefixOf-nil : {A : Type 0} (xs : List A) → IsPrefixOf [] xs
 IsPrefixOf-nil xs = (xs, refl)
 
--- a list is the front of what it is the front of
-pub IsPrefixOf-append : {A : Type 0} (part xs ys : List A) → IsPrefixOf part xs → IsPrefixOf part (xs ++ ys)
-IsPrefixOf-append part xs ys front = (front.0 ++ ys, ap (λ l. l ++ ys) front.1 ∙ append_assoc part front.0 ys)
-
 -- the front of what comes next, after all that came before
 pub IsPrefixOf-after : {A : Type 0} (done part xs : List A) → IsPrefixOf part xs → IsPrefixOf (done ++ part) (done ++ xs)
 IsPrefixOf-after done part xs front = (front.0, ap (λ l. done ++ l) front.1 ∙ sym (append_assoc done part front.0))
