@@ -14,8 +14,8 @@ module _ {A W : Type 0} {step : A → Exchange → A → Type 0} {other : W → 
       let last = LeadsTo-seen leads.0 after next.0 es next.2 leads.2 in
       (last.0, (next.0, next.1, last.1), last.2)
 
-  pub Run-seen : (before after : A) (w : W) (bytes gained : List ℕ) (end : RunEnd) → Sees before w → Run step before bytes gained end after
-      → (w' : W) × Run other w bytes gained end w' × Sees after w'
+  pub Run-seen : {Ended : Type 0} (before after : A) (w : W) (bytes gained : List ℕ) (end : RunEnd) → Sees before w → Run step Ended before bytes gained end after
+      → (w' : W) × Run other Ended w bytes gained end w' × Sees after w'
   Run-seen before after w bytes gained end seen run =
       let last = LeadsTo-seen before after w run.exchanges seen run.leads in
       (last.0, (record { exchanges = run.exchanges; lines = run.lines; rest = run.rest; cut = run.cut; answered = run.answered; leads = last.1; written = run.written }), last.2)

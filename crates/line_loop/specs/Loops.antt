@@ -1,11 +1,11 @@
 -- How far a run over lines has come, and how it ends, in the words of what answers the lines.
 use Rattle.std.specs.Prelude.{◌≡◌, ◌≤◌, ℕ, List, ◌∷◌, ◌++◌, Option, length}
-use Rattle.std.specs.Io.KnownBytes.{Appends, Consumes}
+use Rattle.std.specs.Io.KnownBytes.{Appends, Consumes, IsAtEnd}
 use Rattle.view_ports.specs.declared.run_end.RunEnd.{RunEnd}
 use Rattle.view_ports.specs.declared.run_end.RunEnd.TheVariants.{InputEnded, SinkFailed, SourceFailed, OutOfMemory, InputTooLong}
 use Rattle.view_ports.specs.Exchanges.{Exchange, LeadsTo, IsPrefixOf, lines_of, text_of}
-use Rattle.view_ports.specs.Lines.{IsCut, ended, kept, last_line}
-use Rattle.view_ports.specs.Runs.{HasRead, Reached, Run, input_limit}
+use Rattle.view_ports.specs.Lines.{IsCut, ended, kept}
+use Rattle.view_ports.specs.Runs.{AreLines, HasRead, Reached, Run, input_limit}
 use Rattle.line_loop.specs.declared.loop_end.LoopEnd.{LoopEnd}
 use Rattle.line_loop.specs.declared.loop_end.LoopEnd.TheVariants as loop_end
 use Rattle.line_loop.specs.declared.responder.Responder.{Ghosts as Responds}
@@ -54,14 +54,14 @@ module _ {R E : Type 0} (r : Responds R E) where
     pub pending : now.line ≡ kept r.line_limit reached.rest
     pub wrote : Appends first now.held (text_of reached.exchanges)
 
-  -- a run that read these bytes came to this end
-  pub record Finishes (start after : R) (first now : Option (List ℕ)) (bytes : List ℕ) (end : RunEnd) : Type 0 where
+  -- a run that read these bytes came to this end; `Ended` says that the input has ended
+  pub record Finishes (Ended : Type 0) (start after : R) (first now : Option (List ℕ)) (bytes : List ℕ) (end : RunEnd) : Type 0 where
     pub gained : List ℕ
-    pub run : Run Steps start bytes gained end after
+    pub run : Run Steps Ended start bytes gained end after
     pub wrote : Appends first now gained
 
   -- a run that read these bytes was cut short in a line that was not answered, for this reason; those before it are answered
-  pub record IsCutShort (start after : R) (first now : Option (List ℕ)) (bytes : List ℕ) (error : E) : Type 0 where
+  pub record IsCutShort (Ended : Type 0) (start after : R) (first now : Option (List ℕ)) (bytes : List ℕ) (error : E) : Type 0 where
     pub exchanges : List Exchange
     pub lines : List (List ℕ)
     pub rest : List ℕ
@@ -69,21 +69,21 @@ module _ {R E : Type 0} (r : Responds R E) where
     pub more : List (List ℕ)
     pub mid : R
     pub cut : IsCut bytes lines rest
-    pub answered : lines ++ last_line rest ≡ lines_of exchanges ++ line ∷ more
+    pub answered : AreLines Ended lines rest (lines_of exchanges ++ line ∷ more)
     pub leads : LeadsTo Steps start exchanges mid
     pub stops : r.stops mid line error after
     pub wrote : Appends first now (text_of exchanges)
 
-  abbrev pub Ends : R → R → Option (List ℕ) → Option (List ℕ) → List ℕ → LoopEnd E → Type 0
-  Ends start after first now bytes (loop_end.Run end) = Finishes start after first now bytes end
-  Ends start after first now bytes (loop_end.Stopped error) = IsCutShort start after first now bytes error
+  abbrev pub Ends : Type 0 → R → R → Option (List ℕ) → Option (List ℕ) → List ℕ → LoopEnd E → Type 0
+  Ends Ended start after first now bytes (loop_end.Run end) = Finishes Ended start after first now bytes end
+  Ends Ended start after first now bytes (loop_end.Stopped error) = IsCutShort Ended start after first now bytes error
 
   -- what a run did: it read the bytes that the source lost, and came to this end
   pub record Loops (start after : R) (left left' held held' : Option (List ℕ)) (end : LoopEnd E) : Type 0 where
     pub bytes : List ℕ
     pub reads : Consumes left left' bytes
     pub counts : HasReadBy end (length bytes)
-    pub ends : Ends start after held held' bytes end
+    pub ends : Ends (IsAtEnd left') start after held held' bytes end
 
   -- a line was answered, and the sink has the text
   abbrev pub AnswersInto : R → R → Option (List ℕ) → Option (List ℕ) → List ℕ → Type 0
@@ -102,12 +102,13 @@ module _ {R E : Type 0} (r : Responds R E) where
   abbrev pub Goes : Scene R → Scene R → List ℕ → Type 0
   Goes old new more = (start : R) (first : Option (List ℕ)) (bytes : List ℕ) → Progress start first bytes old → Progress start first (bytes ++ more) new
 
-  -- however it came to the old scene, it comes to this end: with no more bytes, with more of them, and with a line and whatever is behind it
+  -- however it came to the old scene, it comes to this end: where the input has ended, with more bytes, and with a line and whatever is
+  -- behind it
   abbrev pub Comes : Scene R → R → Option (List ℕ) → LoopEnd E → Type 0
-  Comes old after now end = (start : R) (first : Option (List ℕ)) (bytes : List ℕ) → Progress start first bytes old → Ends start after first now bytes end
+  Comes old after now end = (start : R) (first : Option (List ℕ)) (bytes : List ℕ) → Progress start first bytes old → Ends (Unit {0}) start after first now bytes end
 
   abbrev pub ComesBy : Scene R → R → Option (List ℕ) → List ℕ → LoopEnd E → Type 0
-  ComesBy old after now more end = (start : R) (first : Option (List ℕ)) (bytes : List ℕ) → Progress start first bytes old → Ends start after first now (bytes ++ more) end
+  ComesBy old after now more end = (start : R) (first : Option (List ℕ)) (bytes : List ℕ) → Progress start first bytes old → Ends ⊥ start after first now (bytes ++ more) end
 
   abbrev pub ComesIn : Scene R → R → Option (List ℕ) → List ℕ → LoopEnd E → Type 0
-  ComesIn old after now line end = (start : R) (first : Option (List ℕ)) (bytes more : List ℕ) → Progress start first bytes old → Ends start after first now (bytes ++ ended line ++ more) end
+  ComesIn old after now line end = (start : R) (first : Option (List ℕ)) (bytes more : List ℕ) → Progress start first bytes old → Ends ⊥ start after first now (bytes ++ ended line ++ more) end

@@ -38,19 +38,19 @@ returns-then-is_empty-clause-err g c =
     let given = first_kept c.args.pending.now.limit c.min-count.result line.items end none c.min-count.ensures in
     IfErr-map c.answer.result _ _
     (λ stop fails start first bytes more progress.
-    Ends-line progress stop end more c.requires.plain _ _ (fails _ (kept_here progress end _ (kept_at _ _ _ _ given c.requires.limit))))
+    Ends-line progress ⊥ stop end more c.requires.plain _ _ (fails _ (kept_here progress end _ (kept_at _ _ _ _ given c.requires.limit))))
     c.answer.ensures.err
 
 pub returns-in-Err-clause-err : goal.returns-in-Err-clause-err
 returns-in-Err-clause-err g c = λ start first bytes more progress.
     let now = g.K.Sink.held c.args.sink.now in
     let end = ended c.args.end.now in
-    Ends-same g.R.Responder start c.args.responder.now first now (bytes ++ (end ++ more)) (bytes ++ end ++ more) (loop_end.Run OutOfMemory) (sym (append_assoc bytes end more)) (Ends-out_of_memory progress (end ++ more))
+    Ends-same g.R.Responder ⊥ start c.args.responder.now first now (bytes ++ (end ++ more)) (bytes ++ end ++ more) (loop_end.Run OutOfMemory) (sym (append_assoc bytes end more)) (Ends-out_of_memory progress ⊥ (end ++ more))
 
 pub returns-in-Err-answer-clause-err : goal.returns-in-Err-answer-clause-err
 returns-in-Err-answer-clause-err g c = λ start first bytes more progress.
     let end = c.args.end.now in
-    Ends-line progress c.in-Err-answer.end end more c.requires.plain _ _
+    Ends-line progress ⊥ c.in-Err-answer.end end more c.requires.plain _ _
     (c.in-Err-answer.ensures.err _ (kept_here progress end c.deref.result.now (c.deref.ensures.value ∙ kept_at _ _ _ _ c.in-Ok.ensures.ok c.requires.limit)))
 
 pub returns-clause-ok : goal.returns-clause-ok

@@ -17,7 +17,7 @@ returns-in-Err-clause-err g c =
     let line = ended c.in-Some.end.now in
     let more = c.in-Some.behind.now in
     let joined : front ++ (line ++ more) ≡ c.args.piece.now = ap (λ (l : List ℕ). front ++ l) (sym c.in-Some.ensures.1) ∙ sym done.1 in
-    λ start first bytes progress. Ends-same g.R.Responder start c.end_line.new.responder first (g.K.Sink.held c.end_line.new.sink) (bytes ++ front ++ line ++ more) (bytes ++ c.args.piece.now) c.in-Err.end
+    λ start first bytes progress. Ends-same g.R.Responder ⊥ start c.end_line.new.responder first (g.K.Sink.held c.end_line.new.sink) (bytes ++ front ++ line ++ more) (bytes ++ c.args.piece.now) c.in-Err.end
     (append_assoc (bytes ++ front) line more ∙ append_assoc bytes front (line ++ more) ∙ ap (λ (l : List ℕ). bytes ++ l) joined)
     (c.in-Err.ensures.err start first (bytes ++ front) more (done.2 start first bytes progress))
 
@@ -48,6 +48,6 @@ returns-in-Err-keep-clause-err g c =
     let done = c.loop-end.invariant in
     let front = done.0 in
     let rest = c.loop-end.rest.now in
-    λ start first bytes progress. Ends-same g.R.Responder start c.loop-end.responder first (g.K.Sink.held c.loop-end.sink) (bytes ++ front ++ rest) (bytes ++ c.args.piece.now) (loop_end.Run OutOfMemory)
+    λ start first bytes progress. Ends-same g.R.Responder ⊥ start c.loop-end.responder first (g.K.Sink.held c.loop-end.sink) (bytes ++ front ++ rest) (bytes ++ c.args.piece.now) (loop_end.Run OutOfMemory)
     (append_assoc bytes front rest ∙ ap (λ (l : List ℕ). bytes ++ l) (sym done.1))
-    (Ends-out_of_memory (done.2 start first bytes progress) rest)
+    (Ends-out_of_memory (done.2 start first bytes progress) ⊥ rest)

@@ -12,7 +12,7 @@ returns-then-is_empty-clause-ok g c = λ start first bytes progress.
     let line = c.args.pending.now.line in
     let size : length line.items ≡ 0 = omega (arith, line.ok, eqb-true _ _ (sym c.if-is_empty.ensures)) in
     let none : line.items ≡ [] = nil_from_length line.items size in
-    Ends-input progress (kept-none g.R.Responder.line_limit progress.reached.rest (sym progress.pending ∙ none))
+    Ends-input progress (Unit {0}) (kept-none g.R.Responder.line_limit progress.reached.rest (sym progress.pending ∙ none))
 
 pub returns-clause-ok : goal.returns-clause-ok
 returns-clause-ok g c =
@@ -21,7 +21,7 @@ returns-clause-ok g c =
     OnOk-map c.answer.result _ _
     (λ answered start first bytes progress.
     let all = answered progress.reached.rest (c.deref.ensures.value ∙ progress.pending) in
-    Ends-last progress (kept-some g.R.Responder.line_limit progress.reached.rest line.items progress.pending some) _ _ all.0 all.1)
+    Ends-last progress (Unit {0}) (kept-some g.R.Responder.line_limit progress.reached.rest line.items progress.pending some) _ _ all.0 all.1)
     c.answer.ensures.ok
 
 pub returns-clause-err : goal.returns-clause-err
@@ -30,6 +30,6 @@ returns-clause-err g c =
     let some : length line.items ≢ 0 = λ none. eqb-false _ _ (sym c.if-is_empty.ensures) (omega arith) in
     IfErr-map c.answer.result _ _
     (λ end fails start first bytes progress.
-    Ends-last_fails progress end (kept-some g.R.Responder.line_limit progress.reached.rest line.items progress.pending some) _ _
+    Ends-last_fails progress (Unit {0}) tt end (kept-some g.R.Responder.line_limit progress.reached.rest line.items progress.pending some) _ _
     (fails progress.reached.rest (c.deref.ensures.value ∙ progress.pending)))
     c.answer.ensures.err

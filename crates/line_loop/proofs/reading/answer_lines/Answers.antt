@@ -10,4 +10,4 @@ use Rattle.line_loop.proofs.reading.answer_lines.Goals as goal
 pub returns-in_default-clause-loops : goal.returns-in_default-clause-loops
 returns-in_default-clause-loops g c =
     Loops-ended g.R.Responder _ _ _ _ _ _ [] (loop_end.Run OutOfMemory) (Consumes-nil _) (lit≤ tt)
-    (Ends-out_of_memory (Progress-start g.R.Responder c.args.responder.now [] (g.K.Sink.held c.args.sink.now) refl) [])
+    (Ends-out_of_memory (Progress-start g.R.Responder c.args.responder.now [] (g.K.Sink.held c.args.sink.now) refl) _ [])

@@ -1,12 +1,12 @@
 -- What was read is the input of the run, and how it ends is the end of the run.
-use Rattle.std.proofs.Common.{◌≡◌, ◌≤◌, ◌++◌, List, ℕ, [], length, take, drop, ap, ◌∙◌, refl, subst, append-nil, length-append, length-take, arith}
+use Rattle.std.proofs.Common.{◌≡◌, ◌<◌, ◌≤◌, ◌++◌, List, ℕ, [], length, take, drop, ap, ◌∙◌, refl, subst, append-nil, length-append, length-take, arith}
 use Rattle.std.proofs.lemmas.List.{take-append-le}
 use Rattle.std.proofs.KnownBytes.{Consumes-nil, Consumes-trans, Consumes-kept}
 use Rattle.std.specs.Io.KnownBytes.{Consumes}
 use Rattle.view_ports.specs.declared.run_end.RunEnd.TheVariants.{InputEnded, SourceFailed, InputTooLong}
 use Rattle.line_loop.specs.declared.loop_end.LoopEnd.TheVariants as loop_end
 use Rattle.line_loop.proofs.Progressing.{Progress-same, Progress-start}
-use Rattle.line_loop.proofs.Ending.{Ends-same, Ends-source_failed, Ends-too_long, Loops-ended, early_unended, early_unfailed}
+use Rattle.line_loop.proofs.Ending.{Ends-map, Ends-same, Ends-source_failed, Ends-too_long, Loops-ended, early_unended, early_unfailed}
 use Rattle.line_loop.proofs.reading.run.Goals as goal
 
 pub loop-taken-init : goal.loop-taken-init
@@ -20,7 +20,11 @@ returns-in-Ok-finish-clause-loops g c =
     let kept : Consumes (left c.loop-taken.source) (left c.read.new.self) [] = subst (Consumes (left c.loop-taken.source) (left c.read.new.self)) none c.in-Ok-eq0.ensures.bytes.0 in
     let reads : Consumes (left c.args.source.now) (left c.read.new.self) done.0 =
     subst (Consumes (left c.args.source.now) (left c.read.new.self)) (append-nil done.0) (Consumes-trans _ _ _ done.0 [] done.1 kept) in
-    Loops-ended g.R.Responder _ _ _ _ _ _ done.0 (loop_end.Run InputEnded) reads (omega (arith, done.2)) (c.in-Ok-finish.ensures.ok _ _ done.0 done.4)
+    let room : 0 < length c.read.new.into =
+    omega (arith, done.2, c.loop-taken-test, c.read.auto.into, length-take c.min-most.result c.loop-taken.piece, c.min-most.ensures, c.requires.room) in
+    let is_end = c.in-Ok-eq0.ensures.bytes.1 c.in-Ok-eq0.field-0-test room in
+    Loops-ended g.R.Responder _ _ _ _ _ _ done.0 (loop_end.Run InputEnded) reads (omega (arith, done.2))
+    (Ends-map g.R.Responder (λ (u : Unit {0}). is_end) _ _ _ _ _ (loop_end.Run InputEnded) (c.in-Ok-finish.ensures.ok _ _ done.0 done.4))
 
 pub returns-in-Err-finish-clause-loops : goal.returns-in-Err-finish-clause-loops
 returns-in-Err-finish-clause-loops g c =
@@ -30,12 +34,16 @@ returns-in-Err-finish-clause-loops g c =
     let kept : Consumes (left c.loop-taken.source) (left c.read.new.self) [] = subst (Consumes (left c.loop-taken.source) (left c.read.new.self)) none c.in-Ok-eq0.ensures.bytes.0 in
     let reads : Consumes (left c.args.source.now) (left c.read.new.self) done.0 =
     subst (Consumes (left c.args.source.now) (left c.read.new.self)) (append-nil done.0) (Consumes-trans _ _ _ done.0 [] done.1 kept) in
-    Loops-ended g.R.Responder _ _ _ _ _ _ done.0 c.in-Err-finish.end reads (c.in-Err-finish.ensures.early (length done.0) (omega (arith, done.2, done.3))) (c.in-Err-finish.ensures.err _ _ done.0 done.4)
+    let room : 0 < length c.read.new.into =
+    omega (arith, done.2, c.loop-taken-test, c.read.auto.into, length-take c.min-most.result c.loop-taken.piece, c.min-most.ensures, c.requires.room) in
+    let is_end = c.in-Ok-eq0.ensures.bytes.1 c.in-Ok-eq0.field-0-test room in
+    Loops-ended g.R.Responder _ _ _ _ _ _ done.0 c.in-Err-finish.end reads (c.in-Err-finish.ensures.early (length done.0) (omega (arith, done.2, done.3)))
+    (Ends-map g.R.Responder (λ (u : Unit {0}). is_end) _ _ _ _ _ c.in-Err-finish.end (c.in-Err-finish.ensures.err _ _ done.0 done.4))
 
 pub returns-in-Err-clause-loops : goal.returns-in-Err-clause-loops
 returns-in-Err-clause-loops g c =
     let done = c.loop-taken.invariant in
-    Loops-ended g.R.Responder _ _ _ _ _ _ done.0 (loop_end.Run SourceFailed) (Consumes-kept _ _ _ done.0 done.1 c.in-Err.ensures.bytes) (omega (arith, done.2)) (Ends-source_failed done.4)
+    Loops-ended g.R.Responder _ _ _ _ _ _ done.0 (loop_end.Run SourceFailed) (Consumes-kept _ _ _ done.0 done.1 c.in-Err.ensures.bytes) (omega (arith, done.2)) (Ends-source_failed done.4 _)
 
 pub returns-in-Err-feed-clause-loops : goal.returns-in-Err-feed-clause-loops
 returns-in-Err-feed-clause-loops g c =
@@ -47,7 +55,8 @@ returns-in-Err-feed-clause-loops g c =
     let size : length (done.0 ++ got) ≤ 1099511627776 =
     omega (arith, done.2, done.3, length-append done.0 got, length-take count into, c.in-Ok.ensures.bound.0, c.read.auto.into, length-take c.min-most.result c.loop-taken.piece, c.min-most.ensures) in
     Loops-ended g.R.Responder _ _ _ _ _ _ (done.0 ++ got) c.in-Err-feed.end (Consumes-trans _ _ _ _ _ done.1 c.in-Ok.ensures.bytes.0) (c.in-Err-feed.ensures.early (length (done.0 ++ got)) size)
-    (Ends-same g.R.Responder _ _ _ _ _ _ c.in-Err-feed.end (ap (λ (l : List ℕ). done.0 ++ l) fed) (c.in-Err-feed.ensures.err _ _ done.0 done.4))
+    (Ends-same g.R.Responder _ _ _ _ _ _ _ c.in-Err-feed.end (ap (λ (l : List ℕ). done.0 ++ l) fed)
+    (Ends-map g.R.Responder (λ (never : ⊥). absurd never) _ _ _ _ _ c.in-Err-feed.end (c.in-Err-feed.ensures.err _ _ done.0 done.4)))
 
 pub loop-taken-preserved : goal.loop-taken-preserved
 loop-taken-preserved g c =
@@ -71,7 +80,7 @@ loop-taken-preserved g c =
 pub returns-clause-loops : goal.returns-clause-loops
 returns-clause-loops g c =
     let done = c.loop-taken.invariant in
-    Loops-ended g.R.Responder _ _ _ _ _ _ done.0 (loop_end.Run InputTooLong) done.1 (omega (arith, done.2, done.3)) (Ends-too_long done.4)
+    Loops-ended g.R.Responder _ _ _ _ _ _ done.0 (loop_end.Run InputTooLong) done.1 (omega (arith, done.2, done.3)) (Ends-too_long done.4 _)
 
 pub returns-in-Err-finish-clause-source_failed : goal.returns-in-Err-finish-clause-source_failed
 returns-in-Err-finish-clause-source_failed g c = λ is. absurd (early_unfailed c.in-Err-finish.end c.in-Err-finish.ensures.early is)
