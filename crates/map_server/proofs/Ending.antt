@@ -23,8 +23,8 @@ HasSources dialogue sources = dialogue.session ≡ sources
 
 module _ (r : Responds Dialogue NoMemory) (steps : (before after : Dialogue) (e : Exchange) → Steps r before e after → AnswersLine before.session e after.session) where
   -- what the loop did is a run of answers, from the sources that the session has
-  run_of : (start after : Dialogue) (bytes gained : List ℕ) (end : RunEnd) → start.session ≡ [] → Run (Steps r) start bytes gained end after
-      → (sources : List (List ℕ)) × Run AnswersLine [] bytes gained end sources × HasSources after sources
+  run_of : {Ended : Type 0} (start after : Dialogue) (bytes gained : List ℕ) (end : RunEnd) → start.session ≡ [] → Run (Steps r) Ended start bytes gained end after
+      → (sources : List (List ℕ)) × Run AnswersLine Ended [] bytes gained end sources × HasSources after sources
   run_of start after bytes gained end none run =
       Run-seen HasSources
       (λ before next sources e seen step. (next.session, subst (λ (ss : List (List ℕ)). AnswersLine ss e next.session) seen (steps before next e step), refl))

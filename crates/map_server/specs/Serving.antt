@@ -1,6 +1,6 @@
 -- What serving lines does, in terms of what the ports tell.
 use Rattle.std.specs.Prelude.{◌≡◌, ◌<◌, ◌⊎◌, ℕ, List, [], Option, Some, None, length}
-use Rattle.std.specs.Io.KnownBytes.{Consumes, Appends}
+use Rattle.std.specs.Io.KnownBytes.{Consumes, Appends, IsAtEnd}
 use Rattle.view_ports.specs.declared.run_end.RunEnd.{RunEnd}
 use Rattle.view_ports.specs.Exchanges.{Exchange}
 use Rattle.view_ports.specs.Lines.{ended}
@@ -28,7 +28,7 @@ pub record Serves (before after : Outside) (status : ℕ) : Type 0 where
   pub reads : Consumes before.left after.left bytes
   pub counts : HasRead end (length bytes)
   pub writes : Appends before.held after.held gained
-  pub runs : Run AnswersLine [] bytes gained end sources
+  pub runs : Run AnswersLine (IsAtEnd after.left) [] bytes gained end sources
 
 -- the status is 8 exactly where as many bytes were read as a run reads at most, unless the sink failed or memory ran out
 -- in a line of them

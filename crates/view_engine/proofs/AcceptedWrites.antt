@@ -54,7 +54,7 @@ module _ (functions : List ℕ → Functions) (honest : List ℕ → Type 0) (la
   does-accepted before (byte ∷ bytes) e after is done = request-accepted before (request_of (byte ∷ bytes)) e done.0 after (ap request_of is) done.1 done.2
 
   -- where memory ran out no document was written
-  kept_world : (before : Moment) (request : Result Request Refusal) (after : Moment) → MayHaveCalled languages before request after → after.world ≡ before.world
+  pub kept_world : (before : Moment) (request : Result Request Refusal) (after : Moment) → MayHaveCalled languages before request after → after.world ≡ before.world
   kept_world before (Ok (View name None)) after (inl same) = ap (λ (m : Moment). m.world) same
   kept_world before (Ok (View name None)) after (inr asked) = ((asked.1).1).2
   kept_world before other after same = ap (λ (m : Moment). m.world) same

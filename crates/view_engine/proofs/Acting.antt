@@ -1,4 +1,5 @@
 -- A request on the documents alone, as the engine performs it.
+use Rattle.std.specs.Prelude.{OnOk}
 use Rattle.std.proofs.Common.{◌≡◌, ℕ, List, inl, inr, Result, Ok, Err, refl, sym, ap, subst, arith}
 use Rattle.view_ports.specs.Functions.{Functions}
 use Rattle.view_ports.specs.Lines.{ended}
@@ -14,7 +15,7 @@ use Rattle.view_engine.specs.declared.halt.StepFault.TheVariants.{DiskFault, Dam
 use Rattle.view_engine.specs.declared.refusal.Refusal.{Refusal}
 use Rattle.view_engine.specs.declared.request.Request.{Request}
 use Rattle.view_engine.specs.declared.request.Request.TheVariants.{Put, Delete, Get, Info}
-use Rattle.view_engine.specs.Calls.{scene, ActsHere, DoesBy, DoesHere, DoesHereBy, IsRefusedHere, Performed, Scene}
+use Rattle.view_engine.specs.Calls.{scene, ActsHere, AppendsLine, DoesBy, DoesHere, DoesHereBy, IsRefusedHere, Performed, Scene}
 use Rattle.view_engine.specs.Disks.{AreOpen}
 use Rattle.view_engine.specs.Moments.{Moment, with_world}
 use Rattle.view_engine.specs.Refusals.{refusal_text}
@@ -81,6 +82,11 @@ module _ {F C : Type 0} (f : Folders F) (s : Servers C) (docs docs' : Docs) (poo
   does_here request (Err (Stopped (Damaged name at))) stopped = λ before child. child
   does_here request (Err (Stopped (Full name length))) stopped = λ before child. child
 
+  -- and where it is done its reply line was appended
+  prints_here : (request : Request) (result : Result (Unit {0}) Halt) → DoesHereBy f docs docs' old new request out out' result → OnOk result (AppendsLine out out')
+  prints_here request (Ok value) done = (done.reply, done.appended)
+  prints_here request (Err halt) done = tt
+
 -- what a request function promises of the documents is what the engine promises of the request
 pub acted : {F C : Type 0} {f : Folders F} {s : Servers C} {docs docs' : Docs} {pool : Pool} {old new : F} {servers : C} {request made : Request} {out out' : List ℕ} {result : Result (Unit {0}) Halt}
     → request ≡ made → ActsHere f docs docs' old new made out out' result
@@ -88,7 +94,9 @@ pub acted : {F C : Type 0} {f : Folders F} {s : Servers C} {docs docs' : Docs} {
 acted {f = f} {s = s} {docs = docs} {docs' = docs'} {pool = pool} {old = old} {new = new} {servers = servers} {request = request} {made = made} {out = out} {out' = out'} {result = result} is acts =
     subst (λ (r : Request). Performed f s (scene (record { docs = docs; pool = pool }) old servers) (scene (record { docs = docs'; pool = pool }) new servers) (Ok r) out out' result) (sym is) (record {
       does = does_here f s docs docs' pool old new servers out out' made result acts.does;
+      prints = prints_here f docs docs' pool old new servers out out' made result acts.does;
       silent = acts.silent;
+      fits = acts.fits;
       disk = acts.disk;
       why = acts.why;
       stays = record { languages = refl; width = refl; disk_faults = acts.later; server_faults = omega arith };
@@ -103,7 +111,9 @@ module _ {F C : Type 0} {f : Folders F} {s : Servers C} {now : Scene F C} {reque
       is_at = at;
       allowed = told_all (f.disk now.folder) (λ d. MayHaveCalled (languages_of now.engine.pool) before request before) (λ d. none_called (languages_of now.engine.pool) before request);
     };
+    prints = tt;
     silent = refl;
+    fits = tt;
     disk = disk_still is_open;
     why = tt;
     stays = record { languages = refl; width = refl; disk_faults = omega arith; server_faults = omega arith };
@@ -120,7 +130,9 @@ module _ {F C : Type 0} {f : Folders F} {s : Servers C} {now : Scene F C} {reque
           (λ d. DoesRequest s.functions s.honest (languages_of now.engine.pool) before request (refusal_text refusal) before × MayHaveCalled (languages_of now.engine.pool) before request before)
           (λ d. (does before, none_called (languages_of now.engine.pool) before request));
     };
+    prints = tt;
     silent = refl;
+    fits = tt;
     disk = disk_still is_open;
     why = tt;
     stays = record { languages = refl; width = refl; disk_faults = omega arith; server_faults = omega arith };

@@ -23,7 +23,7 @@ use Rattle.view_engine.specs.declared.refusal.Refusal.{Refusal}
 use Rattle.view_engine.specs.declared.request.Request.{Request}
 use Rattle.view_engine.specs.Calls.{ActsHere, DoesHere, DoesHereBy, IsRefusedHere}
 use Rattle.view_engine.specs.Disks.{AreOpen, IfStopped, IsReadReason, Reads, ReadsDocuments}
-use Rattle.view_engine.specs.Halts.{halted_as, IsDamage}
+use Rattle.view_engine.specs.Halts.{halted_as, FitsFor, IsDamage}
 use Rattle.view_engine.specs.World.{World}
 use Rattle.view_engine.proofs.HaltedAs.{after_damage, not_deleted, spoiled_damage}
 use Rattle.view_engine.proofs.Keeping.{at_none}
@@ -51,8 +51,8 @@ halted_so f docs old new request out out' (Stopped (Damaged name at)) none refus
 halted_so f docs old new request out out' (Stopped (Full name length)) none refused = tt
 
 module _ {F : Type 0} {f : Folders F} {docs : Docs} {old new : F} {request : Request} {out out' : List ℕ} (is_open : AreOpen f docs old) (none : Tells (f.disk old) (f.disk new) MovesNone) (later : f.faults old ≤ f.faults new) where
-  pub read_done : (reply : List ℕ) → out' ≡ out ++ ended reply → IsMetIn f docs old (λ world. DoesHere world request reply world) → ActsHere f docs docs old new request out out' (Ok tt)
-  read_done reply appended does = record {
+  pub read_done : FitsFor docs (Ok request) → (reply : List ℕ) → out' ≡ out ++ ended reply → IsMetIn f docs old (λ world. DoesHere world request reply world) → ActsHere f docs docs old new request out out' (Ok tt)
+  read_done fits reply appended does = record {
     does = record {
       reply = reply;
       appended = appended;
@@ -64,6 +64,7 @@ module _ {F : Type 0} {f : Folders F} {docs : Docs} {old new : F} {request : Req
       };
     };
     silent = tt;
+    fits = fits;
     disk = disk_read none is_open;
     why = tt;
     later = later;
@@ -74,6 +75,7 @@ module _ {F : Type 0} {f : Folders F} {docs : Docs} {old new : F} {request : Req
   read_stopped {halt} is_read silent refused why = record {
     does = halted_so f docs old new request out out' halt none refused;
     silent = silent;
+    fits = tt;
     disk = disk_read none is_open;
     why = read_halted f docs old new (Ok request) halt is_read why;
     later = later;

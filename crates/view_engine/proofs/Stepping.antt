@@ -6,10 +6,10 @@ use Rattle.view_ports.specs.declared.file_name.FileName.{FileName}
 use Rattle.view_ports.specs.Lines.{ended}
 use Rattle.view_ports.specs.declared.folder.Folder.{Ghosts as Folders}
 use Rattle.view_ports.specs.declared.servers.Servers.{Ghosts as Servers}
-use Rattle.view_ports.proofs.Told.{told_all, told_now}
+use Rattle.view_ports.proofs.Told.{told_all, told_now, told_pair}
 use Rattle.child_pool.specs.Pools.{languages_of}
 use Rattle.doc_file.specs.declared.docs.Docs.{Docs}
-use Rattle.doc_file.specs.Docs.{IsAt as AreAt}
+use Rattle.doc_file.specs.Docs.{IsAt as AreAt, IsOpen}
 use Rattle.view_engine.specs.declared.halt.Halt.{Halt}
 use Rattle.view_engine.specs.declared.halt.Halt.TheVariants.{Refused, Stopped}
 use Rattle.view_engine.specs.declared.halt.StepFault.{StepFault}
@@ -17,24 +17,23 @@ use Rattle.view_engine.specs.declared.halt.StepFault.TheVariants.{DiskFault, Dam
 use Rattle.view_engine.specs.declared.refusal.Refusal.{Refusal}
 use Rattle.view_engine.specs.declared.refusal.Refusal.TheVariants as refusal
 use Rattle.view_engine.specs.declared.request.Request.{Request}
-use Rattle.view_engine.specs.Calls.{DoesBy, KeepsChild, IsStep, IsToldAs, Performed, Scene, StandsAt, StepsBy}
+use Rattle.view_engine.specs.Calls.{AnswersLine, AppendsLine, DoesBy, FitsWhereAccepted, KeepsChild, IsStep, IsToldAs, Performed, Scene, StandsAt, StepsBy}
 use Rattle.view_engine.specs.Disks.{AreOpen, IsReason}
-use Rattle.view_engine.specs.Halts.{halted_by, GoesOn, IsFullFor, WouldWrite}
+use Rattle.doc_file.specs.History.{Write}
+use Rattle.view_engine.specs.Halts.{halted_by, FitsFor, GoesOn, IsDamage, IsFullFor, LeavesFiles, WouldWrite}
 use Rattle.view_engine.specs.Moments.{Moment}
 use Rattle.view_engine.specs.Refusals.{request_of, refusal_text}
-use Rattle.view_engine.specs.Steps.{Does, DoesRequest, DoesRequestText, MayHaveCalled}
+use Rattle.view_engine.specs.Steps.{Does, DoesRequest, DoesRequestText, IsWrite, MayHaveCalled}
 use Rattle.view_engine.specs.World.{World}
-use Rattle.view_engine.specs.Worlds.{IsFullAt, StandsAround, StandsFor}
+use Rattle.view_engine.specs.Worlds.{HasBodyDamage, IsFullAt, StandsAround, StandsFor}
 use Rattle.view_engine.proofs.Acting.{refused_at_once, spent_at_once}
+use Rattle.view_engine.proofs.Exclusive.{no_write_kept}
 use Rattle.view_engine.proofs.OnDisk.{disk_ends, disk_still}
 
 does_text : (functions : List ℕ → Functions) (honest : List ℕ → Type 0) (languages : List (List ℕ × List ℕ)) (before : Moment) (line text : List ℕ) (after : Moment) → line ≢ []
     → DoesRequestText functions honest languages before (request_of line) text after → Does functions honest languages before line text after
 does_text functions honest languages before [] text after some does = absurd (some refl)
 does_text functions honest languages before (byte ∷ bytes) text after some does = does
-
-no_ok : (done : Unit {0}) (fault : StepFault) → Ok done ≡ Err fault → ⊥
-no_ok done fault is = cc
 
 steps_by : {F C : Type 0} (f : Folders F) (s : Servers C) (old new : Scene F C) (line out mid out' : List ℕ) (fault : StepFault) → DoesBy f s old new (request_of line) out mid (Err (Stopped fault))
     → StepsBy f s old new line out out' (Err fault)
@@ -54,7 +53,9 @@ module _ {F C : Type 0} {f : Folders F} {s : Servers C} where
       allowed = told_all (f.disk now.folder) (λ d. Does s.functions s.honest (languages_of now.engine.pool) before [] [] before) (λ d. (refl, refl));
       appended = sym (append-nil out);
     };
+    prints = record { none = λ none. refl; some = λ some. absurd (some refl) };
     silent = tt;
+    fits = λ some. absurd (some refl);
     asked = tt;
     idle = λ none. refl;
     disk = disk_still is_open;
@@ -77,10 +78,12 @@ module _ {F C : Type 0} {f : Folders F} {s : Servers C} where
                 (λ d does. does_text s.functions s.honest (languages_of old.engine.pool) before line done.text done.after some does) done.allowed;
             appended = done.appended;
           };
+      prints = record { none = λ none. absurd (some none); some = λ filled. performed.prints };
       silent = tt;
+      fits = λ filled before at. told_all (f.disk old.folder) (λ d. (write : Write) → IsWrite before.world (request_of line) write → FitsFor old.engine.docs (request_of line)) (λ d write is. performed.fits);
       asked = tt;
       idle = λ none. absurd (some none);
-      disk = disk_ends (λ is. no_ok tt NoMemory is) (λ goes. tt) performed.disk;
+      disk = disk_ends (λ never. never) (λ goes. tt) performed.disk;
       why = tt;
       stays = performed.stays;
     }
@@ -100,10 +103,17 @@ module _ {F C : Type 0} {f : Folders F} {s : Servers C} where
                 (λ d both. does_text s.functions s.honest (languages_of old.engine.pool) before line (ended (refusal_text refusal)) left.after some (refusal_text refusal, both.0, refl)) left.allowed;
             appended = is.0 ∙ ap (λ (o : List ℕ). o ++ ended (refusal_text refusal)) performed.silent;
           };
+      prints = record { none = λ none. absurd (some none); some = λ filled. (refusal_text refusal, is.0 ∙ ap (λ (o : List ℕ). o ++ ended (refusal_text refusal)) performed.silent) };
       silent = tt;
+      fits = λ filled before at.
+          let left = performed.does before at in
+          told_now (f.disk old.folder) (λ d. DoesRequest s.functions s.honest (languages_of old.engine.pool) before (request_of line) (refusal_text refusal) left.after
+          × MayHaveCalled (languages_of old.engine.pool) before (request_of line) left.after)
+          (λ d. (write : Write) → IsWrite before.world (request_of line) write → FitsFor old.engine.docs (request_of line))
+          (λ d both write is. absurd (no_write_kept s.functions s.honest (languages_of old.engine.pool) before (request_of line) (refusal_text refusal) left.after write both.0 both.1 is)) left.allowed;
       asked = tt;
       idle = λ none. absurd (some none);
-      disk = disk_ends (λ is. tt) (λ goes. tt) performed.disk;
+      disk = disk_ends (λ never. absurd never) (λ goes. tt) performed.disk;
       why = tt;
       stays = performed.stays;
     }
@@ -118,7 +128,9 @@ module _ {F C : Type 0} {f : Folders F} {s : Servers C} where
                     × MayHaveCalled (languages_of old.engine.pool) before (request_of line) left.after)
                     (λ d. MayHaveCalled (languages_of old.engine.pool) before (request_of line) left.after) (λ d both. both.1) left.allowed;
               };
+          prints = tt;
           silent = is.1 ∙ performed.silent;
+          fits = tt;
           asked = some;
           idle = λ none. absurd (some none);
           disk = disk_ends (λ given. tt) (λ goes. tt) performed.disk;
@@ -128,10 +140,12 @@ module _ {F C : Type 0} {f : Folders F} {s : Servers C} where
     step_told {mid} {out'} (Stopped fault) told performed is =
         subst (λ (r : Result (Unit {0}) StepFault). IsStep f s old new line out out' r) (sym is.0) (record {
           does = steps_by f s old new line out mid out' fault performed.does;
+          prints = tt;
           silent = is.1 ∙ performed.silent;
+          fits = tt;
           asked = some;
           idle = λ none. absurd (some none);
-          disk = disk_ends (λ same. let spent : fault ≡ NoMemory = cc in subst (λ (e : StepFault). GoesOn (Stopped e)) (sym spent) tt) (λ goes. goes) performed.disk;
+          disk = disk_ends (λ left. left) (λ goes. goes) performed.disk;
           why = performed.why;
           stays = performed.stays;
         })
@@ -184,7 +198,7 @@ module _ {F C : Type 0} {f : Folders F} {s : Servers C} {old new : Scene F C} {l
   -- and where memory ran out, the world before it
   pub step_unwritten : IsStep f s old new line out out' (Err NoMemory) → (before : Moment) → StandsAt f s old before
       → Tells (f.disk old.folder) (f.disk new.folder) (LeavesOnly (λ image. StandsFor image before.world))
-  step_unwritten step before at = step.disk.unwritten refl before.world at.documents
+  step_unwritten step before at = step.disk.unwritten tt before.world at.documents
 
   module _ {fault : StepFault} (step : IsStep f s old new line out out' (Err fault)) (before : Moment) (at : StandsAt f s old before) where
     -- the engine keeps the child that the calls left
@@ -202,3 +216,15 @@ module _ {F C : Type 0} {f : Folders F} {s : Servers C} {old new : Scene F C} {l
     step_full =
         told_full (f.disk old.folder) old.engine.docs before.world (request_of line) (λ name length. fault ≡ Full name length)
         (λ name length is. subst (IsReason f old.engine.docs old.folder new.folder (request_of line)) is step.why) at.documents
+
+-- a damaged place is one that an engine met which is open over these files
+damage_named : (disk : Option (Disk FileName)) (docs : Docs) (fault : StepFault) → IfTold disk (λ d. IsOpen docs d.now) → ((name : FileName) (at : ℕ) → fault ≡ Damaged name at → IfTold disk (λ d. IsDamage docs d.now name at))
+    → IfTold disk (λ d. (name : FileName) (at : ℕ) → fault ≡ Damaged name at → HasBodyDamage d.now name at)
+damage_named None docs fault is_open damage = tt
+damage_named (Some d) docs fault is_open damage = λ name at is. record { docs = docs; is_open = is_open; damage = damage name at is }
+
+pub step_damaged : {F C : Type 0} {f : Folders F} {s : Servers C} {old new : Scene F C} {line out out' : List ℕ} {fault : StepFault} → AreOpen f old.engine.docs old.folder → IsStep f s old new line out out' (Err fault)
+    → IfTold (f.disk old.folder) (λ d. (name : FileName) (at : ℕ) → fault ≡ Damaged name at → HasBodyDamage d.now name at)
+step_damaged {f = f} {old = old} {new = new} {line = line} {fault = fault} is_open step =
+    damage_named (f.disk old.folder) old.engine.docs fault is_open
+    (λ name at is. (subst (IsReason f old.engine.docs old.folder new.folder (request_of line)) is step.why).1.0)

@@ -29,7 +29,7 @@ use Rattle.view_engine.specs.declared.refusal.Refusal.{Refusal}
 use Rattle.view_engine.specs.declared.request.Request.{Request}
 use Rattle.view_engine.specs.Calls.{ActsHere, DoesHere, DoesHereBy, IsRefusedHere, LeavesWorld}
 use Rattle.view_engine.specs.Disks.{AreOpen, IfStopped, IsReason, KeepsDisk, OverWorld}
-use Rattle.view_engine.specs.Halts.{halted_as, GoesOn, IsFull, IsFullFor}
+use Rattle.view_engine.specs.Halts.{halted_as, Fits, FitsFor, GoesOn, IsFull, IsFullFor, LeavesFiles}
 use Rattle.view_engine.specs.Steps.{IsWrite}
 use Rattle.view_engine.specs.World.{written, World}
 use Rattle.view_engine.proofs.Around.{moves_around}
@@ -47,6 +47,7 @@ spent_here {f = f} {docs = docs} {old = old} {request = request} {out = out} {ou
     subst (λ (r : Result (Unit {0}) Halt). ActsHere f docs docs old old request out out' r) (sym spent) (record {
       does = λ world at. record { after = world; is_at = at; allowed = told_all (f.disk old) (λ d. world ≡ world) (λ d. refl) };
       silent = silent;
+      fits = tt;
       disk = disk_still is_open;
       why = tt;
       later = omega arith;
@@ -62,6 +63,7 @@ module _ {F : Type 0} {f : Folders F} {docs : Docs} {old : F} {request : Request
       allowed = told_all (f.disk old) (λ d. (world ≡ world) × IsRefusedHere world request refusal) (λ d. (refl, is world));
     };
     silent = refl;
+    fits = tt;
     disk = disk_still is_open;
     why = tt;
     later = omega arith;
@@ -109,8 +111,8 @@ module _ {F : Type 0} (f : Folders F) (docs docs' : Docs) (old new : F) (request
     }
 
     -- an accepted write
-    pub stored_done : (rev : Rev) → out' ≡ out ++ ended reply → Side (Ok rev) → ActsHere f docs docs' old new request out out' (Ok tt)
-    stored_done rev appended stored = record {
+    pub stored_done : (rev : Rev) → (Fits docs id content → FitsFor docs (Ok request)) → out' ≡ out ++ ended reply → Side (Ok rev) → ActsHere f docs docs' old new request out out' (Ok tt)
+    stored_done rev fits appended stored = record {
       does = record {
         reply = reply;
         appended = appended;
@@ -122,6 +124,7 @@ module _ {F : Type 0} (f : Folders F) (docs docs' : Docs) (old new : F) (request
         };
       };
       silent = tt;
+      fits = fits (record { short = stored.stored.short; few = stored.stored.few });
       disk = disk_moved (Ok rev) stored.accepted (λ never. never) (λ goes. stored.stored.is_open) stored;
       why = tt;
       later = stored.stored.cause.later;
@@ -166,6 +169,11 @@ module _ {F : Type 0} (f : Folders F) (docs docs' : Docs) (old new : F) (request
       no_going_on fault (inr (inl is)) goes = subst (λ (e : DocFault). GoesOn (halted_as e)) is goes
       no_going_on fault (inr (inr is)) goes = subst (λ (e : DocFault). GoesOn (halted_as e)) is goes
 
+      no_files_left : (fault : DocFault) → IsFileFault (file_of docs) fault → LeavesFiles (halted_as fault) → ⊥
+      no_files_left fault (inl is) leaves = subst (λ (e : DocFault). LeavesFiles (halted_as e)) is leaves
+      no_files_left fault (inr (inl is)) leaves = subst (λ (e : DocFault). LeavesFiles (halted_as e)) is leaves
+      no_files_left fault (inr (inr is)) leaves = subst (λ (e : DocFault). LeavesFiles (halted_as e)) is leaves
+
       goes_on : (halt going : Halt) → halt ≡ going → GoesOn going → GoesOn halt
       goes_on halt going is = subst GoesOn (sym is)
 
@@ -180,7 +188,8 @@ module _ {F : Type 0} (f : Folders F) (docs docs' : Docs) (old new : F) (request
           does = halted_here (halted_as fault) (λ refusal is. absurd (no_going_on fault so (goes_on (halted_as fault) (Refused refusal) is tt)))
               (λ is. absurd (no_going_on fault so (goes_on (halted_as fault) (Stopped NoMemory) is tt)));
           silent = silent;
-          disk = disk_moved (Err fault) (stored.reached so) (no_going_on fault so) (λ goes. absurd (no_going_on fault so goes)) stored;
+          fits = tt;
+          disk = disk_moved (Err fault) (stored.reached so) (no_files_left fault so) (λ goes. absurd (no_going_on fault so goes)) stored;
           why = why_halted fault stored;
           later = stored.stored.cause.later;
         }
@@ -198,6 +207,7 @@ module _ {F : Type 0} (f : Folders F) (docs docs' : Docs) (old new : F) (request
                 allowed = told_all (f.disk old) (λ d. world ≡ world) (λ d. refl);
               });
           silent = silent;
+          fits = tt;
           disk = disk_same same is_open;
           why = why_halted fault stored;
           later = stored.stored.cause.later;
@@ -210,7 +220,7 @@ module _ {F : Type 0} {f : Folders F} {docs docs' : Docs} {old new : F} {request
     (reply : List ℕ)
     (does : (files : FileName → File) (world : World) → AreAt docs files world.history → Accepted → DoesHere world request reply (written world (write_of world.history id content)))
     (writes : (files : FileName → File) (world : World) → AreAt docs files world.history → Accepted → IsWrite world (Ok request) (write_of world.history id content)) where
-  pub wrote_here : {rev : Rev} → out' ≡ out ++ ended reply → Writes f docs docs' old new id content Accepted IsRefused (Ok rev) → ActsHere f docs docs' old new request out out' (Ok tt)
+  pub wrote_here : {rev : Rev} → (Fits docs id content → FitsFor docs (Ok request)) → out' ≡ out ++ ended reply → Writes f docs docs' old new id content Accepted IsRefused (Ok rev) → ActsHere f docs docs' old new request out out' (Ok tt)
   wrote_here {rev} = stored_done f docs docs' old new request out out' id content Accepted IsRefused reply does writes rev
 
   pub unwritten_here : {fault : DocFault} → ((g : GateFault) → IsRefused (doc.Gate g) → ⊥)

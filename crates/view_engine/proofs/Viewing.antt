@@ -17,9 +17,9 @@ use Rattle.view_engine.specs.declared.halt.StepFault.{StepFault}
 use Rattle.view_engine.specs.declared.halt.StepFault.TheVariants.{DiskFault, Damaged, Full, NoMemory}
 use Rattle.view_engine.specs.declared.refusal.Refusal.{Refusal}
 use Rattle.view_engine.specs.declared.request.Request.{Request}
-use Rattle.view_engine.specs.Calls.{AppendsText, DoesBy, KeepsChild, LeavesMoment, Performed, Scene, StandsAt, scene}
+use Rattle.view_engine.specs.Calls.{AppendsLine, AppendsText, DoesBy, KeepsChild, LeavesMoment, Performed, Scene, StandsAt, scene}
 use Rattle.view_engine.specs.Disks.{AreOpen, IfStopped, IsReadReason, IsReason, Reads, ReadsDocuments}
-use Rattle.view_engine.specs.Halts.{GoesOn}
+use Rattle.view_engine.specs.Halts.{FitsFor, GoesOn}
 use Rattle.view_engine.specs.Moments.{Moment}
 use Rattle.view_engine.specs.Refusals.{refusal_text}
 use Rattle.view_engine.specs.Steps.{DoesRequest, DoesRequestText, MayHaveCalled}
@@ -97,22 +97,26 @@ module _ {F C T : Type 0} {f : Folders F} {s : Servers C} {docs : Docs} {pool po
       → Performed f s (scene (record { docs = docs; pool = pool }) folder servers) (scene (record { docs = docs; pool = pool' }) folder' servers') request out out' (Err halt)
   viewed_halted {halt} is_read reads silent leaves child keeps later = record {
     does = does_halted f s _ _ request out out' halt leaves child;
+    prints = tt;
     silent = silent;
+    fits = tt;
     disk = disk_read reads.disk is_open;
     why = read_halted f docs folder folder' request halt is_read reads.why;
     stays = record { languages = keeps.languages; width = keeps.width; disk_faults = reads.later; server_faults = later };
   }
 
   -- and whose reply was appended, or memory ran out
-  pub viewed : {read : Result T Halt} {result : Result (Unit {0}) Halt} → Reads f docs folder folder' read → OnErr result (out' ≡ out) → IfErr result (λ halt. halt ≡ Stopped NoMemory)
+  pub viewed : {read : Result T Halt} {result : Result (Unit {0}) Halt} → Reads f docs folder folder' read → OnOk result (AppendsLine out out') → OnOk result (FitsFor docs request) → OnErr result (out' ≡ out) → IfErr result (λ halt. halt ≡ Stopped NoMemory)
       → OnOk result (AppendsReply f s (scene (record { docs = docs; pool = pool }) folder servers) (scene (record { docs = docs; pool = pool' }) folder' servers') request out out')
       → IfErr result (LeavesHalted f s (scene (record { docs = docs; pool = pool }) folder servers) (scene (record { docs = docs; pool = pool' }) folder' servers') request)
       → StaysAsMade pool pool' → s.faults servers ≤ s.faults servers'
       → Performed f s (scene (record { docs = docs; pool = pool }) folder servers) (scene (record { docs = docs; pool = pool' }) folder' servers') request out out' result
-  viewed {result = result} reads silent memory appends leaves keeps later = record {
+  viewed {result = result} reads prints fits silent memory appends leaves keeps later = record {
     does = does_by f s _ _ request out out' result appends leaves
         (IfErr-weaker result (λ halt. halt ≡ Stopped NoMemory) _ (λ halt spent fault is other. absurd (other (let so : fault ≡ NoMemory = cc in so))) memory);
+    prints = prints;
     silent = silent;
+    fits = fits;
     disk = disk_read reads.disk is_open;
     why = IfErr-weaker result (λ halt. halt ≡ Stopped NoMemory) _ (λ halt spent. subst (IfStopped (IsReason f docs folder folder' request)) (sym spent) tt) memory;
     stays = record { languages = keeps.languages; width = keeps.width; disk_faults = reads.later; server_faults = later };

@@ -8,6 +8,7 @@ use Rattle.view_ports.specs.declared.servers.Servers.{Ghosts as Servers}
 use Rattle.child_pool.specs.Pools.{languages_of, width_of}
 use Rattle.doc_file.specs.declared.docs.Docs.{Docs}
 use Rattle.doc_file.specs.Docs.{IsAt as AreAt}
+use Rattle.doc_file.specs.History.{Write}
 use Rattle.view_engine.specs.declared.engine.Engine.{Engine}
 use Rattle.view_engine.specs.declared.halt.Halt.{Halt}
 use Rattle.view_engine.specs.declared.halt.Halt.TheVariants.{Refused, Stopped}
@@ -20,12 +21,23 @@ use Rattle.view_engine.specs.Delete.{DoesDelete, IsDeleteRefused}
 use Rattle.view_engine.specs.Disks.{HasGivenUp, IfStopped, IsReason, KeepsDisk, MayGoOn, OverWorld}
 use Rattle.view_engine.specs.Engine.{Appends, HasChild, IsAt, Leaves}
 use Rattle.view_engine.specs.Get.{get_refusal, DoesGet, DoesInfo}
-use Rattle.view_engine.specs.Halts.{HasGoneOn}
+use Rattle.view_engine.specs.Halts.{FitsFor, HasGoneOn, HasLeftFiles}
 use Rattle.view_engine.specs.Moments.{Moment}
 use Rattle.view_engine.specs.Put.{DoesPut, IsPutRefused}
 use Rattle.view_engine.specs.Refusals.{request_of, refusal_text}
-use Rattle.view_engine.specs.Steps.{Does, DoesRequest, DoesRequestText, MayHaveCalled}
+use Rattle.view_engine.specs.Steps.{Does, DoesRequest, DoesRequestText, IsWrite, MayHaveCalled}
 use Rattle.view_engine.specs.World.{World}
+
+-- ---- what is appended
+
+-- a reply line
+abbrev pub AppendsLine : List ℕ → List ℕ → Type 0
+AppendsLine out out' = (reply : List ℕ) × (out' ≡ out ++ ended reply)
+
+-- a reply line to each line that isn't empty, and nothing to an empty one
+pub record AnswersLine (line out out' : List ℕ) : Type 0 where
+  pub none : line ≡ [] → out' ≡ out
+  pub some : line ≢ [] → AppendsLine out out'
 
 -- ---- a request on the documents alone
 
@@ -68,6 +80,8 @@ module _ {F : Type 0} (f : Folders F) where
     pub record ActsHere (result : Result (Unit {0}) Halt) : Type 0 where
       pub does : DoesHereBy result
       pub silent : OnErr result (out' ≡ out)
+      -- what is written passes no limit of the file
+      pub fits : OnOk result (FitsFor docs (Ok request))
       pub disk : KeepsDisk f docs docs' old new (Ok request) (HasGivenUp result) (MayGoOn result)
       pub why : IfErr result (IfStopped (IsReason f docs old new (Ok request)))
       pub later : f.faults old ≤ f.faults new
@@ -122,8 +136,11 @@ module _ {F C : Type 0} (f : Folders F) (s : Servers C) where
     -- a request, done or not
     pub record Performed (request : Result Request Refusal) (out out' : List ℕ) (result : Result (Unit {0}) Halt) : Type 0 where
       pub does : DoesBy request out out' result
-      -- where it isn't done nothing is appended
+      -- where it is done a reply line is appended, and else nothing
+      pub prints : OnOk result (AppendsLine out out')
       pub silent : OnErr result (out' ≡ out)
+      -- what is written passes no limit of the file
+      pub fits : OnOk result (FitsFor old.engine.docs request)
       pub disk : KeepsDisk f old.engine.docs new.engine.docs old.folder new.folder request (HasGivenUp result) (MayGoOn result)
       pub why : IfErr result (IfStopped (IsReason f old.engine.docs old.folder new.folder request))
       pub stays : Stays old new
@@ -136,14 +153,21 @@ module _ {F C : Type 0} (f : Folders F) (s : Servers C) where
         → LeavesMoment (MayHaveCalled (languages_of old.engine.pool) before (request_of line))
     StepsBy line out out' (Err fault) = (before : Moment) → KeepsChild old before → KeepsChild new before
 
+    -- the request would pass no limit of the file, where it is a write that is accepted
+    abbrev pub FitsWhereAccepted : Result Request Refusal → Type 0
+    FitsWhereAccepted request = (before : Moment) → StandsAt old before
+        → IfTold (f.disk old.folder) (λ d. (write : Write) → IsWrite before.world request write → FitsFor old.engine.docs request)
+
     -- a line, answered or not
     pub record IsStep (line out out' : List ℕ) (result : Result (Unit {0}) StepFault) : Type 0 where
       pub does : StepsBy line out out' result
+      pub prints : OnOk result (AnswersLine line out out')
       pub silent : OnErr result (out' ≡ out)
+      pub fits : OnOk result (line ≢ [] → FitsWhereAccepted (request_of line))
       -- an empty line asks for nothing
       pub asked : OnErr result (line ≢ [])
       pub idle : line ≡ [] → new.folder ≡ old.folder
-      pub disk : KeepsDisk f old.engine.docs new.engine.docs old.folder new.folder (request_of line) (result ≡ Err NoMemory) (HasGoneOn result)
+      pub disk : KeepsDisk f old.engine.docs new.engine.docs old.folder new.folder (request_of line) (HasLeftFiles result) (HasGoneOn result)
       pub why : IfErr result (IsReason f old.engine.docs old.folder new.folder (request_of line))
       pub stays : Stays old new
 

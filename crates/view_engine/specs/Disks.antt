@@ -14,15 +14,15 @@ use Rattle.view_engine.specs.declared.refusal.Refusal.{Refusal}
 use Rattle.view_engine.specs.declared.request.Request.{Request}
 use Rattle.view_engine.specs.declared.request.Request.TheVariants.{Get, View}
 use Rattle.view_engine.specs.Worlds.{StandsAround, StandsFor}
-use Rattle.view_engine.specs.Halts.{GoesOn, IsDamage, IsFullFor, IsStill, MovesDocuments, WouldWrite}
+use Rattle.view_engine.specs.Halts.{GoesOn, IsDamage, IsFullFor, IsStill, LeavesFiles, MovesDocuments, WouldWrite}
 use Rattle.view_engine.specs.World.{World}
 
 -- ---- how a request ends
 
--- it was refused, or memory ran out
+-- it was refused, or memory ran out, or a body is damaged
 abbrev pub HasGivenUp : {T : Type 0} → Result T Halt → Type 0
 HasGivenUp (Ok done) = ⊥
-HasGivenUp (Err halt) = GoesOn halt
+HasGivenUp (Err halt) = LeavesFiles halt
 
 -- the engine may go on
 abbrev pub MayGoOn : {T : Type 0} → Result T Halt → Type 0
@@ -58,7 +58,7 @@ module _ {F : Type 0} (f : Folders F) where
     pub moments : OverWorld docs old (λ world. CrashLeaves old new (StandsAround world request))
     -- no file changes but those of the documents
     pub own : OverWorld docs old (λ world. Tells (f.disk old) (f.disk new) MovesDocuments)
-    -- where it is refused or memory runs out, no file changes, and a crash leaves the world before it
+    -- where it is given up, no file changes, and a crash leaves the world before it
     pub unmoved : HasGivenUp → Tells (f.disk old) (f.disk new) MovesNone
     pub unwritten : HasGivenUp → OverWorld docs old (λ world. CrashLeaves old new (λ image. StandsFor image world))
     -- only a write that is accepted changes a file

@@ -50,6 +50,19 @@ abbrev pub fault_of : Halt → StepFault
 fault_of (Stopped fault) = fault
 fault_of (Refused refusal) = NoMemory
 
+-- it leaves the files as they were
+abbrev pub LeavesFiles : Halt → Type 0
+LeavesFiles (Refused refusal) = Unit {0}
+LeavesFiles (Stopped NoMemory) = Unit {0}
+LeavesFiles (Stopped DiskFault) = ⊥
+LeavesFiles (Stopped (Damaged name offset)) = Unit {0}
+LeavesFiles (Stopped (Full name length)) = ⊥
+
+-- the same of a step
+abbrev pub HasLeftFiles : Result (Unit {0}) StepFault → Type 0
+HasLeftFiles (Ok done) = ⊥
+HasLeftFiles (Err fault) = LeavesFiles (Stopped fault)
+
 -- the engine may go on after it
 abbrev pub GoesOn : Halt → Type 0
 GoesOn (Refused refusal) = Unit {0}
@@ -81,6 +94,17 @@ abbrev pub IsFullFor : Docs → Result Request Refusal → FileName → Option �
 IsFullFor docs (Ok (Put document)) name length = IsFull docs (id_of (object (members_of document))) (content_of (object (members_of document))) name length
 IsFullFor docs (Ok (Delete id given)) name length = IsFull docs id None name length
 IsFullFor docs other name length = ⊥
+
+-- the next write of an id with this content passes neither limit of the documents' file
+pub record Fits (docs : Docs) (id : List ℕ) (content : Option Json) : Type 0 where
+  pub short : start_of (file_of docs) + size_of (start_of (file_of docs)) (seq_of docs) (entries_of docs) id content ≤ 2 ^ 40
+  pub few : commits_of (file_of docs) < 2 ^ 50
+
+-- the same of what a request would write
+abbrev pub FitsFor : Docs → Result Request Refusal → Type 0
+FitsFor docs (Ok (Put document)) = Fits docs (id_of (object (members_of document))) (content_of (object (members_of document)))
+FitsFor docs (Ok (Delete id given)) = Fits docs id None
+FitsFor docs other = Unit {0}
 
 -- the request is a write that is accepted in the world
 abbrev pub WouldWrite : Docs → Option (Disk FileName) → Result Request Refusal → Type 0

@@ -1,10 +1,12 @@
 -- What opening an engine promises, over a folder that tells its disk.
 use Rattle.std.specs.Prelude.{◌≡◌, ℕ, Option, Result, Err, IfOk}
 use Rattle.view_ports.specs.Causes.{HasCauseIf}
-use Rattle.view_ports.specs.Disk.{IfTold}
+use Rattle.view_ports.specs.Disk.{Disk, IfTold, Moves, Tells}
 use Rattle.view_ports.specs.declared.file_name.FileName.{FileName}
+use Rattle.view_ports.specs.declared.file_name.Stem.TheVariants.{Docs as DocsStem}
 use Rattle.view_ports.specs.declared.folder.Folder.{Ghosts as Folders}
-use Rattle.doc_file.specs.Docs.{IsDamagedAt}
+use Rattle.gate_file.specs.Open.{WhileOpening}
+use Rattle.doc_file.specs.Docs.{IsDamagedAt, IsDocsFile}
 use Rattle.view_engine.specs.declared.engine.Engine.{Engine}
 use Rattle.view_engine.specs.declared.halt.StepFault.{StepFault}
 use Rattle.view_engine.specs.declared.halt.StepFault.TheVariants.{Damaged, DiskFault, Full}
@@ -12,7 +14,15 @@ use Rattle.view_engine.specs.Disks.{CrashLeaves}
 use Rattle.view_engine.specs.World.{World}
 use Rattle.view_engine.specs.Worlds.{Holds, IsAtWorld, IsOpen, StandsFor}
 
+-- only files of the documents changed, and at each moment a crash leaves of them what opening them may leave
+abbrev pub IsMovedByOpening : Disk FileName → Disk FileName → Type 0
+IsMovedByOpening old new = Moves IsDocsFile (WhileOpening DocsStem old.now) (λ files. Unit {0}) old new
+
 module _ {F : Type 0} (f : Folders F) where
+  -- whatever the folder holds, no file changes but as opening changes it
+  abbrev pub MovesByOpening : F → F → Type 0
+  MovesByOpening old new = Tells (f.disk old) (f.disk new) IsMovedByOpening
+
   -- at each moment a crash leaves what stands for the world that the folder holds
   abbrev pub LeavesWorlds : F → F → Type 0
   LeavesWorlds old new = (world : World) → IfTold (f.disk old) (λ d. Holds d.now world) → CrashLeaves f old new (λ image. StandsFor image world)

@@ -12,7 +12,7 @@ use Rattle.doc_file.specs.History.{Write}
 use Rattle.view_engine.specs.declared.engine.Engine.{Engine}
 use Rattle.view_engine.specs.declared.refusal.Refusal.{Refusal}
 use Rattle.view_engine.specs.declared.request.Request.{Request}
-use Rattle.view_engine.specs.Halts.{IsFullFor}
+use Rattle.view_engine.specs.Halts.{IsDamage, IsFullFor}
 use Rattle.view_engine.specs.Moments.{Moment}
 use Rattle.view_engine.specs.Steps.{IsWrite}
 use Rattle.view_engine.specs.World.{World, written}
@@ -53,6 +53,12 @@ pub record IsFullAt (files : FileName → File) (world : World) (request : Resul
   pub full : IsFullFor docs request name length
   pub write : Write
   pub accepted : IsWrite world request write
+
+-- at this place of the documents' file the body of a live document is damaged, as an engine meets it that is open over the files
+pub record HasBodyDamage (files : FileName → File) (name : FileName) (at : ℕ) : Type 0 where
+  pub docs : Docs
+  pub is_open : AreOpen docs files
+  pub damage : IsDamage docs files name at
 
 -- ---- engines
 

@@ -9,7 +9,7 @@ ghost use Rattle.view_engine.specs.Disks.{AreOpen};
 ghost use Rattle.view_engine.specs.Engine.{HasStopped};
 ghost use Rattle.view_engine.specs.Halts.{fault_of, halted_as};
 ghost use Rattle.view_engine.specs.Refusals.{refusal_text};
-ghost use Rattle.view_engine.specs.Openings.{FailsByDisk, FillsNone, LeavesWorlds, MeetsDamage, MeetsNoDamage, OpensWhole, OpensWorlds};
+ghost use Rattle.view_engine.specs.Openings.{FailsByDisk, FillsNone, LeavesWorlds, MeetsDamage, MeetsNoDamage, MovesByOpening, OpensWhole, OpensWorlds};
 ghost use Rattle.view_engine.specs.Worlds.{IsChildless, Knows, width as width_of};
 
 mod view;
@@ -50,6 +50,7 @@ impl Engine {
         requires width { width ≡ 1 }
         ensures documents { OpensWorlds F.Folder folder.old folder.new result }
         ensures moments { LeavesWorlds F.Folder folder.old folder.new }
+        ensures moved { MovesByOpening F.Folder folder.old folder.new }
         ensures open { OpensWhole F.Folder folder.new result }
         ensures childless { IfOk result IsChildless }
         ensures width { IfOk result (λ engine. width_of engine ≡ width) }

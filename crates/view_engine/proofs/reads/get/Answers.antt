@@ -23,7 +23,7 @@ returns-in_ok-end-in-Ok-clause-acts g c =
     let document = json c.in-Ok.document in
     let docs = c.args.docs.now in
     let appended : c.end.new.out.items ≡ c.args.out.now.items ++ ended (text_of document) = search rules in
-    read_done c.requires.open c.in-Ok.ensures.disk c.in-Ok.ensures.cause.later (text_of document) appended (λ world.
+    read_done c.requires.open c.in-Ok.ensures.disk c.in-Ok.ensures.cause.later tt (text_of document) appended (λ world.
     told_now (g.F.Folder.disk c.args.folder.now) (λ d. IsAt docs d.now world.history → live_document world.history c.args.id.now ≡ Some document) _ (λ d live at. ((document, live at, refl), refl))
     (c.in-Ok.ensures.document world.history))
 

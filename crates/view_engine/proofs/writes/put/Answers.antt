@@ -32,7 +32,7 @@ returns-in-Ok-clause-acts g c =
     let built = sym c.in_ok-is_unbuilt.ensures ∙ c.if-branch.false in
     let appended : c.append_accepted.new.out.items ≡ c.args.out.now.items ++ ended (accepted_reply docs (id_of json)) = search rules in
     wrote_here (accepted_reply docs (id_of json)) (λ files world at accepted. put_does docs files world at json built accepted (reply_to docs files world at c.id_of.result.now (id_of json) c.id_of.ensures (c.in_ok-append_accepted.ensures.history files world.history at)))
-    (λ files world at accepted. put_is_write docs files world at c.args.document built accepted (reply_to docs files world at c.id_of.result.now (id_of json) c.id_of.ensures (c.in_ok-append_accepted.ensures.history files world.history at))) appended c.in-Ok.ensures
+    (λ files world at accepted. put_is_write docs files world at c.args.document built accepted (reply_to docs files world at c.id_of.result.now (id_of json) c.id_of.ensures (c.in_ok-append_accepted.ensures.history files world.history at))) (λ fits. fits) appended c.in-Ok.ensures
 
 pub returns-in-Err-clause-acts : goal.returns-in-Err-clause-acts
 returns-in-Err-clause-acts g c =

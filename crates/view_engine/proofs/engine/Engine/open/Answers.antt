@@ -1,16 +1,36 @@
 -- An engine is opened as its documents are.
-use Rattle.std.proofs.Common.{◌≡◌, ◌∙◌, ℕ, Err, IfOk, sym, ap}
-use Rattle.view_ports.specs.Disk.{Moves}
+use Rattle.std.proofs.Common.{◌≡◌, ◌∙◌, ℕ, Err, IfOk, Option, Result, sym, ap}
+use Rattle.view_ports.specs.Disk.{Disk, Moves, Tells}
 use Rattle.view_ports.specs.declared.file_name.FileName.{FileName}
-use Rattle.view_ports.proofs.Told.{told_after, told_now}
+use Rattle.view_ports.proofs.DiskRuns.{moves_wider}
+use Rattle.view_ports.proofs.Told.{told_after, told_map, told_now}
 use Rattle.gate_file.specs.declared.fault.GateFault.TheVariants as gate
+use Rattle.doc_file.specs.declared.docs.Docs.{Docs}
+use Rattle.doc_file.specs.declared.fault.DocFault.{DocFault}
 use Rattle.doc_file.specs.declared.fault.DocFault.TheVariants.{Gate}
 use Rattle.doc_file.specs.Docs.{IsAt, IsDamagedAt, IsDocsFile}
 use Rattle.view_engine.specs.declared.halt.StepFault.TheVariants.{Damaged}
+use Rattle.doc_file.specs.Reads.{Opens}
+use Rattle.view_engine.specs.Openings.{IsMovedByOpening}
 use Rattle.view_engine.specs.Worlds.{Holds, StandsFor}
 use Rattle.view_engine.proofs.Around.{inside}
 use Rattle.view_engine.proofs.Faults.{damage_is}
 use Rattle.view_engine.proofs.engine.Engine.open.Goals as goal
+
+-- opening the documents moves what opening the engine does
+moved : (old new : Option (Disk FileName)) (result : Result Docs DocFault) → Tells old new (Opens result) → Tells old new IsMovedByOpening
+moved old new result =
+    told_map old new (Opens result) IsMovedByOpening
+    (λ a b opens. moves_wider IsDocsFile IsDocsFile _ _ _ (λ files. Unit {0}) a b (λ name is. is) (λ image framed. framed.inside) (λ others ended. tt) opens)
+
+pub returns-in-Ok-new-clause-moved : goal.returns-in-Ok-new-clause-moved
+returns-in-Ok-new-clause-moved g c = moved (g.F.Folder.disk c.args.folder.now) (g.F.Folder.disk c.open.new.folder) c.open.result c.open.ensures.disk
+
+pub returns-in-Err-new-clause-moved : goal.returns-in-Err-new-clause-moved
+returns-in-Err-new-clause-moved g c = moved (g.F.Folder.disk c.args.folder.now) (g.F.Folder.disk c.open.new.folder) c.open.result c.open.ensures.disk
+
+pub returns-in-Err-clause-moved : goal.returns-in-Err-clause-moved
+returns-in-Err-clause-moved g c = moved (g.F.Folder.disk c.args.folder.now) (g.F.Folder.disk c.open.new.folder) c.open.result c.open.ensures.disk
 
 pub returns-in-Ok-new-clause-documents : goal.returns-in-Ok-new-clause-documents
 returns-in-Ok-new-clause-documents g c = λ world held.

@@ -28,7 +28,7 @@ returns-in-Get g c = acted (c.in-Get.is ∙ ap Get (sym c.as_str.ensures)) c.get
 pub returns-in-Ok : goal.returns-in-Ok
 returns-in-Ok g c =
     let disk = g.F.Folder.disk c.args.folder.now in
-    acted c.in-Info.is (read_done c.requires.open (told_refl disk MovesNone none_refl) (omega arith) (info_text (info_of c.args.self.now.docs)) c.in-Ok.ensures.ok
+    acted c.in-Info.is (read_done c.requires.open (told_refl disk MovesNone none_refl) (omega arith) tt (info_text (info_of c.args.self.now.docs)) c.in-Ok.ensures.ok
     (λ world. told_all disk _ (λ d at. (c.info.ensures.done d.now world.history at, refl))))
 
 pub returns-in-Info : goal.returns-in-Info
