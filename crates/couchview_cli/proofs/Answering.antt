@@ -20,9 +20,9 @@ use Rattle.view_engine.specs.Worlds.{IsAtWorld, StandsAround, StandsFor}
 use Rattle.view_engine.proofs.Exclusive.{around_either}
 use Rattle.view_engine.proofs.Worlds.{image_at}
 use Rattle.view_engine.specs.Calls.{IsStep, Scene}
-use Rattle.view_engine.specs.Disks.{IsReason}
+use Rattle.view_engine.specs.Disks.{AreOpen, IsReason}
 use Rattle.view_engine.specs.Worlds.{languages as languages_of}
-use Rattle.view_engine.proofs.Stepping.{step_around, step_full, step_sound, step_stopped, step_unwritten}
+use Rattle.view_engine.proofs.Stepping.{step_around, step_damaged, step_full, step_sound, step_stopped, step_unwritten}
 use Rattle.view_ports.specs.declared.folder.Folder.{Ghosts as Folders}
 use Rattle.view_ports.specs.declared.servers.Servers.{Ghosts as Servers}
 use Rattle.couchview_cli.specs.Session.{Answered, IsAnswered, IsUnanswered, StandsEither}
@@ -78,6 +78,10 @@ module _ {F C : Type 0} {f : Folders F} {s : Servers C} {old new : Scene F C} {l
     answers = λ before at.
         answered_done s.functions s.honest (languages_of old.engine) before (f.disk old.folder) (f.disk new.folder) (s.may_follow new.servers) (s.faults new.servers) new.engine old.engine line start out empty at.documents
         (step.does before at) (λ none. ap f.disk (step.idle none)) (step_around step before at);
+    prints = record {
+      none = λ none. step.prints.none none ∙ empty;
+      some = λ some. let printed = step.prints.some some in (printed.0, printed.1 ∙ ap (λ (front : List ℕ). front ++ ended printed.0) empty);
+    };
     stays = step.stays;
   }
 
@@ -87,19 +91,20 @@ module _ {F C : Type 0} {f : Folders F} {s : Servers C} {old new : Scene F C} {l
     answers = λ before at.
         answered_spent s.functions s.honest (languages_of old.engine) before (f.disk old.folder) (f.disk new.folder) (s.may_follow new.servers) (s.faults new.servers) new.engine line step.asked
         (step.does before at) (step_unwritten step before at);
+    prints = record { none = λ none. absurd (step.asked none); some = λ some. (refusal_text NoMemory, refl) };
     stays = step.stays;
   }
 
   -- after each other fault the line is not answered
-  pub unanswered_by : (fault : StepFault) → fault ≢ halt.NoMemory → IsStep f s old new line start out (Err fault) → IsUnanswered f s old new line fault
-  unanswered_by fault other step = record {
+  pub unanswered_by : (fault : StepFault) → fault ≢ halt.NoMemory → AreOpen f old.engine.docs old.folder → IsStep f s old new line start out (Err fault) → IsUnanswered f s old new line fault
+  unanswered_by fault other is_open step = record {
     halts = λ before at. record {
       moments = step_around step before at;
-      halts = other;
       whole = step_sound step before at;
       full = step_full step before at;
       left = step_stopped step before at other;
     };
     cause = λ is. subst (IsReason f _ old.folder new.folder (request_of line)) is step.why;
+    found = record { halts = other; damaged = step_damaged is_open step };
     stays = step.stays;
   }

@@ -23,6 +23,7 @@ use Rattle.view_engine.specs.Worlds.{at_start, GoesOnFrom, StandsFor, languages 
 use Rattle.view_engine.proofs.Worlds.{answers_grow}
 use Rattle.couchview_cli.specs.declared.session.Session.{Session}
 use Rattle.couchview_cli.specs.Ends.{Comes}
+use Rattle.couchview_cli.specs.Reading.{HasReplied, IsReplied, Replies}
 use Rattle.couchview_cli.specs.Serving.{width}
 use Rattle.couchview_cli.specs.Session.{HasCome, IsAnswered, IsUnanswered, KeepsPorts, Origin, StepsOf, scene_of}
 use Rattle.couchview_cli.proofs.Keeping.{Answered-of}
@@ -98,6 +99,45 @@ module _ {F C : Type 0} (f : Folders F) (s : Servers C) (r : Responds (Session F
         };
       }
 
+  -- each line that is answered has its reply
+  replies : (old new : Session F C) (seen : Unit {0}) (e : Exchange) → Unit {0} → Steps r old e new → (after : Unit {0}) × Replies seen e after × Unit {0}
+  replies old new seen e known step = (tt, subst (IsReplied e.line) (sym step.1) ((answers old new e.line step.0).1).prints, tt)
+
+  -- what the session replied, whatever the folder holds
+  pub has_replied : (start last : Session F C) (left left' held held' : Option (List ℕ)) (end : LoopEnd StepFault) → Loops r start last left left' held held' end
+      → HasReplied left left' held held' (f.disk last.folder.now) end
+  has_replied start last left left' held held' (loop_end.Run end) loops =
+      let finishes = loops.ends in
+      let seen = Run-seen (λ (session : Session F C) (known : Unit {0}). Unit {0}) replies start last tt loops.bytes finishes.gained end tt finishes.run in
+      record {
+        bytes = loops.bytes;
+        reads = loops.reads;
+        counts = loops.counts;
+        ends = record { gained = finishes.gained; run = seen.1; wrote = finishes.wrote };
+      }
+  has_replied start last left left' held held' (loop_end.Stopped fault) loops =
+      let cut = loops.ends in
+      let seen = LeadsTo-seen (λ (session : Session F C) (known : Unit {0}). Unit {0}) replies start cut.mid tt cut.exchanges tt cut.leads in
+      record {
+        bytes = loops.bytes;
+        reads = loops.reads;
+        counts = loops.counts;
+        ends = (
+          record {
+            exchanges = cut.exchanges;
+            lines = cut.lines;
+            rest = cut.rest;
+            line = cut.line;
+            more = cut.more;
+            cut = cut.cut;
+            answered = cut.answered;
+            leads = seen.1;
+            wrote = cut.wrote;
+          },
+          ((stops cut.mid last cut.line fault cut.stops).1).found,
+        );
+      }
+
   -- what every line keeps
   abbrev pub KeepsAll : Session F C → Session F C → Type 0
   KeepsAll start now = KeepsPorts start now × Stays f s (scene_of start) (scene_of now)
@@ -145,3 +185,7 @@ comes_behind {F} {C} f s origin ran engine folder servers same_engine same_folde
     subst (λ (x : Engine). Comes f s origin (scene x folder servers) left left' held held' end) (sym same_engine)
     (subst (λ (x : F). Comes f s origin (scene ran.engine.now x servers) left left' held held' end) (sym same_folder)
     (subst (λ (x : C). Comes f s origin (scene ran.engine.now ran.folder.now x) left left' held held' end) (sym same_servers) comes))
+
+pub replied_behind : {F C : Type 0} (f : Folders F) (ran : Session F C) (folder : F) → folder ≡ ran.folder.now → {left left' held held' : Option (List ℕ)} {end : LoopEnd StepFault}
+    → HasReplied left left' held held' (f.disk ran.folder.now) end → HasReplied left left' held held' (f.disk folder) end
+replied_behind {F} f ran folder same {left} {left'} {held} {held'} {end} replied = subst (λ (x : F). HasReplied left left' held held' (f.disk x) end) (sym same) replied

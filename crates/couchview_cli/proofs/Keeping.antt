@@ -6,7 +6,7 @@ use Rattle.view_engine.specs.Moments.{Moment}
 use Rattle.view_engine.specs.declared.refusal.Refusal.TheVariants.{NoMemory}
 use Rattle.view_engine.specs.Refusals.{request_limit, refusal_text, request_of}
 use Rattle.view_ports.specs.Lines.{ended, kept}
-use Rattle.view_ports.proofs.KeptLines.{kept-cases}
+use Rattle.view_ports.proofs.KeptLines.{kept-cases, kept-nil, kept-none}
 use Rattle.view_engine.specs.Steps.{Answers, MayHaveCalled}
 use Rattle.view_ports.specs.Disk.{LeavesOnly, Tells}
 use Rattle.view_ports.specs.declared.file_name.FileName.{FileName}
@@ -18,6 +18,7 @@ use Rattle.view_ports.specs.declared.folder.Folder.{Ghosts as Folders}
 use Rattle.view_ports.specs.declared.servers.Servers.{Ghosts as Servers}
 use Rattle.view_engine.specs.Calls.{Scene}
 use Rattle.view_engine.proofs.RequestLimit.{Answers-cut, request_limit-is, request_of-long}
+use Rattle.couchview_cli.specs.Reading.{IsReplied}
 use Rattle.couchview_cli.specs.Session.{Answered, IsAnswered, IsUnanswered, IsHalted}
 use Rattle.couchview_cli.proofs.Moving.{Told}
 
@@ -63,12 +64,18 @@ module _ {fault : StepFault} {old new : Told} {before : Moment} {HasLeft : Momen
   pub IsHalted-kept : (line : List ℕ) → IsHalted fault old new before (kept request_limit line) HasLeft → IsHalted fault old new before line HasLeft
   IsHalted-kept line halted = record {
     moments = subst (λ r. Tells old new (LeavesOnly (StandsAround before.world r))) (request_kept line) halted.moments;
-    halts = halted.halts;
     whole = halted.whole;
     full = told_now old (λ d. (name : FileName) (length : Option ℕ) → fault ≡ Full name length → IsFullAt d.now before.world (request_of (kept request_limit line)) name length) (λ d. (name : FileName) (length : Option ℕ) → fault ≡ Full name length → IsFullAt d.now before.world (request_of line) name length)
         (λ d full name length is. subst (λ r. IsFullAt d.now before.world r name length) (request_kept line) (full name length is)) halted.full;
     left = halted.left;
   }
+
+-- a line has a reply where what is kept of it has
+replied_kept : (line text : List ℕ) → IsReplied (kept request_limit line) text → IsReplied line text
+replied_kept line text replied = record {
+  none = λ none. replied.none (ap (kept request_limit) none ∙ kept-nil request_limit);
+  some = λ some. replied.some (λ none. some (kept-none request_limit line none));
+}
 
 -- what a responder is given of a line is what is kept of it
 is_kept : (line given : List ℕ) → given ≡ kept 2097152 line → given ≡ kept request_limit line
@@ -78,9 +85,9 @@ module _ {F C : Type 0} {f : Folders F} {s : Servers C} {old new : Scene F C} (l
   pub answered_whole : (text : List ℕ) → IsAnswered f s old new given text → IsAnswered f s old new line text
   answered_whole text answered =
       let kept_answered : IsAnswered f s old new (kept request_limit line) text = subst (λ (l : List ℕ). IsAnswered f s old new l text) (is_kept line given is) answered in
-      record { answers = λ before at. Answered-kept line (kept_answered.answers before at); stays = answered.stays }
+      record { answers = λ before at. Answered-kept line (kept_answered.answers before at); prints = replied_kept line text kept_answered.prints; stays = answered.stays }
 
   pub unanswered_whole : (fault : StepFault) → IsUnanswered f s old new given fault → IsUnanswered f s old new line fault
   unanswered_whole fault cut =
       let kept_unanswered : IsUnanswered f s old new (kept request_limit line) fault = subst (λ (l : List ℕ). IsUnanswered f s old new l fault) (is_kept line given is) cut in
-      record { halts = λ before at. IsHalted-kept line (kept_unanswered.halts before at); cause = cut.cause; stays = cut.stays }
+      record { halts = λ before at. IsHalted-kept line (kept_unanswered.halts before at); cause = cut.cause; found = cut.found; stays = cut.stays }

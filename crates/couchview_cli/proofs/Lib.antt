@@ -1,6 +1,7 @@
 pub mod Moving
 pub mod Keeping
 pub mod Answering
+pub mod Replying
 pub mod Coming
 pub mod Naming
 pub mod Served

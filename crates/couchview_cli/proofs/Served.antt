@@ -2,7 +2,7 @@
 use Rattle.std.specs.Prelude.{◌≡◌, ◌<◌, ◌≤◌, ℕ, List, [], Option, Some, None, length}
 use Rattle.std.proofs.Common.{refl, sym, ◌∙◌, subst, inl, inr}
 use Rattle.std.proofs.KnownBytes.{Appends-trans}
-use Rattle.std.specs.Io.KnownBytes.{Appends, Consumes}
+use Rattle.std.specs.Io.KnownBytes.{Appends, Consumes, IsAtEnd}
 use Rattle.view_ports.specs.declared.file_name.FileName.{FileName}
 use Rattle.view_ports.specs.declared.run_end.RunEnd.{RunEnd}
 use Rattle.view_ports.specs.Calls.{Call}
@@ -64,7 +64,7 @@ module _ (languages : List (List ℕ × List ℕ)) (opening : World) where
     are_left moment follows = let left = stops moment.calls follows in record { added = left.added; follows = left.follows; stopped = λ slot below. left.stopped.stopped slot (subst (λ (w : ℕ). slot < w) (sym wide) below) }
 
     -- a session that came to its end, and then the children were ended
-    pub finishes : (bytes : List ℕ) (end : RunEnd) → Consumes before.left left bytes → HasRead end (length bytes) → Ended f s (origin_of languages opening before) before.held held bytes now end
+    pub finishes : (bytes : List ℕ) (end : RunEnd) → Consumes before.left left bytes → HasRead end (length bytes) → Ended f s (origin_of languages opening before) (IsAtEnd left) before.held held bytes now end
         → Finishes s.functions s.honest languages opening before (after_at stopped.folder) (AreLeft (s.may_follow stopped.servers)) (status_of end)
     finishes bytes end reads counts ended =
         let stands = ended.has_come.stands in
@@ -89,7 +89,7 @@ module _ (languages : List (List ℕ × List ℕ)) (opening : World) where
 
     -- a session that was cut short, and then the children were ended and the last line was written
     pub cut_short : (mid : Option (List ℕ)) (bytes : List ℕ) (fault : StepFault) (status : ℕ) → Consumes before.left left bytes → length bytes ≤ input_limit
-        → (fault ≡ DiskFault → Rose before.disk_faults (f.faults now.folder)) → CutOff f s (origin_of languages opening before) before.held mid bytes now fault → Closes mid held [] fault status
+        → (fault ≡ DiskFault → Rose before.disk_faults (f.faults now.folder)) → CutOff f s (origin_of languages opening before) (IsAtEnd left) before.held mid bytes now fault → Closes mid held [] fault status
         → IsCutShort s.functions s.honest languages opening before (after_at stopped.folder) (AreLeft (s.may_follow stopped.servers)) status
     cut_short mid bytes fault status reads counts cause off closes =
         let come = off.has_come in
@@ -115,7 +115,7 @@ module _ (languages : List (List ℕ × List ℕ)) (opening : World) where
           leads = off.leads;
           keeps = leads_accepted s.functions s.honest languages before.disk (at_start opening width before.faults) off.exchanges off.moment off.leads;
           closes = closes_after before.held mid held (text_of off.exchanges) fault status off.wrote closes;
-          halts = halted.halts;
+          halts = off.halts.found.halts;
           cause = cause;
           whole = told_first begun old new world come.moved ((name : FileName) (at : ℕ) → fault ≡ Damaged name at → ⊥) halted.whole;
           mid = old;

@@ -16,7 +16,8 @@ use Rattle.view_engine.specs.declared.halt.StepFault.{StepFault}
 use Rattle.view_engine.specs.declared.halt.StepFault.TheVariants.{DiskFault, Damaged, Full, NoMemory}
 use Rattle.view_engine.specs.World.{World}
 use Rattle.couchview_cli.specs.Closing.{Closes, fault_status}
-use Rattle.couchview_cli.specs.Serving.{Outside, Serves, StopsAtLimit, IsShort}
+use Rattle.couchview_cli.specs.Reading.{AnswersLines}
+use Rattle.couchview_cli.specs.Serving.{EndsAtFullFile, IsShort, Outside, Serves, StopsAtLimit}
 
 -- no run ends with the status of words that are no command
 pub fault_no_usage : (fault : StepFault) → fault_status fault ≢ 2
@@ -38,11 +39,11 @@ consumed_short None after bytes reads short = absurd short
 consumed_short (Some left) None bytes reads short = absurd reads
 consumed_short (Some left) (Some rest) bytes reads short = omega (arith, ap length reads, length-append bytes rest, short)
 
-complete : (end : RunEnd) (status count : ℕ) → status ≡ status_of end → HasRead end count → count < input_limit → (status ≡ 4 → ⊥) → (status ≡ 5 → ⊥) → (status ≡ 0) ⊎ ((status ≡ 6) ⊎ (status ≡ 9))
+complete : (end : RunEnd) (status count : ℕ) → status ≡ status_of end → HasRead end count → count < input_limit → (status ≡ 4 → ⊥) → (status ≡ 5 → ⊥) → (status ≡ 0) ⊎ (status ≡ 6)
 complete InputEnded status count is counts short sink source = inl is
 complete SinkFailed status count is counts short sink source = absurd (sink is)
 complete SourceFailed status count is counts short sink source = absurd (source is)
-complete OutOfMemory status count is counts short sink source = inr (inl is)
+complete OutOfMemory status count is counts short sink source = inr is
 complete InputTooLong status count is counts short sink source = absurd (omega arith)
 
 at_limit : (end : RunEnd) (count : ℕ) → HasRead end count → status_of end ≡ 8 → count ≡ input_limit
@@ -83,46 +84,49 @@ not_8 : (before after : Option (List ℕ)) (text : List ℕ) (fault : StepFault)
 not_8 before after text fault status (inl whole) is = fault_not_8 fault (sym whole.0 ∙ is)
 not_8 before after text fault status (inr failed) is = omega (arith, failed.0)
 
--- without damage, a fault is one of the disk, of memory, or a full file
-faulted : (fault : StepFault) (status : ℕ) → status ≡ fault_status fault → ((name : FileName) (at : ℕ) → fault ≡ Damaged name at → ⊥) → (status ≡ 3 → ⊥) → (status ≡ 0) ⊎ ((status ≡ 6) ⊎ (status ≡ 9))
-faulted DiskFault status is whole disk = absurd (disk is)
-faulted (Damaged name at) status is whole disk = absurd (whole name at refl)
-faulted (Full name size) status is whole disk = inr (inr is)
-faulted NoMemory status is whole disk = inr (inl is)
+-- without damage, and where no file is full, a fault is one of the disk or of memory
+faulted : (fault : StepFault) (status : ℕ) → status ≡ fault_status fault → ((name : FileName) (at : ℕ) → fault ≡ Damaged name at → ⊥) → ((name : FileName) (length : Option ℕ) → fault ≡ Full name length → ⊥) → (status ≡ 3 → ⊥)
+    → (status ≡ 0) ⊎ (status ≡ 6)
+faulted DiskFault status is whole room disk = absurd (disk is)
+faulted (Damaged name at) status is whole room disk = absurd (whole name at refl)
+faulted (Full name size) status is whole room disk = absurd (room name size refl)
+faulted NoMemory status is whole room disk = inr is
 
 closed : (before after : Option (List ℕ)) (text : List ℕ) (fault : StepFault) (status : ℕ) → Closes before after text fault status → ((name : FileName) (at : ℕ) → fault ≡ Damaged name at → ⊥)
-    → (status ≡ 3 → ⊥) → (status ≡ 4 → ⊥) → (status ≡ 0) ⊎ ((status ≡ 6) ⊎ (status ≡ 9))
-closed before after text fault status (inl written) whole disk sink = faulted fault status written.0 whole disk
-closed before after text fault status (inr failed) whole disk sink = absurd (sink failed.0)
+    → ((name : FileName) (length : Option ℕ) → fault ≡ Full name length → ⊥) → (status ≡ 3 → ⊥) → (status ≡ 4 → ⊥) → (status ≡ 0) ⊎ (status ≡ 6)
+closed before after text fault status (inl written) whole room disk sink = faulted fault status written.0 whole room disk
+closed before after text fault status (inr failed) whole room disk sink = absurd (sink failed.0)
 
 module _ {functions : List ℕ → Functions} {honest : List ℕ → Type 0} {languages : List (List ℕ × List ℕ)} {opening : World} {AtEnd : List Call → Type 0} (before after : Outside) (status : ℕ) where
-  -- input that is short enough is read to its end, unless a port fails, memory runs out or a file is full
+  -- input that is short enough is read to its end, unless a port fails, memory runs out or a full file ends the run
   pub Serves-complete : Serves functions honest languages opening before after AtEnd status → IsShort before.left → (status ≡ 3 → ⊥) → (status ≡ 4 → ⊥) → (status ≡ 5 → ⊥)
-      → IfTold before.disk (λ d. (status ≡ 0) ⊎ ((status ≡ 6) ⊎ (status ≡ 9)))
-  Serves-complete (inl finishes) short disk sink source =
+      → (EndsAtFullFile functions honest languages opening before after AtEnd status → ⊥) → IfTold before.disk (λ d. (status ≡ 0) ⊎ (status ≡ 6))
+  Serves-complete (inl finishes) short disk sink source roomy =
       told_all before.disk _ (λ d. complete finishes.end status (length finishes.bytes) finishes.ends finishes.counts (consumed_short before.left after.left finishes.bytes finishes.reads short) sink source)
-  Serves-complete (inr (inl cut)) short disk sink source =
-      told_now before.disk (λ d. (name : FileName) (at : ℕ) → cut.fault ≡ Damaged name at → ⊥) _ (λ d whole. closed before.held after.held (text_of cut.exchanges) cut.fault status cut.closes whole disk sink) cut.whole
-  Serves-complete (inr (inr unopened)) short disk sink source =
-      told_now before.disk (λ d. (name : FileName) (at : ℕ) → unopened.fault ≡ Damaged name at → ⊥) _ (λ d whole. closed before.held after.held [] unopened.fault status unopened.closes whole disk sink) unopened.whole
+  Serves-complete (inr (inl cut)) short disk sink source roomy =
+      told_now before.disk (λ d. (name : FileName) (at : ℕ) → cut.fault ≡ Damaged name at → ⊥) _
+      (λ d whole. closed before.held after.held (text_of cut.exchanges) cut.fault status cut.closes whole (λ name size is. roomy (cut, name, size, is)) disk sink) cut.whole
+  Serves-complete (inr (inr unopened)) short disk sink source roomy =
+      told_now before.disk (λ d. (name : FileName) (at : ℕ) → unopened.fault ≡ Damaged name at → ⊥) _
+      (λ d whole. closed before.held after.held [] unopened.fault status unopened.closes whole unopened.room disk sink) unopened.whole
 
-  -- a run that read as many bytes as a run reads at most ends there
-  pub Serves-limit : Serves functions honest languages opening before after AtEnd status → StopsAtLimit before.left after.left status
-  Serves-limit (inl finishes) = record {
-    bytes = finishes.bytes;
-    reads = finishes.reads;
-    limited = λ eight. at_limit finishes.end (length finishes.bytes) finishes.counts (sym finishes.ends ∙ eight);
-    stopped = λ full. subst Stops (sym finishes.ends) (stops finishes.end (length finishes.bytes) finishes.counts full);
-  }
-  Serves-limit (inr (inl cut)) = record {
-    bytes = cut.bytes;
-    reads = cut.reads;
-    limited = λ eight. absurd (not_8 before.held after.held (text_of cut.exchanges) cut.fault status cut.closes eight);
-    stopped = λ full. closed_stops before.held after.held (text_of cut.exchanges) cut.fault status cut.closes;
-  }
-  Serves-limit (inr (inr unopened)) = record {
-    bytes = [];
-    reads = subst (λ (left : Option (List ℕ)). Consumes before.left left []) (sym unopened.unread) (Consumes-nil before.left);
-    limited = λ eight. absurd (not_8 before.held after.held [] unopened.fault status unopened.closes eight);
-    stopped = λ full. closed_stops before.held after.held [] unopened.fault status unopened.closes;
-  }
+-- a run that read as many bytes as a run reads at most ends there
+pub limited : (before after : Outside) (status : ℕ) → AnswersLines before after status → StopsAtLimit before.left after.left status
+limited before after status (inl ended) = record {
+  bytes = ended.bytes;
+  reads = ended.reads;
+  limited = λ eight. at_limit ended.end (length ended.bytes) ended.counts (sym ended.ends ∙ eight);
+  stopped = λ full. subst Stops (sym ended.ends) (stops ended.end (length ended.bytes) ended.counts full);
+}
+limited before after status (inr (inl cut)) = record {
+  bytes = cut.bytes;
+  reads = cut.reads;
+  limited = λ eight. absurd (not_8 cut.held after.held [] cut.fault status cut.closes eight);
+  stopped = λ full. closed_stops cut.held after.held [] cut.fault status cut.closes;
+}
+limited before after status (inr (inr unopened)) = record {
+  bytes = [];
+  reads = subst (λ (left : Option (List ℕ)). Consumes before.left left []) (sym unopened.unread) (Consumes-nil before.left);
+  limited = λ eight. absurd (not_8 before.held after.held [] unopened.fault status unopened.closes eight);
+  stopped = λ full. closed_stops before.held after.held [] unopened.fault status unopened.closes;
+}

@@ -1,12 +1,12 @@
 -- How the run of a session ends.
 use Rattle.std.specs.Prelude.{◌≡◌, ℕ, List, ◌∷◌, ◌++◌, Option, length}
-use Rattle.std.specs.Io.KnownBytes.{Appends, Consumes}
+use Rattle.std.specs.Io.KnownBytes.{Appends, Consumes, IsAtEnd}
 use Rattle.view_ports.specs.declared.run_end.RunEnd.{RunEnd}
 use Rattle.view_ports.specs.declared.folder.Folder.{Ghosts as Folders}
 use Rattle.view_ports.specs.declared.servers.Servers.{Ghosts as Servers}
 use Rattle.view_ports.specs.Exchanges.{Exchange, LeadsTo, lines_of, text_of}
-use Rattle.view_ports.specs.Lines.{IsCut, last_line}
-use Rattle.view_ports.specs.Runs.{Run}
+use Rattle.view_ports.specs.Lines.{IsCut}
+use Rattle.view_ports.specs.Runs.{AreLines, Run}
 use Rattle.line_loop.specs.declared.loop_end.LoopEnd.{LoopEnd}
 use Rattle.line_loop.specs.declared.loop_end.LoopEnd.TheVariants as loop_end
 use Rattle.line_loop.specs.Loops.{HasReadBy}
@@ -17,12 +17,12 @@ use Rattle.view_engine.specs.Worlds.{at_start}
 use Rattle.couchview_cli.specs.Serving.{width}
 use Rattle.couchview_cli.specs.Session.{HasCome, IsUnanswered, Origin, StepsOf}
 
-module _ {F C : Type 0} (f : Folders F) (s : Servers C) (origin : Origin) (held now : Option (List ℕ)) (bytes : List ℕ) (after : Scene F C) where
+module _ {F C : Type 0} (f : Folders F) (s : Servers C) (origin : Origin) (IsOver : Type 0) (held now : Option (List ℕ)) (bytes : List ℕ) (after : Scene F C) where
   -- a session that read these bytes came to this end
   pub record Ended (end : RunEnd) : Type 0 where
     pub gained : List ℕ
     pub moment : Moment
-    pub run : Run (StepsOf s.functions s.honest origin) (at_start origin.opening width origin.faults) bytes gained end moment
+    pub run : Run (StepsOf s.functions s.honest origin) IsOver (at_start origin.opening width origin.faults) bytes gained end moment
     pub has_come : HasCome f s origin after moment
     pub wrote : Appends held now gained
 
@@ -36,7 +36,7 @@ module _ {F C : Type 0} (f : Folders F) (s : Servers C) (origin : Origin) (held 
     pub mid : Scene F C
     pub moment : Moment
     pub cut : IsCut bytes lines rest
-    pub answered : lines ++ last_line rest ≡ lines_of exchanges ++ line ∷ more
+    pub answered : AreLines IsOver lines rest (lines_of exchanges ++ line ∷ more)
     pub leads : LeadsTo (StepsOf s.functions s.honest origin) (at_start origin.opening width origin.faults) exchanges moment
     pub has_come : HasCome f s origin mid moment
     pub halts : IsUnanswered f s mid after line fault
@@ -51,4 +51,4 @@ pub record Comes {F C : Type 0} (f : Folders F) (s : Servers C) (origin : Origin
   pub bytes : List ℕ
   pub reads : Consumes left left' bytes
   pub counts : HasReadBy end (length bytes)
-  pub ends : EndsBy f s origin held held' bytes after end
+  pub ends : EndsBy f s origin (IsAtEnd left') held held' bytes after end

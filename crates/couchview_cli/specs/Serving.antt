@@ -1,15 +1,19 @@
 -- What serving does, in terms of what the ports tell.
 use Rattle.std.specs.Prelude.{◌≡◌, ◌≢◌, ◌<◌, ◌≤◌, ◌⊎◌, ℕ, List, [], ◌∷◌, ◌++◌, Option, Some, None, length}
-use Rattle.std.specs.Io.KnownBytes.{Consumes, Appends}
+use Rattle.std.specs.Io.KnownBytes.{Consumes, Appends, IsAtEnd}
 use Rattle.view_ports.specs.declared.run_end.RunEnd.{RunEnd}
 use Rattle.view_ports.specs.declared.file_name.FileName.{FileName}
+use Rattle.view_ports.specs.declared.folder.Folder.{Ghosts as Folders}
+use Rattle.view_ports.specs.declared.ports.Sink.{Ghosts as Sinks}
+use Rattle.view_ports.specs.declared.ports.Source.{Ghosts as Sources}
+use Rattle.view_ports.specs.declared.servers.Servers.{Ghosts as Servers}
 use Rattle.view_ports.specs.Calls.{Call, child}
 use Rattle.view_ports.specs.Disk.{Disk, IfTold, IsImageOf, LeavesOnly, Tells}
 use Rattle.view_ports.specs.Faults.{Rose}
 use Rattle.view_ports.specs.Exchanges.{Exchange, LeadsTo, lines_of, text_of}
 use Rattle.view_ports.specs.Functions.{Functions}
-use Rattle.view_ports.specs.Lines.{IsCut, last_line}
-use Rattle.view_ports.specs.Runs.{Run, HasRead, status_of, input_limit}
+use Rattle.view_ports.specs.Lines.{IsCut}
+use Rattle.view_ports.specs.Runs.{AreLines, Run, HasRead, status_of, input_limit}
 use Rattle.view_engine.specs.declared.halt.StepFault.{StepFault}
 use Rattle.view_engine.specs.declared.halt.StepFault.TheVariants.{Damaged, DiskFault, Full, NoMemory}
 use Rattle.view_engine.specs.World.{World}
@@ -28,6 +32,11 @@ pub record Outside : Type 0 where
   pub disk : Option (Disk FileName)
   pub disk_faults : ℕ
   pub faults : ℕ
+
+-- the same of these ports
+abbrev pub outside : {S K F C : Type 0} → Sources S → Sinks K → Folders F → Servers C → S → K → F → C → Outside
+outside s k f c source sink folder servers =
+    record { left = s.left source; held = k.held sink; disk = f.disk folder; disk_faults = f.faults folder; faults = c.faults servers }
 
 -- how many children map documents
 abbrev pub width : ℕ
@@ -65,7 +74,7 @@ module _ (functions : List ℕ → Functions) (honest : List ℕ → Type 0) (la
     pub reads : Consumes before.left after.left bytes
     pub counts : HasRead end (length bytes)
     pub writes : Appends before.held after.held gained
-    pub runs : Run (Steps functions honest languages before.disk) (at_start opening width before.faults) bytes gained end moment
+    pub runs : Run (Steps functions honest languages before.disk) (IsAtEnd after.left) (at_start opening width before.faults) bytes gained end moment
     pub keeps : IfTold before.disk (λ d. moment.world ≡ accepted opening runs.exchanges)
     pub moments : Tells before.disk after.disk (LeavesOnly (StandsSince opening moment.world))
     pub images : IfTold after.disk (λ d. (image : FileName → List ℕ) → IsImageOf d.now image → StandsFor image moment.world)
@@ -89,7 +98,7 @@ module _ (functions : List ℕ → Functions) (honest : List ℕ → Type 0) (la
     pub reads : Consumes before.left after.left bytes
     pub counts : length bytes ≤ input_limit
     pub cut : IsCut bytes lines rest
-    pub answered : lines ++ last_line rest ≡ lines_of exchanges ++ line ∷ more
+    pub answered : AreLines (IsAtEnd after.left) lines rest (lines_of exchanges ++ line ∷ more)
     pub leads : LeadsTo (Steps functions honest languages before.disk) (at_start opening width before.faults) exchanges moment
     pub keeps : IfTold before.disk (λ d. moment.world ≡ accepted opening exchanges)
     pub closes : Closes before.held after.held (text_of exchanges) fault status
@@ -105,6 +114,10 @@ module _ (functions : List ℕ → Functions) (honest : List ℕ → Type 0) (la
     pub images : IfTold after.disk (λ d. (image : FileName → List ℕ) → IsImageOf d.now image → StandsAround moment.world (request_of line) image)
     pub faulted : after.faults ≡ moment.faults
     pub at_end : AtEnd moment.calls
+
+  -- a full file cuts it short
+  abbrev pub EndsAtFullFile : Outside → Outside → (List Call → Type 0) → ℕ → Type 0
+  EndsAtFullFile before after AtEnd status = (cut : IsCutShort before after AtEnd status) × (name : FileName) × (length : Option ℕ) × (cut.fault ≡ Full name length)
 
   -- the folder could not be opened: nothing was read, and each image stands for the opening
   pub record IsUnopened (before after : Outside) (AtEnd : List Call → Type 0) (status : ℕ) : Type 0 where

@@ -1,5 +1,5 @@
 -- What a session, which is an engine between its ports, does with a line, and how far it has come since the opening.
-use Rattle.std.specs.Prelude.{◌≡◌, ◌≢◌, ◌⊎◌, ℕ, List, Option, if◌then◌else◌}
+use Rattle.std.specs.Prelude.{◌≡◌, ◌⊎◌, ℕ, List, Option, if◌then◌else◌}
 use Rattle.view_ports.specs.declared.file_name.FileName.{FileName}
 use Rattle.view_ports.specs.declared.folder.Folder.{Ghosts as Folders}
 use Rattle.view_ports.specs.declared.servers.Servers.{Ghosts as Servers}
@@ -8,7 +8,7 @@ use Rattle.view_ports.specs.Exchanges.{Exchange}
 use Rattle.view_ports.specs.Faults.{Rose}
 use Rattle.view_ports.specs.Functions.{Functions}
 use Rattle.view_engine.specs.declared.halt.StepFault.{StepFault}
-use Rattle.view_engine.specs.declared.halt.StepFault.TheVariants.{Damaged, DiskFault, Full, NoMemory}
+use Rattle.view_engine.specs.declared.halt.StepFault.TheVariants.{Damaged, DiskFault, Full}
 use Rattle.view_ports.specs.Lines.{ended}
 use Rattle.view_engine.specs.declared.refusal.Refusal.TheVariants as refusal
 use Rattle.view_engine.specs.Calls.{KeepsChild, Scene, StandsAt, Stays, scene}
@@ -18,6 +18,7 @@ use Rattle.view_engine.specs.Steps.{Answers}
 use Rattle.view_engine.specs.World.{World}
 use Rattle.view_engine.specs.Worlds.{at_start, GoesOnFrom, IsFullAt, StandsAround, StandsFor, languages as languages_of}
 use Rattle.couchview_cli.specs.declared.session.Session.{Session}
+use Rattle.couchview_cli.specs.Reading.{IsFoundOn, IsReplied}
 use Rattle.couchview_cli.specs.Serving.{StandsSince, Steps, width}
 
 -- where a session began: its languages, the world at the opening, the disk, and how many faults the query servers had
@@ -50,7 +51,6 @@ module _ (functions : List ℕ → Functions) (honest : List ℕ → Type 0) whe
 -- a line was not answered, since the folder failed, or a file is damaged or full: the request took effect wholly or not at all
 pub record IsHalted (fault : StepFault) (old new : Option (Disk FileName)) (before : Moment) (line : List ℕ) (HasLeft : Moment → Type 0) : Type 0 where
   pub moments : Tells old new (LeavesOnly (StandsAround before.world (request_of line)))
-  pub halts : fault ≢ NoMemory
   pub whole : IfTold old (λ d. (name : FileName) (at : ℕ) → fault ≡ Damaged name at → ⊥)
   pub full : IfTold old (λ d. (name : FileName) (length : Option ℕ) → fault ≡ Full name length → IsFullAt d.now before.world (request_of line) name length)
   pub left : HasLeft before
@@ -60,12 +60,14 @@ module _ {F C : Type 0} (f : Folders F) (s : Servers C) where
   pub record IsAnswered (old new : Scene F C) (line text : List ℕ) : Type 0 where
     pub answers : (before : Moment) → StandsAt f s old before
         → Answered s.functions s.honest (languages_of old.engine) (f.disk old.folder) (f.disk new.folder) before line text (StandsAt f s new)
+    pub prints : IsReplied line text
     pub stays : Stays f s old new
 
   -- a line was not answered, for this fault
   pub record IsUnanswered (old new : Scene F C) (line : List ℕ) (fault : StepFault) : Type 0 where
     pub halts : (before : Moment) → StandsAt f s old before → IsHalted fault (f.disk old.folder) (f.disk new.folder) before line (KeepsChild f s new)
     pub cause : fault ≡ DiskFault → Rose (f.faults old.folder) (f.faults new.folder)
+    pub found : IsFoundOn (f.disk new.folder) fault
     pub stays : Stays f s old new
 
   -- since the origin a session has come to this moment

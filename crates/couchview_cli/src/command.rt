@@ -10,7 +10,8 @@ ghost use Rattle.view_engine.specs.World.{World};
 ghost use Rattle.view_engine.specs.Worlds.{Holds};
 ghost use Rattle.couchview_cli.specs.Command.{AreLanguages, IsApart, IsServe, ShowsUsage, languages_named, usage_line};
 ghost use Rattle.couchview_cli.specs.Command as spec;
-ghost use Rattle.couchview_cli.specs.Serving.{AreLeft, Serves, StopsAtLimit, IsShort};
+ghost use Rattle.couchview_cli.specs.Reading.{AnswersLines};
+ghost use Rattle.couchview_cli.specs.Serving.{outside, AreLeft, EndsAtFullFile, IsShort, Serves, StopsAtLimit};
 
 use crate::built_in::is_built_in;
 use crate::serve::serve;
@@ -131,9 +132,16 @@ pub fn couchview<S: Source, K: Sink, F: Folder, C: Servers>(
     ensures serves { IsServe words.now → (opening : World)
         → IfTold (F.disk folder.old) (λ d. Holds d.now opening)
         → Serves C.functions C.honest (languages_named words.now) opening
-        (record { left = S.left source.old; held = K.held sink.old; disk = F.disk folder.old; disk_faults = F.faults folder.old; faults = C.faults servers.old })
-        (record { left = S.left source.new; held = K.held sink.new; disk = F.disk folder.new; disk_faults = F.faults folder.new; faults = C.faults servers.new })
+        (outside S.Source K.Sink F.Folder C.Servers source.old sink.old folder.old servers.old)
+        (outside S.Source K.Sink F.Folder C.Servers source.new sink.new folder.new servers.new)
         (AreLeft (C.may_follow servers.new)) result }
+
+    // What is read and answered whatever the folder holds.
+    ensures lines { IsServe words.now → AnswersLines
+        (outside S.Source K.Sink F.Folder C.Servers source.old sink.old folder.old servers.old)
+        (outside S.Source K.Sink F.Folder C.Servers source.new sink.new folder.new servers.new) result }
+
+    // Other words.
     ensures refuses { ¬ IsServe words.now → ShowsUsage (K.held sink.old) (K.held sink.new) result }
     ensures unread { ¬ IsServe words.now → source.new ≡ source.old }
     ensures unopened { ¬ IsServe words.now → folder.new ≡ folder.old }
@@ -149,21 +157,24 @@ pub fn couchview<S: Source, K: Sink, F: Folder, C: Servers>(
     ensures sink_failed { result ≡ 4 → Rose (K.faults sink.old) (K.faults sink.new) }
     ensures source_failed { result ≡ 5 → IsServe words.now
         × Rose (S.faults source.old) (S.faults source.new) }
-    ensures limit { IsServe words.now → (opening : World)
-        → IfTold (F.disk folder.old) (λ d. Holds d.now opening)
+    ensures limit { IsServe words.now
         → StopsAtLimit (S.left source.old) (S.left source.new) result }
     ensures source_count { S.faults source.old ≤ S.faults source.new }
     ensures sink_count { K.faults sink.old ≤ K.faults sink.new }
     ensures disk_count { F.faults folder.old ≤ F.faults folder.new }
     ensures server_count { C.faults servers.old ≤ C.faults servers.new }
 
-    // Where no port fails, input that is short enough is read to its end, unless a file is full.
+    // Where no port fails and no full file ends the run, input that is short enough is read to its end.
     ensures complete { IsServe words.now → (opening : World)
         → IfTold (F.disk folder.old) (λ d. Holds d.now opening) → IsShort (S.left source.old)
         → ¬ Rose (S.faults source.old) (S.faults source.new)
         → ¬ Rose (K.faults sink.old) (K.faults sink.new)
         → ¬ Rose (F.faults folder.old) (F.faults folder.new)
-        → IfTold (F.disk folder.old) (λ d. (result ≡ 0) ⊎ ((result ≡ 6) ⊎ (result ≡ 9))) }
+        → ¬ EndsAtFullFile C.functions C.honest (languages_named words.now) opening
+        (outside S.Source K.Sink F.Folder C.Servers source.old sink.old folder.old servers.old)
+        (outside S.Source K.Sink F.Folder C.Servers source.new sink.new folder.new servers.new)
+        (AreLeft (C.may_follow servers.new)) result
+        → IfTold (F.disk folder.old) (λ d. (result ≡ 0) ⊎ (result ≡ 6)) }
 {
     if is_serve(words) {
         return serve(alloc, &words[1..], source, sink, folder, servers);

@@ -9,7 +9,8 @@ ghost use Rattle.line_loop.specs.Loops.{HasEnded, HasSinkFailed, HasSourceFailed
 ghost use Rattle.view_engine.specs.Calls.{scene};
 ghost use Rattle.view_engine.specs.Worlds.{Holds, IsOpen, width as width_of};
 ghost use Rattle.couchview_cli.specs.Ends.{Comes};
-ghost use Rattle.couchview_cli.specs.Serving.{AreLeft, Serves};
+ghost use Rattle.couchview_cli.specs.Reading.{AnswersLines, HasReplied};
+ghost use Rattle.couchview_cli.specs.Serving.{AreLeft, Serves, outside};
 ghost use Rattle.couchview_cli.specs.Session.{IsAtOrigin, Origin};
 
 use crate::closing::close;
@@ -35,9 +36,12 @@ pub fn serve<S: Source, K: Sink, F: Folder, C: Servers>(
     requires { C.may_follow servers.old [] }
     ensures serves { (opening : World) → IfTold (F.disk folder.old) (λ d. Holds d.now opening)
         → Serves C.functions C.honest (languages_in (map string_bytes words.now)) opening
-        (record { left = S.left source.old; held = K.held sink.old; disk = F.disk folder.old; disk_faults = F.faults folder.old; faults = C.faults servers.old })
-        (record { left = S.left source.new; held = K.held sink.new; disk = F.disk folder.new; disk_faults = F.faults folder.new; faults = C.faults servers.new })
+        (outside S.Source K.Sink F.Folder C.Servers source.old sink.old folder.old servers.old)
+        (outside S.Source K.Sink F.Folder C.Servers source.new sink.new folder.new servers.new)
         (AreLeft (C.may_follow servers.new)) result }
+    ensures lines { AnswersLines
+        (outside S.Source K.Sink F.Folder C.Servers source.old sink.old folder.old servers.old)
+        (outside S.Source K.Sink F.Folder C.Servers source.new sink.new folder.new servers.new) result }
     ensures no_usage { result ≢ 2 }
     ensures ended { result ≡ 0 → IsAtEnd (S.left source.new) }
     ensures disk_failed { result ≡ 3 → Rose (F.faults folder.old) (F.faults folder.new) }
@@ -84,6 +88,8 @@ fn run<S: Source, K: Sink, F: Folder, C: Servers>(
         (scene engine.old folder.old servers.old)
         → Comes F.Folder C.Servers origin (scene engine.new folder.new servers.new)
         (S.left source.old) (S.left source.new) (K.held sink.old) (K.held sink.new) result }
+    ensures replies { HasReplied (S.left source.old) (S.left source.new)
+        (K.held sink.old) (K.held sink.new) (F.disk folder.new) result }
     ensures wide { width_of engine.new ≡ width_of engine.old }
     ensures ended { HasEnded result → IsAtEnd (S.left source.new) }
     ensures disk_failed { result ≡ LoopEnd.Stopped StepFault.DiskFault

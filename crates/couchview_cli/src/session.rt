@@ -27,6 +27,7 @@ pub struct Session<'a, F, C> {
 impl<F: Folder, C: Servers> Session<'_, F, C> {
     ghost use Rattle.couchview_cli.specs.Session.{IsAtOrigin, KeepsPorts, Origin, scene_of};
     ghost use Rattle.couchview_cli.specs.Ends.{Comes};
+    ghost use Rattle.couchview_cli.specs.Reading.{HasReplied};
 
     /// Reads request lines and answers them, until the input ends or the run can't go on.
     pub fn run<S: Source, K: Sink>(&mut self, source: &mut S, sink: &mut K) -> LoopEnd<StepFault>
@@ -34,6 +35,8 @@ impl<F: Folder, C: Servers> Session<'_, F, C> {
         ensures comes { (origin : Origin) → IsAtOrigin F.Folder C.Servers origin (scene_of self.old)
             → Comes F.Folder C.Servers origin (scene_of self.new) (S.left source.old)
             (S.left source.new) (K.held sink.old) (K.held sink.new) result }
+        ensures replies { HasReplied (S.left source.old) (S.left source.new) (K.held sink.old)
+            (K.held sink.new) (F.disk self.new.folder.now) result }
         ensures ports { KeepsPorts self.old self.new }
         ensures stays { Stays F.Folder C.Servers (scene_of self.old) (scene_of self.new) }
         ensures ended { HasEnded result → IsAtEnd (S.left source.new) }

@@ -94,7 +94,7 @@ pub acted : {F C : Type 0} {f : Folders F} {s : Servers C} {docs docs' : Docs} {
 acted {f = f} {s = s} {docs = docs} {docs' = docs'} {pool = pool} {old = old} {new = new} {servers = servers} {request = request} {made = made} {out = out} {out' = out'} {result = result} is acts =
     subst (λ (r : Request). Performed f s (scene (record { docs = docs; pool = pool }) old servers) (scene (record { docs = docs'; pool = pool }) new servers) (Ok r) out out' result) (sym is) (record {
       does = does_here f s docs docs' pool old new servers out out' made result acts.does;
-      prints = prints_here f docs docs' pool old new servers out out' made result acts.does;
+      prints = prints_here f s docs docs' pool old new servers out out' made result acts.does;
       silent = acts.silent;
       fits = acts.fits;
       disk = acts.disk;

@@ -1,5 +1,5 @@
 -- A request has one refusal at most, and isn't both refused and accepted.
-use Rattle.std.proofs.Common.{◌≡◌, ◌⊎◌, ℕ, List, ◌∷◌, Option, Some, None, Result, Ok, inl, inr, refl, sym, ap, ◌∙◌, subst, ◌+◌, length, arith}
+use Rattle.std.proofs.Common.{◌≡◌, ◌⊎◌, ℕ, List, ◌∷◌, Option, Some, None, Result, Ok, inl, inr, refl, sym, ap, ◌∙◌, subst, suc, length, arith}
 use Rattle.std.specs.Prelude.{option_and_then}
 use Rattle.json_terms.specs.Json.{Json, members_of, object}
 use Rattle.view_ports.specs.Functions.{Functions}
@@ -117,7 +117,7 @@ live_not_refused (Some write) document refusal live refused = by_document write.
 
 -- a history isn't the one with a write more
 unlike_written : (history : List Write) (write : Write) → history ≡ write ∷ history → ⊥
-unlike_written history write is = let size : length history ≡ length history + 1 = ap length is in omega (arith, size)
+unlike_written history write is = let size : length history ≡ suc (length history) = ap length is in omega (arith, size)
 
 module _ (functions : List ℕ → Functions) (honest : List ℕ → Type 0) (languages : List (List ℕ × List ℕ)) where
   pub is_refused_once : IsRefusedOnce functions honest languages

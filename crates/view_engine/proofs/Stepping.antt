@@ -1,12 +1,14 @@
 -- A step is the performing of its line's request, told as its halt is told.
 use Rattle.std.proofs.Common.{◌≡◌, ◌≢◌, ◌∙◌, ◌++◌, ℕ, List, [], ◌∷◌, Option, None, Some, Result, Ok, Err, refl, sym, ap, subst, append-nil, arith}
-use Rattle.view_ports.specs.Disk.{Disk, IfTold, LeavesOnly, Tells}
+use Rattle.view_ports.specs.Disk.{Disk, IfTold, LeavesOnly, MovesNone, Tells}
+use Rattle.view_ports.specs.File.{File}
 use Rattle.view_ports.specs.Functions.{Functions}
 use Rattle.view_ports.specs.declared.file_name.FileName.{FileName}
 use Rattle.view_ports.specs.Lines.{ended}
 use Rattle.view_ports.specs.declared.folder.Folder.{Ghosts as Folders}
 use Rattle.view_ports.specs.declared.servers.Servers.{Ghosts as Servers}
-use Rattle.view_ports.proofs.Told.{told_all, told_now, told_pair}
+use Rattle.view_ports.proofs.DiskRuns.{none_same}
+use Rattle.view_ports.proofs.Told.{told_all, told_now}
 use Rattle.child_pool.specs.Pools.{languages_of}
 use Rattle.doc_file.specs.declared.docs.Docs.{Docs}
 use Rattle.doc_file.specs.Docs.{IsAt as AreAt, IsOpen}
@@ -29,6 +31,7 @@ use Rattle.view_engine.specs.Worlds.{HasBodyDamage, IsFullAt, StandsAround, Stan
 use Rattle.view_engine.proofs.Acting.{refused_at_once, spent_at_once}
 use Rattle.view_engine.proofs.Exclusive.{no_write_kept}
 use Rattle.view_engine.proofs.OnDisk.{disk_ends, disk_still}
+use Rattle.view_engine.proofs.Unmoved.{files_same}
 
 does_text : (functions : List ℕ → Functions) (honest : List ℕ → Type 0) (languages : List (List ℕ × List ℕ)) (before : Moment) (line text : List ℕ) (after : Moment) → line ≢ []
     → DoesRequestText functions honest languages before (request_of line) text after → Does functions honest languages before line text after
@@ -217,14 +220,19 @@ module _ {F C : Type 0} {f : Folders F} {s : Servers C} {old new : Scene F C} {l
         told_full (f.disk old.folder) old.engine.docs before.world (request_of line) (λ name length. fault ≡ Full name length)
         (λ name length is. subst (IsReason f old.engine.docs old.folder new.folder (request_of line)) is step.why) at.documents
 
--- a damaged place is one that an engine met which is open over these files
-damage_named : (disk : Option (Disk FileName)) (docs : Docs) (fault : StepFault) → IfTold disk (λ d. IsOpen docs d.now) → ((name : FileName) (at : ℕ) → fault ≡ Damaged name at → IfTold disk (λ d. IsDamage docs d.now name at))
-    → IfTold disk (λ d. (name : FileName) (at : ℕ) → fault ≡ Damaged name at → HasBodyDamage d.now name at)
-damage_named None docs fault is_open damage = tt
-damage_named (Some d) docs fault is_open damage = λ name at is. record { docs = docs; is_open = is_open; damage = damage name at is }
+-- a damaged place is one that an engine met which is open over these files, and no file has changed since
+damage_named : (old new : Option (Disk FileName)) (docs : Docs) (name : FileName) (at : ℕ) → IfTold old (λ d. IsOpen docs d.now) → IfTold old (λ d. IsDamage docs d.now name at) → Tells old new MovesNone
+    → IfTold new (λ d. HasBodyDamage d.now name at)
+damage_named None None docs name at is_open damage moves = tt
+damage_named None (Some b) docs name at is_open damage moves = absurd moves
+damage_named (Some a) None docs name at is_open damage moves = tt
+damage_named (Some a) (Some b) docs name at is_open damage moves =
+    let here : HasBodyDamage a.now name at = record { docs = docs; is_open = is_open; damage = damage } in
+    subst (λ (files : FileName → File). HasBodyDamage files name at) (files_same a.now b.now (none_same a b moves)) here
 
 pub step_damaged : {F C : Type 0} {f : Folders F} {s : Servers C} {old new : Scene F C} {line out out' : List ℕ} {fault : StepFault} → AreOpen f old.engine.docs old.folder → IsStep f s old new line out out' (Err fault)
-    → IfTold (f.disk old.folder) (λ d. (name : FileName) (at : ℕ) → fault ≡ Damaged name at → HasBodyDamage d.now name at)
-step_damaged {f = f} {old = old} {new = new} {line = line} {fault = fault} is_open step =
-    damage_named (f.disk old.folder) old.engine.docs fault is_open
-    (λ name at is. (subst (IsReason f old.engine.docs old.folder new.folder (request_of line)) is step.why).1.0)
+    → (name : FileName) (at : ℕ) → fault ≡ Damaged name at → IfTold (f.disk new.folder) (λ d. HasBodyDamage d.now name at)
+step_damaged {f = f} {old = old} {new = new} {line = line} {fault = fault} is_open step name at is =
+    let why = subst (IsReason f old.engine.docs old.folder new.folder (request_of line)) is step.why in
+    let still : LeavesFiles (Stopped fault) = subst (λ (e : StepFault). LeavesFiles (Stopped e)) (sym is) tt in
+    damage_named (f.disk old.folder) (f.disk new.folder) old.engine.docs name at is_open why.1.0 (step.disk.unmoved still)

@@ -15,7 +15,7 @@ use Rattle.view_engine.specs.World.{World}
 use Rattle.view_engine.specs.Worlds.{StandsAround}
 
 -- the files as one value
-files_same : (old new : FileName → File) → ((name : FileName) → new name ≡ old name) → old ≡ new
+pub files_same : (old new : FileName → File) → ((name : FileName) → new name ≡ old name) → old ≡ new
 files_same old new same = sym (λ i. λ name. same name i)
 
 pub IsOpen-none : (docs : Docs) (old new : Disk FileName) → IsOpen docs old.now → MovesNone old new → IsOpen docs new.now

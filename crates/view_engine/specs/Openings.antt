@@ -6,13 +6,13 @@ use Rattle.view_ports.specs.declared.file_name.FileName.{FileName}
 use Rattle.view_ports.specs.declared.file_name.Stem.TheVariants.{Docs as DocsStem}
 use Rattle.view_ports.specs.declared.folder.Folder.{Ghosts as Folders}
 use Rattle.gate_file.specs.Open.{WhileOpening}
-use Rattle.doc_file.specs.Docs.{IsDamagedAt, IsDocsFile}
+use Rattle.doc_file.specs.Docs.{IsDocsFile}
 use Rattle.view_engine.specs.declared.engine.Engine.{Engine}
 use Rattle.view_engine.specs.declared.halt.StepFault.{StepFault}
 use Rattle.view_engine.specs.declared.halt.StepFault.TheVariants.{Damaged, DiskFault, Full}
 use Rattle.view_engine.specs.Disks.{CrashLeaves}
 use Rattle.view_engine.specs.World.{World}
-use Rattle.view_engine.specs.Worlds.{Holds, IsAtWorld, IsOpen, StandsFor}
+use Rattle.view_engine.specs.Worlds.{HasDamage, Holds, IsAtWorld, IsOpen, StandsFor}
 
 -- only files of the documents changed, and at each moment a crash leaves of them what opening them may leave
 abbrev pub IsMovedByOpening : Disk FileName → Disk FileName → Type 0
@@ -44,7 +44,7 @@ module _ {F : Type 0} (f : Folders F) where
   -- what is named as damaged is
   abbrev pub MeetsDamage : F → Result Engine StepFault → Type 0
   MeetsDamage old result = IfTold (f.disk old)
-      (λ d. (name : FileName) (at : ℕ) → result ≡ Err (Damaged name at) → IsDamagedAt d.now name at)
+      (λ d. (name : FileName) (at : ℕ) → result ≡ Err (Damaged name at) → HasDamage d.now name at)
 
   -- a fault of the disk was counted
   abbrev pub FailsByDisk : F → F → Result Engine StepFault → Type 0

@@ -6,7 +6,7 @@ use Rattle.view_ports.specs.File.{File}
 use Rattle.view_ports.specs.declared.file_name.FileName.{FileName}
 use Rattle.child_pool.specs.Pools.{HasItsChildren as HasChildOf, languages_of, width_of}
 use Rattle.doc_file.specs.declared.docs.Docs.{Docs}
-use Rattle.doc_file.specs.Docs.{HoldsHistory, IsAt as AreAt, IsOpen as AreOpen}
+use Rattle.doc_file.specs.Docs.{HoldsHistory, IsAt as AreAt, IsDamagedAt, IsOpen as AreOpen}
 use Rattle.doc_file.specs.Held.{Stands}
 use Rattle.doc_file.specs.History.{Write}
 use Rattle.view_engine.specs.declared.engine.Engine.{Engine}
@@ -53,6 +53,10 @@ pub record IsFullAt (files : FileName → File) (world : World) (request : Resul
   pub full : IsFullFor docs request name length
   pub write : Write
   pub accepted : IsWrite world request write
+
+-- what is damaged at this place of a file as an engine is opened over these files
+abbrev pub HasDamage : (FileName → File) → FileName → ℕ → Type 0
+HasDamage = IsDamagedAt
 
 -- at this place of the documents' file the body of a live document is damaged, as an engine meets it that is open over the files
 pub record HasBodyDamage (files : FileName → File) (name : FileName) (at : ℕ) : Type 0 where

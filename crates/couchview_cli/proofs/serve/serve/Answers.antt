@@ -4,20 +4,22 @@ use Rattle.std.proofs.Common.{◌≡◌, ◌∙◌, ℕ, Err, Result, inl, inr, 
 use Rattle.view_ports.specs.Causes.{HasCauseIf}
 use Rattle.view_ports.specs.declared.file_name.FileName.{FileName}
 use Rattle.view_ports.proofs.Counting.{Rose-earlier}
-use Rattle.view_ports.proofs.Told.{told_pair}
+use Rattle.view_ports.proofs.Told.{told_now, told_pair}
 use Rattle.child_pool.specs.Languages.{languages_in}
 use Rattle.view_engine.specs.declared.halt.StepFault.{StepFault}
 use Rattle.view_engine.specs.declared.halt.StepFault.TheVariants.{Damaged, DiskFault}
 use Rattle.view_engine.specs.Calls.{scene}
-use Rattle.view_engine.specs.Worlds.{Holds}
+use Rattle.view_engine.specs.Worlds.{HasDamage, Holds}
 use Rattle.view_engine.proofs.Worlds.{starts_at}
 use Rattle.view_engine.specs.declared.engine.Engine.{Engine}
 use Rattle.line_loop.specs.declared.loop_end.LoopEnd.{LoopEnd}
 use Rattle.line_loop.specs.declared.loop_end.LoopEnd.TheVariants.{Stopped}
 use Rattle.couchview_cli.specs.Ends.{Comes}
-use Rattle.couchview_cli.specs.Serving.{AreLeft, Outside, Serves}
+use Rattle.couchview_cli.specs.Reading.{HasReplied}
+use Rattle.couchview_cli.specs.Serving.{outside, AreLeft, Outside, Serves}
 use Rattle.couchview_cli.specs.Session.{IsAtOrigin, Origin}
 use Rattle.couchview_cli.proofs.Coming.{come_opened}
+use Rattle.couchview_cli.proofs.Replying.{is_cut_off, reads_on}
 use Rattle.couchview_cli.proofs.Served.{cut_short, finishes, origin_of, unopened}
 use Rattle.couchview_cli.proofs.Statuses.{end_no_usage}
 use Rattle.couchview_cli.proofs.serve.serve.Goals as goal
@@ -80,3 +82,33 @@ returns-clause-serves g c = λ opening holds.
     held end.bytes fault c.close-in-Stopped.result end.reads end.counts
     (λ is. Rose-earlier (f.faults c.args.folder.now) (f.faults c.open.new.folder) (f.faults ran.folder) c.open.ensures.cause.later (c.run-end.ensures.disk_failed (c.in-Stopped.is ∙ ap Stopped is)))
     end.ends c.close-in-Stopped.ensures.closes))
+
+-- ---- lines, whatever the folder holds
+
+pub returns-in-Err-clause-lines : goal.returns-in-Err-clause-lines
+returns-in-Err-clause-lines g c =
+    inr (inr (record {
+      fault = c.in-Err.fault;
+      unread = refl;
+      closes = c.close.ensures.closes;
+      moved = c.open.ensures.moved;
+      damaged =
+          told_now (g.F.Folder.disk c.args.folder.now) (λ d. (name : FileName) (at : ℕ) → c.open.result ≡ Err (Damaged name at) → HasDamage d.now name at)
+          (λ d. (name : FileName) (at : ℕ) → c.in-Err.fault ≡ Damaged name at → HasDamage d.now name at) (λ d told name at is. told name at (c.in-Err.is ∙ ap Err is)) c.open.ensures.damaged;
+      room = λ name size is. c.open.ensures.room name size (c.in-Err.is ∙ ap Err is);
+    }))
+
+pub returns-in-Run-clause-lines : goal.returns-in-Run-clause-lines
+returns-in-Run-clause-lines g c =
+    let ran = c.run-end.new in
+    let ports = outside g.S.Source g.K.Sink g.F.Folder g.C.Servers in
+    reads_on (ports c.args.source.now c.args.sink.now c.args.folder.now c.args.servers.now) (ports ran.source ran.sink ran.folder c.finish.new.servers) c.status.result c.in-Run.end c.status.ensures
+    (subst (λ (e : LoopEnd StepFault). HasReplied (g.S.Source.left c.args.source.now) (g.S.Source.left ran.source) (g.K.Sink.held c.args.sink.now) (g.K.Sink.held ran.sink) (g.F.Folder.disk ran.folder) e) c.in-Run.is c.run-end.ensures.replies)
+
+pub returns-clause-lines : goal.returns-clause-lines
+returns-clause-lines g c =
+    let ran = c.run-end.new in
+    let ports = outside g.S.Source g.K.Sink g.F.Folder g.C.Servers in
+    is_cut_off (ports c.args.source.now c.args.sink.now c.args.folder.now c.args.servers.now) (ports ran.source c.close-in-Stopped.new.sink ran.folder c.finish.new.servers) c.close-in-Stopped.result (g.K.Sink.held ran.sink) c.in-Stopped.fault
+    (subst (λ (e : LoopEnd StepFault). HasReplied (g.S.Source.left c.args.source.now) (g.S.Source.left ran.source) (g.K.Sink.held c.args.sink.now) (g.K.Sink.held ran.sink) (g.F.Folder.disk ran.folder) e) c.in-Stopped.is c.run-end.ensures.replies)
+    c.close-in-Stopped.ensures.closes

@@ -1,9 +1,12 @@
 -- What a session does is what the loop over its lines did.
-use Rattle.couchview_cli.proofs.Coming.{comes, disk_failed, keeps}
+use Rattle.couchview_cli.proofs.Coming.{comes, disk_failed, has_replied, keeps}
 use Rattle.couchview_cli.proofs.session.Session.run.Goals as goal
 
 pub returns-clause-comes : goal.returns-clause-comes
 returns-clause-comes g c = λ origin come. comes g.F.Folder g.C.Servers _ (λ old new line answers. answers) (λ old new line fault stops. stops) origin _ _ _ _ _ _ c.answer_lines.result come c.answer_lines.ensures.loops
+
+pub returns-clause-replies : goal.returns-clause-replies
+returns-clause-replies g c = has_replied g.F.Folder g.C.Servers _ (λ old new line answers. answers) (λ old new line fault stops. stops) _ _ _ _ _ _ c.answer_lines.result c.answer_lines.ensures.loops
 
 pub returns-clause-ports : goal.returns-clause-ports
 returns-clause-ports g c = (keeps g.F.Folder g.C.Servers _ (λ old new line answers. answers) (λ old new line fault stops. stops) _ _ _ _ _ _ c.answer_lines.result c.answer_lines.ensures.loops).0

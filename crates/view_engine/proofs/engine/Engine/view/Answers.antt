@@ -44,7 +44,7 @@ returns-in-Err-load_mapped g c = viewed_halted c.requires.open tt (reads_then c.
 
 pub returns-in-Ok-map_all : goal.returns-in-Ok-map_all
 returns-in-Ok-map_all g c = viewed c.requires.open (reads_then c.in-Ok.ensures.reads c.in-Ok-load_mapped.ensures.reads)
-    (on_ok_weaker c.append_rows.result (λ appended. (_, appended)) c.append_rows.ensures.ok) (on_ok_weaker c.append_rows.result (λ appended. tt) c.append_rows.ensures.ok) c.append_rows.ensures.silent c.append_rows.ensures.memory (
+    (on_ok_weaker c.append_rows.result (λ appended. (answer (sorted_rows (emitted_rows c.as_slice-in-Ok-map_all.result.now (emitted_by c.in-Ok.plan.place c.as_slice-in-Ok-map_all-2.result.now))), appended)) c.append_rows.ensures.ok) (on_ok_weaker c.append_rows.result (λ appended. tt) c.append_rows.ensures.ok) c.append_rows.ensures.silent c.append_rows.ensures.memory (
     let x = g.F.Folder.disk c.args.folder.now in
     let y = g.F.Folder.disk c.plan.new.folder in
     let z = g.F.Folder.disk c.load_mapped.new.folder in

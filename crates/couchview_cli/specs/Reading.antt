@@ -1,0 +1,96 @@
+-- What serving does with lines, whatever the folder holds.
+use Rattle.std.specs.Prelude.{◌≡◌, ◌≢◌, ◌⊎◌, ◌≤◌, ℕ, List, [], ◌∷◌, ◌++◌, Option, length}
+use Rattle.std.specs.Io.KnownBytes.{Appends, Consumes, IsAtEnd}
+use Rattle.view_ports.specs.declared.run_end.RunEnd.{RunEnd}
+use Rattle.view_ports.specs.declared.file_name.FileName.{FileName}
+use Rattle.view_ports.specs.Disk.{Disk, IfTold, Tells}
+use Rattle.view_ports.specs.Exchanges.{Exchange, LeadsTo, lines_of, text_of}
+use Rattle.view_ports.specs.Lines.{IsCut, ended}
+use Rattle.view_ports.specs.Runs.{AreLines, HasRead, Run, input_limit, status_of}
+use Rattle.line_loop.specs.declared.loop_end.LoopEnd.{LoopEnd}
+use Rattle.line_loop.specs.declared.loop_end.LoopEnd.TheVariants as loop_end
+use Rattle.line_loop.specs.Loops.{HasReadBy}
+use Rattle.view_engine.specs.declared.halt.StepFault.{StepFault}
+use Rattle.view_engine.specs.declared.halt.StepFault.TheVariants.{Damaged, Full, NoMemory}
+use Rattle.view_engine.specs.Openings.{IsMovedByOpening}
+use Rattle.view_engine.specs.Worlds.{HasBodyDamage, HasDamage}
+use Rattle.couchview_cli.specs.Closing.{Closes}
+use Rattle.couchview_cli.specs.Serving.{Outside}
+
+-- a line is answered with a reply line, and an empty one with nothing
+pub record IsReplied (line text : List ℕ) : Type 0 where
+  pub none : line ≡ [] → text ≡ []
+  pub some : line ≢ [] → (reply : List ℕ) × (text ≡ ended reply)
+
+-- a step of a run of which only that is told
+abbrev pub Replies : Unit {0} → Exchange → Unit {0} → Type 0
+Replies before exchange after = IsReplied exchange.line exchange.text
+
+-- a line isn't answered, for this fault: memory didn't run out, and what is named as damaged is
+pub record IsFoundOn (disk : Option (Disk FileName)) (fault : StepFault) : Type 0 where
+  pub halts : fault ≢ NoMemory
+  pub damaged : (name : FileName) (at : ℕ) → fault ≡ Damaged name at → IfTold disk (λ d. HasBodyDamage d.now name at)
+
+module _ (IsOver : Type 0) (held now : Option (List ℕ)) (bytes : List ℕ) where
+  -- the lines of these bytes were answered, as a run that came to this end answers them
+  pub record AreReplied (end : RunEnd) : Type 0 where
+    pub gained : List ℕ
+    pub run : Run Replies IsOver tt bytes gained end tt
+    pub wrote : Appends held now gained
+
+  -- the first lines of them were answered, and the one behind them was not
+  pub record AreRepliedUpTo : Type 0 where
+    pub exchanges : List Exchange
+    pub lines : List (List ℕ)
+    pub rest : List ℕ
+    pub line : List ℕ
+    pub more : List (List ℕ)
+    pub cut : IsCut bytes lines rest
+    pub answered : AreLines IsOver lines rest (lines_of exchanges ++ line ∷ more)
+    pub leads : LeadsTo Replies tt exchanges tt
+    pub wrote : Appends held now (text_of exchanges)
+
+  abbrev pub AreRepliedBy : Option (Disk FileName) → LoopEnd StepFault → Type 0
+  AreRepliedBy disk (loop_end.Run end) = AreReplied end
+  AreRepliedBy disk (loop_end.Stopped fault) = AreRepliedUpTo × IsFoundOn disk fault
+
+-- a session read the bytes that the source lost, answered their lines, and came to this end over this disk
+pub record HasReplied (left left' held held' : Option (List ℕ)) (disk : Option (Disk FileName)) (end : LoopEnd StepFault) : Type 0 where
+  pub bytes : List ℕ
+  pub reads : Consumes left left' bytes
+  pub counts : HasReadBy end (length bytes)
+  pub ends : AreRepliedBy (IsAtEnd left') held held' bytes disk end
+
+-- ---- the whole run
+
+-- it read the bytes that the source lost, answered their lines, and ended with this status
+pub record ReadsOn (before after : Outside) (status : ℕ) : Type 0 where
+  pub bytes : List ℕ
+  pub end : RunEnd
+  pub ends : status ≡ status_of end
+  pub reads : Consumes before.left after.left bytes
+  pub counts : HasRead end (length bytes)
+  pub replies : AreReplied (IsAtEnd after.left) before.held after.held bytes end
+
+-- it was cut short in a line, and behind the replies to those before it stands the last line, which names the fault, unless the sink failed
+pub record IsCutOff (before after : Outside) (status : ℕ) : Type 0 where
+  pub bytes : List ℕ
+  pub fault : StepFault
+  pub held : Option (List ℕ)
+  pub reads : Consumes before.left after.left bytes
+  pub counts : length bytes ≤ input_limit
+  pub replies : AreRepliedUpTo (IsAtEnd after.left) before.held held bytes
+  pub closes : Closes held after.held [] fault status
+  pub found : IsFoundOn after.disk fault
+
+-- the folder wasn't opened, and nothing was read: no file changed but as opening changes it, what is named as damaged is, and no file is full
+pub record ReadsNothing (before after : Outside) (status : ℕ) : Type 0 where
+  pub fault : StepFault
+  pub unread : after.left ≡ before.left
+  pub closes : Closes before.held after.held [] fault status
+  pub moved : Tells before.disk after.disk IsMovedByOpening
+  pub damaged : IfTold before.disk (λ d. (name : FileName) (at : ℕ) → fault ≡ Damaged name at → HasDamage d.now name at)
+  pub room : (name : FileName) (length : Option ℕ) → fault ≡ Full name length → ⊥
+
+abbrev pub AnswersLines : Outside → Outside → ℕ → Type 0
+AnswersLines before after status = ReadsOn before after status ⊎ (IsCutOff before after status ⊎ ReadsNothing before after status)
