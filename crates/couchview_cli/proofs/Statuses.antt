@@ -99,16 +99,22 @@ closed before after text fault status (inr failed) whole room disk sink = absurd
 
 module _ {functions : List ℕ → Functions} {honest : List ℕ → Type 0} {languages : List (List ℕ × List ℕ)} {opening : World} {AtEnd : List Call → Type 0} (before after : Outside) (status : ℕ) where
   -- input that is short enough is read to its end, unless a port fails, memory runs out or a full file ends the run
-  pub Serves-complete : Serves functions honest languages opening before after AtEnd status → IsShort before.left → (status ≡ 3 → ⊥) → (status ≡ 4 → ⊥) → (status ≡ 5 → ⊥)
+  complete_of : Serves functions honest languages opening before after AtEnd status → IsShort before.left → (status ≡ 3 → ⊥) → (status ≡ 4 → ⊥) → (status ≡ 5 → ⊥)
       → (EndsAtFullFile functions honest languages opening before after AtEnd status → ⊥) → IfTold before.disk (λ d. (status ≡ 0) ⊎ (status ≡ 6))
-  Serves-complete (inl finishes) short disk sink source roomy =
+  complete_of (inl finishes) short disk sink source roomy =
       told_all before.disk _ (λ d. complete finishes.end status (length finishes.bytes) finishes.ends finishes.counts (consumed_short before.left after.left finishes.bytes finishes.reads short) sink source)
-  Serves-complete (inr (inl cut)) short disk sink source roomy =
+  complete_of (inr (inl cut)) short disk sink source roomy =
       told_now before.disk (λ d. (name : FileName) (at : ℕ) → cut.fault ≡ Damaged name at → ⊥) _
       (λ d whole. closed before.held after.held (text_of cut.exchanges) cut.fault status cut.closes whole (λ name size is. roomy (cut, name, size, is)) disk sink) cut.whole
-  Serves-complete (inr (inr unopened)) short disk sink source roomy =
+  complete_of (inr (inr unopened)) short disk sink source roomy =
       told_now before.disk (λ d. (name : FileName) (at : ℕ) → unopened.fault ≡ Damaged name at → ⊥) _
       (λ d whole. closed before.held after.held [] unopened.fault status unopened.closes whole unopened.room disk sink) unopened.whole
+
+  -- the same where the languages are named in another way
+  pub Serves-complete : {named : List (List ℕ × List ℕ)} → languages ≡ named → Serves functions honest languages opening before after AtEnd status → IsShort before.left → (status ≡ 3 → ⊥) → (status ≡ 4 → ⊥) → (status ≡ 5 → ⊥)
+      → (EndsAtFullFile functions honest named opening before after AtEnd status → ⊥) → IfTold before.disk (λ d. (status ≡ 0) ⊎ (status ≡ 6))
+  Serves-complete same serves short disk sink source roomy =
+      complete_of serves short disk sink source (λ full. roomy (subst (λ (ls : List (List ℕ × List ℕ)). EndsAtFullFile functions honest ls opening before after AtEnd status) same full))
 
 -- a run that read as many bytes as a run reads at most ends there
 pub limited : (before after : Outside) (status : ℕ) → AnswersLines before after status → StopsAtLimit before.left after.left status
