@@ -5,7 +5,7 @@ ghost use Rattle.std.specs.Io.{ReadsAtMost};
 ghost use Rattle.view_ports.specs.declared.folder.FolderFault.TheVariants.{Failed};
 ghost use Rattle.view_ports.specs.Causes.{HasCauseIf, one_more};
 ghost use Rattle.view_ports.specs.Disk.{IfTold, Tells};
-ghost use Rattle.view_ports.specs.Faults.{HasCause};
+ghost use Rattle.view_ports.specs.Faults.{CountsOnce, CountsOnly, HasCause};
 ghost use Rattle.view_ports.specs.File.{emptied, grew, synced, wrote};
 ghost use Rattle.view_ports.specs.FolderCalls.{Changes, IsListing, IsReadAt, Passes};
 ghost use Rattle.crash_disk.specs.Moments.{disk_at};
@@ -67,6 +67,7 @@ impl Folder for MemoryFolder {
             (λ count. count ≡ length (d.now name).seen)) }
         ensures disk { Tells (told self.old) (told self.new) Passes }
         ensures cause { HasCause (counts self.old).faults (counts self.new).faults result }
+        ensures counted { CountsOnce (counts self.old).faults (counts self.new).faults result }
         ensures reads { (counts self.new).reads ≡ (counts self.old).reads }
 
         // It fails where its number is listed, and where no memory is left; then it is a fault.
@@ -89,6 +90,7 @@ impl Folder for MemoryFolder {
             (λ count. IsReadAt (d.now name).seen at count into.new)) }
         ensures disk { Tells (told self.old) (told self.new) Passes }
         ensures cause { HasCause (counts self.old).faults (counts self.new).faults result }
+        ensures counted { CountsOnce (counts self.old).faults (counts self.new).faults result }
         ensures reads { (counts self.new).reads ≡ one_more (counts self.old).reads }
 
         // It fails where its number is listed, and where no memory is left; then it is a fault.
@@ -116,6 +118,7 @@ impl Folder for MemoryFolder {
         ensures disk { Tells (told self.old) (told self.new)
             (Changes name (wrote at from.now) result) }
         ensures cause { HasCause (counts self.old).faults (counts self.new).faults result }
+        ensures counted { CountsOnce (counts self.old).faults (counts self.new).faults result }
         ensures reads { (counts self.new).reads ≡ (counts self.old).reads }
 
         // It fails where its number is listed, and where no memory is left; then it is a fault.
@@ -141,6 +144,7 @@ impl Folder for MemoryFolder {
         requires { IfTold (told self.old) (λ d. length (d.now name).seen + by ≤ 2 ^ 40) }
         ensures disk { Tells (told self.old) (told self.new) (Changes name (grew by) result) }
         ensures cause { HasCause (counts self.old).faults (counts self.new).faults result }
+        ensures counted { CountsOnce (counts self.old).faults (counts self.new).faults result }
         ensures reads { (counts self.new).reads ≡ (counts self.old).reads }
 
         // It fails where its number is listed, and where no memory is left; then it is a fault.
@@ -164,6 +168,7 @@ impl Folder for MemoryFolder {
     fn cut_to_zero(&mut self, name: FileName) -> Result<(), PortFault>
         ensures disk { Tells (told self.old) (told self.new) (Changes name emptied result) }
         ensures cause { HasCause (counts self.old).faults (counts self.new).faults result }
+        ensures counted { CountsOnce (counts self.old).faults (counts self.new).faults result }
         ensures reads { (counts self.new).reads ≡ (counts self.old).reads }
 
         // It fails where its number is listed, and where no memory is left; then it is a fault.
@@ -188,6 +193,7 @@ impl Folder for MemoryFolder {
     fn sync(&mut self, name: FileName) -> Result<(), PortFault>
         ensures disk { Tells (told self.old) (told self.new) (Changes name synced result) }
         ensures cause { HasCause (counts self.old).faults (counts self.new).faults result }
+        ensures counted { CountsOnce (counts self.old).faults (counts self.new).faults result }
         ensures reads { (counts self.new).reads ≡ (counts self.old).reads }
 
         // It fails where its number is listed, and where no memory is left; then it is a fault.
@@ -215,6 +221,7 @@ impl Folder for MemoryFolder {
         ensures disk { Tells (told self.old) (told self.new) Passes }
         ensures cause { HasCauseIf (λ error. error ≡ Failed) (counts self.old).faults
             (counts self.new).faults result }
+        ensures counted { CountsOnly Failed (counts self.old).faults (counts self.new).faults result }
         ensures reads { (counts self.new).reads ≡ (counts self.old).reads }
 
         // It fails exactly where its number is listed; want of memory is no fault.

@@ -27,7 +27,7 @@ pub struct RealFolder {
 
 impl RealFolder {
     ghost use Rattle.std.specs.Prelude.{◌≡◌, IfOk};
-    ghost use Rattle.view_ports.specs.Faults.{HasCause};
+    ghost use Rattle.view_ports.specs.Faults.{CountsOnce, HasCause};
 
     /// The folder, of which no file is open yet.
     pub fn new(rt: HostRuntime, diagnostics: Diagnostics) -> RealFolder
@@ -52,6 +52,7 @@ impl RealFolder {
     ) -> Result<T, PortFault>
         ensures value { IfOk result (λ value. given ≡ Ok value) }
         ensures cause { HasCause self.old.faults self.new.faults result }
+        ensures counted { CountsOnce self.old.faults self.new.faults result }
         ensures reads { self.new.reads ≡ self.old.reads }
     {
         match given {

@@ -1,6 +1,6 @@
 //! Query servers that are child processes.
 
-ghost use Rattle.std.specs.Prelude.{◌≡◌, ◌↔◌, ◌≤◌, ◌<◌, vec_len};
+ghost use Rattle.std.specs.Prelude.{◌≡◌, ◌≢◌, ◌↔◌, ◌+◌, ◌≤◌, ◌<◌, vec_len};
 ghost use Rattle.view_ports.specs.declared.limits.TheConstants.{LINE_LIMIT, PIECE};
 
 use crate::child_fault::ChildFault;
@@ -62,6 +62,8 @@ impl RealServers {
         ensures memory { (result ≡ ServersFault.NoMemory) ↔ (fault ≡ ChildFault.NoMemory) }
         ensures later { self.old.faults ≤ self.new.faults }
         ensures counted { result ≡ ServersFault.Failed → Rose self.old.faults self.new.faults }
+        ensures once { self.new.faults ≤ self.old.faults + 1 }
+        ensures uncounted { result ≢ ServersFault.Failed → self.new.faults ≡ self.old.faults }
         ensures none { has_child self.new slot ≡ false }
         ensures elsewhere { SameElsewhere slot self.old self.new }
     {
@@ -87,7 +89,7 @@ impl Servers for RealServers {
     ghost use Rattle.std.specs.Prelude.{◌≡◌, ◌≤◌, ◌<◌, List, IfOk, OnOk, is_ok, true, false, vec_len};
     ghost use Rattle.real_ports.specs.Children.{Anything, LeavesChild, SameElsewhere, has_child};
     ghost use Rattle.view_ports.specs.Calls.{Call, child, start, send, receive, stop};
-    ghost use Rattle.view_ports.specs.Faults.{HasCauseOf};
+    ghost use Rattle.view_ports.specs.Faults.{CountsOnly, HasCauseOf};
     ghost use Rattle.view_ports.specs.Field.{field};
     ghost use Rattle.view_ports.specs.Honest.{AnswersChild};
     ghost use Rattle.view_ports.specs.Lines.{IsLine};
@@ -105,6 +107,7 @@ impl Servers for RealServers {
         requires { slot < SLOT_COUNT }
         ensures told { Goes Anything Anything (start slot path.now (is_ok result)) }
         ensures cause { HasCauseOf ServersFault.Failed self.old.faults self.new.faults result }
+        ensures counted { CountsOnly ServersFault.Failed self.old.faults self.new.faults result }
         ensures child { LeavesChild slot self.old self.new result }
     {
         self.stop(slot);
@@ -121,6 +124,7 @@ impl Servers for RealServers {
         requires { slot < SLOT_COUNT }
         ensures told { Goes Anything Anything (send slot line.now (is_ok result)) }
         ensures cause { HasCauseOf ServersFault.Failed self.old.faults self.new.faults result }
+        ensures counted { CountsOnly ServersFault.Failed self.old.faults self.new.faults result }
         ensures child { LeavesChild slot self.old self.new result }
         ensures took { OnOk result (has_child self.old slot ≡ true) }
     {
@@ -140,6 +144,7 @@ impl Servers for RealServers {
         ensures answers { IfOk result (λ line. (calls : List Call) → Anything calls
             → AnswersChild (λ path. field) (λ path. ⊥) (child slot calls) line.items) }
         ensures cause { HasCauseOf ServersFault.Failed self.old.faults self.new.faults result }
+        ensures counted { CountsOnly ServersFault.Failed self.old.faults self.new.faults result }
         ensures child { LeavesChild slot self.old self.new result }
         ensures gave { OnOk result (has_child self.old slot ≡ true) }
         ensures short { IfOk result (λ line. vec_len line ≤ LINE_LIMIT) }

@@ -1,5 +1,5 @@
 -- Counts of faults: the only cause for which a port may answer that it failed.
-use Rattle.std.specs.Prelude.{◌≡◌, ℕ, ◌+◌, ◌-◌, ◌^◌, ◌≤◌, min, Result, Err, OnErr}
+use Rattle.std.specs.Prelude.{◌≡◌, ◌≢◌, ℕ, ◌+◌, ◌-◌, ◌^◌, ◌≤◌, min, Result, Err, OnOk, OnErr}
 
 -- a count after one more: it stands still at the largest `u64`
 abbrev pub next_count : ℕ → ℕ
@@ -22,3 +22,13 @@ RoseBy more before now = min (before + more) (2 ^ 64 - 1) ≤ now
 pub record HasCauseOf {T E : Type 0} (fault : E) (before now : ℕ) (result : Result T E) : Type 0 where
   pub later : before ≤ now
   pub failed : result ≡ Err fault → Rose before now
+
+-- a call that succeeds counts no fault, and one that fails counts one at most
+pub record CountsOnce {T E : Type 0} (before now : ℕ) (result : Result T E) : Type 0 where
+  pub still : OnOk result (now ≡ before)
+  pub once : now ≤ before + 1
+
+-- the same of one among several faults: only this one is counted
+pub record CountsOnly {T E : Type 0} (fault : E) (before now : ℕ) (result : Result T E) : Type 0 where
+  pub still : result ≢ Err fault → now ≡ before
+  pub once : now ≤ before + 1

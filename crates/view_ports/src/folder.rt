@@ -6,7 +6,7 @@ ghost use Rattle.view_ports.specs.declared.file_name.FileName.{FileName};
 ghost use Rattle.view_ports.specs.declared.folder.FolderFault.TheVariants.{Failed};
 ghost use Rattle.view_ports.specs.Causes.{HasCauseIf, one_more};
 ghost use Rattle.view_ports.specs.Disk.{Disk, IfTold, Tells, SeenStays};
-ghost use Rattle.view_ports.specs.Faults.{HasCause};
+ghost use Rattle.view_ports.specs.Faults.{CountsOnce, CountsOnly, HasCause};
 ghost use Rattle.view_ports.specs.File.{emptied, grew, synced, wrote};
 ghost use Rattle.view_ports.specs.FolderCalls.{Changes, IsListing, IsReadAt, Passes};
 
@@ -41,6 +41,7 @@ pub trait Folder {
             (λ count. count ≡ length (d.now name).seen)) }
         ensures disk { Tells (disk self.old) (disk self.new) Passes }
         ensures cause { HasCause (faults self.old) (faults self.new) result }
+        ensures counted { CountsOnce (faults self.old) (faults self.new) result }
         ensures reads { reads self.new ≡ reads self.old };
 
     /// Reads the bytes from the place `at` on into the front of `into`, and answers how many: as many
@@ -51,6 +52,7 @@ pub trait Folder {
             (λ count. IsReadAt (d.now name).seen at count into.new)) }
         ensures disk { Tells (disk self.old) (disk self.new) Passes }
         ensures cause { HasCause (faults self.old) (faults self.new) result }
+        ensures counted { CountsOnce (faults self.old) (faults self.new) result }
         ensures reads { reads self.new ≡ one_more (reads self.old) };
 
     /// Writes the bytes of `from` over those from the place `at` on.
@@ -59,6 +61,7 @@ pub trait Folder {
         ensures disk { Tells (disk self.old) (disk self.new)
             (Changes name (wrote at from.now) result) }
         ensures cause { HasCause (faults self.old) (faults self.new) result }
+        ensures counted { CountsOnce (faults self.old) (faults self.new) result }
         ensures reads { reads self.new ≡ reads self.old };
 
     /// Adds so many zero bytes at the end of the file, which is made if it isn't there.
@@ -66,18 +69,21 @@ pub trait Folder {
         requires { IfTold (disk self.old) (λ d. length (d.now name).seen + by ≤ 2 ^ 40) }
         ensures disk { Tells (disk self.old) (disk self.new) (Changes name (grew by) result) }
         ensures cause { HasCause (faults self.old) (faults self.new) result }
+        ensures counted { CountsOnce (faults self.old) (faults self.new) result }
         ensures reads { reads self.new ≡ reads self.old };
 
     /// Takes all bytes of the file away.
     fn cut_to_zero(&mut self, name: FileName) -> Result<(), PortFault>
         ensures disk { Tells (disk self.old) (disk self.new) (Changes name emptied result) }
         ensures cause { HasCause (faults self.old) (faults self.new) result }
+        ensures counted { CountsOnce (faults self.old) (faults self.new) result }
         ensures reads { reads self.new ≡ reads self.old };
 
     /// Makes sure of the file as it is now: from then on a crash leaves what a read gives.
     fn sync(&mut self, name: FileName) -> Result<(), PortFault>
         ensures disk { Tells (disk self.old) (disk self.new) (Changes name synced result) }
         ensures cause { HasCause (faults self.old) (faults self.new) result }
+        ensures counted { CountsOnce (faults self.old) (faults self.new) result }
         ensures reads { reads self.new ≡ reads self.old };
 
     /// The names of all files of this program that have bytes, each once, in any order.
@@ -87,6 +93,7 @@ pub trait Folder {
         ensures disk { Tells (disk self.old) (disk self.new) Passes }
         ensures cause { HasCauseIf (λ error. error ≡ Failed) (faults self.old)
             (faults self.new) result }
+        ensures counted { CountsOnly Failed (faults self.old) (faults self.new) result }
         ensures reads { reads self.new ≡ reads self.old };
 
     /// What is read is one of the images that a crash may leave now.

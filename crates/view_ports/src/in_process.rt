@@ -20,7 +20,7 @@ impl<S: ServerSession> Child<S> {
     ghost use Rattle.std.specs.Prelude.{IfOk, OnOk, OnErr};
     ghost use Rattle.view_ports.specs.Calls.{Session, asked, heard, spoiled, is_log};
     ghost use Rattle.view_ports.specs.Honest.{AnswersOldest};
-    ghost use Rattle.view_ports.specs.InProcess.{IsChild};
+    ghost use Rattle.view_ports.specs.InProcess.{GivesOldest, IsChild};
 
     /// Keeps a line until its answer is asked for.
     fn ask(&mut self, alloc: Global, line: &[u8]) -> Result<(), NoMemory>
@@ -40,6 +40,8 @@ impl<S: ServerSession> Child<S> {
             → IsChild S.sources self.new (heard (is_log text.items) text.items s)) }
         ensures answers { IfOk result (λ text. (s : Session) → IsChild S.sources self.old s
             → AnswersOldest S.functions s s.waiting text.items) }
+        ensures due { IfOk result (λ text. (s : Session) → IsChild S.sources self.old s
+            → GivesOldest s.waiting text.items) }
         ensures err { OnErr result ((s : Session) → IsChild S.sources self.old s
             → IsChild S.sources self.new (spoiled s)) }
     {
@@ -64,7 +66,7 @@ pub struct InProcess<S> {
 }
 
 impl<S: ServerSession> InProcess<S> {
-    ghost use Rattle.std.specs.Prelude.{◌↔◌, [], IfOk, OnOk, IsErr, IsTrue};
+    ghost use Rattle.std.specs.Prelude.{◌↔◌, [], IfOk, OnOk, OnErr, IsErr, IsTrue};
     ghost use Rattle.view_ports.specs.Faults.{HasCause, next_count};
     ghost use Rattle.view_ports.specs.InProcess.{MayFollow};
     ghost use Rattle.view_ports.specs.Memory.{is_listed};
@@ -92,7 +94,8 @@ impl<S: ServerSession> InProcess<S> {
     fn count(&mut self) -> Result<(), PortFault>
         ensures listed { IsTrue (is_listed self.old.fail.items self.old.calls) ↔ IsErr result }
         ensures cause { HasCause self.old.faults self.new.faults result }
-        ensures faults { OnOk result (self.new.faults ≡ self.old.faults) }
+        ensures ok { OnOk result (self.new.faults ≡ self.old.faults) }
+        ensures err { OnErr result (self.new.faults ≡ next_count self.old.faults) }
         ensures counted { self.new.calls ≡ next_count self.old.calls }
         ensures fail { self.new.fail ≡ self.old.fail }
         ensures children { self.new.children ≡ self.old.children }
@@ -110,9 +113,9 @@ impl<S: ServerSession> InProcess<S> {
 impl<S: ServerSession> Servers for InProcess<S> {
     ghost use Rattle.std.specs.Prelude.{◌≡◌, ◌<◌, ℕ, List, All, ◌≢◌, IfOk, IsErrOf, Err, is_ok, ◌↔◌, IsTrue};
     ghost use Rattle.view_ports.specs.Calls.{Call, child, start, send, receive, stop};
-    ghost use Rattle.view_ports.specs.Faults.{HasCauseOf};
+    ghost use Rattle.view_ports.specs.Faults.{CountsOnly, HasCauseOf};
     ghost use Rattle.view_ports.specs.Honest.{AnswersChild};
-    ghost use Rattle.view_ports.specs.InProcess.{FailsAsListed, MayFollow};
+    ghost use Rattle.view_ports.specs.InProcess.{FailsAsListed, GivesDue, MayFollow};
     ghost use Rattle.view_ports.specs.Servers.{Goes, line_of};
 
     ghost may_follow = { λ s calls. MayFollow S.sources s.children.items calls };
@@ -128,6 +131,7 @@ impl<S: ServerSession> Servers for InProcess<S> {
         ensures told { Goes (MayFollow S.sources self.old.children.items)
             (MayFollow S.sources self.new.children.items) (start slot path.now (is_ok result)) }
         ensures cause { HasCauseOf ServersFault.Failed self.old.faults self.new.faults result }
+        ensures counted { CountsOnly ServersFault.Failed self.old.faults self.new.faults result }
         ensures listed { FailsAsListed self.old self.new result }
     {
         let at = slot as usize;
@@ -148,6 +152,7 @@ impl<S: ServerSession> Servers for InProcess<S> {
         ensures told { Goes (MayFollow S.sources self.old.children.items)
             (MayFollow S.sources self.new.children.items) (send slot line.now (is_ok result)) }
         ensures cause { HasCauseOf ServersFault.Failed self.old.faults self.new.faults result }
+        ensures counted { CountsOnly ServersFault.Failed self.old.faults self.new.faults result }
         ensures listed { FailsAsListed self.old self.new result }
     {
         if let Err(PortFault) = self.count() {
@@ -169,7 +174,11 @@ impl<S: ServerSession> Servers for InProcess<S> {
         ensures answers { IfOk result (λ line. (calls : List Call)
             → MayFollow S.sources self.old.children.items calls
             → AnswersChild (λ path. S.functions) (λ path. Unit {0}) (child slot calls) line.items) }
+        ensures due { IfOk result (λ line. (calls : List Call)
+            → MayFollow S.sources self.old.children.items calls
+            → GivesDue (child slot calls) line.items) }
         ensures cause { HasCauseOf ServersFault.Failed self.old.faults self.new.faults result }
+        ensures counted { CountsOnly ServersFault.Failed self.old.faults self.new.faults result }
         ensures listed { FailsAsListed self.old self.new result }
     {
         if let Err(PortFault) = self.count() {

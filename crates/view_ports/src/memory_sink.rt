@@ -3,7 +3,7 @@
 ghost use Rattle.std.specs.Prelude.{◌≡◌, ◌≢◌, ◌<◌, length, min, [], Some, IfOk, OnOk, OnErr, IsErr, IsTrue};
 ghost use Rattle.std.specs.Io.{WritesAtMost};
 ghost use Rattle.std.specs.Io.KnownBytes.{WriteAppends};
-ghost use Rattle.view_ports.specs.Faults.{HasCause, next_count};
+ghost use Rattle.view_ports.specs.Faults.{CountsOnce, HasCause, next_count};
 ghost use Rattle.view_ports.specs.Memory.{SinkState, is_listed};
 
 use crate::ports::{PortFault, Sink};
@@ -64,6 +64,7 @@ impl Sink for MemorySink {
         ensures some { IfOk result (λ count. 0 < length from.now → 0 < count) }
         ensures bytes { WriteAppends (Some self.old.held) (Some self.new.held) result from.now }
         ensures cause { HasCause self.old.faults self.new.faults result }
+        ensures counted { CountsOnce self.old.faults self.new.faults result }
 
         // A write takes as much as it can. It fails where its number is listed, and where the sink
         // finds no memory to grow.

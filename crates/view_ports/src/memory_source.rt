@@ -3,7 +3,7 @@
 ghost use Rattle.std.specs.Prelude.{◌≡◌, ◌≢◌, ◌<◌, ◌≤◌, length, min, drop, Some, IfOk, OnOk, OnErr, is_err};
 ghost use Rattle.std.specs.Io.{ReadsAtMost};
 ghost use Rattle.std.specs.Io.KnownBytes.{ReadConsumes};
-ghost use Rattle.view_ports.specs.Faults.{HasCause, next_count};
+ghost use Rattle.view_ports.specs.Faults.{CountsOnce, HasCause, next_count};
 ghost use Rattle.view_ports.specs.Memory.{SourceState, is_listed};
 
 use crate::ports::{PortFault, Source};
@@ -63,6 +63,7 @@ impl Source for MemorySource {
         ensures bound { ReadsAtMost result into.new }
         ensures bytes { ReadConsumes (Some self.old.left) (Some self.new.left) result into.new }
         ensures cause { HasCause self.old.faults self.new.faults result }
+        ensures counted { CountsOnce self.old.faults self.new.faults result }
 
         // A read gives as much as it can, and fails exactly where its number is listed.
         ensures most { IfOk result (λ count. count ≡ min (length into.new)

@@ -1,10 +1,11 @@
 //! The traits of the outside, each with a count of the device's faults. The count never falls, and
-//! stands still at `u64::MAX`. A method answers `PortFault` only where the count rose in that call.
+//! stands still at `u64::MAX`. A method answers `PortFault` only where the count rose in that call,
+//! and it rises in no other call, and by one at most.
 
 ghost use Rattle.std.specs.Prelude.{ℕ, ◌<◌, List, Option, IfOk, length};
 ghost use Rattle.std.specs.Io.{ReadsAtMost, WritesAtMost};
 ghost use Rattle.std.specs.Io.KnownBytes.{ReadConsumes, WriteAppends};
-ghost use Rattle.view_ports.specs.Faults.{HasCause};
+ghost use Rattle.view_ports.specs.Faults.{CountsOnce, HasCause};
 
 use thiserror::Error;
 
@@ -26,7 +27,8 @@ pub trait Source {
     fn read(&mut self, into: &mut [u8]) -> Result<usize, PortFault>
         ensures bound { ReadsAtMost result into.new }
         ensures bytes { ReadConsumes (left self.old) (left self.new) result into.new }
-        ensures cause { HasCause (faults self.old) (faults self.new) result };
+        ensures cause { HasCause (faults self.old) (faults self.new) result }
+        ensures counted { CountsOnce (faults self.old) (faults self.new) result };
 }
 
 /// Where bytes are written to.
@@ -43,5 +45,6 @@ pub trait Sink {
         ensures bound { WritesAtMost result from.now }
         ensures some { IfOk result (λ count. 0 < length from.now → 0 < count) }
         ensures bytes { WriteAppends (held self.old) (held self.new) result from.now }
-        ensures cause { HasCause (faults self.old) (faults self.new) result };
+        ensures cause { HasCause (faults self.old) (faults self.new) result }
+        ensures counted { CountsOnce (faults self.old) (faults self.new) result };
 }

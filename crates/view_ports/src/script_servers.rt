@@ -44,7 +44,7 @@ impl ScriptServers {
 impl Servers for ScriptServers {
     ghost use Rattle.std.specs.Prelude.{◌≡◌, ◌<◌, List, IfOk, IsOk, is_ok};
     ghost use Rattle.view_ports.specs.Calls.{Call, child, start, send, receive, stop};
-    ghost use Rattle.view_ports.specs.Faults.{HasCauseOf};
+    ghost use Rattle.view_ports.specs.Faults.{CountsOnly, HasCauseOf};
     ghost use Rattle.view_ports.specs.Field.{field};
     ghost use Rattle.view_ports.specs.Honest.{AnswersChild};
     ghost use Rattle.view_ports.specs.Script.{GaveScript, GivesNext, script_left};
@@ -62,7 +62,9 @@ impl Servers for ScriptServers {
         ensures told { Goes (GaveScript self.old) (GaveScript self.new)
             (start _slot _path.now (is_ok result)) }
         ensures cause { HasCauseOf ServersFault.Failed self.old.faults self.new.faults result }
+        ensures counted { CountsOnly ServersFault.Failed self.old.faults self.new.faults result }
         ensures ok { IsOk result }
+        ensures kept { script_left self.new ≡ script_left self.old }
     {
         Ok(())
     }
@@ -71,7 +73,9 @@ impl Servers for ScriptServers {
         ensures told { Goes (GaveScript self.old) (GaveScript self.new)
             (send _slot _line.now (is_ok result)) }
         ensures cause { HasCauseOf ServersFault.Failed self.old.faults self.new.faults result }
+        ensures counted { CountsOnly ServersFault.Failed self.old.faults self.new.faults result }
         ensures ok { IsOk result }
+        ensures kept { script_left self.new ≡ script_left self.old }
     {
         Ok(())
     }
@@ -82,6 +86,7 @@ impl Servers for ScriptServers {
         ensures answers { IfOk result (λ line. (calls : List Call) → GaveScript self.old calls
             → AnswersChild (λ path. field) (λ path. ⊥) (child _slot calls) line.items) }
         ensures cause { HasCauseOf ServersFault.Failed self.old.faults self.new.faults result }
+        ensures counted { CountsOnly ServersFault.Failed self.old.faults self.new.faults result }
         ensures next { GivesNext (script_left self.old) (script_left self.new) result }
     {
         if self.at >= self.script.len() {
@@ -102,5 +107,10 @@ impl Servers for ScriptServers {
         }
     }
 
-    fn stop(&mut self, _slot: u32) {}
+    fn stop(&mut self, _slot: u32)
+        ensures told { Goes (GaveScript self.old) (GaveScript self.new) (stop _slot) }
+        ensures cause { self.new.faults ≡ self.old.faults }
+        ensures kept { script_left self.new ≡ script_left self.old }
+    {
+    }
 }

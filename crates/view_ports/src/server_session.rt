@@ -4,7 +4,8 @@ ghost use Rattle.std.specs.Prelude.{◌≡◌, ℕ, List, [], false, IfOk, OnErr
 ghost use Rattle.view_ports.specs.Calls.{is_log, is_yes, sources_after};
 ghost use Rattle.view_ports.specs.Commands.{command};
 ghost use Rattle.view_ports.specs.Functions.{Functions};
-ghost use Rattle.view_ports.specs.Honest.{Answers, IsAnswerable};
+ghost use Rattle.view_ports.specs.Honest.{Answers, IsAnswerable, IsTextOf, no_command};
+ghost use Rattle.view_ports.specs.declared.command.Command.TheVariants.{Other};
 
 use json_terms::NoMemory;
 use std::alloc::Global;
@@ -21,10 +22,12 @@ pub trait ServerSession: Drop {
     fn new(alloc: Global) -> Result<Self, NoMemory>
         ensures { IfOk result (λ s. sources s ≡ []) };
 
-    /// Answers a line. Where memory runs out the session is as it was.
+    /// Answers a line, also one that is no proper command. Where memory runs out the session is as it was.
     fn answer(&mut self, alloc: Global, line: &[u8]) -> Result<Vec<u8>, NoMemory>
         ensures answers { IfOk result (λ text. IsAnswerable (sources self.old) (command line.now)
             → Answers functions (sources self.old) (command line.now) text.items) }
+        ensures unknown { IfOk result (λ text. command line.now ≡ Other
+            → IsTextOf no_command text.items) }
         ensures silent { IfOk result (λ text. is_log text.items ≡ false) }
         ensures added { IfOk result (λ text. sources self.new ≡ sources_after (command line.now)
             (is_yes text.items) (sources self.old)) }

@@ -1,7 +1,7 @@
 //! Query servers: child processes that run the functions of design documents, a line for a line.
 
 ghost use Rattle.std.specs.Prelude.{◌≡◌, ◌≢◌, ◌<◌, ℕ, List, All, Option, IfOk, is_ok};
-ghost use Rattle.view_ports.specs.Faults.{HasCauseOf};
+ghost use Rattle.view_ports.specs.Faults.{CountsOnly, HasCauseOf};
 ghost use Rattle.view_ports.specs.Calls.{Call, child, start, send, receive, stop};
 ghost use Rattle.view_ports.specs.Functions.{Functions};
 ghost use Rattle.view_ports.specs.Honest.{AnswersChild};
@@ -36,7 +36,8 @@ pub trait Servers {
         requires { slot < SLOT_COUNT }
         ensures told { Goes (may_follow self.old) (may_follow self.new)
             (start slot path.now (is_ok result)) }
-        ensures cause { HasCauseOf ServersFault.Failed (faults self.old) (faults self.new) result };
+        ensures cause { HasCauseOf ServersFault.Failed (faults self.old) (faults self.new) result }
+        ensures counted { CountsOnly ServersFault.Failed (faults self.old) (faults self.new) result };
 
     /// Sends a line, without its newline, to the child of the slot.
     fn send(&mut self, alloc: Global, slot: u32, line: &[u8]) -> Result<(), ServersFault>
@@ -44,7 +45,8 @@ pub trait Servers {
         requires line { All (λ byte. byte ≢ 10) line.now }
         ensures told { Goes (may_follow self.old) (may_follow self.new)
             (send slot line.now (is_ok result)) }
-        ensures cause { HasCauseOf ServersFault.Failed (faults self.old) (faults self.new) result };
+        ensures cause { HasCauseOf ServersFault.Failed (faults self.old) (faults self.new) result }
+        ensures counted { CountsOnly ServersFault.Failed (faults self.old) (faults self.new) result };
 
     /// Receives the next line, without its newline, from the child of the slot. It waits until there is one.
     fn receive(&mut self, alloc: Global, slot: u32) -> Result<Vec<u8>, ServersFault>
@@ -53,7 +55,8 @@ pub trait Servers {
             (receive slot (line_of result)) }
         ensures answers { IfOk result (λ line. (calls : List Call) → may_follow self.old calls
             → AnswersChild functions honest (child slot calls) line.items) }
-        ensures cause { HasCauseOf ServersFault.Failed (faults self.old) (faults self.new) result };
+        ensures cause { HasCauseOf ServersFault.Failed (faults self.old) (faults self.new) result }
+        ensures counted { CountsOnly ServersFault.Failed (faults self.old) (faults self.new) result };
 
     /// Ends the child of the slot, if there is one.
     fn stop(&mut self, slot: u32)
