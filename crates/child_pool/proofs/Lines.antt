@@ -20,7 +20,7 @@ use Rattle.child_pool.proofs.Going.{child_after}
 
 -- a child that has not answered a prompt was asked
 pub at_asked : (path : List ℕ) (sources : List (List ℕ)) (prompt : List ℕ) (logs slot : ℕ) (calls : List Call) → IsInSession path sources (prompt ∷ []) logs slot calls → IsAsked (child slot calls)
-at_asked path sources prompt logs slot calls at = subst IsAsked (sym at.is) (λ e. cc)
+at_asked path sources prompt logs slot calls at = subst IsAsked (sym at.is) (λ e. cc, refl)
 
 -- one line is heard at most
 one_line : (log : Bool) (slot : ℕ) (line : List ℕ) → StopsAfter slot [] (heard_turn log slot line)

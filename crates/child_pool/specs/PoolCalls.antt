@@ -1,5 +1,5 @@
 -- What the calls of the pool promise.
-use Rattle.std.specs.Prelude.{◌≡◌, ◌≤◌, ℕ, List, [], length, min, Option, Some, None, Result, Err, OnOk}
+use Rattle.std.specs.Prelude.{◌≡◌, ◌≤◌, ℕ, List, [], length, min, Option, Some, None, Result, Ok, Err, OnOk}
 use Rattle.std.specs.List.{AllByRecursion}
 use Rattle.json_terms.specs.Json.{Json}
 use Rattle.design_docs.specs.declared.design.Design.{Design}
@@ -25,6 +25,14 @@ path_for pool design = path_in (languages_of pool) design.language
 -- a language without a path is refused
 abbrev pub RefusesUnknown : {T : Type 0} → Pool → Design → Result T PoolFault → Type 0
 RefusesUnknown pool design result = path_for pool design ≡ None → result ≡ Err UnknownLanguage
+
+-- and then no server is called, and the pool stays as it was
+abbrev pub RefusesIdly : {C T : Type 0} → C → C → Pool → Pool → Design → Result T PoolFault → Type 0
+RefusesIdly old new pool pool' design result = path_for pool design ≡ None → (result ≡ Err UnknownLanguage) × (new ≡ old) × (pool' ≡ pool)
+
+-- without documents there are no rows, no server is called, and the pool stays as it was
+abbrev pub MapsNothing : {C : Type 0} → C → C → Pool → Pool → Result DocRowLists PoolFault → Type 0
+MapsNothing old new pool pool' result = (result ≡ Ok []) × (new ≡ old) × (pool' ≡ pool)
 
 -- the pool's languages and its width never change
 pub record StaysAsMade (pool pool' : Pool) : Type 0 where
