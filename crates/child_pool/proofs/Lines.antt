@@ -62,7 +62,7 @@ module _ (functions : List ℕ → Functions) (honest : List ℕ → Type 0) (jo
 
   pub after_line : (kind : Kind) (result : Result Heard PoolFault) → kind ≡ kind_of (command prompt) (length sources) → IsHeard kind logs line result
       → AfterLine functions honest job sources prompt logs slot result calls (receive slot (Some line) ∷ []) (receive slot (Some line) ∷ calls)
-  after_line kind (Ok Failed) is h = tt
+  after_line kind (Ok Failed) is h = absurd h
   after_line kind (Ok Log) is h = (logged h.0, ap (λ (log : Bool). heard_turn log slot line) h.0)
   after_line kind (Ok (Answer said)) is h = record {
     line = line;
