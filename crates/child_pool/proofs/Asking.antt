@@ -8,7 +8,7 @@ use Rattle.child_pool.specs.Sessions.{IsInSession, IsIdle}
 use Rattle.child_pool.proofs.Going.{child_after}
 
 pub idle_has_child : (path : List ℕ) (sources : List (List ℕ)) (slot : ℕ) (calls : List Call) → IsIdle path sources slot calls → HasChild (child slot calls)
-idle_has_child path sources slot calls idle = subst HasChild (sym idle.is) tt
+idle_has_child path sources slot calls idle = subst HasChild (sym idle.is) refl
 
 -- a prompt was sent to a child that has answered each line
 pub asked_child : (path : List ℕ) (sources : List (List ℕ)) (slot : ℕ) (calls : List Call) (line : List ℕ) → length line ≤ line_limit → IsIdle path sources slot calls → IsInSession path sources (line ∷ []) 0 slot (send slot line true ∷ calls)

@@ -3,7 +3,7 @@ use Rattle.std.proofs.Common.{◌≡◌, ℕ, List, [], ◌∷◌, ◌++◌, tru
 use Rattle.view_ports.specs.Calls.{Call, Session, after, child, slot_of}
 use Rattle.view_ports.specs.Servers.{Goes}
 use Rattle.child_pool.specs.Jobs.{Job, IsLawful, AllLawful}
-use Rattle.child_pool.specs.Histories.{Went, HasReceived, IsReceipt, talk, turns_of}
+use Rattle.child_pool.specs.Histories.{Went, HasReceived, IsReceipt, course, steps_of}
 
 -- ---- lists of calls
 
@@ -24,9 +24,9 @@ HasReceived-after P (call ∷ more) added before h = elim h [
   | inr there ↦ inr (HasReceived-after P more added before there)
 ]
 
-pub talk-append : (more added : List Call) → talk (more ++ added) ≡ talk added ++ talk more
-talk-append [] added = sym (append-nil (talk added))
-talk-append (call ∷ more) added = ap (λ turns. turns ++ turns_of call) (talk-append more added) ∙ append_assoc (talk added) (talk more) (turns_of call)
+pub course-append : (more added : List Call) → course (more ++ added) ≡ course added ++ course more
+course-append [] added = sym (append-nil (course added))
+course-append (call ∷ more) added = ap (λ turns. turns ++ steps_of call) (course-append more added) ∙ append_assoc (course added) (course more) (steps_of call)
 
 -- ---- the child of a slot
 

@@ -5,10 +5,12 @@ pub mod Lines
 pub mod Prompts
 pub mod Asking
 pub mod Cutting
+pub mod Trying
 pub mod Telling
 pub mod Stagings
 pub mod Attempts
 pub mod Prepared
+pub mod Talking
 pub mod Refusals
 pub mod Readied
 pub mod RowReplies

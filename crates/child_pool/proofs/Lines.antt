@@ -20,7 +20,7 @@ use Rattle.child_pool.proofs.Going.{child_after}
 
 -- a child that has not answered a prompt was asked
 pub at_asked : (path : List ℕ) (sources : List (List ℕ)) (prompt : List ℕ) (logs slot : ℕ) (calls : List Call) → IsInSession path sources (prompt ∷ []) logs slot calls → IsAsked (child slot calls)
-at_asked path sources prompt logs slot calls at = subst IsAsked (sym at.is) (λ e. cc)
+at_asked path sources prompt logs slot calls at = subst IsAsked (sym at.is) (λ e. cc, refl)
 
 -- one line is heard at most
 one_line : (log : Bool) (slot : ℕ) (line : List ℕ) → StopsAfter slot [] (heard_turn log slot line)
@@ -62,7 +62,7 @@ module _ (functions : List ℕ → Functions) (honest : List ℕ → Type 0) (jo
 
   pub after_line : (kind : Kind) (result : Result Heard PoolFault) → kind ≡ kind_of (command prompt) (length sources) → IsHeard kind logs line result
       → AfterLine functions honest job sources prompt logs slot result calls (receive slot (Some line) ∷ []) (receive slot (Some line) ∷ calls)
-  after_line kind (Ok Failed) is h = tt
+  after_line kind (Ok Failed) is h = absurd h
   after_line kind (Ok Log) is h = (logged h.0, ap (λ (log : Bool). heard_turn log slot line) h.0)
   after_line kind (Ok (Answer said)) is h = record {
     line = line;

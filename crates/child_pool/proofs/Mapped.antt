@@ -21,18 +21,21 @@ use Rattle.query_protocol.specs.Replies.{reply_of}
 use Rattle.child_pool.specs.declared.pool_fault.PoolFault.{PoolFault}
 use Rattle.child_pool.specs.declared.pool_fault.PoolFault.TheVariants.{ServerFault}
 use Rattle.child_pool.specs.Jobs.{Job}
-use Rattle.child_pool.specs.Histories.{Went, says, talk}
+use Rattle.child_pool.specs.Histories.{Went, says, course}
 use Rattle.child_pool.specs.Sessions.{HasTold, IsIdle}
-use Rattle.child_pool.specs.Stages.{AfterStages}
+use Rattle.child_pool.specs.Prompts.{document_prompt}
+use Rattle.child_pool.specs.Refused.{TryRefused}
+use Rattle.child_pool.specs.Stages.{AfterStages, anew}
+use Rattle.child_pool.specs.Tries.{HasFailedIn, IsTriedAgain, Prompt}
 use Rattle.child_pool.specs.Causes.{kind_of}
-use Rattle.child_pool.specs.Mapping.{AfterAnswer, AfterMap, AreHonestRows}
+use Rattle.child_pool.specs.Mapping.{AfterAnswer, AfterMap, AreHonestRows, HasMapped}
 use Rattle.child_pool.specs.Outcomes.{AfterPrompt, Replied}
 use Rattle.child_pool.specs.Pools.{rows_said}
 use Rattle.child_pool.specs.Talk.{AreTurns, Due, asks}
 use Rattle.child_pool.proofs.Going.{Went-map, Went-then}
 use Rattle.child_pool.proofs.Prepared.{all_told}
-use Rattle.child_pool.proofs.Attempts.{or_rose, refused_again}
-use Rattle.child_pool.proofs.Cutting.{cut_prompt}
+use Rattle.child_pool.proofs.Attempts.{again, failed_again, refused_again, refused_once, try_refused_then}
+use Rattle.child_pool.proofs.Cutting.{cut_prompt, cut_wider, failed_later, failed_prompt, failed_wider, turns_then}
 use Rattle.child_pool.proofs.RowReplies.{rows_reply, proper_reply}
 use Rattle.child_pool.proofs.Stagings.{no_log_said}
 use Rattle.child_pool.proofs.Telling.{honest_line}
@@ -109,6 +112,19 @@ spelled_rows functions sources logs document line no_log h = elim h [
   | inr answer ↦ answer.1
 ]
 
+-- a document's prompt, what is due in its tries, and what is due before with a fresh child
+abbrev prompt_in : ℕ → Job → List (List ℕ × Json) → Prompt
+prompt_in slot job document = document_prompt slot job.sources document
+
+abbrev once_in : ℕ → Job → List (List ℕ × Json) → List Due
+once_in slot job document = asks slot (MapDoc document) (length job.sources)
+
+abbrev fresh_in : ℕ → Job → List Due
+fresh_in slot job = anew slot job.sources (length job.sources + 1)
+
+abbrev again_in : ℕ → Job → List (List ℕ × Json) → List Due
+again_in slot job document = fresh_in slot job ++ once_in slot job document
+
 module _ (functions : List ℕ → Functions) (honest : List ℕ → Type 0) where
   module _ (path : List ℕ) (sources : List (List ℕ)) (line : List ℕ) (document : List (List ℕ × Json)) (slot : ℕ) (said : Reply) (added now : List Call)
       (r : Replied functions honest path sources line slot (says slot line ∷ []) said added now) (is : command line ≡ MapDoc document) where
@@ -131,7 +147,7 @@ module _ (functions : List ℕ → Functions) (honest : List ℕ → Type 0) whe
         let found = rows_reply (length sources) r.line said (no_log_said functions honest path line slot sources said added now r) reads in
         ap (λ (saying : Reply). length (rows_said saying)) found.1 ∙ found.2
 
-    pub mapped_turns : line ≡ command_line (MapDoc document) → AreTurns (asks slot (MapDoc document) (length sources)) (talk added)
+    pub mapped_turns : line ≡ command_line (MapDoc document) → AreTurns (asks slot (MapDoc document) (length sources)) (course added)
     mapped_turns spelled =
         let found = rows_reply (length sources) r.line said (no_log_said functions honest path line slot sources said added now r) reads in
         subst (AreTurns (asks slot (MapDoc document) (length sources))) (sym r.talked)
@@ -141,54 +157,76 @@ module _ (functions : List ℕ → Functions) (honest : List ℕ → Type 0) whe
     pub map_went : (line : List ℕ) (document : List (List ℕ × Json)) (result : Result (Option Reply) PoolFault) → IsMappable document → HasTold functions honest job.path job.sources slot calls → command line ≡ MapDoc document → line ≡ command_line (MapDoc document)
         → Went follow job slot calls (AfterPrompt functions honest job job.sources line slot (says slot line ∷ []) result calls)
         → Went follow job slot calls (AfterAnswer functions honest job slot document (asks slot (MapDoc document) (length job.sources)) (map_result result) calls)
-    map_went line document (Ok None) mappable told is spelled w = Went-map w (AfterAnswer functions honest job slot document (asks slot (MapDoc document) (length job.sources)) (Ok None) calls) tt
+    map_went line document (Ok None) mappable told is spelled w = Went-map w (AfterAnswer functions honest job slot document (asks slot (MapDoc document) (length job.sources)) (Ok None) calls)
+        (failed_prompt slot (MapDoc document) (length job.sources) line w.added spelled w.holds)
     map_went line document (Err f) mappable told is spelled w =
         Went-map w (AfterAnswer functions honest job slot document (asks slot (MapDoc document) (length job.sources)) (Err f) calls)
-        (record { caused = w.holds.0; talked = inl (cut_prompt slot (MapDoc document) (length job.sources) line (talk w.added) spelled w.holds.1) })
+        (record { caused = w.holds.0; cut = cut_prompt slot (MapDoc document) (length job.sources) line (course w.added) spelled w.holds.1 })
     map_went line document (Ok (Some said)) mappable told is spelled w =
         Went-map w (AfterAnswer functions honest job slot document (asks slot (MapDoc document) (length job.sources)) (Ok (Some (rows_said said))) calls) (record {
           told = record {
             idle = subst (λ (c : Command). IsIdle job.path (sources_after c (is_yes w.holds.line) job.sources) slot w.now) is w.holds.idle;
             compile = told.compile;
           };
-          talked = inl (mapped_turns job.path job.sources line document slot said w.added w.now w.holds is spelled);
+          tried = mapped_turns job.path job.sources line document slot said w.added w.now w.holds is spelled;
           right = honest_rows job.path job.sources line document slot said w.added w.now w.holds is mappable;
           each = rows_counted job.path job.sources line document slot said w.added w.now w.holds is;
         })
 
     -- a first attempt that gave rows, or was refused
-    pub first_rows : (document : List (List ℕ × Json)) (dues : List Due) (rose : Type 0) (result : Result (Option RowLists) PoolFault) (last : Result RowLists PoolFault) → result ≡ at_once last
-        → Went follow job slot calls (AfterAnswer functions honest job slot document dues result calls) → Went follow job slot calls (AfterMap functions honest job slot document dues rose last calls)
-    first_rows document dues rose result (Ok rows) e w =
-        let v : Went follow job slot calls (AfterAnswer functions honest job slot document dues (Ok (Some rows)) calls) = subst (λ (r : Result (Option RowLists) PoolFault). Went follow job slot calls (AfterAnswer functions honest job slot document dues r calls)) e w in
-        Went-map v (AfterMap functions honest job slot document dues rose (Ok rows) calls) (record { told = v.holds.told; talked = or_rose v.holds.talked; right = v.holds.right; each = v.holds.each })
-    first_rows document dues rose result (Err f) e w =
-        let v : Went follow job slot calls (AfterAnswer functions honest job slot document dues (Err f) calls) = subst (λ (r : Result (Option RowLists) PoolFault). Went follow job slot calls (AfterAnswer functions honest job slot document dues r calls)) e w in
-        Went-map v (AfterMap functions honest job slot document dues rose (Err f) calls) (record { caused = v.holds.caused; talked = or_rose v.holds.talked })
+    pub first_rows : (document : List (List ℕ × Json)) (prompt : Prompt) (rose : Type 0) (result : Result (Option RowLists) PoolFault) (last : Result RowLists PoolFault) → result ≡ at_once last → prompt.slot ≡ slot → (result ≡ Err ServerFault → ⊥)
+        → Went follow job slot calls (AfterAnswer functions honest job slot document prompt.once result calls) → Went follow job slot calls (AfterMap functions honest job slot document prompt rose last calls)
+    first_rows document prompt rose result (Ok rows) e mine other w =
+        let v : Went follow job slot calls (AfterAnswer functions honest job slot document prompt.once (Ok (Some rows)) calls) = subst (λ (r : Result (Option RowLists) PoolFault). Went follow job slot calls (AfterAnswer functions honest job slot document prompt.once r calls)) e w in
+        Went-map v (AfterMap functions honest job slot document prompt rose (Ok rows) calls) (record { told = v.holds.told; tried = inl v.holds.tried; right = v.holds.right; each = v.holds.each })
+    first_rows document prompt rose result (Err f) e mine other w =
+        let v : Went follow job slot calls (AfterAnswer functions honest job slot document prompt.once (Err f) calls) = subst (λ (r : Result (Option RowLists) PoolFault). Went follow job slot calls (AfterAnswer functions honest job slot document prompt.once r calls)) e w in
+        Went-map v (AfterMap functions honest job slot document prompt rose (Err f) calls) (refused_once functions honest job slot prompt rose f calls v.added mine (λ is. other (e ∙ ap Err is)) v.holds)
+
+  -- the last of the calls mapped the document, or was refused
+  abbrev MapsTo : (List Call → Type 0) → Job → ℕ → List (List ℕ × Json) → Type 0 → List Call → Result RowLists PoolFault → Type 0
+  MapsTo follow job slot document rose calls last = Went follow job slot calls (AfterMap functions honest job slot document (prompt_in slot job document) rose last calls)
+
+  module _ {first second : List Call → Type 0} {slot : ℕ} {calls : List Call} (job : Job) (document : List (List ℕ × Json)) (rose : Type 0) (counted : rose)
+      (w : Went first job slot calls (λ added now. IsTriedAgain (document_prompt slot job.sources document) (λ second. second ≡ []) added)) where
+    -- no fresh child's session is ready
+    pub failed_start : (result : Result Bool PoolFault) (last : Result RowLists PoolFault) → failed_result result ≡ last → (result ≡ Ok true → ⊥) → (result ≡ Err ServerFault → ⊥)
+        → (v : Went second job slot w.now (AfterStages functions honest job slot (length job.sources + 1) (fresh_in slot job) result w.now)) → MapsTo second job slot document rose calls last
+    failed_start (Ok true) last e unready other v = absurd (unready refl)
+    failed_start (Ok false) last e unready other v =
+        subst (MapsTo second job slot document rose calls) e (Went-then w v (AfterMap functions honest job slot document (prompt_in slot job document) rose (Err ServerFault) calls)
+        (failed_again functions honest job (prompt_in slot job document) rose w v counted w.holds (failed_wider (fresh_in slot job) (once_in slot job document) v.added v.holds)))
+    failed_start (Err f) last e unready other v =
+        let wider : TryRefused functions honest job slot (again_in slot job document) f w.now v.added = record { caused = v.holds.caused; cut = cut_wider slot (fresh_in slot job) (once_in slot job document) (course v.added) v.holds.cut } in
+        subst (MapsTo second job slot document rose calls) e (Went-then w v (AfterMap functions honest job slot document (prompt_in slot job document) rose (Err f) calls)
+        (refused_again functions honest job (prompt_in slot job document) rose f w v refl counted w.holds (λ is. other (ap Err is)) wider))
 
     -- a fresh child's session is ready
-    pub started_over : {P : List Call → List Call → Type 0} {second : List Call → Type 0} (told : List Due) (result : Result Bool PoolFault) → result ≡ Ok true
-        → (w : Went follow job slot calls P) (v : Went second job slot w.now (AfterStages functions honest job slot (length job.sources + 1) told result w.now))
-        → Went second job slot calls (λ added now. HasTold functions honest job.path job.sources slot now)
-    started_over told result e w v =
-        let u : AfterStages functions honest job slot (length job.sources + 1) told (Ok true) w.now v.added v.now = subst (λ (r : Result Bool PoolFault). AfterStages functions honest job slot (length job.sources + 1) told r w.now v.added v.now) e v.holds in
-        Went-then w v (λ added now. HasTold functions honest job.path job.sources slot now) (all_told functions honest job slot v.now u.0)
+    pub started_over : (result : Result Bool PoolFault) → result ≡ Ok true → Went second job slot w.now (AfterStages functions honest job slot (length job.sources + 1) (fresh_in slot job) result w.now)
+        → Went second job slot w.now (λ added now. HasTold functions honest job.path job.sources slot now × AreTurns (fresh_in slot job) (course added))
+    started_over result e v =
+        let u = subst (λ (r : Result Bool PoolFault). Went second job slot w.now (AfterStages functions honest job slot (length job.sources + 1) (fresh_in slot job) r w.now)) e v in
+        Went-map u (λ added now. HasTold functions honest job.path job.sources slot now × AreTurns (fresh_in slot job) (course added)) (all_told functions honest job slot u.now u.holds.0, u.holds.1)
 
-    -- no fresh child's session is ready
-    pub failed_start : {P : List Call → List Call → Type 0} {second : List Call → Type 0} (document : List (List ℕ × Json)) (dues : List Due) (rose : Type 0) → rose → (stage : ℕ) (told : List Due) (result : Result Bool PoolFault) (last : Result RowLists PoolFault) → failed_result result ≡ last
-        → (w : Went follow job slot calls P) (v : Went second job slot w.now (AfterStages functions honest job slot stage told result w.now))
-        → Went second job slot calls (AfterMap functions honest job slot document dues rose last calls)
-    failed_start document dues rose counted stage told (Ok started) last e w v =
-        Went-then w v (AfterMap functions honest job slot document dues rose last calls) (subst (λ (l : Result RowLists PoolFault). AfterMap functions honest job slot document dues rose l calls (v.added ++ w.added) v.now) e (record { caused = tt; talked = inr counted }))
-    failed_start document dues rose counted stage told (Err f) last e w v =
-        Went-then w v (AfterMap functions honest job slot document dues rose last calls) (subst (λ (l : Result RowLists PoolFault). AfterMap functions honest job slot document dues rose l calls (v.added ++ w.added) v.now) e (refused_again functions honest job dues told rose ⊥ counted f w v v.holds))
-
+  module _ {first second third : List Call → Type 0} {slot : ℕ} {calls : List Call} (job : Job) (document : List (List ℕ × Json)) (rose : Type 0) (counted : rose)
+      (w : Went first job slot calls (λ added now. IsTriedAgain (document_prompt slot job.sources document) (λ second. second ≡ []) added))
+      (u : Went second job slot w.now (λ added now. HasTold functions honest job.path job.sources slot now × AreTurns (anew slot job.sources (length job.sources + 1)) (course added))) where
     -- the second attempt's rows
-    pub once_more : {P : List Call → List Call → Type 0} {second : List Call → Type 0} (document : List (List ℕ × Json)) (dues : List Due) (rose : Type 0) (result : Result (Option RowLists) PoolFault) (last : Result RowLists PoolFault)
-        → rose → last_of result ≡ last → (w : Went follow job slot calls P) (v : Went second job slot w.now (AfterAnswer functions honest job slot document dues result w.now))
-        → Went second job slot calls (AfterMap functions honest job slot document dues rose last calls)
-    once_more document dues rose (Ok None) last r e w v = Went-then w v (AfterMap functions honest job slot document dues rose last calls) (subst (λ (l : Result RowLists PoolFault). AfterMap functions honest job slot document dues rose l calls (v.added ++ w.added) v.now) e (record { caused = tt; talked = inr r }))
-    once_more document dues rose (Ok (Some rows)) last r e w v =
-        Went-then w v (AfterMap functions honest job slot document dues rose last calls) (subst (λ (l : Result RowLists PoolFault). AfterMap functions honest job slot document dues rose l calls (v.added ++ w.added) v.now) e (record { told = v.holds.told; talked = inr r; right = v.holds.right; each = v.holds.each }))
-    once_more document dues rose (Err f) last r e w v =
-        Went-then w v (AfterMap functions honest job slot document dues rose last calls) (subst (λ (l : Result RowLists PoolFault). AfterMap functions honest job slot document dues rose l calls (v.added ++ w.added) v.now) e (refused_again functions honest job dues dues rose ⊥ r f w v v.holds))
+    pub once_more : (result : Result (Option RowLists) PoolFault) (last : Result RowLists PoolFault) → last_of result ≡ last → (result ≡ Err ServerFault → ⊥)
+        → Went third job slot u.now (AfterAnswer functions honest job slot document (asks slot (MapDoc document) (length job.sources)) result u.now)
+        → Went third job slot calls (AfterMap functions honest job slot document (document_prompt slot job.sources document) rose last calls)
+    once_more (Ok (Some rows)) last e other v =
+        let x = Went-then u v (λ added now. HasMapped functions honest job slot document (λ calls. AreTurns (again_in slot job document) (course calls)) rows added now)
+        (record { told = v.holds.told; tried = turns_then (fresh_in slot job) (once_in slot job document) u.added v.added u.holds.1 v.holds.tried; right = v.holds.right; each = v.holds.each }) in
+        subst (MapsTo third job slot document rose calls) e (Went-then w x (AfterMap functions honest job slot document (prompt_in slot job document) rose (Ok rows) calls) (record {
+          told = x.holds.told;
+          tried = inr (counted, again functions honest job (prompt_in slot job document) (λ calls. AreTurns (again_in slot job document) (course calls)) w x w.holds x.holds.tried);
+          right = x.holds.right;
+          each = x.holds.each;
+        }))
+    once_more (Ok None) last e other v =
+        let x = Went-then u v (λ added now. HasFailedIn (again_in slot job document) added) (failed_later (fresh_in slot job) (once_in slot job document) u.added v.added u.holds.1 v.holds) in
+        subst (MapsTo third job slot document rose calls) e (Went-then w x (AfterMap functions honest job slot document (prompt_in slot job document) rose (Err ServerFault) calls) (failed_again functions honest job (prompt_in slot job document) rose w x counted w.holds x.holds))
+    once_more (Err f) last e other v =
+        let x = Went-then u v (λ added now. TryRefused functions honest job slot (again_in slot job document) f w.now added) (try_refused_then functions honest job (fresh_in slot job) (once_in slot job document) f u v u.holds.1 v.holds) in
+        subst (MapsTo third job slot document rose calls) e (Went-then w x (AfterMap functions honest job slot document (prompt_in slot job document) rose (Err f) calls) (refused_again functions honest job (prompt_in slot job document) rose f w x refl counted w.holds (λ is. other (ap Err is)) x.holds))

@@ -1,6 +1,8 @@
 -- What the pool's calls come to.
-use Rattle.std.proofs.Common.{◌≡◌, ◌⊎◌, ◌<◌, ◌≤◌, ℕ, max, List, length, inl, inr, Option, Some, MatchOption, Ok, Err, sym, ap, ◌∙◌, subst, arith}
-use Rattle.std.proofs.lemmas.Bool.{cases_lt}
+use Rattle.std.proofs.Common.{◌≡◌, ◌<◌, ◌≤◌, ℕ, max, List, true, inl, inr, Option, Some, None, MatchOption, Ok, Err, refl, sym, ap, ◌∙◌, subst, arith}
+use Rattle.std.specs.Str.{bytes_eq}
+use Rattle.std.proofs.lemmas.Bool.{cases_Bool, cases_lt}
+use Rattle.std.proofs.lemmas.Slice.Eq.{bytes_eq-Decides}
 use Rattle.json_terms.specs.Json.{Json}
 use Rattle.view_ports.specs.Calls.{Call}
 use Rattle.view_ports.specs.Functions.{Functions}
@@ -8,14 +10,12 @@ use Rattle.child_pool.specs.declared.doc_rows.DocRowLists.{DocRowLists}
 use Rattle.child_pool.specs.declared.pool.Pool.{Pool}
 use Rattle.child_pool.specs.declared.pool.Started.{Started}
 use Rattle.child_pool.specs.declared.pool_fault.PoolFault.{PoolFault}
-use Rattle.child_pool.specs.Histories.{Went, WentIn, talk}
+use Rattle.child_pool.specs.Histories.{AllStops, Went, WentIn}
 use Rattle.child_pool.specs.Jobs.{Job}
-use Rattle.child_pool.specs.Pools.{AfterBatch, AfterMapping, AfterReadying, AfterTrying, IsKeptOf, AreThere, HasItsChildren, IsKept, IsReady, StandReady, batch_turns}
-use Rattle.child_pool.specs.Refused.{RefusedIn}
-use Rattle.child_pool.specs.Talk.{AreTurns, Due, one_by_one, waves}
-use Rattle.child_pool.proofs.Batches.{waves_of_one}
-use Rattle.child_pool.proofs.Refusals.{refused_in}
-use Rattle.child_pool.proofs.Slots.{map_in, went_in}
+use Rattle.child_pool.specs.Pools.{AfterBatch, AfterMapping, AfterReadying, AfterTrying, IsKeptOf, AreStopped, AreThere, HasItsChildren, IsKept, IsReady, StandReady}
+use Rattle.child_pool.specs.Prompts.{document_prompts}
+use Rattle.child_pool.proofs.Refusals.{given_up}
+use Rattle.child_pool.proofs.Slots.{map_in, on_then, went_in}
 
 -- what holds of a path and its sources holds of equal ones
 pub for_job : (G : List ℕ → List (List ℕ) → Type 0) {path other : List ℕ} {sources others : List (List ℕ)} → path ≡ other → sources ≡ others → G path sources → G other others
@@ -42,10 +42,20 @@ kept_there pool path count calls kept stands = elim kept [
 pub stands_kept : (pool : Pool) (path : List ℕ) (count : ℕ) (calls : List Call) → IsKept pool path count → count ≤ pool.width → AreThere path count calls → HasItsChildren pool calls
 stands_kept pool path count calls is within there = subst (Stands pool calls) (sym is) (within, there)
 
--- the turns of one child are documents one by one
-one_child : (width : ℕ) → width ≡ 1 → (job : Job) (documents : List (List (List ℕ × Json))) → one_by_one (length job.sources) documents ≡ batch_turns job width documents
-one_child width one job documents =
-    sym (waves_of_one (length job.sources) documents) ∙ ap (λ (n : ℕ). waves (length documents) n (length job.sources) documents) (sym one)
+-- the pool remembers some number of children of each path
+pub some_kept : (pool : Pool) (path : List ℕ) (o : Option Started) → pool.started ≡ o → (kept : ℕ) × IsKeptOf pool path kept
+some_kept pool path None is = (0, inr (refl, λ other kept. let never = sym is ∙ kept in cc))
+some_kept pool path (Some started) is = elim (cases_Bool (bytes_eq started.path path)) [
+  | inl same ↦
+      let mine : started.path ≡ path = (bytes_eq-Decides started.path path).0 same in
+      (started.count, inl (is ∙ ap (λ (p : List ℕ). Some (record { path = p; count = started.count })) mine))
+  | inr apart ↦ (0, inr (refl, λ other kept.
+      let both : Some started ≡ Some (record { path = path; count = other }) = sym is ∙ kept in
+      let one : started ≡ record { path = path; count = other } = cc in
+      let mine : started.path ≡ path = ap (λ (s : Started). s.path) one in
+      let equal : bytes_eq started.path path ≡ true = (bytes_eq-Decides started.path path).1 mine in
+      cc))
+]
 
 -- children that are ready stand ready beside all that are remembered
 pub ready_stand : (functions : List ℕ → Functions) (honest : List ℕ → Type 0) (job : Job) (slots : ℕ) (pool : Pool) {calls : List Call} (was : IsReady functions honest job slots pool calls)
@@ -54,12 +64,15 @@ ready_stand functions honest job slots pool {calls = calls} was =
     let there = children_there pool job.path was.remembered.0 calls was.remembered.2 was.there in (there.0, record { told = was.told; there = there.1 })
 
 module _ (functions : List ℕ → Functions) (honest : List ℕ → Type 0) (job : Job) {follow : List Call → Type 0} {calls : List Call} where
-  pub prepared_pool : {width : ℕ} (slots kept count : ℕ) (rose : Type 0) (pool : Pool) → count ≡ max slots kept → count ≤ pool.width → IsKept pool job.path count
-      → WentIn follow job width calls (λ added now. AfterReadying functions honest job width slots rose (Ok tt) calls added now × AreThere job.path kept now)
-      → WentIn follow job width calls (AfterTrying functions honest job width slots rose pool (Ok tt) calls)
-  prepared_pool {width = width} slots kept count rose pool most within is w =
-      map_in w (AfterTrying functions honest job width slots rose pool (Ok tt) calls)
-      (w.holds.0, ((count, omega (arith, most), is), stands_kept pool job.path count w.now is within there))
+  pub prepared_pool : {width : ℕ} (old : Pool) (slots kept count : ℕ) (rose : Type 0) (pool : Pool) → IsKeptOf old job.path kept → count ≡ max slots kept → count ≤ pool.width → IsKept pool job.path count
+      → WentIn follow job width calls (λ added now. AfterReadying functions honest job kept slots rose (Ok tt) calls added now × AreThere job.path kept now)
+      → WentIn follow job width calls (AfterTrying functions honest job old slots rose pool (Ok tt) calls)
+  prepared_pool {width = width} old slots kept count rose pool was most within is w =
+      map_in w (AfterTrying functions honest job old slots rose pool (Ok tt) calls) (
+        kept,
+        was,
+        (w.holds.0.0, w.holds.0.1, subst (IsKept pool job.path) most is, stands_kept pool job.path count w.now is within there),
+      )
     where
       there : AreThere job.path count w.now
       there slot below = elim (cases_lt slot slots) [
@@ -68,10 +81,10 @@ module _ (functions : List ℕ → Functions) (honest : List ℕ → Type 0) (jo
       ]
 
   -- they could not be made ready
-  pub unprepared_pool : {width : ℕ} (slots : ℕ) (rose : Type 0) (pool : Pool) (f : PoolFault)
-      → WentIn follow job width calls (λ added now. AfterReadying functions honest job width slots rose (Err f) calls added now × Unit {0})
-      → WentIn follow job width calls (AfterTrying functions honest job width slots rose pool (Err f) calls)
-  unprepared_pool {width = width} slots rose pool f w = map_in w (AfterTrying functions honest job width slots rose pool (Err f) calls) w.holds
+  pub unprepared_pool : {width : ℕ} (old : Pool) (slots kept : ℕ) (rose : Type 0) (pool : Pool) (f : PoolFault) → IsKeptOf old job.path kept
+      → WentIn follow job width calls (λ added now. AfterReadying functions honest job kept slots rose (Err f) calls added now × Unit {0})
+      → WentIn follow job width calls (AfterTrying functions honest job old slots rose pool (Err f) calls)
+  unprepared_pool {width = width} old slots kept rose pool f was w = map_in w (AfterTrying functions honest job old slots rose pool (Err f) calls) (kept, was, w.holds.0)
 
   -- a batch that was mapped by the one child
   pub mapped_pool : (slots : ℕ) (pool : Pool) → pool.width ≡ 1 → (documents : List (List (List ℕ × Json))) (rose : Type 0) (lists : DocRowLists) (was : IsReady functions honest job slots pool calls)
@@ -84,15 +97,15 @@ module _ (functions : List ℕ → Functions) (honest : List ℕ → Type 0) (jo
           there = stands_kept pool job.path was.remembered.0 w.now was.remembered.2 (ready_stand functions honest job slots pool was).0 w.holds.stand.there;
           told = w.holds.stand.told;
         };
-        talked = subst (λ (dues : List Due). AreTurns dues (talk w.added) ⊎ rose) (one_child pool.width one job documents) w.holds.talked;
+        answered = w.holds.answered;
         rows = w.holds.rows;
       })
 
-  -- a batch that was refused
-  pub refused_pool : (width slots kept : ℕ) → width ≡ 1 → (documents : List (List (List ℕ × Json))) (rose : Type 0) (f : PoolFault)
-      → Went follow job 0 calls (AfterMapping functions honest job slots kept documents rose (Err f) calls) → WentIn follow job width calls (λ added now. RefusedIn functions honest job width (batch_turns job width documents) rose f calls added)
-  refused_pool width slots kept one documents rose f w =
+  -- a batch that was refused, and then all children were stopped
+  pub refused_pool : {second : List Call → Type 0} (width slots kept : ℕ) → width ≡ 1 → (documents : List (List (List ℕ × Json))) (rose_first rose : Type 0) (pool : Pool) (f : PoolFault) → (rose_first → rose)
+      → (w : Went follow job 0 calls (AfterMapping functions honest job slots kept documents rose_first (Err f) calls)) → WentIn second job width w.now (λ added now. AreStopped width pool now × AllStops added)
+      → WentIn second job width calls (AfterBatch functions honest job width slots documents rose pool (Err f) calls)
+  refused_pool width slots kept one documents rose_first rose pool f g w v =
       let some : 0 < width = omega arith in
-      went_in some w (λ added now. RefusedIn functions honest job width (batch_turns job width documents) rose f calls added)
-      (subst (λ (dues : List Due). RefusedIn functions honest job width dues rose f calls w.added) (one_child width one job documents)
-      (refused_in functions honest job 0 width some (one_by_one (length job.sources) documents) rose f calls w.added w.holds))
+      on_then some w v (AfterBatch functions honest job width slots documents rose pool (Err f) calls)
+      (given_up functions honest job width (document_prompts job.sources documents) rose_first rose pool f calls w.added v.added v.now g w.holds v.holds.1 v.holds.0)

@@ -13,6 +13,7 @@ use Rattle.child_pool.specs.Jobs.{Job}
 use Rattle.child_pool.specs.Preparing.{AfterPrepare}
 use Rattle.child_pool.specs.Sessions.{HasTold, IsTold}
 use Rattle.child_pool.specs.Stages.{AfterAttempts, told_turns}
+use Rattle.child_pool.specs.Tries.{Prompt}
 use Rattle.child_pool.specs.Talk.{Due, asks, ready}
 use Rattle.child_pool.proofs.Going.{Went-map}
 
@@ -30,7 +31,7 @@ turns_so_far slot sources (suc told) within =
     ∙ flat_map_more (added_turns slot) (asks slot Reset 0) (take told sources) source
     ∙ ap (λ (srcs : List (List ℕ)). asks slot Reset 0 ++ flat_map (added_turns slot) srcs) (sym (take-suc sources told [] (omega arith)))
 
-ready_turns : (slot : ℕ) (sources : List (List ℕ)) → told_turns slot sources (length sources + 1) ≡ ready slot sources
+pub ready_turns : (slot : ℕ) (sources : List (List ℕ)) → told_turns slot sources (length sources + 1) ≡ ready slot sources
 ready_turns slot sources =
     ap (λ (n : ℕ). told_turns slot sources n) (add-one (length sources))
     ∙ turns_so_far slot sources (length sources) (omega arith)
@@ -44,14 +45,8 @@ module _ (functions : List ℕ → Functions) (honest : List ℕ → Type 0) (jo
       let is_told : IsTold functions honest job.path job.sources (suc (length job.sources)) slot now = subst (λ (n : ℕ). IsTold functions honest job.path job.sources n slot now) (add-one (length job.sources)) told in
       subst (λ (srcs : List (List ℕ)). HasTold functions honest job.path srcs slot now) (take-length job.sources) is_told
 
-  pub prepared : {follow : List Call → Type 0} {calls : List Call} (rose : Type 0) (result : Result (Unit {0}) PoolFault)
-      → Went follow job slot calls (AfterAttempts functions honest job slot (length job.sources + 1) (told_turns slot job.sources (length job.sources + 1)) rose result calls)
-      → Went follow job slot calls (AfterPrepare functions honest job slot rose result calls)
-  prepared {follow = follow} {calls = calls} rose result w =
-      ready_went result (subst (λ (dues : List Due). Went follow job slot calls (AfterAttempts functions honest job slot (length job.sources + 1) dues rose result calls)) (ready_turns slot job.sources) w)
-    where
-      ready_went : (result : Result (Unit {0}) PoolFault)
-          → Went follow job slot calls (AfterAttempts functions honest job slot (length job.sources + 1) (ready slot job.sources) rose result calls)
-          → Went follow job slot calls (AfterPrepare functions honest job slot rose result calls)
-      ready_went (Ok done) w = Went-map w (AfterPrepare functions honest job slot rose (Ok done) calls) (all_told w.now w.holds.0, w.holds.1)
-      ready_went (Err f) w = Went-map w (AfterPrepare functions honest job slot rose (Err f) calls) w.holds
+  pub prepared : {follow : List Call → Type 0} {calls : List Call} (prompts : List Prompt) (rose : Type 0) (result : Result (Unit {0}) PoolFault)
+      → Went follow job slot calls (AfterAttempts functions honest job slot (length job.sources + 1) prompts rose result calls)
+      → Went follow job slot calls (AfterPrepare functions honest job slot prompts rose result calls)
+  prepared {calls = calls} prompts rose (Ok done) w = Went-map w (AfterPrepare functions honest job slot prompts rose (Ok done) calls) (all_told w.now w.holds.0, w.holds.1)
+  prepared {calls = calls} prompts rose (Err f) w = Went-map w (AfterPrepare functions honest job slot prompts rose (Err f) calls) w.holds

@@ -87,6 +87,19 @@ module _ {first second : List Call → Type 0} {job : Job} {width : ℕ} {before
     holds = q;
   }
 
+  -- one function on one slot, and then one more
+  pub on_then : {slot : ℕ} {P R : List Call → List Call → Type 0} → slot < width → (w : Went first job slot before P) (v : WentIn second job width w.now R)
+      → (Q : List Call → List Call → Type 0) → Q (v.added ++ w.added) v.now → WentIn second job width before Q
+  on_then {slot = slot} below w v Q q = record {
+    added = v.added ++ w.added;
+    now = v.now;
+    is_now = v.is_now ∙ ap (λ calls. v.added ++ calls) w.is_now ∙ sym (append_assoc v.added w.added before);
+    follows = v.follows;
+    lawful = AllLawfulIn-append job width v.added w.added before (lawful_in job slot width w.added before below w.lawful)
+        (subst (AllLawfulIn job width v.added) w.is_now v.lawful);
+    holds = q;
+  }
+
   -- a slot is stopped
   pub stop_in : {P : List Call → List Call → Type 0} (slot : ℕ) → slot < width → (w : WentIn first job width before P) → Goes first second (stop slot)
       → (Q : List Call → List Call → Type 0) → Q (stop slot ∷ w.added) (stop slot ∷ w.now) → WentIn second job width before Q

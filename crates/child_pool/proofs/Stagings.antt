@@ -16,14 +16,14 @@ use Rattle.query_protocol.specs.Replies.{reply_of}
 use Rattle.child_pool.specs.declared.pool_fault.PoolFault.{PoolFault}
 use Rattle.child_pool.specs.declared.pool_fault.PoolFault.TheVariants.{Compile}
 use Rattle.child_pool.specs.Jobs.{Job, IsAmong, IsPromptOf}
-use Rattle.child_pool.specs.Histories.{Went, says, hears, talk}
+use Rattle.child_pool.specs.Histories.{Went, says, hears, course}
 use Rattle.child_pool.specs.Sessions.{AllCompile, IsIdle, IsTold}
 use Rattle.child_pool.specs.Causes.{kind_of}
 use Rattle.child_pool.specs.Outcomes.{AfterPrompt, Replied, WasComplaint}
-use Rattle.child_pool.specs.Refused.{Refused}
+use Rattle.child_pool.specs.Refused.{TryRefused}
 use Rattle.child_pool.specs.Stages.{AfterStages, stage_command, told_by}
 use Rattle.child_pool.specs.Talk.{AreTurns, asks}
-use Rattle.child_pool.proofs.Cutting.{cut_prompt}
+use Rattle.child_pool.proofs.Cutting.{cut_prompt, failed_prompt}
 use Rattle.child_pool.proofs.Going.{Went-map}
 use Rattle.child_pool.proofs.Replies.{reply_is_log, reset_reply, source_reply}
 use Rattle.child_pool.proofs.Telling.{AllCompile-more, among_at, honest_line, honest_source, received_last}
@@ -44,7 +44,7 @@ module _ (functions : List ℕ → Functions) (honest : List ℕ → Type 0) whe
 
     -- the turns of a stage
     stage_turns : (c : Command) (srcs : List (List ℕ)) (added now : List Call) → line ≡ command_line c → (r : Replied functions honest path srcs line slot (says slot line ∷ []) reply.Yes added now)
-        → reply_of (kind_of c 0) r.line ≡ Some reply.Yes → AreTurns (asks slot c 0) (talk added)
+        → reply_of (kind_of c 0) r.line ≡ Some reply.Yes → AreTurns (asks slot c 0) (course added)
     stage_turns c srcs added now spelled r reads = subst (AreTurns (asks slot c 0)) (sym r.talked) ((refl, spelled), ((refl, record { reply = reply.Yes; answer = tt; reads = reads }), tt))
 
   module _ {follow : List Call → Type 0} {slot : ℕ} {calls : List Call} (job : Job) (line : List ℕ) where
@@ -127,7 +127,7 @@ module _ (functions : List ℕ → Functions) (honest : List ℕ → Type 0) whe
             } in
             Went-map w (AfterStages functions honest job slot (suc (suc told)) (asks slot (AddFun source) 0) (Err Compile) calls) (record {
               caused = received_last (WasComplaint functions honest job) slot r.line w.added calls w.now r.earlier (says slot line ∷ []) (hears slot r.line) w.is_now r.is r.talked p;
-              talked = inl (cut_prompt slot (AddFun source) 0 line (talk w.added) spelled (inr (Some r.line, r.talked)));
+              cut = cut_prompt slot (AddFun source) 0 line (course w.added) spelled (inr (Some r.line, r.talked));
             })
         source_complaint told source reply.Log w within is_source is spelled complains same = absurd cc
         source_complaint told source reply.Yes w within is_source is spelled complains same = absurd cc
@@ -136,8 +136,8 @@ module _ (functions : List ℕ → Functions) (honest : List ℕ → Type 0) whe
 
     -- a refusal of a stage's prompt
     refused_stage : (srcs : List (List ℕ)) (c : Command) → line ≡ command_line c → (f : PoolFault) (w : Went follow job slot calls (AfterPrompt functions honest job srcs line slot (says slot line ∷ []) (Err f) calls))
-        → Refused functions honest job slot (asks slot c 0) ⊥ f calls w.added
-    refused_stage srcs c spelled f w = record { caused = w.holds.0; talked = inl (cut_prompt slot c 0 line (talk w.added) spelled w.holds.1) }
+        → TryRefused functions honest job slot (asks slot c 0) f calls w.added
+    refused_stage srcs c spelled f w = record { caused = w.holds.0; cut = cut_prompt slot c 0 line (course w.added) spelled w.holds.1 }
 
     -- a stage was asked for, whatever came of it
     pub tell_went : (stage : ℕ) (result : Result (Option Reply) PoolFault) → stage ≤ length job.sources → IsTold functions honest job.path job.sources stage slot calls
@@ -148,9 +148,12 @@ module _ (functions : List ℕ → Functions) (honest : List ℕ → Type 0) whe
     tell_went (suc stage) (Ok (Some said)) within told is spelled asked =
         source_done stage (get_or job.sources stage []) said (asked (take stage job.sources) told.idle) (omega arith) refl told.compile is spelled
     tell_went zero (Ok None) within told is spelled asked =
-        Went-map (asked told.0 told.1) (AfterStages functions honest job slot 1 (asks slot Reset 0) (Ok false) calls) tt
+        let w = asked told.0 told.1 in
+        Went-map w (AfterStages functions honest job slot 1 (asks slot Reset 0) (Ok false) calls) (failed_prompt slot Reset 0 line w.added spelled w.holds)
     tell_went (suc stage) (Ok None) within told is spelled asked =
-        Went-map (asked (take stage job.sources) told.idle) (AfterStages functions honest job slot (suc (suc stage)) (asks slot (AddFun (get_or job.sources stage [])) 0) (Ok false) calls) tt
+        let w = asked (take stage job.sources) told.idle in
+        Went-map w (AfterStages functions honest job slot (suc (suc stage)) (asks slot (AddFun (get_or job.sources stage [])) 0) (Ok false) calls)
+        (failed_prompt slot (AddFun (get_or job.sources stage [])) 0 line w.added spelled w.holds)
     tell_went zero (Err f) within told is spelled asked =
         let w = asked told.0 told.1 in
         Went-map w (AfterStages functions honest job slot 1 (asks slot Reset 0) (Err f) calls) (refused_stage told.0 Reset spelled f w)

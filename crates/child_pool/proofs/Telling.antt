@@ -8,7 +8,7 @@ use Rattle.view_ports.specs.Commands.{command}
 use Rattle.view_ports.specs.Functions.{Functions}
 use Rattle.view_ports.specs.Honest.{AnswersChild, Complains, IsAnswerable, IsHonestLine, Spells}
 use Rattle.child_pool.specs.Jobs.{IsAmong}
-use Rattle.child_pool.specs.Histories.{HasReceived, IsReceipt, Turn, talk}
+use Rattle.child_pool.specs.Histories.{HasReceived, IsReceipt, Turn, course}
 use Rattle.child_pool.specs.Sessions.{AllCompile}
 use Rattle.child_pool.proofs.Replies.{yes_no_complaint}
 
@@ -25,7 +25,7 @@ turns_some (first ∷ said) turn e = cc
 
 -- the last call was added
 pub received_last : (P : Option Session → List ℕ → Type 0) (slot : ℕ) (line : List ℕ) (added before now earlier : List Call) (said : List Turn) (turn : Turn)
-    → now ≡ added ++ before → now ≡ receive slot (Some line) ∷ earlier → talk added ≡ said ++ turn ∷ [] → P (child slot earlier) line → HasReceived P added before
+    → now ≡ added ++ before → now ≡ receive slot (Some line) ∷ earlier → course added ≡ said ++ turn ∷ [] → P (child slot earlier) line → HasReceived P added before
 received_last P slot line [] before now earlier said turn is last talked p = absurd (turns_some said turn talked)
 received_last P slot line (call ∷ added) before now earlier said turn is last talked p =
     let same : call ∷ (added ++ before) ≡ receive slot (Some line) ∷ earlier = sym is ∙ last in

@@ -1,5 +1,5 @@
 -- Mapping all documents: the children are made ready, and then map them.
-use Rattle.std.proofs.Common.{◌≡◌, ◌⊎◌, ◌<◌, ◌++◌, ℕ, List, [], ◌∷◌, length, map, min, Result, Ok, Err, refl, sym, ap, ◌∙◌, subst, inl, inr, arith}
+use Rattle.std.proofs.Common.{◌≡◌, ◌⊎◌, ◌<◌, ◌++◌, ℕ, List, [], ◌∷◌, length, map, max, min, OnOk, Result, Ok, Err, refl, sym, ap, ◌∙◌, subst, inl, inr, arith, append_assoc}
 use Rattle.std.specs.List.{AllByRecursion}
 use Rattle.json_terms.specs.Json.{Json}
 use Rattle.view_ports.specs.Calls.{Call}
@@ -10,14 +10,18 @@ use Rattle.child_pool.specs.declared.pool.Pool.{Pool}
 use Rattle.child_pool.specs.declared.pool_fault.PoolFault.{PoolFault}
 use Rattle.child_pool.specs.Histories.{WentIn, talk}
 use Rattle.child_pool.specs.Jobs.{IsAmong, Job}
-use Rattle.child_pool.specs.Pools.{AfterBatch, AfterPreparing, AreKept, AreStopped, HasItsChildren, batch_turns}
-use Rattle.child_pool.specs.Refused.{RefusedIn}
+use Rattle.child_pool.specs.Pools.{AfterBatch, AfterPreparing, AreKept, AreStopped, HasGivenUp, HasItsChildren, IsKept}
+use Rattle.child_pool.specs.Prompts.{document_prompts, slots_prompts, update_prompts}
+use Rattle.child_pool.specs.Refused.{Refused}
 use Rattle.child_pool.specs.Talk.{AreTurns, Due, ready_slots, talk_of}
-use Rattle.child_pool.specs.Updates.{AfterUpdate}
-use Rattle.child_pool.proofs.Attempts.{both_turns}
-use Rattle.child_pool.proofs.Pooled.{Stands}
-use Rattle.child_pool.proofs.Refusals.{later_in, wider_in}
+use Rattle.child_pool.specs.Tries.{AllAnswered, Prompt}
+use Rattle.child_pool.specs.Updates.{AfterTries, AfterUpdate}
+use Rattle.child_pool.proofs.Attempts.{refused_after}
+use Rattle.child_pool.proofs.Pooled.{Stands, some_kept}
+use Rattle.child_pool.proofs.Refusals.{given_up_before, talk_given_up}
 use Rattle.child_pool.proofs.Slots.{map_in, none_in, then_in}
+use Rattle.child_pool.proofs.Talking.{talk_answered, update_lines}
+use Rattle.child_pool.proofs.Trying.{answered_then, answered_wider}
 
 -- each of some is among them
 among_more : {X : Type 0} (x : X) (xs ys : List X) → AllByRecursion (IsAmong xs) ys → AllByRecursion (IsAmong (x ∷ xs)) ys
@@ -31,9 +35,14 @@ among_themselves (x ∷ xs) = (inl refl, among_more x xs xs (among_themselves xs
 pub stands_stopped : {width : ℕ} (pool : Pool) (calls : List Call) → AreStopped width pool calls → HasItsChildren pool calls
 stands_stopped pool calls stopped = subst (Stands pool calls) (sym stopped.forgotten) tt
 
--- the talk of an update is that which makes the slots ready, and that of the batch
-talk_is : (job : Job) (width slots : ℕ) → slots ≡ min width (length job.documents) → talk_of job.sources job.documents width ≡ ready_slots 0 slots job.sources ++ batch_turns job width job.documents
-talk_is job width slots is = ap (λ (n : ℕ). ready_slots 0 n job.sources ++ batch_turns job width job.documents) (sym is)
+-- an update, by its tries and by its talk
+abbrev pub Both : (List ℕ → Functions) → (List ℕ → Type 0) → Job → Pool → List Call → (List Call → Type 0) → Type 0 → Pool → Result DocRowLists PoolFault → Type 0
+Both functions honest job old calls follow rose pool result = WentIn follow job old.width calls (λ added now.
+    AfterTries functions honest job old rose pool result calls added now × AfterUpdate functions honest job old.width rose pool result calls added now)
+
+-- the prompts of an update are those which make the slots ready, and those of the documents
+prompts_are : (job : Job) (old : Pool) (slots : ℕ) → slots ≡ min old.width (length job.documents) → (kept : ℕ) → update_prompts job old.width kept ≡ slots_prompts job.sources kept slots ++ document_prompts job.sources job.documents
+prompts_are job old slots is kept = ap (λ (n : ℕ). slots_prompts job.sources kept n ++ document_prompts job.sources job.documents) (sym is)
 
 module _ (functions : List ℕ → Functions) (honest : List ℕ → Type 0) (job : Job) {calls : List Call} where
   -- nothing is to be mapped
@@ -58,36 +67,73 @@ module _ (functions : List ℕ → Functions) (honest : List ℕ → Type 0) (jo
           let no_slots : min width 0 ≡ 0 = omega arith in
           ap (λ (d : List (List (List ℕ × Json))). talk_of job.sources d width) none ∙ ap (λ (n : ℕ). ready_slots 0 n job.sources ++ []) no_slots
 
-  module _ (width slots : ℕ) (is : slots ≡ min width (length job.documents)) where
+  -- nothing is tried
+  pub nothing_tried : {follow : List Call → Type 0} (old : Pool) (rose : Type 0) (lists : DocRowLists) → job.documents ≡ [] → follow calls
+      → WentIn follow job old.width calls (AfterTries functions honest job old rose old (Ok lists) calls)
+  nothing_tried old rose lists none follows =
+      let kept = some_kept old job.path old.started refl in
+      none_in follows (AfterTries functions honest job old rose old (Ok lists) calls) (kept.0, kept.1, record {
+        answered = subst (λ (prompts : List Prompt). AllAnswered rose prompts []) (sym (no_prompts old.width kept.0)) refl;
+        remembers = λ some. absurd (some none);
+      })
+    where
+      no_prompts : (width kept : ℕ) → update_prompts job width kept ≡ []
+      no_prompts width kept =
+          let no_slots : min width 0 ≡ 0 = omega arith in
+          ap (λ (d : List (List (List ℕ × Json))). slots_prompts job.sources kept (min width (length d)) ++ document_prompts job.sources d) none
+          ∙ ap (λ (n : ℕ). slots_prompts job.sources kept n ++ []) no_slots
+
+  module _ (old : Pool) (slots : ℕ) (is : slots ≡ min old.width (length job.documents)) where
     -- the children could not be made ready
     pub refused_at_first : {follow : List Call → Type 0} (rose : Type 0) (pool : Pool) (f : PoolFault)
-        → WentIn follow job width calls (AfterPreparing functions honest job width slots rose pool (Err f) calls) → WentIn follow job width calls (AfterUpdate functions honest job width rose pool (Err f) calls)
+        → WentIn follow job old.width calls (AfterPreparing functions honest job old slots rose pool (Err f) calls) → Both functions honest job old calls follow rose pool (Err f)
     refused_at_first rose pool f w =
-        map_in w (AfterUpdate functions honest job width rose pool (Err f) calls) (record {
-          refused = wider_in functions honest job width (ready_slots 0 slots job.sources) (batch_turns job width job.documents) (talk_of job.sources job.documents width) rose f calls w.added (talk_is job width slots is) w.holds.0.0;
-          stopped = w.holds.1;
-        })
+        let kept = w.holds.0 in
+        let all = given_up_before functions honest job old.width (slots_prompts job.sources kept slots) (document_prompts job.sources job.documents) (update_prompts job old.width kept) rose pool f calls w.added w.now (prompts_are job old slots is kept) w.holds.2 in
+        map_in w (λ added now. AfterTries functions honest job old rose pool (Err f) calls added now × AfterUpdate functions honest job old.width rose pool (Err f) calls added now)
+        ((kept, w.holds.1, all), talk_given_up functions honest job old.width kept rose pool f calls w.added w.now old.one_child all)
 
-    pub updated : {first second : List Call → Type 0} (rose_first rose_second rose : Type 0) (ready_pool pool : Pool) (result : Result DocRowLists PoolFault) → 0 < slots → (rose_first → rose) → (rose_second → rose)
-        → (w : WentIn first job width calls (AfterPreparing functions honest job width slots rose_first ready_pool (Ok tt) calls)) (v : WentIn second job width w.now (AfterBatch functions honest job width slots job.documents rose_second pool result w.now))
-        → WentIn second job width calls (AfterUpdate functions honest job width rose pool result calls)
-    updated rose_first rose_second rose ready_pool pool (Ok lists) some f g w v =
-        let turns = batch_turns job width job.documents in
-        let told = v.holds.is_ready.told in
-        then_in w v (AfterUpdate functions honest job width rose pool (Ok lists) calls) (
-          v.holds.is_ready.there,
-          record {
-            rows = v.holds.rows;
-            compile = λ is_honest documents. (told 0 some).compile is_honest;
-            talked = subst (λ (dues : List Due). AreTurns dues (talk (v.added ++ w.added)) ⊎ rose) (sym (talk_is job width slots is))
-                (both_turns (ready_slots 0 slots job.sources) turns rose_first rose_second rose w.added v.added f g w.holds.0.0.1 v.holds.talked);
-          },
-          λ documents. subst (AreKept pool job.path) is v.holds.is_ready.remembered,
+    pub updated : {first second : List Call → Type 0} (rose_first rose_second rose : Type 0) (ready_pool pool : Pool) (result : Result DocRowLists PoolFault) → 0 < slots → (rose_first → rose) → (rose_second → rose) → OnOk result (pool ≡ ready_pool)
+        → (w : WentIn first job old.width calls (AfterPreparing functions honest job old slots rose_first ready_pool (Ok tt) calls)) (v : WentIn second job old.width w.now (AfterBatch functions honest job old.width slots job.documents rose_second pool result w.now))
+        → Both functions honest job old calls second rose pool result
+    updated rose_first rose_second rose ready_pool pool (Ok lists) some f g same w v =
+        let kept = w.holds.0 in
+        let prepared = w.holds.2 in
+        let first = slots_prompts job.sources kept slots in
+        let last = document_prompts job.sources job.documents in
+        let answered = subst (λ (prompts : List Prompt). AllAnswered rose prompts (v.added ++ w.added)) (sym (prompts_are job old slots is kept))
+        (answered_then rose first last w.added v.added (answered_wider rose_first rose f first w.added prepared.1) (answered_wider rose_second rose g last v.added v.holds.answered)) in
+        let remembers = subst (λ (n : ℕ). IsKept pool job.path (max n kept)) is (subst (λ (p : Pool). IsKept p job.path (max slots kept)) (sym same) prepared.2) in
+        let talked : AreTurns (talk_of job.sources job.documents old.width) (talk (v.added ++ w.added)) ⊎ rose = elim (talk_answered rose (update_prompts job old.width kept) (v.added ++ w.added) answered) [
+          | inl turns ↦ inl (subst (λ (dues : List Due). AreTurns dues (talk (v.added ++ w.added))) (update_lines job old.width kept old.one_child) turns)
+          | inr counted ↦ inr counted
+        ] in
+        then_in w v (λ added now. AfterTries functions honest job old rose pool (Ok lists) calls added now × AfterUpdate functions honest job old.width rose pool (Ok lists) calls added now) (
+          (kept, w.holds.1, record { answered = answered; remembers = λ documents. remembers }),
+          (
+            v.holds.is_ready.there,
+            record {
+              rows = v.holds.rows;
+              compile = λ is_honest documents. (v.holds.is_ready.told 0 some).compile is_honest;
+              talked = talked;
+            },
+            λ documents. subst (AreKept pool job.path) is v.holds.is_ready.remembered,
+          ),
         )
-    updated rose_first rose_second rose ready_pool pool (Err fault) some f g w v =
-        let turns = batch_turns job width job.documents in
-        let refused = later_in functions honest job width (ready_slots 0 slots job.sources) turns rose_first rose_second rose f g fault w.added v.added calls w.now w.is_now w.holds.0.0.1 v.holds.refused in
-        then_in w v (AfterUpdate functions honest job width rose pool (Err fault) calls) (record {
-          refused = subst (λ (dues : List Due). RefusedIn functions honest job width dues rose fault calls (v.added ++ w.added)) (sym (talk_is job width slots is)) refused;
-          stopped = v.holds.stopped;
-        })
+    updated rose_first rose_second rose ready_pool pool (Err fault) some f g same w v =
+        let kept = w.holds.0 in
+        let prepared = w.holds.2 in
+        let first = slots_prompts job.sources kept slots in
+        let last = document_prompts job.sources job.documents in
+        let h = v.holds in
+        let refused = refused_after functions honest job first last rose_first rose_second rose f g fault w.added h.tried calls w.now w.is_now prepared.1 h.refused in
+        let all : HasGivenUp functions honest job old.width (update_prompts job old.width kept) rose pool fault calls (v.added ++ w.added) v.now = record {
+          tried = h.tried ++ w.added;
+          stops = h.stops;
+          is = ap (λ (calls : List Call). calls ++ w.added) h.is ∙ append_assoc h.stops h.tried w.added;
+          only = h.only;
+          refused = subst (λ (prompts : List Prompt). Refused functions honest job prompts rose fault calls (h.tried ++ w.added)) (sym (prompts_are job old slots is kept)) refused;
+          stopped = h.stopped;
+        } in
+        then_in w v (λ added now. AfterTries functions honest job old rose pool (Err fault) calls added now × AfterUpdate functions honest job old.width rose pool (Err fault) calls added now)
+        ((kept, w.holds.1, all), talk_given_up functions honest job old.width kept rose pool fault calls (v.added ++ w.added) v.now old.one_child all)

@@ -38,6 +38,7 @@ HasReceived P (call ∷ added) before = IsReceipt P call (added ++ before) ⊎ H
 -- ---- the talk: the lines that were sent and received, log lines aside, in the order of the calls
 
 pub data Turn : Type 0 where
+  starts : ℕ → Turn
   says : ℕ → List ℕ → Turn
   hears : ℕ → List ℕ → Turn
 
@@ -56,6 +57,43 @@ turns_of (stop slot) = []
 abbrev pub talk : List Call → List Turn
 talk [] = []
 talk (call ∷ calls) = talk calls ++ turns_of call
+
+-- the course: the talk, and in it each start of a child, whether it went well or not
+abbrev pub steps_of : Call → List Turn
+steps_of (start slot path started) = starts slot ∷ []
+steps_of (send slot line sent) = turns_of (send slot line sent)
+steps_of (receive slot line) = turns_of (receive slot line)
+steps_of (stop slot) = []
+
+abbrev pub course : List Call → List Turn
+course [] = []
+course (call ∷ calls) = course calls ++ steps_of call
+
+-- ---- calls that failed, and stops
+
+abbrev pub HasFailed : Call → Type 0
+HasFailed (start slot path started) = started ≡ false
+HasFailed (send slot line sent) = sent ≡ false
+HasFailed (receive slot line) = line ≡ None
+HasFailed (stop slot) = ⊥
+
+-- the last call failed, after this course
+pub record FailsAfter (turns : List Turn) (added : List Call) : Type 0 where
+  pub last : Call
+  pub earlier : List Call
+  pub is : added ≡ last ∷ earlier
+  pub failed : HasFailed last
+  pub went : course added ≡ turns
+
+abbrev pub IsStop : Call → Type 0
+IsStop (start slot path started) = ⊥
+IsStop (send slot line sent) = ⊥
+IsStop (receive slot line) = ⊥
+IsStop (stop slot) = Unit {0}
+
+abbrev pub AllStops : List Call → Type 0
+AllStops [] = Unit {0}
+AllStops (call ∷ calls) = IsStop call × AllStops calls
 
 -- a line that was heard, or nothing
 abbrev pub last_heard : ℕ → Option (List ℕ) → List Turn

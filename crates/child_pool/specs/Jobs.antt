@@ -1,5 +1,5 @@
 -- What a request asks of the query servers, and which calls it may make.
-use Rattle.std.specs.Prelude.{◌≡◌, ◌≢◌, ◌⊎◌, ◌<◌, ◌≤◌, ℕ, List, [], ◌∷◌, ◌++◌, length, Option, Some, None}
+use Rattle.std.specs.Prelude.{◌≡◌, ◌≢◌, ◌⊎◌, ◌<◌, ◌≤◌, ℕ, List, [], ◌∷◌, ◌++◌, length, true, Option, Some, None}
 use Rattle.json_terms.specs.Json.{Json}
 use Rattle.view_ports.specs.declared.command.Command.{Command}
 use Rattle.view_ports.specs.declared.command.Command.TheVariants.{Reset, AddFun, MapDoc, Reduce, Rereduce, Other}
@@ -43,17 +43,18 @@ IsPromptOf job sources (Reduce source rows) = ⊥
 IsPromptOf job sources (Rereduce source values) = ⊥
 IsPromptOf job sources Other = ⊥
 
+-- a child is there, of whose session no call failed
 abbrev pub HasChild : Option Session → Type 0
 HasChild None = ⊥
-HasChild (Some s) = Unit {0}
+HasChild (Some s) = s.sound ≡ true
 
--- a line was sent to the child that it hasn't answered
+-- and a line was sent to it that it hasn't answered
 abbrev pub IsAsked : Option Session → Type 0
 IsAsked None = ⊥
-IsAsked (Some s) = s.waiting ≢ []
+IsAsked (Some s) = (s.waiting ≢ []) × (s.sound ≡ true)
 
 -- A child is started by the job's path alone, a line of the job that isn't too long is sent to a slot that has a child, and
--- a line is received from a child that was asked.
+-- a line is received from a child that was asked. After a call that failed nothing is sent to that child or received from it.
 abbrev pub IsLawful : Job → Call → List Call → Type 0
 IsLawful job (start slot path started) before = path ≡ job.path
 IsLawful job (send slot line sent) before = IsLineOfJob job line × (length line ≤ line_limit) × HasChild (child slot before)

@@ -9,9 +9,11 @@ pub mod Ends
 pub mod Outcomes
 pub mod PromptCalls
 pub mod Talk
+pub mod Tries
 pub mod Refused
 pub mod Honesty
 pub mod Stages
+pub mod Prompts
 pub mod Preparing
 pub mod StageCalls
 pub mod Mapping

@@ -1,5 +1,5 @@
 -- The rows of a document through a child.
-use Rattle.std.specs.Prelude.{◌≡◌, ◌⊎◌, ◌≤◌, ℕ, List, length, Option, Some, None, Result, Ok, Err}
+use Rattle.std.specs.Prelude.{◌≡◌, ◌≤◌, ℕ, List, [], ◌∷◌, length, Option, Some, None, Result, Ok, Err}
 use Rattle.json_terms.specs.Json.{Json}
 use Rattle.json_terms.specs.declared.rows.RowLists.{RowLists}
 use Rattle.view_ports.specs.declared.command.Command.TheVariants.{MapDoc}
@@ -9,34 +9,36 @@ use Rattle.view_ports.specs.Functions.{Functions, source_limit}
 use Rattle.view_ports.specs.Honest.{rows_of}
 use Rattle.child_pool.specs.declared.pool_fault.PoolFault.{PoolFault}
 use Rattle.child_pool.specs.Ends.{HasRisen}
-use Rattle.child_pool.specs.Histories.{Went, talk}
+use Rattle.child_pool.specs.Histories.{Went, course}
 use Rattle.child_pool.specs.Jobs.{IsAmong, Job, job_of}
-use Rattle.child_pool.specs.Refused.{Refused}
+use Rattle.child_pool.specs.Refused.{Refused, TryRefused}
 use Rattle.child_pool.specs.Sessions.{HasTold}
+use Rattle.child_pool.specs.Prompts.{document_prompt}
 use Rattle.child_pool.specs.Talk.{AreTurns, Due, asks}
+use Rattle.child_pool.specs.Tries.{HasFailedIn, IsAnswered, Prompt}
 
 module _ (functions : List ℕ → Functions) (honest : List ℕ → Type 0) where
   -- on an honest path these are the rows of the path's map functions
   abbrev pub AreHonestRows : List ℕ → List (List ℕ) → List (List ℕ × Json) → List (List (Json × Json)) → Type 0
   AreHonestRows path sources document rows = honest path → length sources ≤ source_limit → rows ≡ rows_of (functions path) sources document
 
-  -- a document was mapped: the session is as ready as before, the turns are the document's where no fault was counted, and there is
-  -- a list of rows for each source, which are those of an honest path
-  pub record HasMapped (job : Job) (slot : ℕ) (document : List (List ℕ × Json)) (dues : List Due) (rose : Type 0) (rows : List (List (Json × Json))) (added now : List Call) : Type 0 where
+  -- a document was mapped: the session is as ready as before, of the calls `P` holds, and there is a list of rows for each source,
+  -- which are those of an honest path
+  pub record HasMapped (job : Job) (slot : ℕ) (document : List (List ℕ × Json)) (P : List Call → Type 0) (rows : List (List (Json × Json))) (added now : List Call) : Type 0 where
     pub told : HasTold functions honest job.path job.sources slot now
-    pub talked : AreTurns dues (talk added) ⊎ rose
+    pub tried : P added
     pub right : AreHonestRows job.path job.sources document rows
     pub each : length rows ≡ length job.sources
 
-  abbrev pub AfterMap : Job → ℕ → List (List ℕ × Json) → List Due → Type 0 → Result RowLists PoolFault → List Call → List Call → List Call → Type 0
-  AfterMap job slot document dues rose (Ok rows) before added now = HasMapped job slot document dues rose rows added now
-  AfterMap job slot document dues rose (Err f) before added now = Refused functions honest job slot dues rose f before added
+  abbrev pub AfterMap : Job → ℕ → List (List ℕ × Json) → Prompt → Type 0 → Result RowLists PoolFault → List Call → List Call → List Call → Type 0
+  AfterMap job slot document prompt rose (Ok rows) before added now = HasMapped job slot document (IsAnswered rose prompt) rows added now
+  AfterMap job slot document prompt rose (Err f) before added now = Refused functions honest job (prompt ∷ []) rose f before added
 
   -- one prompt's answer, without what came before it
   abbrev pub AfterAnswer : Job → ℕ → List (List ℕ × Json) → List Due → Result (Option RowLists) PoolFault → List Call → List Call → List Call → Type 0
-  AfterAnswer job slot document dues (Ok (Some rows)) before added now = HasMapped job slot document dues ⊥ rows added now
-  AfterAnswer job slot document dues (Ok None) before added now = Unit {0}
-  AfterAnswer job slot document dues (Err f) before added now = Refused functions honest job slot dues ⊥ f before added
+  AfterAnswer job slot document dues (Ok (Some rows)) before added now = HasMapped job slot document (λ calls. AreTurns dues (course calls)) rows added now
+  AfterAnswer job slot document dues (Ok None) before added now = HasFailedIn dues added
+  AfterAnswer job slot document dues (Err f) before added now = TryRefused functions honest job slot dues f before added
 
 -- ---- what is promised of it
 
@@ -57,4 +59,4 @@ module _ {C : Type 0} (s : Servers C) (old new : C) (slot : ℕ) where
   MapsOne path sources document result = (documents : List (List (List ℕ × Json))) (calls : List Call) → s.may_follow old calls
       → IsAmong documents document → HasTold s.functions s.honest path sources slot calls
       → Went (s.may_follow new) (job_of path sources documents) slot calls
-      (AfterMap s.functions s.honest (job_of path sources documents) slot document (map_turns sources document) (HasRisen s old new) result calls)
+      (AfterMap s.functions s.honest (job_of path sources documents) slot document (document_prompt slot sources document) (HasRisen s old new) result calls)

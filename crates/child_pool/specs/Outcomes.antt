@@ -14,13 +14,13 @@ use Rattle.child_pool.specs.declared.pool_fault.PoolFault.{PoolFault}
 use Rattle.child_pool.specs.declared.pool_fault.PoolFault.TheVariants as fault
 use Rattle.child_pool.specs.Shown.{shown}
 use Rattle.child_pool.specs.Jobs.{Job, IsAmong, IsPromptOf}
-use Rattle.child_pool.specs.Histories.{HasReceived, Turn, says, hears, last_heard, talk}
+use Rattle.child_pool.specs.Histories.{FailsAfter, HasReceived, Turn, says, hears, last_heard, course}
 use Rattle.child_pool.specs.Sessions.{IsInSession, IsIdle}
 use Rattle.child_pool.specs.Causes.{IsBadReply, kind_of}
 
 -- so many log lines came since the prompt, and nothing else
 abbrev pub OnlyLogged : List ℕ → List (List ℕ) → List ℕ → ℕ → ℕ → List Call → List Call → Type 0
-OnlyLogged path sources prompt logs slot added now = IsInSession path sources (prompt ∷ []) logs slot now × (talk added ≡ [])
+OnlyLogged path sources prompt logs slot added now = IsInSession path sources (prompt ∷ []) logs slot now × (course added ≡ [])
 
 -- nothing was said, or this was said and one line was heard at most
 abbrev pub StopsAfter : ℕ → List Turn → List Turn → Type 0
@@ -28,9 +28,9 @@ StopsAfter slot said turns = (turns ≡ []) ⊎ ((last : Option (List ℕ)) × (
 
 -- after a line was sent, or the call failed; where memory ran out nothing was said
 abbrev pub AfterSend : Job → List (List ℕ) → List ℕ → ℕ → Result Bool PoolFault → List Call → List Call → Type 0
-AfterSend job sources line slot (Ok true) added now = (talk added ≡ says slot line ∷ []) × IsInSession job.path sources (line ∷ []) 0 slot now
-AfterSend job sources line slot (Ok false) added now = Unit {0}
-AfterSend job sources line slot (Err f) added now = (f ≡ fault.NoMemory) × (talk added ≡ [])
+AfterSend job sources line slot (Ok true) added now = (course added ≡ says slot line ∷ []) × IsInSession job.path sources (line ∷ []) 0 slot now
+AfterSend job sources line slot (Ok false) added now = FailsAfter [] added
+AfterSend job sources line slot (Err f) added now = (f ≡ fault.NoMemory) × (course added ≡ [])
 
 module _ (functions : List ℕ → Functions) (honest : List ℕ → Type 0) where
   -- a line came from a child that was started by the job's path and whose calls all went well, in reply to a prompt of the job
@@ -77,17 +77,17 @@ module _ (functions : List ℕ → Functions) (honest : List ℕ → Type 0) whe
     pub asked : IsInSession path sources (prompt ∷ []) logs slot earlier
     pub answers : AnswersChild functions honest (child slot earlier) line
     pub idle : IsIdle path (sources_after (command prompt) (is_yes line) sources) slot now
-    pub talked : talk added ≡ said ++ hears slot line ∷ []
+    pub talked : course added ≡ said ++ hears slot line ∷ []
 
   -- after one line was received, or the call failed
   abbrev pub AfterLine : Job → List (List ℕ) → List ℕ → ℕ → ℕ → Result Heard PoolFault → List Call → List Call → List Call → Type 0
-  AfterLine job sources prompt logs slot (Ok Failed) before added now = Unit {0}
+  AfterLine job sources prompt logs slot (Ok Failed) before added now = FailsAfter [] added
   AfterLine job sources prompt logs slot (Ok Log) before added now = OnlyLogged job.path sources prompt (logs + 1) slot added now
   AfterLine job sources prompt logs slot (Ok (Answer reply)) before added now = Replied job.path sources prompt slot [] reply added now
-  AfterLine job sources prompt logs slot (Err f) before added now = IsCaused job added before f × StopsAfter slot [] (talk added)
+  AfterLine job sources prompt logs slot (Err f) before added now = IsCaused job added before f × StopsAfter slot [] (course added)
 
   -- after a prompt was answered, or a call failed
   abbrev pub AfterPrompt : Job → List (List ℕ) → List ℕ → ℕ → List Turn → Result (Option Reply) PoolFault → List Call → List Call → List Call → Type 0
-  AfterPrompt job sources prompt slot said (Ok None) before added now = Unit {0}
+  AfterPrompt job sources prompt slot said (Ok None) before added now = FailsAfter [] added ⊎ FailsAfter said added
   AfterPrompt job sources prompt slot said (Ok (Some reply)) before added now = Replied job.path sources prompt slot said reply added now
-  AfterPrompt job sources prompt slot said (Err f) before added now = IsCaused job added before f × StopsAfter slot said (talk added)
+  AfterPrompt job sources prompt slot said (Err f) before added now = IsCaused job added before f × StopsAfter slot said (course added)

@@ -1,5 +1,5 @@
 -- What the calls of the pool promise.
-use Rattle.std.specs.Prelude.{◌≡◌, ◌≤◌, ℕ, List, [], length, min, Option, Some, None, Result, Err, OnOk}
+use Rattle.std.specs.Prelude.{◌≡◌, ◌≤◌, ℕ, List, [], length, min, Option, Some, None, Result, Ok, Err, OnOk}
 use Rattle.std.specs.List.{AllByRecursion}
 use Rattle.json_terms.specs.Json.{Json}
 use Rattle.design_docs.specs.declared.design.Design.{Design}
@@ -12,11 +12,11 @@ use Rattle.child_pool.specs.declared.pool.Pool.{Pool}
 use Rattle.child_pool.specs.declared.pool_fault.PoolFault.{PoolFault}
 use Rattle.child_pool.specs.declared.pool_fault.PoolFault.TheVariants.{ServerFault, UnknownLanguage}
 use Rattle.child_pool.specs.Ends.{HasRisen}
-use Rattle.child_pool.specs.Histories.{Went, WentIn, talk}
+use Rattle.child_pool.specs.Histories.{AllStops, Went, WentIn}
 use Rattle.child_pool.specs.Jobs.{IsAmong, Job, job_of}
 use Rattle.child_pool.specs.Languages.{path_in}
 use Rattle.child_pool.specs.Pools.{AfterBatch, AfterMapping, AfterPreparing, AfterReadying, AfterTrying, AreStopped, AreThere, IsReady, HasItsChildren, StandReady, languages_of}
-use Rattle.child_pool.specs.Updates.{AfterUpdate}
+use Rattle.child_pool.specs.Updates.{AfterTries, AfterUpdate}
 
 -- the path of a design's language, where the pool knows it
 abbrev pub path_for : Pool → Design → Option (List ℕ)
@@ -25,6 +25,14 @@ path_for pool design = path_in (languages_of pool) design.language
 -- a language without a path is refused
 abbrev pub RefusesUnknown : {T : Type 0} → Pool → Design → Result T PoolFault → Type 0
 RefusesUnknown pool design result = path_for pool design ≡ None → result ≡ Err UnknownLanguage
+
+-- and then no server is called, and the pool stays as it was
+abbrev pub RefusesIdly : {C T : Type 0} → C → C → Pool → Pool → Design → Result T PoolFault → Type 0
+RefusesIdly old new pool pool' design result = path_for pool design ≡ None → (result ≡ Err UnknownLanguage) × (new ≡ old) × (pool' ≡ pool)
+
+-- without documents there are no rows, no server is called, and the pool stays as it was
+abbrev pub MapsNothing : {C : Type 0} → C → C → Pool → Pool → Result DocRowLists PoolFault → Type 0
+MapsNothing old new pool pool' result = (result ≡ Ok []) × (new ≡ old) × (pool' ≡ pool)
 
 -- the pool's languages and its width never change
 pub record StaysAsMade (pool pool' : Pool) : Type 0 where
@@ -49,10 +57,10 @@ module _ {C : Type 0} (s : Servers C) (old new : C) where
       → Went (s.may_follow new) (job_of path sources all) 0 calls
       (AfterMapping s.functions s.honest (job_of path sources all) slots kept documents (HasRisen s old new) result calls)
 
-  -- all children are stopped
+  -- all children are stopped, and nothing else is done
   abbrev pub StopsAll : Pool → Pool → Type 0
   StopsAll pool pool' = (job : Job) (calls : List Call) → s.may_follow old calls
-      → WentIn (s.may_follow new) job pool.width calls (λ added now. AreStopped pool.width pool' now × (talk added ≡ []))
+      → WentIn (s.may_follow new) job pool.width calls (λ added now. AreStopped pool.width pool' now × AllStops added)
 
   -- the children of the first slots are made ready, in rising order; the kept slots have a child of this path, and have one
   -- still where all went well
@@ -60,7 +68,7 @@ module _ {C : Type 0} (s : Servers C) (old new : C) where
   ReadiesSlots slots kept path sources result = (width : ℕ) (documents : List (List (List ℕ × Json))) (calls : List Call) → slots ≤ width → s.may_follow old calls
       → AreThere path kept calls
       → WentIn (s.may_follow new) (job_of path sources documents) width calls
-      (λ added now. AfterReadying s.functions s.honest (job_of path sources documents) width slots (HasRisen s old new) result calls added now
+      (λ added now. AfterReadying s.functions s.honest (job_of path sources documents) kept slots (HasRisen s old new) result calls added now
       × OnOk result (AreThere path kept now))
 
   module _ (pool : Pool) (design : Design) where
@@ -73,14 +81,14 @@ module _ {C : Type 0} (s : Servers C) (old new : C) where
     Readies slots pool' result = (path : List ℕ) (documents : List (List (List ℕ × Json))) (calls : List Call) → s.may_follow old calls
         → path_for pool design ≡ Some path → HasItsChildren pool calls
         → WentIn (s.may_follow new) (job_by path documents) pool.width calls
-        (AfterTrying s.functions s.honest (job_by path documents) pool.width slots (HasRisen s old new) pool' result calls)
+        (AfterTrying s.functions s.honest (job_by path documents) pool slots (HasRisen s old new) pool' result calls)
 
     -- so many children are made ready for the design
     abbrev pub Prepares : ℕ → Pool → Result (Unit {0}) PoolFault → Type 0
     Prepares slots pool' result = (path : List ℕ) (documents : List (List (List ℕ × Json))) (calls : List Call) → s.may_follow old calls
         → path_for pool design ≡ Some path → HasItsChildren pool calls
         → WentIn (s.may_follow new) (job_by path documents) pool.width calls
-        (AfterPreparing s.functions s.honest (job_by path documents) pool.width slots (HasRisen s old new) pool' result calls)
+        (AfterPreparing s.functions s.honest (job_by path documents) pool slots (HasRisen s old new) pool' result calls)
 
     -- documents, each among those of the job, are mapped by the children of so many slots, which are ready; without what is
     -- done after a refusal
@@ -108,3 +116,10 @@ module _ {C : Type 0} (s : Servers C) (old new : C) where
         → path_for pool design ≡ Some path → HasItsChildren pool calls
         → WentIn (s.may_follow new) (job_by path documents) pool.width calls
         (AfterUpdate s.functions s.honest (job_by path documents) pool.width (HasRisen s old new) pool' result calls)
+
+    -- and each prompt of the update is tried twice at most
+    abbrev pub TriesAll : List (List (List ℕ × Json)) → Pool → Result DocRowLists PoolFault → Type 0
+    TriesAll documents pool' result = (path : List ℕ) (calls : List Call) → s.may_follow old calls
+        → path_for pool design ≡ Some path → HasItsChildren pool calls
+        → WentIn (s.may_follow new) (job_by path documents) pool.width calls
+        (AfterTries s.functions s.honest (job_by path documents) pool (HasRisen s old new) pool' result calls)

@@ -1,5 +1,5 @@
 -- The pool: the paths of languages, and the children that it started.
-use Rattle.std.specs.Prelude.{◌≡◌, ◌⊎◌, ◌<◌, ◌≤◌, ℕ, List, [], map, length, Some, None, Result, Ok, Err, OnOk, OnErr, MatchOption}
+use Rattle.std.specs.Prelude.{◌≡◌, ◌⊎◌, ◌<◌, ◌≤◌, ◌++◌, ℕ, List, [], map, max, length, Some, None, Result, Ok, Err, MatchOption}
 use Rattle.std.specs.List.{AllByRecursion}
 use Rattle.json_terms.specs.Json.{Json}
 use Rattle.view_ports.specs.Calls.{Call, child}
@@ -11,11 +11,13 @@ use Rattle.child_pool.specs.declared.pool.Language.{Language}
 use Rattle.child_pool.specs.declared.pool.Pool.{Pool}
 use Rattle.child_pool.specs.declared.doc_rows.DocRowLists.{DocRowLists}
 use Rattle.child_pool.specs.declared.pool_fault.PoolFault.{PoolFault}
-use Rattle.child_pool.specs.Histories.{talk}
+use Rattle.child_pool.specs.Histories.{AllStops}
 use Rattle.child_pool.specs.Jobs.{Job}
 use Rattle.child_pool.specs.Refused.{Refused, RefusedIn}
 use Rattle.child_pool.specs.Sessions.{HasTold, IsThere}
-use Rattle.child_pool.specs.Talk.{AreTurns, Due, one_by_one, ready_slots, waves}
+use Rattle.child_pool.specs.Prompts.{document_prompts, slots_prompts}
+use Rattle.child_pool.specs.Talk.{Due}
+use Rattle.child_pool.specs.Tries.{AllAnswered, Prompt}
 
 -- the rows that a reply says
 abbrev pub rows_said : Reply → List (List (Json × Json))
@@ -52,6 +54,10 @@ IsKept pool path count = pool.started ≡ Some (record { path = path; count = co
 abbrev pub IsKeptOf : Pool → List ℕ → ℕ → Type 0
 IsKeptOf pool path count = IsKept pool path count ⊎ ((count ≡ 0) × ((other : ℕ) → IsKept pool path other → ⊥))
 
+-- of so many as it remembers of this path `P` holds
+abbrev pub ForKept : Pool → List ℕ → (ℕ → Type 0) → Type 0
+ForKept pool path P = (kept : ℕ) × IsKeptOf pool path kept × P kept
+
 -- it remembers so many children of this path at least
 abbrev pub AreKept : Pool → List ℕ → ℕ → Type 0
 AreKept pool path slots = (count : ℕ) × (slots ≤ count) × IsKept pool path count
@@ -64,10 +70,6 @@ NoneIsLeft width calls = (slot : ℕ) → slot < width → child slot calls ≡ 
 pub record AreStopped (width : ℕ) (pool : Pool) (calls : List Call) : Type 0 where
   pub forgotten : pool.started ≡ None
   pub stopped : NoneIsLeft width calls
-
--- the turns that map documents with so many children
-abbrev pub batch_turns : Job → ℕ → List (List (List ℕ × Json)) → List Due
-batch_turns job width documents = waves (length documents) width (length job.sources) documents
 
 module _ (functions : List ℕ → Functions) (honest : List ℕ → Type 0) where
   -- in each of the first slots the child has the job's sources
@@ -85,6 +87,15 @@ module _ (functions : List ℕ → Functions) (honest : List ℕ → Type 0) whe
     pub there : HasItsChildren pool calls
     pub told : AreTold job slots calls
 
+  -- prompts were refused, and then all children were stopped, and nothing else was done
+  pub record HasGivenUp (job : Job) (width : ℕ) (prompts : List Prompt) (rose : Type 0) (pool : Pool) (f : PoolFault) (before added now : List Call) : Type 0 where
+    pub tried : List Call
+    pub stops : List Call
+    pub is : added ≡ stops ++ tried
+    pub only : AllStops stops
+    pub refused : Refused functions honest job prompts rose f before tried
+    pub stopped : AreStopped width pool now
+
   -- a refusal stops all children
   pub record GaveUp (job : Job) (width : ℕ) (dues : List Due) (rose : Type 0) (pool : Pool) (f : PoolFault) (before added now : List Call) : Type 0 where
     pub refused : RefusedIn functions honest job width dues rose f before added
@@ -92,18 +103,25 @@ module _ (functions : List ℕ → Functions) (honest : List ℕ → Type 0) whe
 
   -- the first slots are made ready, or there is a refusal
   abbrev pub AfterReadying : Job → ℕ → ℕ → Type 0 → Result (Unit {0}) PoolFault → List Call → List Call → List Call → Type 0
-  AfterReadying job width slots rose (Ok done) before added now = AreTold job slots now × (AreTurns (ready_slots 0 slots job.sources) (talk added) ⊎ rose)
-  AfterReadying job width slots rose (Err f) before added now = RefusedIn functions honest job width (ready_slots 0 slots job.sources) rose f before added
+  AfterReadying job kept slots rose (Ok done) before added now = AreTold job slots now × AllAnswered rose (slots_prompts job.sources kept slots) added
+  AfterReadying job kept slots rose (Err f) before added now = Refused functions honest job (slots_prompts job.sources kept slots) rose f before added
 
-  -- the same, and the pool remembers the children that are ready; after a refusal they may be as they were left
-  abbrev pub AfterTrying : Job → ℕ → ℕ → Type 0 → Pool → Result (Unit {0}) PoolFault → List Call → List Call → List Call → Type 0
-  AfterTrying job width slots rose pool result before added now =
-      AfterReadying job width slots rose result before added now × OnOk result (AreKept pool job.path slots × HasItsChildren pool now)
+  -- the first slots were made ready, where so many had a child: the pool remembers these and the kept ones, and no others
+  abbrev pub HasPrepared : Job → ℕ → ℕ → Type 0 → Pool → List Call → List Call → Type 0
+  HasPrepared job kept slots rose pool added now =
+      AreTold job slots now × AllAnswered rose (slots_prompts job.sources kept slots) added × IsKept pool job.path (max slots kept) × HasItsChildren pool now
 
-  -- the same, and a refusal stops all children
-  abbrev pub AfterPreparing : Job → ℕ → ℕ → Type 0 → Pool → Result (Unit {0}) PoolFault → List Call → List Call → List Call → Type 0
-  AfterPreparing job width slots rose pool result before added now =
-      AfterTrying job width slots rose pool result before added now × OnErr result (AreStopped width pool now)
+  -- after a refusal the children may be as they were left
+  abbrev pub AfterTrying : Job → Pool → ℕ → Type 0 → Pool → Result (Unit {0}) PoolFault → List Call → List Call → List Call → Type 0
+  AfterTrying job old slots rose pool (Ok done) before added now = ForKept old job.path (λ kept. HasPrepared job kept slots rose pool added now)
+  AfterTrying job old slots rose pool (Err f) before added now =
+      ForKept old job.path (λ kept. Refused functions honest job (slots_prompts job.sources kept slots) rose f before added)
+
+  -- a refusal stops all children
+  abbrev pub AfterPreparing : Job → Pool → ℕ → Type 0 → Pool → Result (Unit {0}) PoolFault → List Call → List Call → List Call → Type 0
+  AfterPreparing job old slots rose pool (Ok done) before added now = ForKept old job.path (λ kept. HasPrepared job kept slots rose pool added now)
+  AfterPreparing job old slots rose pool (Err f) before added now =
+      ForKept old job.path (λ kept. HasGivenUp job old.width (slots_prompts job.sources kept slots) rose pool f before added now)
 
   -- for each document a list of rows for each source, which on an honest path are those of the path's map functions
   pub record AreRowsOf (path : List ℕ) (sources : List (List ℕ)) (documents : List (List (List ℕ × Json))) (lists : List (List (List (Json × Json)))) : Type 0 where
@@ -111,22 +129,22 @@ module _ (functions : List ℕ → Functions) (honest : List ℕ → Type 0) whe
     pub all : AllByRecursion (λ rows. length rows ≡ length sources) lists
     pub right : honest path → length sources ≤ source_limit → lists ≡ map (rows_of (functions path) sources) documents
 
-  -- documents were mapped, in waves of as many as the width, and the children of the first slots are ready still
-  pub record HasMappedAll (job : Job) (width slots : ℕ) (documents : List (List (List ℕ × Json))) (rose : Type 0) (pool : Pool) (lists : List (List (List (Json × Json)))) (added now : List Call) : Type 0 where
+  -- documents were mapped one after another, and the children of the first slots are ready still
+  pub record HasMappedAll (job : Job) (slots : ℕ) (documents : List (List (List ℕ × Json))) (rose : Type 0) (pool : Pool) (lists : List (List (List (Json × Json)))) (added now : List Call) : Type 0 where
     pub is_ready : IsReady job slots pool now
-    pub talked : AreTurns (batch_turns job width documents) (talk added) ⊎ rose
+    pub answered : AllAnswered rose (document_prompts job.sources documents) added
     pub rows : AreRowsOf job.path job.sources documents lists
 
   -- documents were mapped one after another by the child of slot 0
   pub record HasMappedEach (job : Job) (slots kept : ℕ) (documents : List (List (List ℕ × Json))) (rose : Type 0) (lists : List (List (List (Json × Json)))) (added now : List Call) : Type 0 where
     pub stand : StandReady job slots kept now
-    pub talked : AreTurns (one_by_one (length job.sources) documents) (talk added) ⊎ rose
+    pub answered : AllAnswered rose (document_prompts job.sources documents) added
     pub rows : AreRowsOf job.path job.sources documents lists
 
   abbrev pub AfterMapping : Job → ℕ → ℕ → List (List (List ℕ × Json)) → Type 0 → Result DocRowLists PoolFault → List Call → List Call → List Call → Type 0
   AfterMapping job slots kept documents rose (Ok lists) before added now = HasMappedEach job slots kept documents rose lists added now
-  AfterMapping job slots kept documents rose (Err f) before added now = Refused functions honest job 0 (one_by_one (length job.sources) documents) rose f before added
+  AfterMapping job slots kept documents rose (Err f) before added now = Refused functions honest job (document_prompts job.sources documents) rose f before added
 
   abbrev pub AfterBatch : Job → ℕ → ℕ → List (List (List ℕ × Json)) → Type 0 → Pool → Result DocRowLists PoolFault → List Call → List Call → List Call → Type 0
-  AfterBatch job width slots documents rose pool (Ok lists) before added now = HasMappedAll job width slots documents rose pool lists added now
-  AfterBatch job width slots documents rose pool (Err f) before added now = GaveUp job width (batch_turns job width documents) rose pool f before added now
+  AfterBatch job width slots documents rose pool (Ok lists) before added now = HasMappedAll job slots documents rose pool lists added now
+  AfterBatch job width slots documents rose pool (Err f) before added now = HasGivenUp job width (document_prompts job.sources documents) rose pool f before added now

@@ -9,11 +9,13 @@ use Rattle.query_protocol.specs.declared.reply.Kind.{Kind}
 use Rattle.query_protocol.specs.declared.reply.Reply.{Reply}
 use Rattle.query_protocol.specs.declared.reply.Reply.TheVariants.{Log, Yes, Rows, Value, Compile}
 use Rattle.query_protocol.specs.Replies.{reply_of}
-use Rattle.child_pool.specs.Histories.{Turn, says, hears, last_heard}
+use Rattle.child_pool.specs.Histories.{Turn, starts, says, hears, last_heard}
 use Rattle.child_pool.specs.Causes.{kind_of}
 
--- a turn that is due on a slot: a command's line is said, or any proper answer to a command is heard, where so many sources were added
+-- a turn that is due on a slot: a child is started, a command's line is said, or any proper answer to a command is heard, where so
+-- many sources were added
 pub data Due : Type 0 where
+  start_child : ℕ → Due
   say : ℕ → Command → Due
   hear : ℕ → Command → ℕ → Due
 
@@ -30,10 +32,15 @@ pub record IsProperAnswer (kind : Kind) (line : List ℕ) : Type 0 where
   pub reads : reply_of kind line ≡ Some reply
 
 abbrev pub IsTurn : Due → Turn → Type 0
+IsTurn (start_child slot) (starts at) = at ≡ slot
 IsTurn (say slot command) (says at line) = (at ≡ slot) × (line ≡ command_line command)
 IsTurn (hear slot command count) (hears at line) = (at ≡ slot) × IsProperAnswer (kind_of command count) line
 IsTurn (say slot command) (hears at line) = ⊥
 IsTurn (hear slot command count) (says at line) = ⊥
+IsTurn (start_child slot) (says at line) = ⊥
+IsTurn (start_child slot) (hears at line) = ⊥
+IsTurn (say slot command) (starts at) = ⊥
+IsTurn (hear slot command count) (starts at) = ⊥
 
 -- these turns are those that are due, one by one
 abbrev pub AreTurns : List Due → List Turn → Type 0

@@ -88,6 +88,7 @@ pub fn start_over<C: Servers>(
     stages: usize,
 ) -> Result<bool, PoolFault>
     requires slot { slot < SLOT_COUNT }
+    requires some { 0 < stages }
     requires stages { stages ≤ length sources.now + 1 }
     ensures went { StartsOver C.Servers servers.old servers.new
         slot path.now sources.now stages result }

@@ -1,7 +1,7 @@
 // The calls of the pool: children are made ready, map documents, and are stopped.
-ghost use Rattle.std.specs.Prelude.{◌≡◌, ◌≤◌, ◌<◌, ◌^◌, ◌⊎◌, IfErr, IfOk, OnOk, None, Some, length, min};
+ghost use Rattle.std.specs.Prelude.{◌≡◌, ◌≢◌, ◌≤◌, ◌<◌, ◌^◌, ◌⊎◌, [], IfErr, IfOk, OnOk, None, Some, length, min};
 ghost use Rattle.design_docs.specs.Design.{map_sources};
-ghost use Rattle.child_pool.specs.PoolCalls.{Ends, StaysAsMade, Maps, MapsAll, MapsBatch, Prepares, Readies, RefusesUnknown, StopsAll, path_for};
+ghost use Rattle.child_pool.specs.PoolCalls.{Ends, MapsNothing, StaysAsMade, Maps, MapsAll, MapsBatch, Prepares, Readies, RefusesIdly, RefusesUnknown, StopsAll, TriesAll, path_for};
 ghost use Rattle.child_pool.specs.Pools.{IsKeptOf};
 
 use crate::doc_rows::DocRowLists;
@@ -27,7 +27,7 @@ impl Pool {
     /// by the path of the design's language, it is reset, and it is told each source in order of the views. There are
     /// no more slots than the width, and there may be none. After a refusal no child is left.
     ///
-    /// `UnknownLanguage` comes exactly where the language has no path, `ServerFault` only where two attempts on one prompt
+    /// `UnknownLanguage` comes exactly where the language has no path, and no server is called then. `ServerFault` comes only where two attempts on one prompt
     /// failed, `BadReply` and `Compile` only of a line that was received in this call, and `NoMemory` where memory runs out.
     pub fn prepare<C: Servers>(
         &mut self,
@@ -40,10 +40,11 @@ impl Pool {
         ensures went { Prepares C.Servers servers.old servers.new
             self.old design.now slots self.new result }
         ensures ends { Ends C.Servers servers.old servers.new self.old self.new design.now result }
-        ensures unknown { RefusesUnknown self.old design.now result }
+        ensures unknown { RefusesIdly servers.old servers.new self.old self.new design.now result }
     {
         match self.try_prepare(alloc, servers, design, slots) {
             Ok(()) => Ok(()),
+            Err(PoolFault::UnknownLanguage) => Err(PoolFault::UnknownLanguage),
             Err(fault) => {
                 self.stop_all(servers);
                 Err(fault)
@@ -64,10 +65,12 @@ impl Pool {
         ensures went { MapsBatch C.Servers servers.old servers.new
             self.old design.now documents.now self.new result }
         ensures ends { Ends C.Servers servers.old servers.new self.old self.new design.now result }
-        ensures unknown { RefusesUnknown self.old design.now result }
+        ensures unknown { RefusesIdly servers.old servers.new self.old self.new design.now result }
+        ensures remembers { OnOk result (self.new ≡ self.old) }
     {
         match self.try_map(alloc, servers, design, documents) {
             Ok(lists) => Ok(lists),
+            Err(PoolFault::UnknownLanguage) => Err(PoolFault::UnknownLanguage),
             Err(fault) => {
                 self.stop_all(servers);
                 Err(fault)
@@ -88,7 +91,13 @@ impl Pool {
         requires few { length design.now.views < 2 ^ 32 }
         ensures went { MapsAll C.Servers servers.old servers.new
             self.old design.now documents.now self.new result }
+        ensures tries { TriesAll C.Servers servers.old servers.new
+            self.old design.now documents.now self.new result }
         ensures ends { Ends C.Servers servers.old servers.new self.old self.new design.now result }
+        ensures unknown { documents.now ≢ [] →
+            RefusesIdly servers.old servers.new self.old self.new design.now result }
+        ensures idle { documents.now ≡ [] →
+            MapsNothing servers.old servers.new self.old self.new result }
     {
         if documents.is_empty() {
             return Ok(DocRowLists::new(alloc));
@@ -123,7 +132,7 @@ impl Pool {
         ensures went { Readies C.Servers servers.old servers.new
             self.old design.now slots self.new result }
         ensures ends { Ends C.Servers servers.old servers.new self.old self.new design.now result }
-        ensures unknown { RefusesUnknown self.old design.now result }
+        ensures unknown { RefusesIdly servers.old servers.new self.old self.new design.now result }
     {
         let plan = match self.plan_of(alloc, design) {
             Ok(plan) => plan,
@@ -161,7 +170,7 @@ impl Pool {
         ensures went { Maps C.Servers servers.old servers.new
             self.now design.now documents.now result }
         ensures ends { Ends C.Servers servers.old servers.new self.now self.now design.now result }
-        ensures unknown { RefusesUnknown self.now design.now result }
+        ensures unknown { RefusesIdly servers.old servers.new self.now self.now design.now result }
     {
         match self.plan_of(alloc, design) {
             Ok(plan) => map_each(

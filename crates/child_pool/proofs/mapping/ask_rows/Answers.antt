@@ -1,5 +1,5 @@
 -- A document's rows are asked for, once.
-use Rattle.std.proofs.Common.{◌≡◌, ◌∙◌, length, Ok, Err, Some, Result, Option, refl, sym, ap, subst, inl}
+use Rattle.std.proofs.Common.{◌≡◌, ◌∙◌, length, Ok, Err, Some, Result, Option, refl, sym, ap, subst}
 use Rattle.json_terms.specs.declared.rows.RowLists.{RowLists}
 use Rattle.view_ports.specs.declared.command.Command.{Command}
 use Rattle.view_ports.specs.declared.command.Command.TheVariants.{MapDoc}
@@ -71,4 +71,4 @@ returns-in-Err-clause-went g c = λ path documents calls follows among told.
     let job = job_of path sources documents in
     let document = c.args.document.now in
     let dues = asks slot (MapDoc document) (length sources) in
-    Went-none follows (AfterAnswer functions honest job slot document dues (Err NoMemory) calls) (record { caused = tt; talked = inl (cut_at_once slot dues) })
+    Went-none follows (AfterAnswer functions honest job slot document dues (Err NoMemory) calls) (record { caused = tt; cut = cut_at_once slot dues })

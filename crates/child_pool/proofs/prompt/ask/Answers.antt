@@ -21,8 +21,8 @@ returns-in-Ok-false-clause-went g c = λ job sources calls follows is of asked i
     let line = c.args.line.now in
     let w = subst (λ (r : Result Bool PoolFault). Went (g.C.Servers.may_follow c.send_prompt.new.servers) job slot calls (AfterSend job sources line slot r))
     (c.in-Ok-false.is ∙ ap Ok c.in-Ok-false.field-0-test) (c.send_prompt.ensures.went job sources calls follows of idle) in
-    not_sent g.C.Servers.functions g.C.Servers.honest job sources line (Ok false) w
+    not_sent g.C.Servers.functions g.C.Servers.honest job sources line (Ok false) (λ e. cc) w
 
 pub returns-in-Err-clause-went : goal.returns-in-Err-clause-went
 returns-in-Err-clause-went g c = λ job sources calls follows is of asked idle.
-    not_sent g.C.Servers.functions g.C.Servers.honest job sources c.args.line.now (Err c.in-Err.fault) (c.in-Err.ensures.went job sources calls follows of idle)
+    not_sent g.C.Servers.functions g.C.Servers.honest job sources c.args.line.now (Err c.in-Err.fault) (λ e. cc) (c.in-Err.ensures.went job sources calls follows of idle)

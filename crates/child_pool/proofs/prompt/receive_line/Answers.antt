@@ -1,5 +1,5 @@
 -- One line is received, or none.
-use Rattle.std.proofs.Common.{ℕ, List, Some, None, Ok, Err, refl, subst, inl}
+use Rattle.std.proofs.Common.{ℕ, List, [], Some, None, Ok, Err, refl, subst, inl}
 use Rattle.view_ports.specs.Calls.{receive}
 use Rattle.child_pool.specs.declared.heard.Heard.TheVariants.{Failed}
 use Rattle.child_pool.specs.declared.pool_fault.PoolFault.TheVariants.{NoMemory}
@@ -12,7 +12,7 @@ use Rattle.child_pool.proofs.prompt.receive_line.Goals as goal
 pub returns-in-Err-Failed-clause-went : goal.returns-in-Err-Failed-clause-went
 returns-in-Err-Failed-clause-went g c = λ job sources prompt calls follows is of at.
     let slot = c.args.slot in
-    Went-call (receive slot None) c.in-Err-Failed.ensures.told follows refl (at_asked job.path sources prompt c.args.logs slot calls at) (AfterLine g.C.Servers.functions g.C.Servers.honest job sources prompt c.args.logs slot (Ok Failed) calls) tt
+    Went-call (receive slot None) c.in-Err-Failed.ensures.told follows refl (at_asked job.path sources prompt c.args.logs slot calls at) (AfterLine g.C.Servers.functions g.C.Servers.honest job sources prompt c.args.logs slot (Ok Failed) calls) (record { last = receive slot None; earlier = []; is = refl; failed = refl; went = refl })
 
 pub returns-in-Err-NoMemory-clause-went : goal.returns-in-Err-NoMemory-clause-went
 returns-in-Err-NoMemory-clause-went g c = λ job sources prompt calls follows is of at.

@@ -1,5 +1,5 @@
 -- The line is sent, or not.
-use Rattle.std.proofs.Common.{◌≤◌, length, true, false, Ok, Err, refl, arith}
+use Rattle.std.proofs.Common.{◌≤◌, length, [], true, false, Ok, Err, refl, arith}
 use Rattle.view_ports.specs.Calls.{send}
 use Rattle.view_ports.specs.Functions.{line_limit}
 use Rattle.child_pool.specs.declared.pool_fault.PoolFault.TheVariants.{NoMemory}
@@ -26,7 +26,7 @@ returns-in-Err-Failed-clause-went g c = λ job sources calls follows of idle.
     let line = c.args.line.now in
     let short : length line ≤ line_limit = omega arith in
     Went-call (send slot line false) c.in-Err-Failed.ensures.told follows refl (of, short, idle_has_child job.path sources slot calls idle)
-    (AfterSend job sources line slot (Ok false)) tt
+    (AfterSend job sources line slot (Ok false)) (record { last = send slot line false; earlier = []; is = refl; failed = refl; went = refl })
 
 pub returns-in-Err-NoMemory-clause-went : goal.returns-in-Err-NoMemory-clause-went
 returns-in-Err-NoMemory-clause-went g c = λ job sources calls follows of idle.

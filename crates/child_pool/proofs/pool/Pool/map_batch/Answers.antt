@@ -3,9 +3,7 @@ use Rattle.std.proofs.Common.{◌≡◌, subst, arith}
 use Rattle.view_ports.specs.Faults.{Rose}
 use Rattle.design_docs.specs.Design.{map_sources}
 use Rattle.child_pool.specs.Jobs.{job_of}
-use Rattle.child_pool.specs.Pools.{batch_turns}
 use Rattle.child_pool.proofs.Pooled.{mapped_pool, ready_stand, refused_pool}
-use Rattle.child_pool.proofs.Refusals.{given_up}
 use Rattle.child_pool.proofs.pool.Pool.map_batch.Goals as goal
 
 pub returns-in-Ok-clause-went : goal.returns-in-Ok-clause-went
@@ -30,5 +28,5 @@ returns-in-Err-clause-went g c = λ path all slots calls follows known among wit
     let same : y ≡ z = omega (arith, c.stop_all.ensures.faults) in
     let kept = is_ready.remembered.0 in
     let stand = ready_stand functions honest job slots pool is_ready in
-    let w = refused_pool functions honest job pool.width slots kept pool.one_child documents (Rose x y) c.in-Err.fault (c.in-Err.ensures.went path all slots kept calls follows known among within stand.0 enough stand.1) in
-    given_up functions honest job pool.width (batch_turns job pool.width documents) (Rose x y) (Rose x z) c.stop_all.new.self c.in-Err.fault (subst (Rose x) same) w (c.stop_all.ensures.went job w.now w.follows)
+    let w = c.in-Err.ensures.went path all slots kept calls follows known among within stand.0 enough stand.1 in
+    refused_pool functions honest job pool.width slots kept pool.one_child documents (Rose x y) (Rose x z) c.stop_all.new.self c.in-Err.fault (subst (Rose x) same) w (c.stop_all.ensures.went job w.now w.follows)

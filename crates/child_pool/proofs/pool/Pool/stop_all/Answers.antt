@@ -1,8 +1,8 @@
 -- Each slot is stopped.
-use Rattle.std.proofs.Common.{◌≡◌, ◌<◌, ◌≤◌, ◌+◌, ◌∙◌, ℕ, List, [], ◌∷◌, None, refl, sym, subst, inl, inr, arith, append-nil}
+use Rattle.std.proofs.Common.{◌≡◌, ◌<◌, ◌≤◌, ◌+◌, ◌∙◌, ℕ, List, ◌∷◌, None, refl, sym, subst, inl, inr, arith}
 use Rattle.std.proofs.Math.Nat.{eq-or-lt_of_le}
 use Rattle.view_ports.specs.Calls.{Call, child, stop}
-use Rattle.child_pool.specs.Histories.{talk}
+use Rattle.child_pool.specs.Histories.{AllStops}
 use Rattle.child_pool.proofs.Asking.{stopped_child}
 use Rattle.child_pool.proofs.Slots.{child_elsewhere, map_in, none_in, stop_in}
 use Rattle.child_pool.proofs.pool.Pool.stop_all.Goals as goal
@@ -19,7 +19,7 @@ one_more_stopped slot other calls none less =
 pub loop-slot-init : goal.loop-slot-init
 loop-slot-init g c = (
   refl,
-  λ job calls follows. none_in follows (λ added now. ((other : ℕ) → other < 0 → child other now ≡ None) × (talk added ≡ [])) (λ other never. absurd (omega arith), refl),
+  λ job calls follows. none_in follows (λ added now. ((other : ℕ) → other < 0 → child other now ≡ None) × AllStops added) (λ other never. absurd (omega arith), tt),
 )
 
 pub loop-slot-preserved : goal.loop-slot-preserved
@@ -29,8 +29,8 @@ loop-slot-preserved g c = (
       let slot = c.loop-slot.slot in
       let below : slot < c.args.self.now.width = omega arith in
       let w = c.loop-slot.invariant.1 job calls follows in
-      stop_in slot below w c.stop.ensures.told (λ added now. ((other : ℕ) → other < slot + 1 → child other now ≡ None) × (talk added ≡ []))
-      (λ other less. one_more_stopped slot other w.now w.holds.0 less, append-nil (talk w.added) ∙ w.holds.1),
+      stop_in slot below w c.stop.ensures.told (λ added now. ((other : ℕ) → other < slot + 1 → child other now ≡ None) × AllStops added)
+      (λ other less. one_more_stopped slot other w.now w.holds.0 less, (tt, w.holds.1)),
 )
 
 pub returns-clause-went : goal.returns-clause-went

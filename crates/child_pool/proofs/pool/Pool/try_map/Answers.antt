@@ -1,5 +1,5 @@
 -- The documents are mapped by the design's path and sources.
-use Rattle.std.proofs.Common.{◌≡◌, ◌∙◌, [], length, Some, None, Err, sym, subst, inl, inr, arith}
+use Rattle.std.proofs.Common.{◌≡◌, ◌∙◌, [], Some, None, Err, sym, subst, inl, inr, arith}
 use Rattle.view_ports.specs.Faults.{Rose}
 use Rattle.design_docs.specs.Design.{map_sources}
 use Rattle.child_pool.specs.declared.pool_fault.PoolFault.{PoolFault}
@@ -9,10 +9,10 @@ use Rattle.child_pool.specs.Jobs.{job_of}
 use Rattle.child_pool.specs.PoolCalls.{path_for}
 use Rattle.child_pool.specs.Pools.{AfterMapping, StandReady}
 use Rattle.child_pool.specs.Refused.{Refused}
-use Rattle.child_pool.specs.Talk.{one_by_one}
-use Rattle.child_pool.proofs.Cutting.{cut_at_once}
+use Rattle.child_pool.specs.Prompts.{document_prompts}
 use Rattle.child_pool.proofs.Going.{Went-none}
 use Rattle.child_pool.proofs.Pooled.{for_job, one_path}
+use Rattle.child_pool.proofs.Trying.{stops_first}
 use Rattle.child_pool.proofs.pool.Pool.try_map.Goals as goal
 
 pub returns-in-Ok-clause-went : goal.returns-in-Ok-clause-went
@@ -35,10 +35,10 @@ returns-in-Err-clause-went g c = λ path all slots kept calls follows known amon
     let job = job_of path (map_sources c.args.design.now.views) all in
     let documents = c.args.documents.now in
     let rose = Rose (g.C.Servers.faults c.args.servers.now) (g.C.Servers.faults c.args.servers.now) in
-    let dues = one_by_one (length job.sources) documents in
+    let prompts = document_prompts job.sources documents in
     let memory : c.in-Err.fault ≡ NoMemory = elim c.in-Err.ensures.refused [
       | inl memory ↦ memory
       | inr language ↦ let never : Some path ≡ None = sym known ∙ language.1 in absurd cc
     ] in
     Went-none follows (AfterMapping functions honest job slots kept documents rose (Err c.in-Err.fault) calls)
-    (subst (λ (f : PoolFault). Refused functions honest job 0 dues rose f calls []) (sym memory) (record { caused = tt; talked = inl (cut_at_once 0 dues) }))
+    (subst (λ (f : PoolFault). Refused functions honest job prompts rose f calls []) (sym memory) (record { caused = tt; stops = stops_first rose prompts }))

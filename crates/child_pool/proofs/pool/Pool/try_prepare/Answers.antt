@@ -1,5 +1,5 @@
 -- The children are made ready by the design's path and sources.
-use Rattle.std.proofs.Common.{◌≡◌, ◌∙◌, ◌<◌, ℕ, List, [], max, OnOk, Some, None, Ok, Err, Result, sym, ap, subst, inl, inr, arith}
+use Rattle.std.proofs.Common.{◌≡◌, ◌∙◌, ℕ, List, [], max, OnOk, Some, None, Ok, Err, Result, refl, sym, ap, subst, inl, inr, arith}
 use Rattle.view_ports.specs.Faults.{Rose}
 use Rattle.design_docs.specs.Design.{map_sources}
 use Rattle.child_pool.specs.declared.pool_fault.PoolFault.{PoolFault}
@@ -8,11 +8,11 @@ use Rattle.child_pool.specs.Histories.{WentIn}
 use Rattle.child_pool.specs.Jobs.{job_of}
 use Rattle.child_pool.specs.PoolCalls.{path_for}
 use Rattle.child_pool.specs.Pools.{AfterReadying, AfterTrying, IsKeptOf, AreThere}
-use Rattle.child_pool.specs.Refused.{RefusedIn}
-use Rattle.child_pool.specs.Talk.{ready_slots}
-use Rattle.child_pool.proofs.Pooled.{for_job, kept_there, one_path, prepared_pool, unprepared_pool}
-use Rattle.child_pool.proofs.Refusals.{nothing_done}
+use Rattle.child_pool.specs.Prompts.{slots_prompts}
+use Rattle.child_pool.specs.Refused.{Refused}
+use Rattle.child_pool.proofs.Pooled.{for_job, kept_there, one_path, prepared_pool, some_kept, unprepared_pool}
 use Rattle.child_pool.proofs.Slots.{none_in}
+use Rattle.child_pool.proofs.Trying.{stops_first}
 use Rattle.child_pool.proofs.pool.Pool.try_prepare.Goals as goal
 
 pub returns-in-Err-clause-went : goal.returns-in-Err-clause-went
@@ -22,14 +22,14 @@ returns-in-Err-clause-went g c = λ path documents calls follows known stands.
     let job = job_of path (map_sources c.args.design.now.views) documents in
     let width = c.args.self.now.width in
     let rose = Rose (g.C.Servers.faults c.args.servers.now) (g.C.Servers.faults c.args.servers.now) in
-    let dues = ready_slots 0 c.args.slots job.sources in
-    let some : 0 < width = omega (arith, c.args.self.now.one_child) in
+    let kept = some_kept c.args.self.now path c.args.self.now.started refl in
     let memory : c.in-Err.fault ≡ NoMemory = elim c.in-Err.ensures.refused [
       | inl memory ↦ memory
       | inr language ↦ let never : Some path ≡ None = sym known ∙ language.1 in absurd cc
     ] in
-    none_in follows (AfterTrying functions honest job width c.args.slots rose c.args.self.now (Err c.in-Err.fault) calls)
-    (subst (λ (f : PoolFault). RefusedIn functions honest job width dues rose f calls []) (sym memory) (nothing_done functions honest job 0 width some dues rose calls), tt)
+    let prompts = slots_prompts job.sources kept.0 c.args.slots in
+    none_in follows (AfterTrying functions honest job c.args.self.now c.args.slots rose c.args.self.now (Err c.in-Err.fault) calls)
+    (kept.0, kept.1, subst (λ (f : PoolFault). Refused functions honest job prompts rose f calls []) (sym memory) (record { caused = tt; stops = stops_first rose prompts }))
 
 pub returns-in-Ok-prepare_slots-clause-went : goal.returns-in-Ok-prepare_slots-clause-went
 returns-in-Ok-prepare_slots-clause-went g c = λ path documents calls follows known stands.
@@ -42,14 +42,15 @@ returns-in-Ok-prepare_slots-clause-went g c = λ path documents calls follows kn
     let mine : c.in-Ok.plan.path ≡ path = one_path (path_for c.args.self.now c.args.design.now) c.in-Ok.plan.path path c.in-Ok.ensures.path known in
     let same_path : c.as_str-2.result.now ≡ path = c.as_str-2.ensures ∙ mine in
     let same_sources : c.as_slice.result.now ≡ map_sources c.args.design.now.views = c.as_slice.ensures.value ∙ c.in-Ok.ensures.sources in
-    let there = kept_there c.args.self.now path kept calls (subst (λ (p : List ℕ). IsKeptOf c.args.self.now p kept) (c.as_str.ensures ∙ mine) c.count_of-kept.ensures) stands in
+    let was = subst (λ (p : List ℕ). IsKeptOf c.args.self.now p kept) (c.as_str.ensures ∙ mine) c.count_of-kept.ensures in
+    let there = kept_there c.args.self.now path kept calls was stands in
     let here = subst (λ (p : List ℕ). AreThere p kept calls) (sym same_path) there.1 in
     let result = subst (λ (r : Result (Unit {0}) PoolFault). WentIn (g.C.Servers.may_follow c.prepare_slots.new.servers) (job_of c.as_str-2.result.now c.as_slice.result.now documents) width calls
-    (λ added now. AfterReadying functions honest (job_of c.as_str-2.result.now c.as_slice.result.now documents) width slots rose r calls added now × OnOk r (AreThere c.as_str-2.result.now kept now))) c.in-Ok-prepare_slots.is (c.prepare_slots.ensures.went width documents calls c.requires.slots follows here) in
+    (λ added now. AfterReadying functions honest (job_of c.as_str-2.result.now c.as_slice.result.now documents) kept slots rose r calls added now × OnOk r (AreThere c.as_str-2.result.now kept now))) c.in-Ok-prepare_slots.is (c.prepare_slots.ensures.went width documents calls c.requires.slots follows here) in
     let count = c.max.result in
     let most : count ≡ max slots kept = c.max.ensures in
-    prepared_pool functions honest (job_of path (map_sources c.args.design.now.views) documents) slots kept count rose (record c.args.self.now { started = Some (record { path = c.in-Ok.plan.path; count = count }) }) most (omega (arith, most, there.0, c.requires.slots)) (ap (λ (p : List ℕ). Some (record { path = p; count = count })) mine)
-    (for_job (λ p s. WentIn (g.C.Servers.may_follow c.prepare_slots.new.servers) (job_of p s documents) width calls (λ added now. AfterReadying functions honest (job_of p s documents) width slots rose (Ok tt) calls added now × AreThere p kept now)) same_path same_sources result)
+    prepared_pool functions honest (job_of path (map_sources c.args.design.now.views) documents) c.args.self.now slots kept count rose (record c.args.self.now { started = Some (record { path = c.in-Ok.plan.path; count = count }) }) was most (omega (arith, most, there.0, c.requires.slots)) (ap (λ (p : List ℕ). Some (record { path = p; count = count })) mine)
+    (for_job (λ p s. WentIn (g.C.Servers.may_follow c.prepare_slots.new.servers) (job_of p s documents) width calls (λ added now. AfterReadying functions honest (job_of p s documents) kept slots rose (Ok tt) calls added now × AreThere p kept now)) same_path same_sources result)
 
 pub returns-in-Err-prepare_slots-clause-went : goal.returns-in-Err-prepare_slots-clause-went
 returns-in-Err-prepare_slots-clause-went g c = λ path documents calls follows known stands.
@@ -62,9 +63,10 @@ returns-in-Err-prepare_slots-clause-went g c = λ path documents calls follows k
     let mine : c.in-Ok.plan.path ≡ path = one_path (path_for c.args.self.now c.args.design.now) c.in-Ok.plan.path path c.in-Ok.ensures.path known in
     let same_path : c.as_str-2.result.now ≡ path = c.as_str-2.ensures ∙ mine in
     let same_sources : c.as_slice.result.now ≡ map_sources c.args.design.now.views = c.as_slice.ensures.value ∙ c.in-Ok.ensures.sources in
-    let there = kept_there c.args.self.now path kept calls (subst (λ (p : List ℕ). IsKeptOf c.args.self.now p kept) (c.as_str.ensures ∙ mine) c.count_of-kept.ensures) stands in
+    let was = subst (λ (p : List ℕ). IsKeptOf c.args.self.now p kept) (c.as_str.ensures ∙ mine) c.count_of-kept.ensures in
+    let there = kept_there c.args.self.now path kept calls was stands in
     let here = subst (λ (p : List ℕ). AreThere p kept calls) (sym same_path) there.1 in
     let result = subst (λ (r : Result (Unit {0}) PoolFault). WentIn (g.C.Servers.may_follow c.prepare_slots.new.servers) (job_of c.as_str-2.result.now c.as_slice.result.now documents) width calls
-    (λ added now. AfterReadying functions honest (job_of c.as_str-2.result.now c.as_slice.result.now documents) width slots rose r calls added now × OnOk r (AreThere c.as_str-2.result.now kept now))) c.in-Err-prepare_slots.is (c.prepare_slots.ensures.went width documents calls c.requires.slots follows here) in
-    unprepared_pool functions honest (job_of path (map_sources c.args.design.now.views) documents) slots rose c.args.self.now c.in-Err-prepare_slots.fault
-    (for_job (λ p s. WentIn (g.C.Servers.may_follow c.prepare_slots.new.servers) (job_of p s documents) width calls (λ added now. AfterReadying functions honest (job_of p s documents) width slots rose (Err c.in-Err-prepare_slots.fault) calls added now × Unit {0})) same_path same_sources result)
+    (λ added now. AfterReadying functions honest (job_of c.as_str-2.result.now c.as_slice.result.now documents) kept slots rose r calls added now × OnOk r (AreThere c.as_str-2.result.now kept now))) c.in-Err-prepare_slots.is (c.prepare_slots.ensures.went width documents calls c.requires.slots follows here) in
+    unprepared_pool functions honest (job_of path (map_sources c.args.design.now.views) documents) c.args.self.now slots kept rose c.args.self.now c.in-Err-prepare_slots.fault was
+    (for_job (λ p s. WentIn (g.C.Servers.may_follow c.prepare_slots.new.servers) (job_of p s documents) width calls (λ added now. AfterReadying functions honest (job_of p s documents) kept slots rose (Err c.in-Err-prepare_slots.fault) calls added now × Unit {0})) same_path same_sources result)

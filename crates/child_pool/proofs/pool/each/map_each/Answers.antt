@@ -1,5 +1,5 @@
 -- One document more is mapped, or refused.
-use Rattle.std.proofs.Common.{◌≡◌, ◌<◌, ◌∙◌, ◌+◌, ◌++◌, ◌∷◌, ℕ, List, [], length, take, drop, take-append-drop, get_or, Err, Bool, cond, sym, ap, subst, inl, arith}
+use Rattle.std.proofs.Common.{◌≡◌, ◌<◌, ◌∙◌, ◌+◌, ◌++◌, ◌∷◌, ℕ, List, [], length, take, drop, take-append-drop, get_or, Err, Bool, cond, refl, sym, ap, subst, arith}
 use Rattle.std.proofs.lemmas.List.{take_all, take_more}
 use Rattle.json_terms.specs.Json.{Json}
 use Rattle.view_ports.specs.Faults.{Rose}
@@ -19,7 +19,7 @@ loop-document-init g c = (
       let job = job_of c.args.path.now c.args.sources.now all in
       let rose = Rose (g.C.Servers.faults c.args.servers.now) (g.C.Servers.faults c.args.servers.now) in
       subst (λ lists. Went (g.C.Servers.may_follow c.args.servers.now) job 0 calls (HasMappedEach g.C.Servers.functions g.C.Servers.honest job slots kept [] rose lists)) (sym c.new-lists.ensures)
-      (Went-none follows (HasMappedEach g.C.Servers.functions g.C.Servers.honest job slots kept [] rose []) (record { stand = stand; talked = inl tt; rows = no_rows g.C.Servers.functions g.C.Servers.honest job })),
+      (Went-none follows (HasMappedEach g.C.Servers.functions g.C.Servers.honest job slots kept [] rose []) (record { stand = stand; answered = refl; rows = no_rows g.C.Servers.functions g.C.Servers.honest job })),
 )
 
 pub loop-document-preserved : goal.loop-document-preserved
