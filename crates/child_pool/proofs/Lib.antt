@@ -18,4 +18,5 @@ pub mod Mapped
 pub mod Batches
 pub mod Pooled
 pub mod Updated
+pub mod Remembered
 pub mod Honesty

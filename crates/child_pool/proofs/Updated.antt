@@ -44,11 +44,10 @@ Both functions honest job old calls follow rose pool result = WentIn follow job 
 prompts_are : (job : Job) (old : Pool) (slots : ℕ) → slots ≡ min old.width (length job.documents) → (kept : ℕ) → update_prompts job old.width kept ≡ slots_prompts job.sources kept slots ++ document_prompts job.sources job.documents
 prompts_are job old slots is kept = ap (λ (n : ℕ). slots_prompts job.sources kept n ++ document_prompts job.sources job.documents) (sym is)
 
-module _ (functions : List ℕ → Functions) (honest : List ℕ → Type 0) (job : Job) {calls : List Call} where
+module _ (functions : List ℕ → Functions) (honest : List ℕ → Type 0) (job : Job) (calls : List Call) where
   -- nothing is to be mapped
-  pub nothing_mapped : {follow : List Call → Type 0} (width : ℕ) (rose : Type 0) (pool : Pool) (lists : DocRowLists) → job.documents ≡ [] → lists ≡ [] → follow calls → HasItsChildren pool calls
-      → WentIn follow job width calls (AfterUpdate functions honest job width rose pool (Ok lists) calls)
-  nothing_mapped width rose pool lists none empty follows stands = none_in follows (AfterUpdate functions honest job width rose pool (Ok lists) calls) (
+  nothing_mapped : (width : ℕ) (rose : Type 0) (pool : Pool) (lists : DocRowLists) → job.documents ≡ [] → lists ≡ [] → HasItsChildren pool calls → AfterUpdate functions honest job width rose pool (Ok lists) calls [] calls
+  nothing_mapped width rose pool lists none empty stands = (
     stands,
     record {
       rows = record {
@@ -68,11 +67,10 @@ module _ (functions : List ℕ → Functions) (honest : List ℕ → Type 0) (jo
           ap (λ (d : List (List (List ℕ × Json))). talk_of job.sources d width) none ∙ ap (λ (n : ℕ). ready_slots 0 n job.sources ++ []) no_slots
 
   -- nothing is tried
-  pub nothing_tried : {follow : List Call → Type 0} (old : Pool) (rose : Type 0) (lists : DocRowLists) → job.documents ≡ [] → follow calls
-      → WentIn follow job old.width calls (AfterTries functions honest job old rose old (Ok lists) calls)
-  nothing_tried old rose lists none follows =
+  nothing_tried : (old : Pool) (rose : Type 0) (lists : DocRowLists) → job.documents ≡ [] → AfterTries functions honest job old rose old (Ok lists) calls [] calls
+  nothing_tried old rose lists none =
       let kept = some_kept old job.path old.started refl in
-      none_in follows (AfterTries functions honest job old rose old (Ok lists) calls) (kept.0, kept.1, record {
+      (kept.0, kept.1, record {
         answered = subst (λ (prompts : List Prompt). AllAnswered rose prompts []) (sym (no_prompts old.width kept.0)) refl;
         remembers = λ some. absurd (some none);
       })
@@ -82,6 +80,14 @@ module _ (functions : List ℕ → Functions) (honest : List ℕ → Type 0) (jo
           let no_slots : min width 0 ≡ 0 = omega arith in
           ap (λ (d : List (List (List ℕ × Json))). slots_prompts job.sources kept (min width (length d)) ++ document_prompts job.sources d) none
           ∙ ap (λ (n : ℕ). slots_prompts job.sources kept n ++ []) no_slots
+
+module _ (functions : List ℕ → Functions) (honest : List ℕ → Type 0) (job : Job) {calls : List Call} where
+  -- nothing is done
+  pub nothing_done : {follow : List Call → Type 0} (old : Pool) (rose : Type 0) (lists : DocRowLists) → job.documents ≡ [] → lists ≡ [] → follow calls → HasItsChildren old calls
+      → Both functions honest job old calls follow rose old (Ok lists)
+  nothing_done old rose lists none empty follows stands =
+      none_in follows (λ added now. AfterTries functions honest job old rose old (Ok lists) calls added now × AfterUpdate functions honest job old.width rose old (Ok lists) calls added now)
+      (nothing_tried functions honest job calls old rose lists none, nothing_mapped functions honest job calls old.width rose old lists none empty stands)
 
   module _ (old : Pool) (slots : ℕ) (is : slots ≡ min old.width (length job.documents)) where
     -- the children could not be made ready

@@ -110,16 +110,10 @@ module _ {C : Type 0} (s : Servers C) (old new : C) where
         → WentIn (s.may_follow new) (job_by path all) pool.width calls
         (AfterBatch s.functions s.honest (job_by path all) pool.width slots documents (HasRisen s old new) pool' result calls)
 
-    -- all documents of the job are mapped
+    -- all documents of the job are mapped, and each prompt of the update is tried twice at most
     abbrev pub MapsAll : List (List (List ℕ × Json)) → Pool → Result DocRowLists PoolFault → Type 0
     MapsAll documents pool' result = (path : List ℕ) (calls : List Call) → s.may_follow old calls
         → path_for pool design ≡ Some path → HasItsChildren pool calls
         → WentIn (s.may_follow new) (job_by path documents) pool.width calls
-        (AfterUpdate s.functions s.honest (job_by path documents) pool.width (HasRisen s old new) pool' result calls)
-
-    -- and each prompt of the update is tried twice at most
-    abbrev pub TriesAll : List (List (List ℕ × Json)) → Pool → Result DocRowLists PoolFault → Type 0
-    TriesAll documents pool' result = (path : List ℕ) (calls : List Call) → s.may_follow old calls
-        → path_for pool design ≡ Some path → HasItsChildren pool calls
-        → WentIn (s.may_follow new) (job_by path documents) pool.width calls
-        (AfterTries s.functions s.honest (job_by path documents) pool (HasRisen s old new) pool' result calls)
+        (λ added now. AfterTries s.functions s.honest (job_by path documents) pool (HasRisen s old new) pool' result calls added now
+        × AfterUpdate s.functions s.honest (job_by path documents) pool.width (HasRisen s old new) pool' result calls added now)

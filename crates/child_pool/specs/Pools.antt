@@ -1,5 +1,5 @@
 -- The pool: the paths of languages, and the children that it started.
-use Rattle.std.specs.Prelude.{◌≡◌, ◌⊎◌, ◌<◌, ◌≤◌, ◌++◌, ℕ, List, [], map, max, length, Some, None, Result, Ok, Err, MatchOption}
+use Rattle.std.specs.Prelude.{◌≡◌, ◌⊎◌, ◌<◌, ◌≤◌, ◌++◌, ℕ, List, [], bytes_eq, if◌then◌else◌, map, max, length, Option, Some, None, Result, Ok, Err, MatchOption}
 use Rattle.std.specs.List.{AllByRecursion}
 use Rattle.json_terms.specs.Json.{Json}
 use Rattle.view_ports.specs.Calls.{Call, child}
@@ -9,6 +9,7 @@ use Rattle.query_protocol.specs.declared.reply.Reply.{Reply}
 use Rattle.query_protocol.specs.declared.reply.Reply.TheVariants.{Log, Yes, Rows, Value, Compile}
 use Rattle.child_pool.specs.declared.pool.Language.{Language}
 use Rattle.child_pool.specs.declared.pool.Pool.{Pool}
+use Rattle.child_pool.specs.declared.pool.Started.{Started}
 use Rattle.child_pool.specs.declared.doc_rows.DocRowLists.{DocRowLists}
 use Rattle.child_pool.specs.declared.pool_fault.PoolFault.{PoolFault}
 use Rattle.child_pool.specs.Histories.{AllStops}
@@ -37,6 +38,15 @@ languages_of pool = map entry_of pool.languages.items
 -- how many children map documents: those of the slots below this one
 abbrev pub width_of : Pool → ℕ
 width_of pool = pool.width
+
+-- the children that it keeps
+abbrev pub started_of : Pool → Option Started
+started_of pool = pool.started
+
+-- how many of the children that are kept are of this path: all or none
+abbrev pub kept_of : List ℕ → Option Started → ℕ
+kept_of path None = 0
+kept_of path (Some started) = if bytes_eq started.path path then started.count else 0
 
 -- in each of the first slots is a child that was started by this path
 abbrev pub AreThere : List ℕ → ℕ → List Call → Type 0

@@ -35,10 +35,9 @@ pub struct Pool {
 }
 
 impl Pool {
-    ghost use Rattle.std.specs.Prelude.{◌≡◌, List, IfOk, map, option_map, string_bytes};
-    ghost use Rattle.view_ports.specs.Calls.{Call};
+    ghost use Rattle.std.specs.Prelude.{◌≡◌, IfOk, None, map, option_map, string_bytes};
     ghost use Rattle.child_pool.specs.Languages.{languages_in, path_in};
-    ghost use Rattle.child_pool.specs.Pools.{HasItsChildren, languages_of, width_of};
+    ghost use Rattle.child_pool.specs.Pools.{languages_of, started_of, width_of};
 
     /// A pool of this width, without children. Of the words those of the form LANG=PATH name a language and the path of its
     /// server; the first that names a language counts. `NoMemory` comes where memory runs out.
@@ -46,7 +45,7 @@ impl Pool {
         requires { width ≡ 1 }
         ensures languages { IfOk result (λ pool. languages_of pool ≡ languages_in (map string_bytes words.now)) }
         ensures width { IfOk result (λ pool. width_of pool ≡ width) }
-        ensures childless { IfOk result (λ pool. (calls : List Call) → HasItsChildren pool calls) }
+        ensures childless { IfOk result (λ pool. started_of pool ≡ None) }
     {
         let mut languages = Vec::new(alloc);
         for word in words {

@@ -61,7 +61,7 @@ module _ (languages : List (List ℕ × List ℕ)) (opening : World) where
     after_at folder = record { left = left; held = held; disk = f.disk folder; disk_faults = f.faults folder; faults = s.faults stopped.servers }
 
     are_left : (moment : Moment) → s.may_follow now.servers moment.calls → AreLeft (s.may_follow stopped.servers) moment.calls
-    are_left moment follows = let left = stops moment.calls follows in record { added = left.added; follows = left.follows; stopped = λ slot below. left.stopped.stopped slot (subst (λ (w : ℕ). slot < w) (sym wide) below) }
+    are_left moment follows = let left = stops moment.calls follows in record { added = left.added; only = left.only; follows = left.follows; stopped = λ slot below. left.stopped.stopped slot (subst (λ (w : ℕ). slot < w) (sym wide) below) }
 
     -- a session that came to its end, and then the children were ended
     pub finishes : (bytes : List ℕ) (end : RunEnd) → Consumes before.left left bytes → HasRead end (length bytes) → Ended f s (origin_of languages opening before) (IsAtEnd left) before.held held bytes now end
@@ -135,7 +135,7 @@ module _ (functions : List ℕ → Functions) (honest : List ℕ → Type 0) (la
     now = record { left = before.left; held = held; disk = disk; disk_faults = disk_faults; faults = before.faults }
 
     abbrev none_left : AreLeft may_follow []
-    none_left = record { added = []; follows = follows; stopped = λ slot below. refl }
+    none_left = record { added = []; only = tt; follows = follows; stopped = λ slot below. refl }
 
     -- the folder could not be opened
     pub unopened : (fault : StepFault) (status : ℕ) → Closes before.held held [] fault status → (fault ≡ DiskFault → Rose before.disk_faults disk_faults) → IfTold before.disk (λ d. (name : FileName) (at : ℕ) → fault ≡ Damaged name at → ⊥)

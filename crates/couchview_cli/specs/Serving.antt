@@ -12,6 +12,7 @@ use Rattle.view_ports.specs.Disk.{Disk, IfTold, IsImageOf, LeavesOnly, Tells}
 use Rattle.view_ports.specs.Faults.{Rose}
 use Rattle.view_ports.specs.Exchanges.{Exchange, LeadsTo, lines_of, text_of}
 use Rattle.view_ports.specs.Functions.{Functions}
+use Rattle.child_pool.specs.Histories.{AllStops}
 use Rattle.view_ports.specs.Lines.{IsCut}
 use Rattle.view_ports.specs.Runs.{AreLines, Run, HasRead, status_of, input_limit}
 use Rattle.view_engine.specs.declared.halt.StepFault.{StepFault}
@@ -42,9 +43,10 @@ outside s k f c source sink folder servers =
 abbrev pub width : ℕ
 width = 1
 
--- more calls may have been made on the query servers, which left no child in any slot
+-- the children were stopped at the end, and nothing else was called: no slot has a child
 pub record AreLeft (may_follow : List Call → Type 0) (calls : List Call) : Type 0 where
   pub added : List Call
+  pub only : AllStops added
   pub follows : may_follow (added ++ calls)
   pub stopped : (slot : ℕ) → slot < width → child slot (added ++ calls) ≡ None
 

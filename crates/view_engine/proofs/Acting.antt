@@ -51,7 +51,7 @@ module _ {F C : Type 0} (f : Folders F) (s : Servers C) (docs docs' : Docs) (poo
       record {
         text = ended done.reply;
         after = with_world before left.after;
-        is_at = record { documents = left.is_at; child = record { width = at.child.width; child = at.child.child; follows = at.child.follows; counts = at.child.counts } };
+        is_at = record { documents = left.is_at; child = record { width = at.child.width; started = at.child.started; child = at.child.child; follows = at.child.follows; counts = at.child.counts } };
         allowed = told_now (f.disk old) (λ d. DoesHere before.world request done.reply left.after)
             (λ d. DoesRequestText s.functions s.honest (languages_of pool) before (Ok request) (ended done.reply) (with_world before left.after))
             (λ d does. (done.reply, inl (performs_here s.functions s.honest (languages_of pool) request before done.reply left.after does), refl)) left.allowed;
@@ -61,7 +61,7 @@ module _ {F C : Type 0} (f : Folders F) (s : Servers C) (docs docs' : Docs) (poo
       let left = refused before.world at.documents in
       record {
         after = with_world before left.after;
-        is_at = record { documents = left.is_at; child = record { width = at.child.width; child = at.child.child; follows = at.child.follows; counts = at.child.counts } };
+        is_at = record { documents = left.is_at; child = record { width = at.child.width; started = at.child.started; child = at.child.child; follows = at.child.follows; counts = at.child.counts } };
         allowed = told_now (f.disk old) (λ d. (left.after ≡ before.world) × IsRefusedHere before.world request refusal)
             (λ d. DoesRequest s.functions s.honest (languages_of pool) before (Ok request) (refusal_text refusal) (with_world before left.after)
             × MayHaveCalled (languages_of pool) before (Ok request) (with_world before left.after))
@@ -74,7 +74,7 @@ module _ {F C : Type 0} (f : Folders F) (s : Servers C) (docs docs' : Docs) (poo
       let left = spent before.world at.documents in
       record {
         after = with_world before left.after;
-        is_at = record { documents = left.is_at; child = record { width = at.child.width; child = at.child.child; follows = at.child.follows; counts = at.child.counts } };
+        is_at = record { documents = left.is_at; child = record { width = at.child.width; started = at.child.started; child = at.child.child; follows = at.child.follows; counts = at.child.counts } };
         allowed = told_now (f.disk old) (λ d. left.after ≡ before.world) (λ d. MayHaveCalled (languages_of pool) before (Ok request) (with_world before left.after))
             (λ d same. same_called s.functions s.honest (languages_of pool) request before left.after same) left.allowed;
       }

@@ -1,6 +1,6 @@
 -- A view, as its servers answered it.
 use Rattle.std.specs.Prelude.{slice_index_or}
-use Rattle.std.proofs.Common.{◌≡◌, ◌⊎◌, ◌<◌, ◌≤◌, ◌∙◌, ◌++◌, ℕ, zero, suc, List, [], ◌∷◌, length, map, Option, None, Some, Result, Ok, Err, refl, sym, ap, subst, inl, inr, arith}
+use Rattle.std.proofs.Common.{◌≡◌, ◌≢◌, ◌⊎◌, ◌<◌, ◌≤◌, ◌∙◌, ◌++◌, ℕ, zero, suc, max, min, List, [], ◌∷◌, length, map, Option, None, Some, Result, Ok, Err, refl, sym, ap, subst, inl, inr, arith}
 use Rattle.std.proofs.lemmas.List.{length-map}
 use Rattle.json_terms.specs.Json.{Json}
 use Rattle.view_ports.specs.Calls.{Call}
@@ -23,10 +23,13 @@ use Rattle.child_pool.specs.declared.pool_fault.PoolFault.TheVariants as fault
 use Rattle.child_pool.specs.Histories.{WentIn, talk}
 use Rattle.child_pool.specs.Jobs.{Job, job_of}
 use Rattle.child_pool.specs.Languages.{path_in}
-use Rattle.child_pool.specs.Pools.{HasItsChildren}
+use Rattle.child_pool.specs.Pools.{HasItsChildren, IsKeptOf, kept_of}
+use Rattle.child_pool.specs.Prompts.{update_prompts}
 use Rattle.child_pool.specs.Talk.{AreCutShortIn, AreTurns, talk_of}
 use Rattle.child_pool.specs.Outcomes.{IsCaused}
-use Rattle.child_pool.specs.Updates.{AfterUpdate, HasUpdated}
+use Rattle.child_pool.specs.Tries.{AllAnswered, Prompt, StopsAt}
+use Rattle.child_pool.specs.Updates.{AfterTries, AfterUpdate, HasUpdated}
+use Rattle.child_pool.proofs.Remembered.{kept_is}
 use Rattle.child_pool.proofs.Honesty.{complains_rightly, no_bad_reply}
 use Rattle.child_pool.proofs.Updated.{stands_stopped}
 use Rattle.doc_file.specs.declared.docs.Docs.{Docs}
@@ -47,7 +50,7 @@ use Rattle.view_engine.specs.Moments.{Moment}
 use Rattle.view_engine.specs.Refusals.{refusal_text}
 use Rattle.view_engine.specs.Rows.{emitted_by, emitted_rows}
 use Rattle.view_engine.specs.Steps.{DoesRequest, DoesRequestText, MayHaveCalled}
-use Rattle.view_engine.specs.View.{DoesView, IsJobOf, IsMet, PrintsRows}
+use Rattle.view_engine.specs.View.{DoesView, IsGivenUp, IsJobOf, IsMet, IsServed, PrintsRows, fault_of, prompts_of}
 use Rattle.view_engine.specs.ViewPlan.{IsPlan, met_by, source_at}
 use Rattle.view_engine.proofs.SameFiles.{told_known}
 
@@ -125,26 +128,64 @@ module _ (functions : List ℕ → Functions) (honest : List ℕ → Type 0) (la
     prints = ap (λ is. answer (sorted_rows (emitted_rows is (emitted_by place lists)))) known.ids_are;
   }
 
-  module _ (may_follow : List Call → Type 0) (old new : ℕ) (pool : Pool) (counts : old ≡ before.faults) (later : old ≤ new) (width : ℕ) (was : width ≡ before.width) (keeps : pool.width ≡ width) where
+  module _ (may_follow : List Call → Type 0) (old new : ℕ) (pool : Pool) (counts : old ≡ before.faults) (later : old ≤ new) (old_pool : Pool) (was : old_pool.width ≡ before.width) (keeps : pool.width ≡ old_pool.width) (started : old_pool.started ≡ before.started) where
     later_there : before.faults ≤ new
     later_there = subst (λ (n : ℕ). n ≤ new) counts later
 
     -- what the pool did, where it has so many children, and the same in the words of the moment
     abbrev Updates : ℕ → Result DocRowLists PoolFault → Type 0
-    Updates children result = WentIn may_follow job children before.calls (AfterUpdate functions honest job children (Rose old new) pool result before.calls)
+    Updates children result = WentIn may_follow job children before.calls (λ added now. AfterTries functions honest job old_pool (Rose old new) pool result before.calls added now
+        × AfterUpdate functions honest job children (Rose old new) pool result before.calls added now)
 
-    at_moment : (result : Result DocRowLists PoolFault) → Updates width result → Updates before.width result
+    at_moment : (result : Result DocRowLists PoolFault) → Updates old_pool.width result → Updates before.width result
     at_moment result w = subst (λ (n : ℕ). Updates n result) was w
 
     abbrev after : List Call → Moment
-    after now = record { world = before.world; width = before.width; calls = now; faults = new }
+    after now = record { world = before.world; width = before.width; started = pool.started; calls = now; faults = new }
 
-    asked : (P : List Call → List Call → Type 0) (w : WentIn may_follow job before.width before.calls P) → Known → MayHaveCalled languages before (Ok (ViewRequest name None)) (after w.now)
-    asked P w known = inr (known.plan.accepted, (job, (source, is_job known, refl, record { added = w.added; is = w.is_now; width = refl; lawful = w.lawful; later = later_there; holds = tt })))
+    -- what the pool asked, in the words of the moment
+    kept_was : (kept : ℕ) → IsKeptOf old_pool job.path kept → kept ≡ kept_of job.path before.started
+    kept_was kept is = kept_is old_pool job.path kept is ∙ ap (kept_of job.path) started
 
-    answered : (lists : List (List (List (Json × Json)))) (w : Updates before.width (Ok lists)) → Known
+    same_prompts : (kept : ℕ) → IsKeptOf old_pool job.path kept → update_prompts job old_pool.width kept ≡ prompts_of job before
+    same_prompts kept is = ap (λ (n : ℕ). update_prompts job n kept) was ∙ ap (update_prompts job before.width) (kept_was kept is)
+
+    served : (lists : List (List (List (Json × Json)))) (w : Updates before.width (Ok lists)) → (documents ≡ [] → pool.started ≡ old_pool.started) → IsServed job before (after w.now) w.added
+    served lists w idle =
+        let tries = w.holds.0 in
+        let is = tries.1 in
+        record {
+          answered = subst (λ (prompts : List Prompt). AllAnswered (Rose before.faults new) prompts w.added) (same_prompts tries.0 is)
+              (subst (λ (n : ℕ). AllAnswered (Rose n new) (update_prompts job old_pool.width tries.0) w.added) counts tries.2.answered);
+          talked = subst (λ (n : ℕ). AreTurns (talk_of job.sources job.documents before.width) (talk w.added) ⊎ Rose n new) counts w.holds.1.1.talked;
+          kept = λ some. tries.2.remembers some ∙ ap (λ (n : ℕ). Some (record { path = path; count = n })) (ap (λ (n : ℕ). max (min n (length documents)) tries.0) was ∙ ap (max (min before.width (length documents))) (kept_was tries.0 is));
+          idle = λ none. idle none ∙ started;
+        }
+
+    given_up : (f : PoolFault) (w : Updates before.width (Err f)) → documents ≢ [] → IsGivenUp job before (after w.now) f w.added
+    given_up f w some =
+        let tries = w.holds.0 in
+        let all = tries.2 in
+        record {
+          some = some;
+          tried = all.tried;
+          stops = all.stops;
+          is = all.is;
+          only = all.only;
+          ends = subst (λ (prompts : List Prompt). StopsAt f (Rose before.faults new) prompts all.tried) (same_prompts tries.0 tries.1)
+              (subst (λ (n : ℕ). StopsAt f (Rose n new) (update_prompts job old_pool.width tries.0) all.tried) counts all.refused.stops);
+          talked = subst (λ (n : ℕ). AreCutShortIn before.width (talk_of job.sources job.documents before.width) (talk w.added) ⊎ Rose n new) counts w.holds.1.refused.talked;
+          stopped = w.holds.1.stopped.stopped;
+          none_kept = w.holds.1.stopped.forgotten;
+        }
+
+    asked : (P : List Call → List Call → Type 0) (w : WentIn may_follow job before.width before.calls P) → IsServed job before (after w.now) w.added ⊎ ((f : PoolFault) × IsGivenUp job before (after w.now) f w.added)
+        → Known → MayHaveCalled languages before (Ok (ViewRequest name None)) (after w.now)
+    asked P w ends known = inr (known.plan.accepted, (job, (source, is_job known, refl, record { added = w.added; is = w.is_now; width = refl; lawful = w.lawful; later = later_there; holds = ends })))
+
+    answered : (lists : List (List (List (Json × Json)))) (w : Updates before.width (Ok lists)) → (documents ≡ [] → pool.started ≡ old_pool.started) → Known
         → DoesView functions honest languages before name (printed lists) (after w.now)
-    answered lists w known = record {
+    answered lists w idle known = record {
       accepted = known.plan.accepted;
       job = job;
       source = source;
@@ -157,11 +198,19 @@ module _ (functions : List ℕ → Functions) (honest : List ℕ → Type 0) (la
         lawful = w.lawful;
         later = later_there;
         holds = inl (record {
-          rows = prints lists (Rose old new) w.added known w.holds.1;
-          talked = subst (λ (n : ℕ). AreTurns (talk_of job.sources job.documents before.width) (talk w.added) ⊎ Rose n new) counts w.holds.1.talked;
+          rows = prints lists (Rose old new) w.added known w.holds.1.1;
+          served = served lists w idle;
         });
       };
     }
+
+    -- the fault that a refusal tells
+    told_by : (f : PoolFault) (r : Refusal) → met_by id f ≡ Refused r → f ≡ fault_of r
+    told_by fault.ServerFault r is = let same : refusal.ServerFault ≡ r = cc in ap fault_of same
+    told_by (fault.BadReply line) r is = let same : refusal.ServerReply line ≡ r = cc in ap fault_of same
+    told_by fault.Compile r is = let same : refusal.CompilationError id ≡ r = cc in ap fault_of same
+    told_by fault.NoMemory r is = absurd (let clash : ⊥ = cc in clash)
+    told_by fault.UnknownLanguage r is = absurd (let clash : ⊥ = cc in clash)
 
     met : (f : PoolFault) (added now : List Call) (r : Refusal) → Known → IsCaused functions honest job added before.calls f → (f ≡ fault.ServerFault → RoseBy 2 old new) → met_by id f ≡ Refused r
         → IsMet functions honest name job before (after now) added r
@@ -177,9 +226,9 @@ module _ (functions : List ℕ → Functions) (honest : List ℕ → Type 0) (la
     met fault.NoMemory added now r known caused twice is = absurd (let clash : ⊥ = cc in clash)
     met fault.UnknownLanguage added now r known caused twice is = absurd caused
 
-    refuses : (f : PoolFault) (r : Refusal) (w : Updates before.width (Err f)) → Known → (f ≡ fault.ServerFault → RoseBy 2 old new)
+    refuses : (f : PoolFault) (r : Refusal) (w : Updates before.width (Err f)) → documents ≢ [] → Known → (f ≡ fault.ServerFault → RoseBy 2 old new)
         → met_by id f ≡ Refused r → DoesView functions honest languages before name (refusal_text r) (after w.now)
-    refuses f r w known twice is = record {
+    refuses f r w some known twice is = record {
       accepted = known.plan.accepted;
       job = job;
       source = source;
@@ -193,10 +242,9 @@ module _ (functions : List ℕ → Functions) (honest : List ℕ → Type 0) (la
         later = later_there;
         holds = inr (record {
           refusal = r;
-          met = met f w.added w.now r known w.holds.refused.caused twice is;
+          met = met f w.added w.now r known w.holds.1.refused.caused twice is;
           prints = refl;
-          stopped = w.holds.stopped.stopped;
-          talked = subst (λ (n : ℕ). AreCutShortIn before.width (talk_of job.sources job.documents before.width) (talk w.added) ⊎ Rose n new) counts w.holds.refused.talked;
+          given_up = subst (λ (fault : PoolFault). IsGivenUp job before (after w.now) fault w.added) (told_by f r is) (given_up f w some);
         });
       };
     }
@@ -205,37 +253,37 @@ module _ (functions : List ℕ → Functions) (honest : List ℕ → Type 0) (la
 
     module _ (x z : Option (Disk FileName)) (docs : Docs) (documents_at : IfTold z (λ d. AreAt docs d.now before.world.history)) (known : IfTold x (λ d. Known)) where
       stays_at : (now : List Call) → may_follow now → HasItsChildren pool now → IsAt z may_follow new (record { docs = docs; pool = pool }) (after now)
-      stays_at now follows stands = record { documents = documents_at; child = record { width = keeps ∙ was; child = stands; follows = follows; counts = refl } }
+      stays_at now follows stands = record { documents = documents_at; child = record { width = keeps ∙ was; started = refl; child = stands; follows = follows; counts = refl } }
 
       abbrev Halts : Halt → Moment → Type 0
       Halts halt left = ((r : Refusal) → halt ≡ Refused r → DoesRequest functions honest languages before (Ok (ViewRequest name None)) (refusal_text r) left) × MayHaveCalled languages before (Ok (ViewRequest name None)) left
 
-      pub done : (lists : List (List (List (Json × Json)))) (was now : List ℕ) → Updates width (Ok lists)
+      pub done : (lists : List (List (List (Json × Json)))) (was now : List ℕ) → Updates old_pool.width (Ok lists) → (documents ≡ [] → pool.started ≡ old_pool.started)
           → now ≡ was ++ ended (printed lists)
           → Appends z may_follow new (record { docs = docs; pool = pool }) (λ text left. IfTold x (λ d. DoesRequestText functions honest languages before (Ok (ViewRequest name None)) text left)) was now
-      done lists was now w appended = let v = at_moment (Ok lists) w in record {
+      done lists was now w idle appended = let v = at_moment (Ok lists) w in record {
         text = ended (printed lists);
         after = after v.now;
-        is_at = stays_at v.now v.follows v.holds.0;
+        is_at = stays_at v.now v.follows v.holds.1.0;
         allowed = told_now x (λ d. Known) (λ d. DoesRequestText functions honest languages before (Ok (ViewRequest name None)) (ended (printed lists)) (after v.now))
-            (λ d k. (printed lists, inl (answered lists v k), refl)) known;
+            (λ d k. (printed lists, inl (answered lists v idle k), refl)) known;
         appended = appended;
       }
 
-      pub ran_out : (lists : List (List (List (Json × Json)))) (halt : Halt) → Updates width (Ok lists) → halt ≡ Stopped NoMemory
+      pub ran_out : (lists : List (List (List (Json × Json)))) (halt : Halt) → Updates old_pool.width (Ok lists) → (documents ≡ [] → pool.started ≡ old_pool.started) → halt ≡ Stopped NoMemory
           → Leaves z may_follow new (record { docs = docs; pool = pool }) (λ left. IfTold x (λ d. Halts halt left))
-      ran_out lists halt w memory = let v = at_moment (Ok lists) w in record {
+      ran_out lists halt w idle memory = let v = at_moment (Ok lists) w in record {
         after = after v.now;
-        is_at = stays_at v.now v.follows v.holds.0;
+        is_at = stays_at v.now v.follows v.holds.1.0;
         allowed = told_now x (λ d. Known) (λ d. Halts halt (after v.now))
-            (λ d k. (λ r is. absurd (let clash : ⊥ = cc in clash), asked (AfterUpdate functions honest job before.width (Rose old new) pool (Ok lists) before.calls) v k)) known;
+            (λ d k. (λ r is. absurd (let clash : ⊥ = cc in clash), asked _ v (inl (served lists v idle)) k)) known;
       }
 
-      pub refused : (f : PoolFault) (halt : Halt) → Updates width (Err f) → (f ≡ fault.ServerFault → RoseBy 2 old new) → halt ≡ met_by id f
+      pub refused : (f : PoolFault) (halt : Halt) → Updates old_pool.width (Err f) → documents ≢ [] → (f ≡ fault.ServerFault → RoseBy 2 old new) → halt ≡ met_by id f
           → Leaves z may_follow new (record { docs = docs; pool = pool }) (λ left. IfTold x (λ d. Halts halt left))
-      refused f halt w twice met_as = let v = at_moment (Err f) w in record {
+      refused f halt w some twice met_as = let v = at_moment (Err f) w in record {
         after = after v.now;
-        is_at = stays_at v.now v.follows (stands_stopped pool v.now v.holds.stopped);
+        is_at = stays_at v.now v.follows (stands_stopped pool v.now v.holds.1.stopped);
         allowed = told_now x (λ d. Known) (λ d. Halts halt (after v.now))
-            (λ d k. (λ r is. inl (refuses f r v k twice (sym met_as ∙ is)), asked (AfterUpdate functions honest job before.width (Rose old new) pool (Err f) before.calls) v k)) known;
+            (λ d k. (λ r is. inl (refuses f r v some k twice (sym met_as ∙ is)), asked _ v (inr (f, given_up f v some)) k)) known;
       }

@@ -1,6 +1,6 @@
 -- What is known of worlds that go on from one another, and of an engine at a world.
 use Rattle.std.specs.Prelude.{Bool, true, false, if◌then◌else◌}
-use Rattle.std.proofs.Common.{◌≡◌, ℕ, List, [], ◌∷◌, ◌++◌, Option, Result, Ok, refl, sym, ap, ◌∙◌, subst, append_assoc}
+use Rattle.std.proofs.Common.{◌≡◌, ◌≤◌, ℕ, MatchOption, List, [], ◌∷◌, ◌++◌, Option, Result, Ok, refl, sym, ap, ◌∙◌, subst, append_assoc}
 use Rattle.view_ports.specs.Calls.{Call}
 use Rattle.view_ports.specs.Disk.{Disk, IfTold, IsImageOf}
 use Rattle.view_ports.specs.Exchanges.{Exchange}
@@ -8,6 +8,8 @@ use Rattle.view_ports.specs.File.{File}
 use Rattle.view_ports.specs.Functions.{Functions}
 use Rattle.view_ports.specs.declared.file_name.FileName.{FileName}
 use Rattle.view_ports.proofs.Told.{told_now}
+use Rattle.child_pool.specs.declared.pool.Started.{Started}
+use Rattle.child_pool.specs.Pools.{AreThere}
 use Rattle.doc_file.specs.History.{Write}
 use Rattle.doc_file.proofs.Stores.{at_holds, image_now}
 use Rattle.view_engine.specs.declared.engine.Engine.{Engine}
@@ -59,7 +61,16 @@ world_held engine files world at = at_holds engine.docs files at.is_open world.h
 module _ (disk : Option (Disk FileName)) (may_follow : List Call → Type 0) (faults : ℕ) (engine : Engine) where
   -- an engine without a child is at the start of its world, where no call was made on the servers
   pub starts_at : (world : World) {wide : ℕ} → width engine ≡ wide → IfTold disk (λ d. IsAtWorld engine d.now world) → IsChildless engine → may_follow [] → IsAt disk may_follow faults engine (at_start world wide faults)
-  starts_at world is at childless follows = record { documents = at; child = record { width = is; child = childless []; follows = follows; counts = refl } }
+  starts_at world is at childless follows = record {
+    documents = at;
+    child = record {
+      width = is;
+      started = childless;
+      child = subst (λ (started : Option Started). MatchOption started (Unit {0}) (λ kept. (kept.count ≤ engine.pool.width) × AreThere kept.path kept.count [])) (sym childless) tt;
+      follows = follows;
+      counts = refl;
+    };
+  }
 
   pub images_at : (moment : Moment) → IsAt disk may_follow faults engine moment → IfTold disk (λ d. (image : FileName → List ℕ) → IsImageOf d.now image → StandsFor image moment.world)
   images_at moment at =

@@ -4,14 +4,16 @@ use Rattle.view_ports.specs.Calls.{Call}
 use Rattle.view_ports.specs.Disk.{Disk, IfTold}
 use Rattle.view_ports.specs.declared.file_name.FileName.{FileName}
 use Rattle.child_pool.specs.declared.pool.Pool.{Pool}
-use Rattle.child_pool.specs.Pools.{AreStopped, HasItsChildren, width_of}
+use Rattle.child_pool.specs.Histories.{AllStops}
+use Rattle.child_pool.specs.Pools.{AreStopped, HasItsChildren, started_of, width_of}
 use Rattle.view_engine.specs.declared.engine.Engine.{Engine}
 use Rattle.view_engine.specs.Moments.{Moment}
 use Rattle.view_engine.specs.Worlds.{IsAtWorld}
 
--- the pool has the moment's width and keeps the children that the calls left, and these may be the calls on the servers, which had so many faults
+-- the pool has the moment's width and its children, which the calls left, and these may be the calls on the servers, which had so many faults
 pub record HasChild (may_follow : List Call → Type 0) (faults : ℕ) (pool : Pool) (moment : Moment) : Type 0 where
   pub width : width_of pool ≡ moment.width
+  pub started : started_of pool ≡ moment.started
   pub child : HasItsChildren pool moment.calls
   pub follows : may_follow moment.calls
   pub counts : faults ≡ moment.faults
@@ -39,8 +41,9 @@ pub record Appends (disk : Option (Disk FileName)) (may_follow : List Call → T
 abbrev pub KeepsChild : (List Call → Type 0) → ℕ → Engine → Moment → Type 0
 KeepsChild may_follow faults engine = HasChild may_follow faults engine.pool
 
--- these may be the calls now, which left no child
+-- these may be the calls now: those that were added are stops alone, and left no child
 pub record HasStopped (may_follow : List Call → Type 0) (engine : Engine) (before : List Call) : Type 0 where
   pub added : List Call
   pub follows : may_follow (added ++ before)
+  pub only : AllStops added
   pub stopped : AreStopped (width_of engine.pool) engine.pool (added ++ before)

@@ -1,6 +1,7 @@
 -- What a request acts on: the world, and the query servers with the calls that were made on them.
-use Rattle.std.specs.Prelude.{◌≡◌, ◌≤◌, ℕ, List, ◌++◌}
+use Rattle.std.specs.Prelude.{◌≡◌, ◌≤◌, ℕ, List, ◌++◌, Option}
 use Rattle.view_ports.specs.Calls.{Call}
+use Rattle.child_pool.specs.declared.pool.Started.{Started}
 use Rattle.child_pool.specs.Jobs.{Job, AllLawfulIn}
 use Rattle.view_engine.specs.World.{World}
 
@@ -8,6 +9,8 @@ pub record Moment : Type 0 where
   pub world : World
   -- how many children map documents: those of the slots below this one
   pub width : ℕ
+  -- the children that are kept: their path, and how many they are
+  pub started : Option Started
   -- the calls on the query servers, the newest first
   pub calls : List Call
   -- how many faults they had

@@ -4,6 +4,7 @@ use Rattle.json_terms.specs.Json.{object, members_of}
 use Rattle.view_ports.specs.Functions.{Functions}
 use Rattle.view_ports.specs.Lines.{ended}
 use Rattle.view_ports.specs.Exchanges.{Exchange}
+use Rattle.child_pool.specs.declared.pool_fault.PoolFault.{PoolFault}
 use Rattle.child_pool.specs.Jobs.{Job}
 use Rattle.doc_file.specs.History.{Write}
 use Rattle.view_engine.specs.declared.request.Request.{Request}
@@ -17,7 +18,7 @@ use Rattle.view_engine.specs.Refusals.{request_of, refusal_text}
 use Rattle.view_engine.specs.Put.{DoesPut, IsPutRefused, put_write}
 use Rattle.view_engine.specs.Delete.{DoesDelete, IsDeleteRefused, delete_write}
 use Rattle.view_engine.specs.Get.{DoesGet, DoesInfo, get_refusal}
-use Rattle.view_engine.specs.View.{view_refusal, DoesView, IsJobOf}
+use Rattle.view_engine.specs.View.{view_refusal, DoesView, IsGivenUp, IsJobOf, IsServed}
 
 -- no server was called
 abbrev pub Acts : (World → World → Type 0) → Moment → Moment → Type 0
@@ -31,10 +32,10 @@ ChangesNothing Does before after = Does × (after ≡ before)
 abbrev pub Refuses : Moment → Refusal → List ℕ → Moment → Type 0
 Refuses before refusal reply after = (reply ≡ refusal_text refusal) × (after ≡ before)
 
--- the design of a view was asked for, with lawful calls, and nothing else has changed
+-- the design of a view was asked for, with lawful calls, and nothing else has changed: the update was done, or it was given up
 abbrev pub AskedFor : List (List ℕ × List ℕ) → Moment → ViewName → Moment → Type 0
 AskedFor languages before name after =
-    (job : Job) × ((source : List ℕ) × IsJobOf languages before.world name job source × (after.world ≡ before.world) × Called job before after (λ added. Unit {0}))
+    (job : Job) × ((source : List ℕ) × IsJobOf languages before.world name job source × (after.world ≡ before.world) × Called job before after (λ added. IsServed job before after added ⊎ ((f : PoolFault) × IsGivenUp job before after f added)))
 
 -- what may have been done of a request for which memory ran out: only a view calls servers, and only where it isn't refused before
 abbrev pub MayHaveCalled : List (List ℕ × List ℕ) → Moment → Result Request Refusal → Moment → Type 0

@@ -1,20 +1,23 @@
 -- What a view request does.
-use Rattle.std.specs.Prelude.{◌≡◌, ◌≢◌, ◌⊎◌, ◌++◌, ℕ, List, [], ◌∷◌, map, length, codes, Option, Some, None, option_and_then}
+use Rattle.std.specs.Prelude.{◌≡◌, ◌≢◌, ◌⊎◌, ◌++◌, ℕ, max, min, List, [], ◌∷◌, map, length, codes, Option, Some, None, option_and_then}
 use Rattle.json_terms.specs.Json.{Json}
 use Rattle.design_docs.specs.Design.{language_of, map_sources, source_of, views_of}
 use Rattle.view_ports.specs.Calls.{Call}
 use Rattle.view_ports.specs.Faults.{Rose, RoseBy}
 use Rattle.view_ports.specs.Functions.{Functions}
 use Rattle.query_protocol.specs.CommandLines.{document_of}
+use Rattle.child_pool.specs.declared.pool_fault.PoolFault.{PoolFault}
 use Rattle.child_pool.specs.declared.pool_fault.PoolFault.TheVariants as fault
-use Rattle.child_pool.specs.Histories.{talk}
+use Rattle.child_pool.specs.Histories.{AllStops, talk}
 use Rattle.child_pool.specs.Honesty.{SomeSourceFails}
 use Rattle.child_pool.specs.Jobs.{Job}
 use Rattle.child_pool.specs.Languages.{path_in}
 use Rattle.child_pool.specs.Outcomes.{IsCaused}
-use Rattle.child_pool.specs.Pools.{NoneIsLeft}
+use Rattle.child_pool.specs.Pools.{NoneIsLeft, kept_of}
+use Rattle.child_pool.specs.Prompts.{update_prompts}
 use Rattle.child_pool.specs.Sessions.{AllCompile}
 use Rattle.child_pool.specs.Talk.{AreCutShortIn, AreTurns, talk_of}
+use Rattle.child_pool.specs.Tries.{AllAnswered, Prompt, StopsAt}
 use Rattle.raw_collation.specs.Sorting.{sorted_rows}
 use Rattle.view_engine.specs.declared.request.ViewName.{ViewName}
 use Rattle.view_engine.specs.declared.refusal.Refusal.{Refusal}
@@ -62,6 +65,40 @@ pub record IsJobOf (languages : List (List ℕ × List ℕ)) (world : World) (na
   pub sources : job.sources ≡ map_sources (views_of design)
   pub documents : job.documents ≡ map (λ entry. document_of entry.1) (mapped world)
 
+-- the prompts of an update, in the order in which they are asked: a child of the job's path that is kept isn't started again
+abbrev pub prompts_of : Job → Moment → List Prompt
+prompts_of job before = update_prompts job before.width (kept_of job.path before.started)
+
+-- An update was done. Each prompt was answered within two tries; where no fault was counted the talk is that of an update which
+-- maps all documents; and where there are some, the children that it used are kept, with those of its path that were kept before.
+-- Without documents nothing is asked, and no child is started or stopped.
+pub record IsServed (job : Job) (before after : Moment) (added : List Call) : Type 0 where
+  pub answered : AllAnswered (Rose before.faults after.faults) (prompts_of job before) added
+  pub talked : AreTurns (talk_of job.sources job.documents before.width) (talk added) ⊎ Rose before.faults after.faults
+  pub kept : job.documents ≢ [] → after.started ≡ Some (record { path = job.path; count = max (min before.width (length job.documents)) (kept_of job.path before.started) })
+  pub idle : job.documents ≡ [] → after.started ≡ before.started
+
+-- An update of some documents was given up with this fault. The prompts before the one at which that came were answered; of a
+-- server's fault both tries of that one failed. Then all children were stopped, and nothing else was called. Where no fault was
+-- counted the talk is the first turns of the update's, and one more line at most.
+pub record IsGivenUp (job : Job) (before after : Moment) (f : PoolFault) (added : List Call) : Type 0 where
+  pub some : job.documents ≢ []
+  pub tried : List Call
+  pub stops : List Call
+  pub is : added ≡ stops ++ tried
+  pub only : AllStops stops
+  pub ends : StopsAt f (Rose before.faults after.faults) (prompts_of job before) tried
+  pub talked : AreCutShortIn before.width (talk_of job.sources job.documents before.width) (talk added) ⊎ Rose before.faults after.faults
+  pub stopped : NoneIsLeft before.width after.calls
+  pub none_kept : after.started ≡ None
+
+-- the fault that is told by a refusal
+abbrev pub fault_of : Refusal → PoolFault
+fault_of (CompilationError id) = fault.Compile
+fault_of ServerFault = fault.ServerFault
+fault_of (ServerReply line) = fault.BadReply line
+fault_of other = fault.NoMemory
+
 module _ (functions : List ℕ → Functions) (honest : List ℕ → Type 0) where
   -- the rows of the view, sorted, are printed. There is a list of emissions for each document, which on an honest path is
   -- that of the path's map function; and all sources of the design compile there, unless no document is mapped.
@@ -81,19 +118,17 @@ module _ (functions : List ℕ → Functions) (honest : List ℕ → Type 0) whe
   IsMet name job before after added (ServerReply line) = IsCaused functions honest job added before.calls (fault.BadReply line) × (honest job.path → ⊥)
   IsMet name job before after added other = ⊥
 
-  -- a refusal that was met: no child is left, and the talk is the first turns of the update's, and one more line at most, where
-  -- no fault was counted
+  -- a refusal that was met
   pub record IsRefused (name : ViewName) (job : Job) (before after : Moment) (reply : List ℕ) (added : List Call) : Type 0 where
     pub refusal : Refusal
     pub met : IsMet name job before after added refusal
     pub prints : reply ≡ refusal_text refusal
-    pub stopped : NoneIsLeft before.width after.calls
-    pub talked : AreCutShortIn before.width (talk_of job.sources job.documents before.width) (talk added) ⊎ Rose before.faults after.faults
+    pub given_up : IsGivenUp job before after (fault_of refusal) added
 
-  -- the rows: the talk is that of an update which maps all documents, where no fault was counted
+  -- the rows of an update
   pub record IsAnswered (job : Job) (source : List ℕ) (before after : Moment) (reply : List ℕ) (added : List Call) : Type 0 where
     pub rows : PrintsRows job source before.world reply
-    pub talked : AreTurns (talk_of job.sources job.documents before.width) (talk added) ⊎ Rose before.faults after.faults
+    pub served : IsServed job before after added
 
   -- a view that isn't refused before any server is asked: the world stays
   pub record DoesView (languages : List (List ℕ × List ℕ)) (before : Moment) (name : ViewName) (reply : List ℕ) (after : Moment) : Type 0 where

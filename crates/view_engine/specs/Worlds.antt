@@ -1,10 +1,9 @@
 -- The words in which the layers above speak of worlds, and of the files, the images of a disk and the engines that are at
 -- one. Whoever uses them names no part of a world or of an engine, so a new part changes only this crate.
-use Rattle.std.specs.Prelude.{◌≡◌, ◌⊎◌, ℕ, List, [], ◌++◌, Option, Result}
-use Rattle.view_ports.specs.Calls.{Call}
+use Rattle.std.specs.Prelude.{◌≡◌, ◌⊎◌, ℕ, List, [], ◌++◌, Option, None, Result}
 use Rattle.view_ports.specs.File.{File}
 use Rattle.view_ports.specs.declared.file_name.FileName.{FileName}
-use Rattle.child_pool.specs.Pools.{HasItsChildren as HasChildOf, languages_of, width_of}
+use Rattle.child_pool.specs.Pools.{languages_of, started_of, width_of}
 use Rattle.doc_file.specs.declared.docs.Docs.{Docs}
 use Rattle.doc_file.specs.Docs.{HoldsHistory, IsAt as AreAt, IsDamagedAt, IsOpen as AreOpen}
 use Rattle.doc_file.specs.Held.{Stands}
@@ -25,7 +24,7 @@ GoesOnFrom before after = (newer : List Write) × (after.history ≡ newer ++ be
 
 -- a world, and query servers of which so many map documents and that had so many faults, before any call
 abbrev pub at_start : World → ℕ → ℕ → Moment
-at_start world width faults = record { world = world; width = width; calls = []; faults = faults }
+at_start world width faults = record { world = world; width = width; started = None; calls = []; faults = faults }
 
 -- ---- files, and what a crash leaves of them
 
@@ -86,6 +85,6 @@ IsOpen engine files = AreOpen engine.docs files
 abbrev pub IsAtWorld : Engine → (FileName → File) → World → Type 0
 IsAtWorld engine files world = AreAt engine.docs files world.history
 
--- an engine remembers no child
+-- an engine keeps no child
 abbrev pub IsChildless : Engine → Type 0
-IsChildless engine = (calls : List Call) → HasChildOf engine.pool calls
+IsChildless engine = started_of engine.pool ≡ None

@@ -1,7 +1,7 @@
 // The calls of the pool: children are made ready, map documents, and are stopped.
 ghost use Rattle.std.specs.Prelude.{◌≡◌, ◌≢◌, ◌≤◌, ◌<◌, ◌^◌, ◌⊎◌, [], IfErr, IfOk, OnOk, None, Some, length, min};
 ghost use Rattle.design_docs.specs.Design.{map_sources};
-ghost use Rattle.child_pool.specs.PoolCalls.{Ends, MapsNothing, StaysAsMade, Maps, MapsAll, MapsBatch, Prepares, Readies, RefusesIdly, RefusesUnknown, StopsAll, TriesAll, path_for};
+ghost use Rattle.child_pool.specs.PoolCalls.{Ends, MapsNothing, StaysAsMade, Maps, MapsAll, MapsBatch, Prepares, Readies, RefusesIdly, RefusesUnknown, StopsAll, path_for};
 ghost use Rattle.child_pool.specs.Pools.{IsKeptOf};
 
 use crate::doc_rows::DocRowLists;
@@ -90,8 +90,6 @@ impl Pool {
     ) -> Result<DocRowLists, PoolFault>
         requires few { length design.now.views < 2 ^ 32 }
         ensures went { MapsAll C.Servers servers.old servers.new
-            self.old design.now documents.now self.new result }
-        ensures tries { TriesAll C.Servers servers.old servers.new
             self.old design.now documents.now self.new result }
         ensures ends { Ends C.Servers servers.old servers.new self.old self.new design.now result }
         ensures unknown { documents.now ≢ [] →

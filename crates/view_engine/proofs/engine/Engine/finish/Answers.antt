@@ -12,5 +12,6 @@ returns-clause-stopped g c = λ calls follows.
     record {
       added = w.added;
       follows = subst (g.C.Servers.may_follow c.stop_all.new.servers) w.is_now w.follows;
+      only = w.holds.1;
       stopped = subst (AreStopped pool.width pool) w.is_now stopped;
     }

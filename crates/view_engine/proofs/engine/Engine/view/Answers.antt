@@ -1,10 +1,11 @@
 -- A view is what was planned, over what the pool mapped.
-use Rattle.std.proofs.Common.{◌≡◌, ◌∙◌, ◌++◌, Err, refl, sym, ap, arith}
+use Rattle.std.proofs.Common.{◌≡◌, ◌∙◌, ◌++◌, Ok, Err, refl, sym, ap, arith}
 use Rattle.std.proofs.lemmas.Result.{on_ok_weaker, IfErr-weaker}
 use Rattle.view_ports.specs.Lines.{ended}
 use Rattle.view_ports.proofs.Told.{told_all}
 use Rattle.raw_collation.specs.Sorting.{sorted_rows}
 use Rattle.gate_file.proofs.Looks.{told_none_then}
+use Rattle.child_pool.specs.declared.pool.Pool.{Pool}
 use Rattle.child_pool.specs.Pools.{languages_of}
 use Rattle.doc_file.specs.Docs.{IsAt as AreAt}
 use Rattle.view_engine.specs.declared.halt.Halt.TheVariants.{Stopped}
@@ -17,6 +18,9 @@ use Rattle.view_engine.proofs.Unasked.{told_refused, unasked, IsRefusedThere}
 use Rattle.view_engine.proofs.Viewed.{done, known_at, ran_out, refused}
 use Rattle.view_engine.proofs.Viewing.{met_no_fault, reads_met, viewed, viewed_halted}
 use Rattle.view_engine.proofs.engine.Engine.view.Goals as goal
+
+no_ok : {T E : Type 0} (value : T) (error : E) → Err error ≡ Ok value → ⊥
+no_ok value error is = cc
 
 pub returns-in-Err : goal.returns-in-Err
 returns-in-Err g c = viewed_halted c.requires.open tt c.in-Err.ensures.reads refl (λ goes_on before at.
@@ -61,9 +65,9 @@ returns-in-Ok-map_all g c = viewed c.requires.open (reads_then c.in-Ok.ensures.r
     let known = known_at languages before name plan.id plan.design plan.place path documents m x y docs c.as_slice.ensures.value at.documents c.plan.ensures.reads.disk c.in-Ok.ensures.known.1
     (c.in-Ok.ensures.plan history) (c.in-Ok-load_mapped.ensures.mapped history) in
     done g.C.Servers.functions g.C.Servers.honest languages before name plan.id plan.design plan.place path c.in-Ok.ensures.within m.ids.items documents
-    (g.C.Servers.may_follow c.map_all.new.servers) (g.C.Servers.faults c.args.servers.now) (g.C.Servers.faults c.map_all.new.servers) c.map_all.new.self at.child.counts c.map_all.ensures.ends.later c.args.self.now.pool.width at.child.width c.map_all.ensures.ends.keeps.width
+    (g.C.Servers.may_follow c.map_all.new.servers) (g.C.Servers.faults c.args.servers.now) (g.C.Servers.faults c.map_all.new.servers) c.map_all.new.self at.child.counts c.map_all.ensures.ends.later c.args.self.now.pool at.child.width c.map_all.ensures.ends.keeps.width at.child.started
     x z docs (at_none docs x z (told_none_then x y z c.plan.ensures.reads.disk c.load_mapped.ensures.reads.disk) history at.documents) known lists c.args.out.now.items c.append_rows.new.out.items
-    (c.in-Ok-map_all.ensures.went path before.calls at.child.follows c.in-Ok.ensures.known.1 at.child.child)
+    (c.in-Ok-map_all.ensures.went path before.calls at.child.follows c.in-Ok.ensures.known.1 at.child.child) (λ none. ap (λ (p : Pool). p.started) (c.map_all.ensures.idle none).2)
     (appended ∙ (λ i. c.args.out.now.items ++ ended (answer (sorted_rows (emitted_rows (c.as_slice-in-Ok-map_all.ensures.value i) (emitted_by plan.place (c.as_slice-in-Ok-map_all-2.ensures i))))))))
     c.append_rows.ensures.ok)
     (
@@ -82,9 +86,9 @@ returns-in-Ok-map_all g c = viewed c.requires.open (reads_then c.in-Ok.ensures.r
     let known = known_at languages before name plan.id plan.design plan.place path documents m x y docs c.as_slice.ensures.value at.documents c.plan.ensures.reads.disk c.in-Ok.ensures.known.1
     (c.in-Ok.ensures.plan history) (c.in-Ok-load_mapped.ensures.mapped history) in
     ran_out g.C.Servers.functions g.C.Servers.honest languages before name plan.id plan.design plan.place path c.in-Ok.ensures.within m.ids.items documents
-    (g.C.Servers.may_follow c.map_all.new.servers) (g.C.Servers.faults c.args.servers.now) (g.C.Servers.faults c.map_all.new.servers) c.map_all.new.self at.child.counts c.map_all.ensures.ends.later c.args.self.now.pool.width at.child.width c.map_all.ensures.ends.keeps.width
+    (g.C.Servers.may_follow c.map_all.new.servers) (g.C.Servers.faults c.args.servers.now) (g.C.Servers.faults c.map_all.new.servers) c.map_all.new.self at.child.counts c.map_all.ensures.ends.later c.args.self.now.pool at.child.width c.map_all.ensures.ends.keeps.width at.child.started
     x z docs (at_none docs x z (told_none_then x y z c.plan.ensures.reads.disk c.load_mapped.ensures.reads.disk) history at.documents) known c.in-Ok-map_all.lists halt
-    (c.in-Ok-map_all.ensures.went path before.calls at.child.follows c.in-Ok.ensures.known.1 at.child.child) memory)
+    (c.in-Ok-map_all.ensures.went path before.calls at.child.follows c.in-Ok.ensures.known.1 at.child.child) (λ none. ap (λ (p : Pool). p.started) (c.map_all.ensures.idle none).2) memory)
     c.append_rows.ensures.memory)
     c.map_all.ensures.ends.keeps c.map_all.ensures.ends.later
 
@@ -105,7 +109,7 @@ returns g c = viewed_halted {T = Unit {0}} c.requires.open tt
     let known = known_at languages before name plan.id plan.design plan.place path documents m x y docs c.as_slice.ensures.value at.documents c.plan.ensures.reads.disk c.in-Ok.ensures.known.1
     (c.in-Ok.ensures.plan history) (c.in-Ok-load_mapped.ensures.mapped history) in
     refused g.C.Servers.functions g.C.Servers.honest languages before name plan.id plan.design plan.place path c.in-Ok.ensures.within m.ids.items documents
-    (g.C.Servers.may_follow c.map_all.new.servers) (g.C.Servers.faults c.args.servers.now) (g.C.Servers.faults c.map_all.new.servers) c.map_all.new.self at.child.counts c.map_all.ensures.ends.later c.args.self.now.pool.width at.child.width c.map_all.ensures.ends.keeps.width
+    (g.C.Servers.may_follow c.map_all.new.servers) (g.C.Servers.faults c.args.servers.now) (g.C.Servers.faults c.map_all.new.servers) c.map_all.new.self at.child.counts c.map_all.ensures.ends.later c.args.self.now.pool at.child.width c.map_all.ensures.ends.keeps.width at.child.started
     x z docs (at_none docs x z (told_none_then x y z c.plan.ensures.reads.disk c.load_mapped.ensures.reads.disk) history at.documents) known c.in-Err-map_all.fault c.halt_of.result
-    (c.in-Err-map_all.ensures.went path before.calls at.child.follows c.in-Ok.ensures.known.1 at.child.child) (λ is. c.in-Err-map_all.ensures.ends.twice (ap Err is)) c.halt_of.ensures)
+    (c.in-Err-map_all.ensures.went path before.calls at.child.follows c.in-Ok.ensures.known.1 at.child.child) (λ none. no_ok _ _ (sym c.in-Err-map_all.is ∙ (c.map_all.ensures.idle none).0)) (λ is. c.in-Err-map_all.ensures.ends.twice (ap Err is)) c.halt_of.ensures)
     (λ fault is other. absurd (met_no_fault c.in-Ok.plan.id c.in-Err-map_all.fault fault (sym c.halt_of.ensures ∙ is) other)) c.map_all.ensures.ends.keeps c.map_all.ensures.ends.later
