@@ -10,7 +10,7 @@ use Rattle.child_pool.specs.declared.pool_fault.PoolFault.{PoolFault}
 use Rattle.child_pool.specs.declared.pool_fault.PoolFault.TheVariants.{NoMemory}
 use Rattle.child_pool.specs.Histories.{Went}
 use Rattle.child_pool.specs.Jobs.{Job}
-use Rattle.child_pool.specs.Mapping.{HasMapped}
+use Rattle.child_pool.specs.Mapping.{AreParts, HasMapped}
 use Rattle.child_pool.specs.Pools.{AreRowsOf, HasMappedEach}
 use Rattle.child_pool.specs.Refused.{Refused}
 use Rattle.child_pool.specs.Sessions.{HasTold, IsThere}
@@ -40,13 +40,14 @@ module _ (functions : List ℕ → Functions) (honest : List ℕ → Type 0) (jo
   -- ---- rows
 
   pub no_rows : AreRowsOf functions honest job.path job.sources [] []
-  no_rows = record { each = refl; all = tt; right = λ is_honest few. refl }
+  no_rows = record { each = refl; all = tt; parts = tt; right = λ is_honest few. refl }
 
   rows_more : (documents : List (List (List ℕ × Json))) (document : List (List ℕ × Json)) (lists : List (List (List (Json × Json)))) (rows : List (List (Json × Json))) (P : List Call → Type 0) (added now : List Call)
       → AreRowsOf functions honest job.path job.sources documents lists → HasMapped functions honest job 0 document P rows added now
       → AreRowsOf functions honest job.path job.sources (documents ++ document ∷ []) (lists ++ rows ∷ [])
   rows_more documents document lists rows P added now are h = record {
     each = length-append lists (rows ∷ []) ∙ ap (λ n. n + 1) are.each ∙ sym (length-append documents (document ∷ []));
+    parts = all_more AreParts lists rows are.parts h.parts;
     all = all_more (λ (r : List (List (Json × Json))). length r ≡ length job.sources) lists rows are.all h.each;
     right = λ is_honest few.
         let f = rows_of (functions job.path) job.sources in

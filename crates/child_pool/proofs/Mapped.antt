@@ -28,7 +28,7 @@ use Rattle.child_pool.specs.Refused.{TryRefused}
 use Rattle.child_pool.specs.Stages.{AfterStages, anew}
 use Rattle.child_pool.specs.Tries.{HasFailedIn, IsTriedAgain, Prompt}
 use Rattle.child_pool.specs.Causes.{kind_of}
-use Rattle.child_pool.specs.Mapping.{AfterAnswer, AfterMap, AreHonestRows, HasMapped}
+use Rattle.child_pool.specs.Mapping.{AfterAnswer, AfterMap, AreHonestRows, AreParts, HasMapped}
 use Rattle.child_pool.specs.Outcomes.{AfterPrompt, Replied}
 use Rattle.child_pool.specs.Pools.{rows_said}
 use Rattle.child_pool.specs.Talk.{AreTurns, Due, asks}
@@ -147,6 +147,11 @@ module _ (functions : List ℕ → Functions) (honest : List ℕ → Type 0) whe
         let found = rows_reply (length sources) r.line said (no_log_said functions honest path line slot sources said added now r) reads in
         ap (λ (saying : Reply). length (rows_said saying)) found.1 ∙ found.2
 
+    pub parts_counted : AreParts (rows_said said)
+    parts_counted =
+        let found = rows_reply (length sources) r.line said (no_log_said functions honest path line slot sources said added now r) reads in
+        subst (λ (saying : Reply). AreParts (rows_said saying)) (sym found.1) found.3
+
     pub mapped_turns : line ≡ command_line (MapDoc document) → AreTurns (asks slot (MapDoc document) (length sources)) (course added)
     mapped_turns spelled =
         let found = rows_reply (length sources) r.line said (no_log_said functions honest path line slot sources said added now r) reads in
@@ -171,6 +176,7 @@ module _ (functions : List ℕ → Functions) (honest : List ℕ → Type 0) whe
           tried = mapped_turns job.path job.sources line document slot said w.added w.now w.holds is spelled;
           right = honest_rows job.path job.sources line document slot said w.added w.now w.holds is mappable;
           each = rows_counted job.path job.sources line document slot said w.added w.now w.holds is;
+          parts = parts_counted job.path job.sources line document slot said w.added w.now w.holds is;
         })
 
     -- a first attempt that gave rows, or was refused
@@ -178,7 +184,7 @@ module _ (functions : List ℕ → Functions) (honest : List ℕ → Type 0) whe
         → Went follow job slot calls (AfterAnswer functions honest job slot document prompt.once result calls) → Went follow job slot calls (AfterMap functions honest job slot document prompt rose last calls)
     first_rows document prompt rose result (Ok rows) e mine other w =
         let v : Went follow job slot calls (AfterAnswer functions honest job slot document prompt.once (Ok (Some rows)) calls) = subst (λ (r : Result (Option RowLists) PoolFault). Went follow job slot calls (AfterAnswer functions honest job slot document prompt.once r calls)) e w in
-        Went-map v (AfterMap functions honest job slot document prompt rose (Ok rows) calls) (record { told = v.holds.told; tried = inl v.holds.tried; right = v.holds.right; each = v.holds.each })
+        Went-map v (AfterMap functions honest job slot document prompt rose (Ok rows) calls) (record { told = v.holds.told; tried = inl v.holds.tried; right = v.holds.right; each = v.holds.each; parts = v.holds.parts })
     first_rows document prompt rose result (Err f) e mine other w =
         let v : Went follow job slot calls (AfterAnswer functions honest job slot document prompt.once (Err f) calls) = subst (λ (r : Result (Option RowLists) PoolFault). Went follow job slot calls (AfterAnswer functions honest job slot document prompt.once r calls)) e w in
         Went-map v (AfterMap functions honest job slot document prompt rose (Err f) calls) (refused_once functions honest job slot prompt rose f calls v.added mine (λ is. other (e ∙ ap Err is)) v.holds)
@@ -217,12 +223,13 @@ module _ (functions : List ℕ → Functions) (honest : List ℕ → Type 0) whe
         → Went third job slot calls (AfterMap functions honest job slot document (document_prompt slot job.sources document) rose last calls)
     once_more (Ok (Some rows)) last e other v =
         let x = Went-then u v (λ added now. HasMapped functions honest job slot document (λ calls. AreTurns (again_in slot job document) (course calls)) rows added now)
-        (record { told = v.holds.told; tried = turns_then (fresh_in slot job) (once_in slot job document) u.added v.added u.holds.1 v.holds.tried; right = v.holds.right; each = v.holds.each }) in
+        (record { told = v.holds.told; tried = turns_then (fresh_in slot job) (once_in slot job document) u.added v.added u.holds.1 v.holds.tried; right = v.holds.right; each = v.holds.each; parts = v.holds.parts }) in
         subst (MapsTo third job slot document rose calls) e (Went-then w x (AfterMap functions honest job slot document (prompt_in slot job document) rose (Ok rows) calls) (record {
           told = x.holds.told;
           tried = inr (counted, again functions honest job (prompt_in slot job document) (λ calls. AreTurns (again_in slot job document) (course calls)) w x w.holds x.holds.tried);
           right = x.holds.right;
           each = x.holds.each;
+          parts = x.holds.parts;
         }))
     once_more (Ok None) last e other v =
         let x = Went-then u v (λ added now. HasFailedIn (again_in slot job document) added) (failed_later (fresh_in slot job) (once_in slot job document) u.added v.added u.holds.1 v.holds) in

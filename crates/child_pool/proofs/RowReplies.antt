@@ -1,9 +1,9 @@
 -- The rows of a reply, and of an honest answer.
-use Rattle.std.proofs.Common.{◌≡◌, ◌≢◌, ℕ, List, [], ◌∷◌, length, map, Bool, true, false, cond, nat_eq, Option, Some, None, Result, Ok, Err, option_map, option_and_then, refl, ap, ◌∙◌, inl, inr, eq-eqb}
+use Rattle.std.proofs.Common.{◌≡◌, ◌≢◌, ℕ, List, [], ◌∷◌, length, map, Bool, true, false, ◌&&◌, cond, nat_eq, nat_le, Option, Some, None, Result, Ok, Err, option_map, option_and_then, refl, ap, ◌∙◌, subst, inl, inr, eq-eqb}
 use Rattle.std.specs.List.{AllByRecursion}
-use Rattle.std.proofs.lemmas.Bool.{eqb-true, le-leb}
-use Rattle.json_terms.specs.Json.{Json, items_of, depth}
-use Rattle.json_terms.specs.Kinds.{items_in}
+use Rattle.std.proofs.lemmas.Bool.{and_parts, eqb-true, le-leb, leb-true}
+use Rattle.json_terms.specs.Json.{Json, Items, no_items, item, items_of, depth}
+use Rattle.json_terms.specs.Kinds.{items_in, two_in}
 use Rattle.json_terms.specs.Reading.{reading}
 use Rattle.json_terms.specs.Text.{text_of}
 use Rattle.json_terms.specs.declared.fault.TermFault.{TermFault}
@@ -14,29 +14,75 @@ use Rattle.view_ports.proofs.Fields.{lists_are_no_log}
 use Rattle.query_protocol.specs.declared.reply.Kind.TheVariants as kind
 use Rattle.query_protocol.specs.declared.reply.Reply.{Reply}
 use Rattle.query_protocol.specs.declared.reply.Reply.TheVariants as reply
-use Rattle.query_protocol.specs.Replies.{reply_of, reply_read, reply_in, answer_in, counted, is_within_bounds, lists_in, lists_of_items, row_in, rows_of_items}
+use Rattle.query_protocol.specs.Replies.{reply_of, reply_read, reply_in, answer_in, counted, is_within_bounds, lists_in, lists_of_items, row_in, row_within, rows_in, rows_of_items}
+use Rattle.child_pool.specs.Mapping.{AreParts, IsPart}
 use Rattle.child_pool.proofs.Replies.{chosen}
 
 -- ---- what a reply with rows can be
 
+-- a term within the bounds
+part_within : (t : Json) → is_within_bounds t ≡ true → IsPart t
+part_within t is =
+    let both = and_parts (nat_le (length (text_of t)) part_limit) (nat_le (depth t) part_depth) is in
+    record { size = leb-true (length (text_of t)) part_limit both.0; nested = leb-true (depth t) part_depth both.1 }
+
+abbrev IsRowOfParts : Json × Json → Type 0
+IsRowOfParts row = IsPart row.0 × IsPart row.1
+
+row_chosen : (key value : Json) (b : Bool) → (is_within_bounds key && is_within_bounds value) ≡ b → (row : Json × Json) → cond b (Some (key, value)) None ≡ Some row → IsRowOfParts row
+row_chosen key value true is row e =
+    let both = and_parts (is_within_bounds key) (is_within_bounds value) is in
+    let same : (key, value) ≡ row = cc in
+    subst IsRowOfParts same (part_within key both.0, part_within value both.1)
+row_chosen key value false is row e = absurd cc
+
+row_parts : (o : Option (Json × Json)) (row : Json × Json) → row_within o ≡ Some row → IsRowOfParts row
+row_parts None row e = absurd cc
+row_parts (Some (key, value)) row e = row_chosen key value (is_within_bounds key && is_within_bounds value) refl row e
+
+-- one more of a list that was read
+one_parts : {X : Type 0} (P : X → Type 0) (o : Option X) (others : Option (List X)) (xs : List X) → ((x : X) → o ≡ Some x → P x) → ((ys : List X) → others ≡ Some ys → AllByRecursion P ys)
+    → option_and_then (λ x. option_map (λ ys. x ∷ ys) others) o ≡ Some xs → AllByRecursion P xs
+one_parts P None others xs one rest e = absurd cc
+one_parts P (Some x) None xs one rest e = absurd cc
+one_parts P (Some x) (Some ys) xs one rest e = let same : x ∷ ys ≡ xs = cc in subst (AllByRecursion P) same (one x refl, rest ys refl)
+
+rows_parts : (ts : Items) (rows : List (Json × Json)) → rows_of_items ts ≡ Some rows → AllByRecursion IsRowOfParts rows
+rows_parts no_items rows e = let same : [] ≡ rows = cc in subst (AllByRecursion IsRowOfParts) same tt
+rows_parts (item t ts) rows e =
+    one_parts IsRowOfParts (row_in t) (rows_of_items ts) rows (λ row is. row_parts (option_and_then two_in (items_in t)) row is) (rows_parts ts) e
+
+rows_within : (o : Option Items) (rows : List (Json × Json)) → option_and_then rows_of_items o ≡ Some rows → AllByRecursion IsRowOfParts rows
+rows_within None rows e = absurd cc
+rows_within (Some ts) rows e = rows_parts ts rows e
+
+lists_parts : (ts : Items) (lists : List (List (Json × Json))) → lists_of_items ts ≡ Some lists → AreParts lists
+lists_parts no_items lists e = let same : [] ≡ lists = cc in subst AreParts same tt
+lists_parts (item t ts) lists e =
+    one_parts (AllByRecursion IsRowOfParts) (rows_in t) (lists_of_items ts) lists (λ rows is. rows_within (items_in t) rows is) (lists_parts ts) e
+
+lists_within : (o : Option Items) (lists : List (List (Json × Json))) → option_and_then lists_of_items o ≡ Some lists → AreParts lists
+lists_within None lists e = absurd cc
+lists_within (Some ts) lists e = lists_parts ts lists e
+
 -- rows as many as are counted
 abbrev pub AreCounted : ℕ → Reply → Type 0
-AreCounted count said = (rows : List (List (Json × Json))) × (said ≡ reply.Rows rows) × (length rows ≡ count)
+AreCounted count said = (rows : List (List (Json × Json))) × (said ≡ reply.Rows rows) × (length rows ≡ count) × AreParts rows
 
-counted_rows : (count : ℕ) (rows : List (List (Json × Json))) (b : Bool) → nat_eq (length rows) count ≡ b → (said : Reply) → option_map reply.Rows (cond b (Some rows) None) ≡ Some said → AreCounted count said
-counted_rows count rows true is said e = let same : said ≡ reply.Rows rows = cc in (rows, same, eqb-true (length rows) count is)
-counted_rows count rows false is said e = absurd cc
+counted_rows : (count : ℕ) (rows : List (List (Json × Json))) → AreParts rows → (b : Bool) → nat_eq (length rows) count ≡ b → (said : Reply) → option_map reply.Rows (cond b (Some rows) None) ≡ Some said → AreCounted count said
+counted_rows count rows parts true is said e = let same : said ≡ reply.Rows rows = cc in (rows, same, eqb-true (length rows) count is, parts)
+counted_rows count rows parts false is said e = absurd cc
 
-mapped_rows : (count : ℕ) (o : Option (List (List (Json × Json)))) (said : Reply) → option_map reply.Rows (option_and_then (counted count) o) ≡ Some said → AreCounted count said
-mapped_rows count None said e = absurd cc
-mapped_rows count (Some rows) said e = counted_rows count rows (nat_eq (length rows) count) refl said e
+mapped_rows : (count : ℕ) (o : Option (List (List (Json × Json)))) → ((rows : List (List (Json × Json))) → o ≡ Some rows → AreParts rows) → (said : Reply) → option_map reply.Rows (option_and_then (counted count) o) ≡ Some said → AreCounted count said
+mapped_rows count None parts said e = absurd cc
+mapped_rows count (Some rows) parts said e = counted_rows count rows (parts rows refl) (nat_eq (length rows) count) refl said e
 
 rows_read : (count : ℕ) (short : Bool) (r : Result Json TermFault) (said : Reply) → said ≢ reply.Log → reply_read (kind.Rows count) short r ≡ Some said → AreCounted count said
 rows_read count short (Err fault) said other e = absurd cc
 rows_read count short (Ok t) said other e = elim (chosen (is_log_term t) (Some reply.Log) (cond short (answer_in (kind.Rows count) t) None) (Some said) e) [
   | inl log ↦ let f : Some reply.Log ≡ Some said = log.1 in let same : said ≡ reply.Log = cc in absurd (other same)
   | inr answer ↦ elim (chosen short (answer_in (kind.Rows count) t) None (Some said) answer.1) [
-    | inl proper ↦ mapped_rows count (option_and_then lists_of_items (items_in t)) said proper.1
+    | inl proper ↦ mapped_rows count (option_and_then lists_of_items (items_in t)) (lists_within (items_in t)) said proper.1
     | inr long ↦ let f : None ≡ Some said = long.1 in absurd cc
   ]
 ]

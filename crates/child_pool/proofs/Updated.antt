@@ -10,6 +10,7 @@ use Rattle.child_pool.specs.declared.pool.Pool.{Pool}
 use Rattle.child_pool.specs.declared.pool_fault.PoolFault.{PoolFault}
 use Rattle.child_pool.specs.Histories.{WentIn, talk}
 use Rattle.child_pool.specs.Jobs.{IsAmong, Job}
+use Rattle.child_pool.specs.Mapping.{AreParts}
 use Rattle.child_pool.specs.Pools.{AfterBatch, AfterPreparing, AreKept, AreStopped, HasGivenUp, HasItsChildren, IsKept}
 use Rattle.child_pool.specs.Prompts.{document_prompts, slots_prompts, update_prompts}
 use Rattle.child_pool.specs.Refused.{Refused}
@@ -52,6 +53,7 @@ module _ (functions : List ℕ → Functions) (honest : List ℕ → Type 0) (jo
     record {
       rows = record {
         each = ap (λ (l : DocRowLists). length l) empty ∙ sym (ap (λ (d : List (List (List ℕ × Json))). length d) none);
+        parts = subst (λ (l : DocRowLists). AllByRecursion AreParts l) (sym empty) tt;
         all = subst (λ (l : DocRowLists). AllByRecursion (λ rows. length rows ≡ length job.sources) l) (sym empty) tt;
         right = λ is_honest few. empty ∙ sym (ap (map (rows_of (functions job.path) job.sources)) none);
       };

@@ -1,11 +1,13 @@
 -- The rows of a document through a child.
 use Rattle.std.specs.Prelude.{◌≡◌, ◌≤◌, ℕ, List, [], ◌∷◌, length, Option, Some, None, Result, Ok, Err}
-use Rattle.json_terms.specs.Json.{Json}
+use Rattle.std.specs.List.{AllByRecursion}
+use Rattle.json_terms.specs.Json.{Json, depth}
+use Rattle.json_terms.specs.Text.{text_of}
 use Rattle.json_terms.specs.declared.rows.RowLists.{RowLists}
 use Rattle.view_ports.specs.declared.command.Command.TheVariants.{MapDoc}
 use Rattle.view_ports.specs.declared.servers.Servers.{Ghosts as Servers}
 use Rattle.view_ports.specs.Calls.{Call}
-use Rattle.view_ports.specs.Functions.{Functions, source_limit}
+use Rattle.view_ports.specs.Functions.{Functions, part_depth, part_limit, source_limit}
 use Rattle.view_ports.specs.Honest.{rows_of}
 use Rattle.child_pool.specs.declared.pool_fault.PoolFault.{PoolFault}
 use Rattle.child_pool.specs.Ends.{HasRisen}
@@ -16,6 +18,15 @@ use Rattle.child_pool.specs.Sessions.{HasTold}
 use Rattle.child_pool.specs.Prompts.{document_prompt}
 use Rattle.child_pool.specs.Talk.{AreTurns, Due, asks}
 use Rattle.child_pool.specs.Tries.{HasFailedIn, IsAnswered, Prompt}
+
+-- on any path a key or a value is as long and as deep at most as a reply may hold it
+pub record IsPart (t : Json) : Type 0 where
+  pub size : length (text_of t) ≤ part_limit
+  pub nested : depth t ≤ part_depth
+
+-- the rows of each source, of keys and values like that
+abbrev pub AreParts : List (List (Json × Json)) → Type 0
+AreParts rows = AllByRecursion (AllByRecursion (λ row. IsPart row.0 × IsPart row.1)) rows
 
 module _ (functions : List ℕ → Functions) (honest : List ℕ → Type 0) where
   -- on an honest path these are the rows of the path's map functions
@@ -29,6 +40,7 @@ module _ (functions : List ℕ → Functions) (honest : List ℕ → Type 0) whe
     pub tried : P added
     pub right : AreHonestRows job.path job.sources document rows
     pub each : length rows ≡ length job.sources
+    pub parts : AreParts rows
 
   abbrev pub AfterMap : Job → ℕ → List (List ℕ × Json) → Prompt → Type 0 → Result RowLists PoolFault → List Call → List Call → List Call → Type 0
   AfterMap job slot document prompt rose (Ok rows) before added now = HasMapped job slot document (IsAnswered rose prompt) rows added now

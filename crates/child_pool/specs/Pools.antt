@@ -16,6 +16,7 @@ use Rattle.child_pool.specs.Histories.{AllStops}
 use Rattle.child_pool.specs.Jobs.{Job}
 use Rattle.child_pool.specs.Refused.{Refused, RefusedIn}
 use Rattle.child_pool.specs.Sessions.{HasTold, IsThere}
+use Rattle.child_pool.specs.Mapping.{AreParts}
 use Rattle.child_pool.specs.Prompts.{document_prompts, slots_prompts}
 use Rattle.child_pool.specs.Talk.{Due}
 use Rattle.child_pool.specs.Tries.{AllAnswered, Prompt}
@@ -133,10 +134,12 @@ module _ (functions : List ℕ → Functions) (honest : List ℕ → Type 0) whe
   AfterPreparing job old slots rose pool (Err f) before added now =
       ForKept old job.path (λ kept. HasGivenUp job old.width (slots_prompts job.sources kept slots) rose pool f before added now)
 
-  -- for each document a list of rows for each source, which on an honest path are those of the path's map functions
+  -- for each document a list of rows for each source, none too long or too deep, which on an honest path are those of the path's map
+  -- functions
   pub record AreRowsOf (path : List ℕ) (sources : List (List ℕ)) (documents : List (List (List ℕ × Json))) (lists : List (List (List (Json × Json)))) : Type 0 where
     pub each : length lists ≡ length documents
     pub all : AllByRecursion (λ rows. length rows ≡ length sources) lists
+    pub parts : AllByRecursion AreParts lists
     pub right : honest path → length sources ≤ source_limit → lists ≡ map (rows_of (functions path) sources) documents
 
   -- documents were mapped one after another, and the children of the first slots are ready still

@@ -122,7 +122,8 @@ const NEVER: u64 = u64::MAX;
 /// Two calls that fail, and what the pool answers.
 ///
 /// The calls of the first attempts: the start 0; `reset` 1 and 2; `add_fun` 3 and 4; `map_doc` 5 and 6. A second attempt
-/// starts a child anew: where 6 failed, its calls are 7 to 13, and a call 14 isn't made.
+/// starts a child anew: where 6 failed, its calls are 7 to 13, and a call 14 isn't made. Where two prompts fail once each, both are
+/// made good: where 1 failed, the calls of its second attempt are 2 to 4, and then `add_fun` is 5 and 6, and `map_doc` 7 and 8.
 const FAILING: &[([u64; 2], &str)] = &[
     ([0, NEVER], ROWS),
     ([1, NEVER], ROWS),
@@ -145,6 +146,9 @@ const FAILING: &[([u64; 2], &str)] = &[
     ([6, 12], FAULT),
     ([6, 13], FAULT),
     ([6, 14], ROWS),
+    ([1, 5], ROWS),
+    ([1, 7], ROWS),
+    ([2, 10], ROWS),
     ([NEVER, NEVER], ROWS),
 ];
 
