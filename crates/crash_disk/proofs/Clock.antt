@@ -1,5 +1,5 @@
 -- The moments of a disk by the log that made it, and what a crash within a call finds.
-use Rattle.std.proofs.Common.{◌≡◌, inl, inr, ℕ, ◌+◌, ◌<◌, ◌≤◌, List, [], ◌∷◌, zero, suc, true, false, length, get_or, take, refl, sym, ap, ◌∙◌, subst, arith}
+use Rattle.std.proofs.Common.{◌≡◌, inl, inr, ℕ, ◌+◌, ◌<◌, ◌≤◌, List, [], ◌∷◌, ◌++◌, zero, suc, true, false, length, get_or, take, refl, sym, ap, ◌∙◌, subst, arith}
 use Rattle.std.proofs.lemmas.Bool.{cases_Bool, cond-true, cond-false, cond_below, cond_above}
 use Rattle.std.proofs.lemmas.List.{take_more}
 use Rattle.view_ports.specs.declared.file_name.FileName.{FileName}
@@ -10,11 +10,12 @@ use Rattle.crash_disk.specs.declared.did.Change.TheVariants.{Wrote, Grew, Emptie
 use Rattle.crash_disk.specs.declared.did.Did.{Did}
 use Rattle.crash_disk.specs.declared.did.Did.TheVariants.{Passed, Changed}
 use Rattle.crash_disk.specs.Names.{is_same}
-use Rattle.crash_disk.specs.Chosen.{IsChosen, IsSound}
+use Rattle.crash_disk.specs.Chosen.{IsChosen, IsOverwritten, IsSound}
 use Rattle.crash_disk.specs.Moments.{stepped, after, noted, disk_after, disk_at, AllFit}
-use Rattle.crash_disk.specs.Torn.{moment, moment_of, IsTorn}
+use Rattle.crash_disk.specs.Torn.{moment, moment_of, written_within, IsTorn}
 use Rattle.crash_disk.specs.Within.{is_sync, within, files_before}
 use Rattle.crash_disk.proofs.Logs.{disk_push}
+use Rattle.crash_disk.proofs.Overwriting.{overwritten_after, overwritten_before}
 use Rattle.crash_disk.proofs.Sound.{call_sound, fit_at, fit_take, log_sound}
 
 abbrev Files : Type 0
@@ -89,10 +90,21 @@ after_seen (Changed at change) files name is =
       | inr other ↦ ap (λ (f : File). f.seen) (cond-false (is_same at name) (stepped change (files name)) (files name) other)
     ]
 
+abbrev written_of : Files → Files → FileName → List (ℕ × ℕ)
+written_of before behind name = (before name).written ++ (behind name).written
+
+-- the same of the moments that these files are
+shown_of : (disk : Disk FileName) (call : ℕ) (behind before : Files) (image : FileName → List ℕ) → moment disk call ≡ before → moment disk (call + 1) ≡ behind → (name : FileName)
+    → IsOverwritten (written_of before behind name) (behind name).seen (image name) → IsOverwritten (written_within disk call name) (moment disk (call + 1) name).seen (image name)
+shown_of disk call behind before image first second name is =
+    subst (λ (fs : Files). IsOverwritten (written_of fs (moment disk (call + 1)) name) (moment disk (call + 1) name).seen (image name)) (sym first)
+    (subst (λ (fs : Files). IsOverwritten (written_of before fs name) (fs name).seen (image name)) (sym second) is)
+
 -- what is chosen of the files within a call is what a crash within it may leave
 torn_of : (disk : Disk FileName) (call choice : ℕ) (did : Did) (files : Files) (image : FileName → List ℕ)
     → moment disk call ≡ files → moment disk (call + 1) ≡ after did files → ((name : FileName) → IsChosen choice (within did files name) (image name)) → IsTorn disk call choice image
 torn_of disk call choice did files image before behind chosen =
+    let shown = shown_of disk call (after did files) files image in
     elim (cases_Bool (is_sync did)) [
       | inl is ↦
           let here : (name : FileName) → IsChosen choice (moment disk call name) (image name) =
@@ -101,7 +113,9 @@ torn_of disk call choice did files image before behind chosen =
             stays = inl (λ name. (here name).stays);
             synced_alone = λ zero name. (here name).synced_alone zero;
             all = λ one name. (here name).all one ∙ ap (λ (fs : Files). (fs name).seen) before ∙ sym (after_seen did files name is) ∙ ap (λ (fs : Files). (fs name).seen) (sym behind);
-            overwritten = λ two. inl (λ name. (here name).overwritten two);
+            overwritten = λ two name. shown before behind name
+                (subst (λ (bytes : List ℕ). IsOverwritten (written_of files (after did files) name) bytes (image name)) (sym (after_seen did files name is))
+                (overwritten_before did files name (files name).seen (image name) is (subst (λ (fs : Files). IsOverwritten (fs name).written (fs name).seen (image name)) before ((here name).overwritten two))));
           }
       | inr not ↦
           let there : (name : FileName) → IsChosen choice (moment disk (call + 1) name) (image name) =
@@ -110,7 +124,8 @@ torn_of disk call choice did files image before behind chosen =
             stays = inr (λ name. (there name).stays);
             synced_alone = λ zero name. (there name).synced_alone zero ∙ ap (λ (fs : Files). (fs name).durable) behind ∙ after_durable did files name not ∙ ap (λ (fs : Files). (fs name).durable) (sym before);
             all = λ one name. (there name).all one;
-            overwritten = λ two. inr (λ name. (there name).overwritten two);
+            overwritten = λ two name. shown before behind name
+                (overwritten_after did files name (after did files name).seen (image name) not (subst (λ (fs : Files). IsOverwritten (fs name).written (fs name).seen (image name)) behind ((there name).overwritten two)));
           }
     ]
 

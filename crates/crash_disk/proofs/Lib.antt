@@ -6,4 +6,5 @@ pub mod Results
 pub mod Patches
 pub mod PendingLists
 pub mod Sound
+pub mod Overwriting
 pub mod Clock

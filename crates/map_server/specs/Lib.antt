@@ -7,6 +7,7 @@ pub mod PickBounds
 pub mod PickReduces
 pub mod Pick
 pub mod Replies
+pub mod Honesty
 pub mod Changes
 pub mod Serving
 pub mod Laws

@@ -2,6 +2,7 @@
 
 ghost use Rattle.std.specs.Prelude.{◌≡◌, ◌++◌, [], IfOk, OnErr, OnOk};
 ghost use Rattle.view_ports.specs.Commands.{command};
+ghost use Rattle.map_server.specs.Honesty.{AnswersHonestly};
 ghost use Rattle.map_server.specs.Replies.{answer_text, sources_after_line};
 
 use crate::change::Reply;
@@ -38,10 +39,13 @@ impl Session {
         })
     }
 
-    /// Answers a line: appends the text of the answer to `out`, without a newline. A line that is no proper command, an
+    /// Answers a line as an honest query server of the language: appends the text of the answer to `out`, without a newline,
+    /// and nothing besides. A line that is no proper command, an
     /// empty one too, and one that is longer than 134,217,728 bytes are answered with `["error","bad_line","line"]`. The
     /// one error is want of memory: the session and `out` are then as they were.
     pub fn step(&mut self, alloc: Global, line: &[u8], out: &mut Vec<u8>) -> Result<(), NoMemory>
+        ensures honest { OnOk result (AnswersHonestly self.old line.now
+            (answer_text self.old line.now) self.new) }
         ensures answer { OnOk result (out.new.items ≡ out.old.items ++ answer_text self.old line.now) }
         ensures sources { OnOk result (self.new ≡ sources_after_line self.old line.now) }
         ensures same { OnErr result (self.new ≡ self.old) }
