@@ -1,6 +1,7 @@
 -- A view, as its servers answered it.
 use Rattle.std.specs.Prelude.{slice_index_or}
 use Rattle.std.proofs.Common.{◌≡◌, ◌≢◌, ◌⊎◌, ◌<◌, ◌≤◌, ◌∙◌, ◌++◌, ℕ, zero, suc, max, min, List, [], ◌∷◌, length, map, Option, None, Some, Result, Ok, Err, refl, sym, ap, subst, inl, inr, arith}
+use Rattle.std.specs.List.{AllByRecursion}
 use Rattle.std.proofs.lemmas.List.{length-map}
 use Rattle.json_terms.specs.Json.{Json}
 use Rattle.view_ports.specs.Calls.{Call}
@@ -23,6 +24,7 @@ use Rattle.child_pool.specs.declared.pool_fault.PoolFault.TheVariants as fault
 use Rattle.child_pool.specs.Histories.{WentIn, talk}
 use Rattle.child_pool.specs.Jobs.{Job, job_of}
 use Rattle.child_pool.specs.Languages.{path_in}
+use Rattle.child_pool.specs.Mapping.{AreParts, IsPart}
 use Rattle.child_pool.specs.Pools.{HasItsChildren, IsKeptOf, kept_of}
 use Rattle.child_pool.specs.Prompts.{update_prompts}
 use Rattle.child_pool.specs.Talk.{AreCutShortIn, AreTurns, talk_of}
@@ -66,6 +68,16 @@ emitted_are : (functions : Functions) (sources : List (List ℕ)) (place : ℕ) 
     → emitted_by place (map (rows_of functions sources) documents) ≡ map (functions.map_of (slice_index_or sources place [])) documents
 emitted_are functions sources place [] within = refl
 emitted_are functions sources place (d ∷ documents) within = λ i. emitted_of_source functions sources place d within i ∷ emitted_are functions sources place documents within i
+
+-- none of them is longer or deeper than a reply may hold
+parts_at : (rows : List (List (Json × Json))) (place : ℕ) → AreParts rows → AllByRecursion (λ row. IsPart row.0 × IsPart row.1) (slice_index_or rows place [])
+parts_at [] place parts = tt
+parts_at (r ∷ rows) zero parts = parts.0
+parts_at (r ∷ rows) (suc place) parts = parts_at rows place parts.1
+
+emitted_parts : (place : ℕ) (lists : List (List (List (Json × Json)))) → AllByRecursion AreParts lists → AreParts (emitted_by place lists)
+emitted_parts place [] parts = tt
+emitted_parts place (rows ∷ lists) parts = (parts_at rows place parts.0, emitted_parts place lists parts.1)
 
 -- ---- what is known once the request is planned and the documents are read, where the folder tells its disk
 
@@ -123,6 +135,7 @@ module _ (functions : List ℕ → Functions) (honest : List ℕ → Type 0) (la
     emitted = emitted_by place lists;
     each = length-map lists (λ (emitted : List (List (Json × Json))). slice_index_or emitted place []) ∙ has.rows.each ∙ ap length known.documents_are
         ∙ length-map (mapped before.world) (λ (entry : List ℕ × Json). document_of entry.1);
+    parts = emitted_parts place lists has.rows.parts;
     right = λ h. ap (emitted_by place) (has.rows.right h (few known)) ∙ emitted_are (functions job.path) job.sources place documents there;
     compile = has.compile;
     prints = ap (λ is. answer (sorted_rows (emitted_rows is (emitted_by place lists)))) known.ids_are;

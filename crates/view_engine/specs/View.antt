@@ -12,6 +12,7 @@ use Rattle.child_pool.specs.Histories.{AllStops, talk}
 use Rattle.child_pool.specs.Honesty.{SomeSourceFails}
 use Rattle.child_pool.specs.Jobs.{Job}
 use Rattle.child_pool.specs.Languages.{path_in}
+use Rattle.child_pool.specs.Mapping.{AreParts}
 use Rattle.child_pool.specs.Outcomes.{IsCaused}
 use Rattle.child_pool.specs.Pools.{NoneIsLeft, kept_of}
 use Rattle.child_pool.specs.Prompts.{update_prompts}
@@ -100,11 +101,13 @@ fault_of (ServerReply line) = fault.BadReply line
 fault_of other = fault.NoMemory
 
 module _ (functions : List ℕ → Functions) (honest : List ℕ → Type 0) where
-  -- the rows of the view, sorted, are printed. There is a list of emissions for each document, which on an honest path is
-  -- that of the path's map function; and all sources of the design compile there, unless no document is mapped.
+  -- The rows of the view, sorted, are printed. There is a list of emissions for each document, none of a key or a value that is
+  -- longer or deeper than a reply may hold. On an honest path it is that of the path's map function, and all sources of the design
+  -- compile there, unless no document is mapped.
   pub record PrintsRows (job : Job) (source : List ℕ) (world : World) (reply : List ℕ) : Type 0 where
     pub emitted : List (List (Json × Json))
     pub each : length emitted ≡ length (mapped world)
+    pub parts : AreParts emitted
     pub right : honest job.path → emitted ≡ map ((functions job.path).map_of source) job.documents
     pub compile : honest job.path → job.documents ≢ [] → AllCompile (functions job.path) job.sources
     pub prints : reply ≡ answer (sorted_rows (emitted_rows (map (λ entry. entry.0) (mapped world)) emitted))
