@@ -74,10 +74,14 @@ module _ (functions : List ℕ → Functions) (honest : List ℕ → Type 0) (jo
       → WentIn follow job old.width calls (AfterTries functions honest job old rose old (Ok lists) calls)
   nothing_tried old rose lists none follows =
       let kept = some_kept old job.path old.started refl in
-      none_in follows (AfterTries functions honest job old rose old (Ok lists) calls) (kept.0, kept.1, record {
-        answered = subst (λ (prompts : List Prompt). AllAnswered rose prompts []) (sym (no_prompts old.width kept.0)) refl;
-        remembers = λ some. absurd (some none);
-      })
+      none_in follows (AfterTries functions honest job old rose old (Ok lists) calls) (
+        kept.0,
+        kept.1,
+        record {
+          answered = subst (λ (prompts : List Prompt). AllAnswered rose prompts []) (sym (no_prompts old.width kept.0)) refl;
+          remembers = λ some. absurd (some none);
+        },
+      )
     where
       no_prompts : (width kept : ℕ) → update_prompts job width kept ≡ []
       no_prompts width kept =

@@ -61,6 +61,7 @@ returns-in-Ok-clause-went g c = λ path calls follows known stands.
     let both = updated functions honest job c.args.self.now slots c.slots_for-slots.ensures (Rose x y) (Rose y z) (Rose x z) prepared c.map_batch.new.self c.map_batch.result first
     (Rose-wider x x y z (omega arith) late) (Rose-wider x y z z early (omega arith)) c.map_batch.ensures.remembers w v in
     map_in both (AfterUpdate functions honest job width (Rose x z) c.map_batch.new.self c.map_batch.result calls) both.holds.1
+
 pub returns-in-Ok-clause-tries : goal.returns-in-Ok-clause-tries
 returns-in-Ok-clause-tries g c = λ path calls follows known stands.
     let functions = g.C.Servers.functions in
@@ -90,6 +91,7 @@ returns-in-Ok-clause-tries g c = λ path calls follows known stands.
     let both = updated functions honest job c.args.self.now slots c.slots_for-slots.ensures (Rose x y) (Rose y z) (Rose x z) prepared c.map_batch.new.self c.map_batch.result first
     (Rose-wider x x y z (omega arith) late) (Rose-wider x y z z early (omega arith)) c.map_batch.ensures.remembers w v in
     map_in both (AfterTries functions honest job c.args.self.now (Rose x z) c.map_batch.new.self c.map_batch.result calls) both.holds.0
+
 pub returns-in-Err-clause-went : goal.returns-in-Err-clause-went
 returns-in-Err-clause-went g c = λ path calls follows known stands.
     let job = job_of path (map_sources c.args.design.now.views) c.args.documents.now in
@@ -103,4 +105,3 @@ returns-in-Err-clause-tries g c = λ path calls follows known stands.
     let rose = Rose (g.C.Servers.faults c.args.servers.now) (g.C.Servers.faults c.prepare.new.servers) in
     let both = refused_at_first g.C.Servers.functions g.C.Servers.honest job c.args.self.now c.slots_for-slots.result c.slots_for-slots.ensures rose c.prepare.new.self c.in-Err.fault (c.in-Err.ensures.went path c.args.documents.now calls follows known stands) in
     map_in both (AfterTries g.C.Servers.functions g.C.Servers.honest job c.args.self.now rose c.prepare.new.self (Err c.in-Err.fault) calls) both.holds.0
-
