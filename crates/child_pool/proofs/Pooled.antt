@@ -49,12 +49,18 @@ some_kept pool path (Some started) is = elim (cases_Bool (bytes_eq started.path 
   | inl same ↦
       let mine : started.path ≡ path = (bytes_eq-Decides started.path path).0 same in
       (started.count, inl (is ∙ ap (λ (p : List ℕ). Some (record { path = p; count = started.count })) mine))
-  | inr apart ↦ (0, inr (refl, λ other kept.
-      let both : Some started ≡ Some (record { path = path; count = other }) = sym is ∙ kept in
-      let one : started ≡ record { path = path; count = other } = cc in
-      let mine : started.path ≡ path = ap (λ (s : Started). s.path) one in
-      let equal : bytes_eq started.path path ≡ true = (bytes_eq-Decides started.path path).1 mine in
-      cc))
+  | inr apart ↦ (
+    0,
+    inr (
+      refl,
+      λ other kept.
+          let both : Some started ≡ Some (record { path = path; count = other }) = sym is ∙ kept in
+          let one : started ≡ record { path = path; count = other } = cc in
+          let mine : started.path ≡ path = ap (λ (s : Started). s.path) one in
+          let equal : bytes_eq started.path path ≡ true = (bytes_eq-Decides started.path path).1 mine in
+          cc,
+    ),
+  )
 ]
 
 -- children that are ready stand ready beside all that are remembered

@@ -149,15 +149,23 @@ cut_at : (width : ℕ) (fault : PoolFault) (rose : Type 0) (done left : List Pro
     → AreCutShortIn width (due_once (done ++ left)) (course (last ++ earlier)) ⊎ rose
 cut_at width fault rose done [] earlier last some below turns h =
     let all : due_once (done ++ []) ≡ due_once done ++ [] = ap due_once (append-nil done) ∙ sym (append-nil (due_once done)) in
-    inl (0, some, subst (λ (calls : List Call). AreCutShort 0 (due_once (done ++ [])) (course (calls ++ earlier))) (sym h.1)
-    (subst (λ (dues : List Due). AreCutShort 0 dues (course earlier)) (sym all) (cut_done 0 (due_once done) [] (course earlier) turns)))
+    inl (
+      0,
+      some,
+      subst (λ (calls : List Call). AreCutShort 0 (due_once (done ++ [])) (course (calls ++ earlier))) (sym h.1)
+          (subst (λ (dues : List Due). AreCutShort 0 dues (course earlier)) (sym all) (cut_done 0 (due_once done) [] (course earlier) turns)),
+    )
 cut_at width fault rose done (prompt ∷ left) earlier last some below turns h = elim (given_up fault rose prompt last h) [
   | inl counted ↦ inr counted
   | inr cut ↦ elim cut [
     | inl once ↦
         let all : due_once (done ++ prompt ∷ left) ≡ (due_once done ++ prompt.once) ++ due_once left = flat_map-append once_of done (prompt ∷ left) ∙ sym (append_assoc (due_once done) prompt.once (due_once left)) in
-        inl (prompt.slot, below.0, subst (λ (dues : List Due). AreCutShort prompt.slot dues (course (last ++ earlier))) (sym all)
-        (cut_wider prompt.slot (due_once done ++ prompt.once) (due_once left) (course (last ++ earlier)) (cut_later prompt.slot (due_once done) prompt.once earlier last turns once)))
+        inl (
+          prompt.slot,
+          below.0,
+          subst (λ (dues : List Due). AreCutShort prompt.slot dues (course (last ++ earlier))) (sym all)
+              (cut_wider prompt.slot (due_once done ++ prompt.once) (due_once left) (course (last ++ earlier)) (cut_later prompt.slot (due_once done) prompt.once earlier last turns once)),
+        )
     | inr again ↦ inr again.0
   ]
 ]

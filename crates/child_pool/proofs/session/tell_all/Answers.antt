@@ -48,7 +48,7 @@ loop-stage-preserved g c = (
       let late : b ≤ d = c.bring-in-loop-stage.ensures.ends.later in
       let w = c.loop-stage.invariant.1 documents calls follows told in
       let v = subst (λ (again : Bool). Went (g.C.Servers.may_follow c.bring-in-loop-stage.new.servers) job slot w.now (AfterAttempts functions honest job slot (suc stage) (stage_prompt slot sources stage again ∷ []) (Rose b d) c.bring-in-loop-stage.result w.now)) (sym (at_later stage c.args.fresh (omega arith)))
-    (c.bring-in-loop-stage.ensures.went documents w.now w.follows (λ e. w.holds.0)) in
+      (c.bring-in-loop-stage.ensures.went documents w.now w.follows (λ e. w.holds.0)) in
       let went = attempts_then functions honest job stage (suc stage) (stage_prompts slot sources c.args.fresh stage) (stage_prompt slot sources stage (at_first stage c.args.fresh) ∷ []) (Rose a b) (Rose b d) (Rose a d) c.bring-in-loop-stage.result (Rose-wider a a b d (omega arith) late) (Rose-wider a b d d early (omega arith)) w v in
       let done = subst (λ (r : Result (Unit {0}) PoolFault). Went (g.C.Servers.may_follow c.bring-in-loop-stage.new.servers) job slot calls (AfterAttempts functions honest job slot (suc stage) (stage_prompts slot sources c.args.fresh (suc stage)) (Rose a d) r calls)) c.in-Ok-bring.is went in
       subst (λ (n : ℕ). Went (g.C.Servers.may_follow c.bring-in-loop-stage.new.servers) job slot calls (AfterAttempts functions honest job slot n (stage_prompts slot sources c.args.fresh n) (Rose a d) (Ok tt) calls)) (sym (add-one stage)) done,
