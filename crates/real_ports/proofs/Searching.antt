@@ -1,6 +1,6 @@
 -- What a search for a newline says of bytes.
-use Rattle.std.proofs.Common.{◌≡◌, ◌≢◌, ◌<◌, ◌≤◌, ◌+◌, ◌-◌, ℕ, List, Some, None, length, take, drop, get_or, ap, ◌∙◌, arith, inl, inr, subst, length-take, length-drop, get_or-drop}
-use Rattle.std.proofs.lemmas.Bool.{cases_lt, eq-eqb}
+use Rattle.std.proofs.Common.{◌≡◌, ◌≢◌, ◌<◌, ◌≤◌, ◌+◌, ◌-◌, ℕ, List, Some, None, length, take, drop, get_or, ap, sym, ◌∙◌, arith, inl, inr, subst, length-take, length-drop, get_or-drop}
+use Rattle.std.proofs.lemmas.Bool.{cases_lt, eq-eqb, eqb-true}
 use Rattle.std.proofs.lemmas.List.{get_or-take}
 use Rattle.memchr.specs.Find.{IsFirstByte, is_byte}
 use Rattle.view_ports.specs.Lines.{newline}
@@ -30,6 +30,16 @@ unended_found bytes from searched at before found =
     let high : at < length (rest bytes (from + searched)) = found.0.high in
     let room : at ≤ length bytes - (from + searched) = omega (arith, length-take (length bytes - (from + searched)) (drop (from + searched) bytes)) in
     unended_more bytes from searched at room before (λ j few is. found.0.before j (omega arith) few (eq-eqb _ _ is))
+
+-- where it was found there is one
+pub ended_found : (bytes : List ℕ) (from searched at : ℕ) → IsFirstByte (is_byte newline) (rest bytes (from + searched)) (Some at) → get_or bytes (from + (searched + at)) 0 ≡ newline
+ended_found bytes from searched at found =
+    let count = length bytes - (from + searched) in
+    let high : at < length (rest bytes (from + searched)) = found.0.high in
+    let inside : at < length bytes - (from + searched) = omega (arith, length-take (length bytes - (from + searched)) (drop (from + searched) bytes)) in
+    let same : from + (searched + at) ≡ from + searched + at = omega arith in
+    ap (λ (i : ℕ). get_or bytes i 0) same ∙ sym (get_or-drop (from + searched) bytes at 0) ∙ sym (get_or-take count (drop (from + searched) bytes) at 0 inside)
+    ∙ eqb-true (get_or (rest bytes (from + searched)) at 0) newline found.1
 
 -- no newline behind those that were searched
 pub unended_none : (bytes : List ℕ) (from searched : ℕ) → from + searched ≤ length bytes → IsUnended bytes from searched

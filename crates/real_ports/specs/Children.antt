@@ -11,9 +11,9 @@ Anything calls = Unit {0}
 abbrev pub has_child : RealServers → ℕ → Bool
 has_child servers slot = is_some (slice_index_or servers.children.items slot None)
 
--- no other slot gained or lost a child
+-- the other slots have the children that they had, as they were
 abbrev pub SameElsewhere : ℕ → RealServers → RealServers → Type 0
-SameElsewhere slot old new = (other : ℕ) → other ≢ slot → has_child new other ≡ has_child old other
+SameElsewhere slot old new = (other : ℕ) → other ≢ slot → slice_index_or new.children.items other None ≡ slice_index_or old.children.items other None
 
 -- A call leaves a child in the slot exactly where it succeeds.
 pub record LeavesChild {T E : Type 0} (slot : ℕ) (old new : RealServers) (result : Result T E) : Type 0 where

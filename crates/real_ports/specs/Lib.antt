@@ -1,4 +1,5 @@
 pub mod Children
 pub mod FileNames
 pub mod Printed
+pub mod Unread
 pub mod Switch

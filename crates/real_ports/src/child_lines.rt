@@ -1,9 +1,9 @@
 //! What a child prints, cut into lines.
 
-ghost use Rattle.std.specs.Prelude.{◌≡◌, ◌≤◌, ◌<◌, ◌+◌, ◌-◌, IfOk, OnOk, length, vec_len};
-ghost use Rattle.real_ports.specs.Printed.{IsThere, IsUnended};
+ghost use Rattle.std.specs.Prelude.{◌≡◌, ◌≤◌, ◌<◌, ◌+◌, ◌-◌, [], Some, IfOk, OnOk, length, slice_index, vec_len};
+ghost use Rattle.real_ports.specs.Printed.{Grows, IsThere, IsUnended, Takes};
 ghost use Rattle.view_ports.specs.declared.limits.TheConstants.{LINE_LIMIT, PIECE};
-ghost use Rattle.view_ports.specs.Lines.{IsLine};
+ghost use Rattle.view_ports.specs.Lines.{CutsLine, newline};
 
 use crate::child_fault::ChildFault;
 use crate::child_name::ChildName;
@@ -30,8 +30,12 @@ pub struct ChildLines {
 }
 
 impl ChildLines {
+    ghost use Rattle.real_ports.specs.Unread.{unread};
+
     /// The lines of this pipe.
-    pub fn new(alloc: Global, pipe: ChildStdout) -> ChildLines {
+    pub fn new(alloc: Global, pipe: ChildStdout) -> ChildLines
+        ensures { unread result ≡ [] }
+    {
         ChildLines {
             pipe,
             kept: Vec::new(alloc),
@@ -58,7 +62,7 @@ impl ChildLines {
     ) -> Result<Vec<u8>, ChildFault>
         requires { length piece.old ≤ PIECE }
         ensures short { IfOk result (λ line. vec_len line ≤ LINE_LIMIT) }
-        ensures line { IfOk result (λ line. IsLine line.items) }
+        ensures line { IfOk result (λ line. Takes (unread self.old) line.items (unread self.new)) }
     {
         let mut searched = 0;
         for _ in 0..u64::MAX {
@@ -76,8 +80,10 @@ impl ChildLines {
     fn take_line(&mut self, alloc: Global, count: usize) -> Result<Vec<u8>, ChildFault>
         requires within { self.old.taken + count < vec_len self.old.kept }
         requires unended { IsUnended self.old.kept.items self.old.taken count }
+        requires ended { slice_index self.old.kept.items (self.old.taken + count) ≡ newline }
         ensures short { IfOk result (λ line. vec_len line ≤ LINE_LIMIT) }
-        ensures line { IfOk result (λ line. IsLine line.items) }
+        ensures line { IfOk result (λ line. CutsLine (unread self.old)
+            (Some (line.items, unread self.new))) }
     {
         if count > LINE_LIMIT {
             return Err(ChildFault::LineTooLong);
@@ -98,6 +104,7 @@ impl ChildLines {
         requires { length piece.old ≤ PIECE }
         ensures grows { OnOk result (vec_len self.old.kept - self.old.taken ≤ vec_len self.new.kept - self.new.taken) }
         ensures kept { OnOk result (IsThere self.old.kept.items self.old.taken self.new.kept.items self.new.taken) }
+        ensures unread { OnOk result (Grows (unread self.old) (unread self.new)) }
     {
         if self.kept.len() - self.taken > LINE_LIMIT {
             return Err(ChildFault::LineTooLong);
@@ -118,6 +125,7 @@ impl ChildLines {
         ensures rest { vec_len self.new.kept ≡ vec_len self.old.kept - self.old.taken }
         ensures none { self.new.taken ≡ 0 }
         ensures kept { IsThere self.old.kept.items self.old.taken self.new.kept.items 0 }
+        ensures unread { unread self.new ≡ unread self.old }
     {
         let rest = self.kept.len() - self.taken;
         if self.taken > 0 {

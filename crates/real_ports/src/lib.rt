@@ -14,6 +14,7 @@ mod folder_files;
 mod folder_lock;
 mod open_file;
 mod piped_child;
+mod put;
 mod real_folder;
 mod real_servers;
 mod remark;

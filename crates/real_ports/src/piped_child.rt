@@ -1,16 +1,16 @@
 //! A child process with a pipe to it and a pipe from it.
 
-ghost use Rattle.std.specs.Prelude.{◌≤◌, IfOk, length, vec_len};
+ghost use Rattle.std.specs.Prelude.{◌≡◌, ◌≤◌, [], IfOk, OnOk, length, vec_len};
+ghost use Rattle.real_ports.specs.Printed.{Grows, Takes};
 ghost use Rattle.view_ports.specs.declared.limits.TheConstants.{LINE_LIMIT, PIECE};
-ghost use Rattle.view_ports.specs.Lines.{IsLine};
 
 use crate::child_fault::ChildFault;
 use crate::child_lines::ChildLines;
 use crate::child_name::ChildName;
-use libc::net::{POLLOUT, poll};
-use libc::types::pollfd;
+use crate::put::put;
+use libc::net::poll;
 use std::alloc::Global;
-use std::io::{ErrorKind, Write};
+use std::io::ErrorKind;
 use std::os::fd::AsRawFd;
 use std::process::{Child, ChildStdin, Command, ExitStatus, Stdio};
 use view_ports::PIECE;
@@ -34,12 +34,16 @@ pub struct PipedChild {
 }
 
 impl PipedChild {
+    ghost use Rattle.real_ports.specs.Unread.{unread};
+
     /// Starts the program, without arguments. Its standard error is ours.
     pub fn start(
         rt: HostRuntime,
         alloc: Global,
         name: ChildName,
-    ) -> Result<PipedChild, ChildFault> {
+    ) -> Result<PipedChild, ChildFault>
+        ensures { IfOk result (λ child. unread child.output ≡ []) }
+    {
         let mut command = Command::new(alloc, name.path())?;
         command.stdin(Stdio::piped()).stdout(Stdio::piped());
         let mut process = match command.spawn(&rt) {
@@ -67,6 +71,7 @@ impl PipedChild {
     /// for it. It fails where the child has ended, or prints too much without taking the line.
     pub fn send(&mut self, line: &[u8], piece: &mut [u8]) -> Result<(), ChildFault>
         requires { length piece.old ≤ PIECE }
+        ensures { OnOk result (Grows (unread self.old.output) (unread self.new.output)) }
     {
         let name = &self.name;
         if line.len() >= PIECE {
@@ -89,7 +94,8 @@ impl PipedChild {
     pub fn receive(&mut self, alloc: Global, piece: &mut [u8]) -> Result<Vec<u8>, ChildFault>
         requires { length piece.old ≤ PIECE }
         ensures short { IfOk result (λ line. vec_len line ≤ LINE_LIMIT) }
-        ensures line { IfOk result (λ line. IsLine line.items) }
+        ensures line { IfOk result (λ line. Takes (unread self.old.output) line.items
+            (unread self.new.output)) }
     {
         let line = self.output.next_line(alloc, &self.name, piece)?;
         self.name.say_if_remark(alloc, &line);
@@ -130,58 +136,4 @@ impl PipedChild {
 fn end(mut process: Child) {
     let _ = process.kill();
     let _ = process.wait();
-}
-
-/// Writes the bytes to the input, and keeps what comes from the output while there is no room.
-fn put(
-    name: &ChildName,
-    input: &mut ChildStdin,
-    output: &mut ChildLines,
-    bytes: &[u8],
-    piece: &mut [u8],
-) -> Result<(), ChildFault>
-    requires { length piece.old ≤ PIECE }
-{
-    let mut left = bytes;
-    for _ in 0..u64::MAX {
-        if left.is_empty() {
-            return Ok(());
-        }
-        match input.write(left) {
-            Ok(0) => return Err(ChildFault::InputClosed),
-            Ok(count) => left = &left[count..],
-            Err(error) => match error.kind() {
-                ErrorKind::WouldBlock => wait(name, input, output, piece)?,
-                ErrorKind::Interrupted => {}
-                ErrorKind::BrokenPipe => return Err(ChildFault::InputClosed),
-                _ => return Err(ChildFault::Pipe(error)),
-            },
-        }
-    }
-    Err(ChildFault::InputClosed)
-}
-
-/// Waits until the input has room or the output has bytes, which are then read.
-fn wait(
-    name: &ChildName,
-    input: &ChildStdin,
-    output: &mut ChildLines,
-    piece: &mut [u8],
-) -> Result<(), ChildFault>
-    requires { length piece.old ≤ PIECE }
-{
-    let room = pollfd {
-        fd: input.as_raw_fd(),
-        events: POLLOUT,
-        revents: 0,
-    };
-    let mut asked = [room, output.asked()];
-    name.wait_for(&mut asked);
-    if asked[1].revents != 0 {
-        match output.read_more(piece) {
-            Err(ChildFault::LineTooLong) => return Err(ChildFault::NotTaking),
-            read => read?,
-        }
-    }
-    Ok(())
 }

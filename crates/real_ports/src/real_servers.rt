@@ -33,7 +33,8 @@ pub struct RealServers {
 }
 
 impl RealServers {
-    ghost use Rattle.std.specs.Prelude.{ℕ, IfOk, false};
+    ghost use Rattle.std.specs.Prelude.{[], ℕ, IfOk, false};
+    ghost use Rattle.real_ports.specs.Unread.{unread};
     ghost use Rattle.real_ports.specs.Children.{SameElsewhere, has_child};
     ghost use Rattle.view_ports.specs.Faults.{Rose};
 
@@ -79,20 +80,23 @@ impl RealServers {
     }
 
     /// Starts a child, for a slot that has none.
-    fn started(&self, alloc: Global, path: &str) -> Result<PipedChild, ChildFault> {
+    fn started(&self, alloc: Global, path: &str) -> Result<PipedChild, ChildFault>
+        ensures { IfOk result (λ child. unread child.output ≡ []) }
+    {
         let name = ChildName::new(alloc, path, self.diagnostics)?;
         PipedChild::start(self.rt, alloc, name)
     }
 }
 
 impl Servers for RealServers {
-    ghost use Rattle.std.specs.Prelude.{◌≡◌, ◌≤◌, ◌<◌, List, IfOk, OnOk, is_ok, true, false, vec_len};
+    ghost use Rattle.std.specs.Prelude.{◌≡◌, ◌≤◌, ◌<◌, List, [], IfOk, OnOk, is_ok, true, false, vec_len};
     ghost use Rattle.real_ports.specs.Children.{Anything, LeavesChild, SameElsewhere, has_child};
     ghost use Rattle.view_ports.specs.Calls.{Call, child, start, send, receive, stop};
     ghost use Rattle.view_ports.specs.Faults.{CountsOnly, HasCauseOf};
     ghost use Rattle.view_ports.specs.Field.{field};
     ghost use Rattle.view_ports.specs.Honest.{AnswersChild};
-    ghost use Rattle.view_ports.specs.Lines.{IsLine};
+    ghost use Rattle.real_ports.specs.Printed.{Grows, Takes};
+    ghost use Rattle.real_ports.specs.Unread.{unread_at};
     ghost use Rattle.view_ports.specs.Servers.{Goes, line_of};
 
     ghost may_follow = { λ _. Anything };
@@ -109,6 +113,7 @@ impl Servers for RealServers {
         ensures cause { HasCauseOf ServersFault.Failed self.old.faults self.new.faults result }
         ensures counted { CountsOnly ServersFault.Failed self.old.faults self.new.faults result }
         ensures child { LeavesChild slot self.old self.new result }
+        ensures unread { OnOk result (unread_at self.new slot ≡ []) }
     {
         self.stop(slot);
         match self.started(alloc, path) {
@@ -127,6 +132,7 @@ impl Servers for RealServers {
         ensures counted { CountsOnly ServersFault.Failed self.old.faults self.new.faults result }
         ensures child { LeavesChild slot self.old self.new result }
         ensures took { OnOk result (has_child self.old slot ≡ true) }
+        ensures unread { OnOk result (Grows (unread_at self.old slot) (unread_at self.new slot)) }
     {
         let sent = match &mut self.children[slot as usize] {
             Some(child) => child.send(line, &mut self.piece),
@@ -148,7 +154,8 @@ impl Servers for RealServers {
         ensures child { LeavesChild slot self.old self.new result }
         ensures gave { OnOk result (has_child self.old slot ≡ true) }
         ensures short { IfOk result (λ line. vec_len line ≤ LINE_LIMIT) }
-        ensures line { IfOk result (λ line. IsLine line.items) }
+        ensures line { IfOk result (λ line. Takes (unread_at self.old slot) line.items
+            (unread_at self.new slot)) }
     {
         let received = match &mut self.children[slot as usize] {
             Some(child) => child.receive(alloc, &mut self.piece),

@@ -48,22 +48,32 @@ impl<P: BuiltInPath, A: Servers, B: Servers> Switch<P, A, B> {
 }
 
 impl<P: BuiltInPath, A: Servers, B: Servers> Servers for Switch<P, A, B> {
-    ghost use Rattle.std.specs.Prelude.{◌≡◌, ◌+◌, ◌<◌, ◌⊎◌, ℕ, List, IfOk, Err, is_ok};
-    ghost use Rattle.real_ports.specs.Switch.{Follows, HonestAt, functions_at};
+    ghost use Rattle.std.specs.Prelude.{◌≡◌, ◌≢◌, ◌<◌, ℕ, List, All, IfOk, is_ok};
+    ghost use Rattle.real_ports.specs.Switch.{BothGo, FollowsBoth, HonestAt, OnePartHad, OnePartStarted, faults_of_both, functions_at};
     ghost use Rattle.view_ports.specs.Calls.{Call, child, start, send, receive, stop};
-    ghost use Rattle.view_ports.specs.Faults.{HasCauseOf};
+    ghost use Rattle.view_ports.specs.Faults.{CountsOnly, HasCauseOf};
     ghost use Rattle.view_ports.specs.Honest.{AnswersChild};
-    ghost use Rattle.view_ports.specs.Servers.{Goes, line_of};
+    ghost use Rattle.view_ports.specs.Servers.{line_of};
 
-    ghost may_follow = { λ s calls. Follows P.bytes (A.may_follow s.built_in) (B.may_follow s.others) s.sides calls };
+    ghost may_follow = { FollowsBoth A.may_follow B.may_follow P.bytes };
 
-    ghost faults = { λ s. A.faults s.built_in + B.faults s.others };
+    ghost faults = { faults_of_both A.faults B.faults };
 
     ghost functions = { functions_at P.bytes A.functions B.functions };
 
     ghost honest = { HonestAt P.bytes A.honest B.honest };
 
-    fn start(&mut self, alloc: Global, slot: u32, path: &str) -> Result<(), ServersFault> {
+    fn start(&mut self, alloc: Global, slot: u32, path: &str) -> Result<(), ServersFault>
+        requires { slot < SLOT_COUNT }
+        ensures told { BothGo A.may_follow B.may_follow P.bytes (start slot path.now (is_ok result))
+            self.old self.new }
+        ensures cause { HasCauseOf ServersFault.Failed (faults_of_both A.faults B.faults self.old)
+            (faults_of_both A.faults B.faults self.new) result }
+        ensures counted { CountsOnly ServersFault.Failed (faults_of_both A.faults B.faults self.old)
+            (faults_of_both A.faults B.faults self.new) result }
+        ensures part { OnePartStarted A.may_follow B.may_follow P.bytes slot path.now (is_ok result)
+            self.old self.new }
+    {
         let is_built_in = path == P::path();
         self.sides[slot as usize] = is_built_in;
         if is_built_in {
@@ -75,7 +85,18 @@ impl<P: BuiltInPath, A: Servers, B: Servers> Servers for Switch<P, A, B> {
         }
     }
 
-    fn send(&mut self, alloc: Global, slot: u32, line: &[u8]) -> Result<(), ServersFault> {
+    fn send(&mut self, alloc: Global, slot: u32, line: &[u8]) -> Result<(), ServersFault>
+        requires slot { slot < SLOT_COUNT }
+        requires line { All (λ byte. byte ≢ 10) line.now }
+        ensures told { BothGo A.may_follow B.may_follow P.bytes (send slot line.now (is_ok result))
+            self.old self.new }
+        ensures cause { HasCauseOf ServersFault.Failed (faults_of_both A.faults B.faults self.old)
+            (faults_of_both A.faults B.faults self.new) result }
+        ensures counted { CountsOnly ServersFault.Failed (faults_of_both A.faults B.faults self.old)
+            (faults_of_both A.faults B.faults self.new) result }
+        ensures part { OnePartHad A.may_follow B.may_follow (send slot line.now (is_ok result))
+            self.old self.new }
+    {
         if self.sides[slot as usize] {
             self.built_in.send(alloc, slot, line)
         } else {
@@ -83,7 +104,21 @@ impl<P: BuiltInPath, A: Servers, B: Servers> Servers for Switch<P, A, B> {
         }
     }
 
-    fn receive(&mut self, alloc: Global, slot: u32) -> Result<Vec<u8>, ServersFault> {
+    fn receive(&mut self, alloc: Global, slot: u32) -> Result<Vec<u8>, ServersFault>
+        requires { slot < SLOT_COUNT }
+        ensures told { BothGo A.may_follow B.may_follow P.bytes (receive slot (line_of result))
+            self.old self.new }
+        ensures answers { IfOk result (λ line. (calls : List Call)
+            → FollowsBoth A.may_follow B.may_follow P.bytes self.old calls
+            → AnswersChild (functions_at P.bytes A.functions B.functions)
+            (HonestAt P.bytes A.honest B.honest) (child slot calls) line.items) }
+        ensures cause { HasCauseOf ServersFault.Failed (faults_of_both A.faults B.faults self.old)
+            (faults_of_both A.faults B.faults self.new) result }
+        ensures counted { CountsOnly ServersFault.Failed (faults_of_both A.faults B.faults self.old)
+            (faults_of_both A.faults B.faults self.new) result }
+        ensures part { OnePartHad A.may_follow B.may_follow (receive slot (line_of result))
+            self.old self.new }
+    {
         if self.sides[slot as usize] {
             self.built_in.receive(alloc, slot)
         } else {
@@ -91,7 +126,15 @@ impl<P: BuiltInPath, A: Servers, B: Servers> Servers for Switch<P, A, B> {
         }
     }
 
-    fn stop(&mut self, slot: u32) {
+    fn stop(&mut self, slot: u32)
+        requires { slot < SLOT_COUNT }
+        ensures told { BothGo A.may_follow B.may_follow P.bytes (stop slot)
+            self.old self.new }
+        ensures cause { faults_of_both A.faults B.faults self.new
+            ≡ faults_of_both A.faults B.faults self.old }
+        ensures part { OnePartHad A.may_follow B.may_follow (stop slot)
+            self.old self.new }
+    {
         if self.sides[slot as usize] {
             self.built_in.stop(slot);
         } else {
