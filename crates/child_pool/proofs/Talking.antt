@@ -11,7 +11,7 @@ use Rattle.child_pool.specs.Histories.{AllStops, Turn, starts, says, hears, hear
 use Rattle.child_pool.specs.Jobs.{Job}
 use Rattle.child_pool.specs.Prompts.{at_first, begun, document_prompts, slot_prompts, slots_prompts, stage_prompt, stage_prompts, update_prompts}
 use Rattle.child_pool.specs.Stages.{stage_command, told_turns}
-use Rattle.child_pool.specs.Talk.{Due, start_child, say, hear, AreCutShort, AreCutShortIn, AreTurns, asks, one_by_one, ready, ready_slots, talk_of, waves}
+use Rattle.child_pool.specs.Talk.{Due, start_child, say, hear, AreCutShort, AreCutShortIn, AreTurns, asks, ready, ready_slots, talk_of, waves}
 use Rattle.child_pool.specs.Tries.{AllAnswered, EndsAt, EndsBy, IsGivenUp, Prompt, StopsAt}
 use Rattle.child_pool.proofs.Cutting.{cut_done, cut_later, cut_wider, turns_then}
 use Rattle.child_pool.proofs.Prepared.{ready_turns}
@@ -233,6 +233,10 @@ slots_lines sources kept (suc slot) =
     ∙ ap (λ (d : List Due). ready_slots 0 slot sources ++ d) here
     ∙ sym (one_more slot sources)
     ∙ ap (λ (n : ℕ). ready_slots 0 n sources) (add-one slot)
+
+-- documents one after another, each answered before the next
+abbrev one_by_one : ℕ → List (List (List ℕ × Json)) → List Due
+one_by_one count documents = flat_map (λ document. asks 0 (MapDoc document) count) documents
 
 document_lines : (sources : List (List ℕ)) (documents : List (List (List ℕ × Json))) → lines_of (due_once (document_prompts sources documents)) ≡ one_by_one (length sources) documents
 document_lines sources [] = refl

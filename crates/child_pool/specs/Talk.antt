@@ -98,10 +98,6 @@ waves zero width count documents = []
 waves (suc most) width count [] = []
 waves (suc most) width count (document ∷ documents) = wave count (take width (document ∷ documents)) ++ waves most width count (drop width (document ∷ documents))
 
--- documents one after another, each answered before the next
-abbrev pub one_by_one : ℕ → List (List (List ℕ × Json)) → List Due
-one_by_one count documents = flat_map (λ document. asks 0 (MapDoc document) count) documents
-
 -- the talk of an update that maps these documents by these sources with so many slots; where there is no document nothing is said
 abbrev pub talk_of : List (List ℕ) → List (List (List ℕ × Json)) → ℕ → List Due
 talk_of sources documents width =

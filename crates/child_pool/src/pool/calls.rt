@@ -27,8 +27,9 @@ impl Pool {
     /// by the path of the design's language, it is reset, and it is told each source in order of the views. There are
     /// no more slots than the width, and there may be none. After a refusal no child is left.
     ///
-    /// `UnknownLanguage` comes exactly where the language has no path, and no server is called then. `ServerFault` comes only where two attempts on one prompt
-    /// failed, `BadReply` and `Compile` only of a line that was received in this call, and `NoMemory` where memory runs out.
+    /// `UnknownLanguage` comes exactly where the language has no path, and no server is called then. `ServerFault` comes only
+    /// where two attempts on one prompt failed, `BadReply` and `Compile` only of a line that was received in this call, and
+    /// `NoMemory` where memory runs out. No prompt has a third attempt.
     pub fn prepare<C: Servers>(
         &mut self,
         alloc: Global,
