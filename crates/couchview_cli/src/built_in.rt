@@ -53,7 +53,8 @@ pub struct Mixed<C> {
 }
 
 impl<C: Servers + Drop> Mixed<C> {
-    /// The servers in the process beside these others. None has a child, if the others have none.
+    /// The servers in the process beside these others. None has a child, if the others have none, and of those in the process
+    /// no calls are to fail.
     pub fn new(alloc: Global, others: C) -> Result<Mixed<C>, NoMemory>
         ensures calls { IfOk result (λ m. C.may_follow others []
             → ⟦<Mixed<C> as Servers>⟧.may_follow m []) }
@@ -65,6 +66,8 @@ impl<C: Servers + Drop> Mixed<C> {
             → (⟦<Mixed<C> as Servers>⟧.functions path ≡ C.functions path)
             × (⟦<Mixed<C> as Servers>⟧.honest path ↔ C.honest path) }
         ensures others { IfOk result (λ m. m.servers.others.others ≡ others) }
+        ensures unfailing { IfOk result (λ m. (m.servers.built_in.fail.items ≡ [])
+            × (m.servers.others.built_in.fail.items ≡ [])) }
     {
         let field = Switch::over(FieldServers::new(alloc, Vec::new(alloc))?, others);
         let servers = Switch::over(PickServers::new(alloc, Vec::new(alloc))?, field);
