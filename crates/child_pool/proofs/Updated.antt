@@ -71,11 +71,14 @@ module _ (functions : List ℕ → Functions) (honest : List ℕ → Type 0) (jo
   -- nothing is tried
   nothing_tried : (old : Pool) (rose : Type 0) (lists : DocRowLists) → job.documents ≡ [] → AfterTries functions honest job old rose old (Ok lists) calls [] calls
   nothing_tried old rose lists none =
-      let kept = some_kept old job.path old.started refl in
-      (kept.0, kept.1, record {
-        answered = subst (λ (prompts : List Prompt). AllAnswered rose prompts []) (sym (no_prompts old.width kept.0)) refl;
-        remembers = λ some. absurd (some none);
-      })
+      let kept = some_kept old job.path old.started refl in (
+        kept.0,
+        kept.1,
+        record {
+          answered = subst (λ (prompts : List Prompt). AllAnswered rose prompts []) (sym (no_prompts old.width kept.0)) refl;
+          remembers = λ some. absurd (some none);
+        },
+      )
     where
       no_prompts : (width kept : ℕ) → update_prompts job width kept ≡ []
       no_prompts width kept =
