@@ -1,10 +1,10 @@
 -- The ends of a run over lines.
 use Rattle.std.specs.Prelude.{◌≡◌, ◌≢◌, ◌<◌, ℕ, List, [], ◌∷◌, ◌++◌, Option, length}
-use Rattle.std.proofs.Common.{refl, sym, ap, ◌∙◌, subst, append_assoc, arith, inl, inr}
+use Rattle.std.proofs.Common.{refl, sym, ap, subst, append_assoc, arith, inl, inr}
 use Rattle.std.proofs.KnownBytes.{Appends-trans}
 use Rattle.std.specs.Io.KnownBytes.{Appends, Consumes, IsAtEnd}
 use Rattle.view_ports.specs.declared.run_end.RunEnd.TheVariants.{InputEnded, SinkFailed, SourceFailed, OutOfMemory, InputTooLong}
-use Rattle.view_ports.specs.Lines.{IsCut, IsLine, ended, last_line}
+use Rattle.view_ports.specs.Lines.{IsCut, IsLine, ended}
 use Rattle.view_ports.specs.Exchanges.{Exchange, lines_of, text_of}
 use Rattle.view_ports.specs.Runs.{AreLines, Run, input_limit}
 use Rattle.view_ports.proofs.Cutting.{IsCut-extended, IsCut-more, IsCut-newline, IsCut-same, last_line-some}

@@ -19,10 +19,10 @@ use Rattle.view_engine.specs.declared.halt.StepFault.TheVariants.{DiskFault, Dam
 use Rattle.view_engine.specs.declared.refusal.Refusal.{Refusal}
 use Rattle.view_engine.specs.declared.refusal.Refusal.TheVariants as refusal
 use Rattle.view_engine.specs.declared.request.Request.{Request}
-use Rattle.view_engine.specs.Calls.{AnswersLine, AppendsLine, DoesBy, FitsWhereAccepted, KeepsChild, IsStep, IsToldAs, Performed, Scene, StandsAt, StepsBy}
+use Rattle.view_engine.specs.Calls.{DoesBy, KeepsChild, IsStep, IsToldAs, Performed, Scene, StandsAt, StepsBy}
 use Rattle.view_engine.specs.Disks.{AreOpen, IsReason}
 use Rattle.doc_file.specs.History.{Write}
-use Rattle.view_engine.specs.Halts.{halted_by, FitsFor, GoesOn, IsDamage, IsFullFor, LeavesFiles, WouldWrite}
+use Rattle.view_engine.specs.Halts.{halted_by, FitsFor, IsDamage, IsFullFor, LeavesFiles, WouldWrite}
 use Rattle.view_engine.specs.Moments.{Moment}
 use Rattle.view_engine.specs.Refusals.{request_of, refusal_text}
 use Rattle.view_engine.specs.Steps.{Does, DoesRequest, DoesRequestText, IsWrite, MayHaveCalled}
