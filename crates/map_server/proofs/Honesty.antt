@@ -1,17 +1,16 @@
 -- What a session answers a line is what an honest server answers it.
-use Rattle.std.specs.Prelude.{◌≡◌, ◌≤◌, ℕ, List, length, nat_le, Bool, true, false, cond, refl}
-use Rattle.std.proofs.Common.{sym, ap, ◌∙◌, subst}
+use Rattle.std.specs.Prelude.{◌≡◌, ◌≤◌, ℕ, List, length, nat_le, Bool, true, false, cond}
+use Rattle.std.proofs.Common.{ap, ◌∙◌, subst}
 use Rattle.std.proofs.lemmas.Bool.{le-leb}
 use Rattle.json_terms.specs.Json.{Json}
 use Rattle.json_terms.specs.Text.{text_of}
 use Rattle.view_ports.specs.declared.command.Command.{Command}
 use Rattle.view_ports.specs.declared.command.Command.TheVariants.{Other}
-use Rattle.view_ports.specs.Calls.{sources_after}
 use Rattle.view_ports.specs.Commands.{command}
 use Rattle.view_ports.specs.Functions.{line_limit}
 use Rattle.view_ports.specs.Honest.{IsTextOf}
 use Rattle.map_server.specs.Honesty.{AnswersHonestly}
-use Rattle.map_server.specs.Replies.{IsReducible, answer_of, answer_text, command_in_line, sources_then, sources_after_line}
+use Rattle.map_server.specs.Replies.{IsReducible, answer_of, answer_text, command_in_line, sources_after_line}
 use Rattle.map_server.proofs.Answering.{answers_add, answers_honestly, answers_silently}
 use Rattle.map_server.proofs.Reducible.{reducible}
 

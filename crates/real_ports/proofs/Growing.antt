@@ -1,9 +1,8 @@
 -- Bytes to which more come, and a line that is taken from them.
-use Rattle.std.proofs.Common.{◌≡◌, ◌≢◌, ◌<◌, ◌≤◌, ◌+◌, ◌-◌, ℕ, List, [], ◌∷◌, ◌++◌, Some, length, take, drop, get_or, refl, sym, ap, ◌∙◌, subst, arith, append_assoc, append-nil}
-use Rattle.std.proofs.Common.{zero, suc, length-take, length-drop, get_or-drop}
+use Rattle.std.proofs.Common.{◌≡◌, ◌<◌, ◌≤◌, ◌+◌, ℕ, List, [], ◌∷◌, ◌++◌, Some, length, take, drop, get_or, sym, ap, ◌∙◌, subst, arith, append_assoc, append-nil, zero, suc, length-take, length-drop, get_or-drop}
 use Rattle.std.proofs.Math.Seq.{drop-nil}
 use Rattle.std.proofs.lemmas.List.{drop_more, get_or-take, get_or_default, take-append-drop}
-use Rattle.view_ports.specs.Lines.{CutsLine, IsLine, ended, newline}
+use Rattle.view_ports.specs.Lines.{CutsLine, newline}
 use Rattle.real_ports.specs.Printed.{Grows, IsUnended, Takes}
 
 pub Grows-refl : (bytes : List ℕ) → Grows bytes bytes
@@ -31,14 +30,13 @@ pub line_cut : (bytes : List ℕ) (from count : ℕ) (line rest : List ℕ) → 
     → line ≡ take count (drop from bytes) → rest ≡ drop (from + count + 1) bytes → CutsLine (drop from bytes) (Some (line, rest))
 line_cut bytes from count line rest within unended is first last =
     let long : count ≤ length (drop from bytes) = omega (arith, length-drop from bytes) in
-    let size : length line ≡ count = ap length first ∙ omega (arith, length-take count (drop from bytes), long) in
-    (
+    let size : length line ≡ count = ap length first ∙ omega (arith, length-take count (drop from bytes), long) in (
       λ k d few at.
           let below : k < count = omega (arith, size, few) in
           let read : get_or line k 0 ≡ get_or bytes (from + k) 0 = ap (λ (l : List ℕ). get_or l k 0) first ∙ get_or-take count (drop from bytes) k 0 below ∙ get_or-drop from bytes k 0 in
           unended k below (sym read ∙ get_or_default line k 0 d few ∙ at),
       sym (take-append-drop count (drop from bytes))
-      ∙ ap (λ (l : List ℕ). l ++ drop count (drop from bytes)) (sym first)
-      ∙ ap (λ (l : List ℕ). line ++ l) (behind_cut bytes from count within is ∙ ap (λ (l : List ℕ). newline ∷ l) (sym last))
-      ∙ sym (append_assoc line (newline ∷ []) rest),
+          ∙ ap (λ (l : List ℕ). l ++ drop count (drop from bytes)) (sym first)
+          ∙ ap (λ (l : List ℕ). line ++ l) (behind_cut bytes from count within is ∙ ap (λ (l : List ℕ). newline ∷ l) (sym last))
+          ∙ sym (append_assoc line (newline ∷ []) rest),
     )

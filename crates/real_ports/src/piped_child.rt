@@ -37,11 +37,7 @@ impl PipedChild {
     ghost use Rattle.real_ports.specs.Unread.{unread};
 
     /// Starts the program, without arguments. Its standard error is ours.
-    pub fn start(
-        rt: HostRuntime,
-        alloc: Global,
-        name: ChildName,
-    ) -> Result<PipedChild, ChildFault>
+    pub fn start(rt: HostRuntime, alloc: Global, name: ChildName) -> Result<PipedChild, ChildFault>
         ensures { IfOk result (λ child. unread child.output ≡ []) }
     {
         let mut command = Command::new(alloc, name.path())?;

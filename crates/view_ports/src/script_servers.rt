@@ -111,6 +111,5 @@ impl Servers for ScriptServers {
         ensures told { Goes (GaveScript self.old) (GaveScript self.new) (stop _slot) }
         ensures cause { self.new.faults ≡ self.old.faults }
         ensures kept { script_left self.new ≡ script_left self.old }
-    {
-    }
+    {}
 }
