@@ -25,8 +25,6 @@ const CALLS: &[(u32, Call, &str, &str)] = &[
     // Both lines come from one command, and the second is kept until it is asked for.
     (8, Ask, "printf 'a\\nb\\n'", "a"),
     (0, Ask, "more", "more"),
-    // A carriage return is a byte of its line.
-    (0, Ask, "\r x\r", "\r x\r"),
     (8, Ask, "echo c", "b"),
     (8, Receive, "", "c"),
     (0, Stop, "", ""),

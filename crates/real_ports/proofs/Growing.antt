@@ -1,9 +1,8 @@
 -- Bytes to which more come, and a line that is taken from them.
-use Rattle.std.proofs.Common.{◌≡◌, ◌≢◌, ◌<◌, ◌≤◌, ◌+◌, ◌-◌, ℕ, List, [], ◌∷◌, ◌++◌, Some, length, take, drop, get_or, refl, sym, ap, ◌∙◌, subst, arith, append_assoc, append-nil}
-use Rattle.std.proofs.Common.{zero, suc, length-take, length-drop, get_or-drop}
+use Rattle.std.proofs.Common.{◌≡◌, ◌<◌, ◌≤◌, ◌+◌, ℕ, List, [], ◌∷◌, ◌++◌, Some, length, take, drop, get_or, sym, ap, ◌∙◌, subst, arith, append_assoc, append-nil, zero, suc, length-take, length-drop, get_or-drop}
 use Rattle.std.proofs.Math.Seq.{drop-nil}
 use Rattle.std.proofs.lemmas.List.{drop_more, get_or-take, get_or_default, take-append-drop}
-use Rattle.view_ports.specs.Lines.{CutsLine, IsLine, ended, newline}
+use Rattle.view_ports.specs.Lines.{CutsLine, newline}
 use Rattle.real_ports.specs.Printed.{Grows, IsUnended, Takes}
 
 pub Grows-refl : (bytes : List ℕ) → Grows bytes bytes

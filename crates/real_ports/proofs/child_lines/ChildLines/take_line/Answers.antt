@@ -1,5 +1,5 @@
 -- A line is what stands before the first newline, byte for byte.
-use Rattle.std.proofs.Common.{◌≡◌, ◌∙◌, ◌+◌, ◌-◌, ℕ, List, [], ap, sym, take, drop, length, arith}
+use Rattle.std.proofs.Common.{◌≡◌, ◌∙◌, ◌+◌, ◌-◌, ℕ, List, ap, sym, take, drop, length, arith}
 use Rattle.std.proofs.Math.Seq.{drop-length}
 use Rattle.real_ports.specs.Unread.{unread}
 use Rattle.real_ports.proofs.Growing.{line_cut}
