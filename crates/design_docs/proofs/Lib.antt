@@ -1,5 +1,5 @@
-pub mod OneMap
-pub mod PlainDesigns
+pub mod Faultless
+pub mod Real
 pub mod Revised
 pub mod ViewNames
 pub mod ViewOrder

@@ -1,5 +1,5 @@
 -- A member that is set leaves the others.
-use Rattle.std.specs.Prelude.{◌≡◌, ◌&&◌, ℕ, List, false, codes, bytes_eq, Some, None, option_and_then, unwrap_or, is_none, if◌then◌else◌}
+use Rattle.std.specs.Prelude.{◌≡◌, ℕ, List, false, codes, bytes_eq, Some, None, option_and_then, unwrap_or, if◌then◌else◌}
 use Rattle.std.proofs.Common.{refl, sym, ap, ◌∙◌}
 use Rattle.std.specs.declared.cmp.Ordering.TheVariants.{Less, Equal, Greater}
 use Rattle.std.specs.Ordering.{is_eq, nat_cmp, match_ordering}
@@ -9,7 +9,7 @@ use Rattle.std.proofs.lemmas.Slice.Eq.{bytes_eq-Decides}
 use Rattle.json_terms.specs.Json.{Json, object, Members, no_members, member}
 use Rattle.json_terms.specs.Find.{find, with_member}
 use Rattle.json_terms.specs.Kinds.{text_in, members_in}
-use Rattle.design_docs.specs.PlainDesign.{is_plain_language, are_plain_views}
+use Rattle.design_docs.specs.Faults.{◌or◌, language_fault, options_fault, shape_fault, views_fault}
 use Rattle.design_docs.specs.Design.{views_in}
 use Rattle.design_docs.specs.Laws.{RevisionLeavesDesign}
 
@@ -33,7 +33,7 @@ revision_leaves_design members revision =
     let language = find-with_member (codes "language") (codes "_rev") revision members refl in
     let options = find-with_member (codes "options") (codes "_rev") revision members refl in
     let views = find-with_member (codes "views") (codes "_rev") revision members refl in (
-      λ i. is_plain_language (language i) && is_none (options i) && are_plain_views (views i),
+      λ i. language_fault (language i) or shape_fault (views i) or options_fault (options i) or views_fault (views i),
       ap (λ o. unwrap_or (option_and_then text_in o) (codes "javascript")) language,
       ap (λ o. views_in (unwrap_or (option_and_then members_in o) no_members)) views,
       ap (λ o. unwrap_or o (object no_members)) views,

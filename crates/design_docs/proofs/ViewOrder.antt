@@ -1,20 +1,22 @@
--- The views of a design stand in the order of their names, as the members of its views do, and there are as many.
-use Rattle.std.specs.Prelude.{◌≡◌, ◌≤◌, ℕ, suc, List, true, length, codes, bytes_eq, Option, Some, None, option_and_then, unwrap_or, if◌then◌else◌}
-use Rattle.std.proofs.Common.{refl, ap, arith}
+-- The views of a design stand in the order of their names, as the members of its views do, and there are not too many.
+use Rattle.std.specs.Prelude.{◌≡◌, ◌≤◌, ◌+◌, nat_lt, ℕ, suc, List, true, length, codes, bytes_eq, Option, Some, None, option_and_then, unwrap_or, if◌then◌else◌}
+use Rattle.std.proofs.Common.{arith}
 use Rattle.std.specs.declared.cmp.Ordering.{Ordering}
 use Rattle.std.specs.declared.cmp.Ordering.TheVariants.{Less}
 use Rattle.std.specs.List.{AllByRecursion}
 use Rattle.std.specs.List.Sorted.{IsStrictlySortedBy}
 use Rattle.std.specs.Ordering.{nat_cmp}
 use Rattle.std.specs.Cmp.Lexicographic.{slice_cmp}
-use Rattle.std.proofs.lemmas.Bool.{and_parts, leb-true}
+use Rattle.std.proofs.lemmas.Bool.{and_parts}
 use Rattle.std.proofs.lemmas.Cmp.{nat_list_cmp_total}
-use Rattle.json_terms.specs.Json.{Json, number, is_false, is_null, is_true, object, array, string, Members, no_members, member, list_of_members}
+use Rattle.json_terms.specs.Json.{Json, number, is_false, is_null, is_true, object, array, string, Members, no_members, member}
 use Rattle.json_terms.specs.Find.{find, member_of}
 use Rattle.json_terms.specs.Terms.{IsTerm, AreMembers, ComesBefore}
 use Rattle.design_docs.specs.declared.design.View.{View}
 use Rattle.json_terms.specs.Kinds.{members_in}
-use Rattle.design_docs.specs.PlainDesign.{are_few, are_each_plain, are_plain_views, view_limit}
+use Rattle.design_docs.specs.Faults.{fault_from, is_view, view_limit, views_fault}
+use Rattle.design_docs.proofs.Faultless.{faultless_rest, faultless_views, is_formed}
+use Rattle.std.proofs.lemmas.Bool.Decides.{nat_tests}
 use Rattle.design_docs.specs.Design.{views_in}
 use Rattle.design_docs.specs.Laws.{names_of, AreInOrderOfName, AreFew}
 
@@ -71,23 +73,25 @@ in_order_at (Some (string s)) is = in_order no_members tt
 pub views_are_in_order : (document : Json) → AreInOrderOfName document
 views_are_in_order document is = in_order_at (member_of (codes "views") document) (member_is_term (codes "views") document is)
 
--- ---- there are as many views as members
+-- ---- there are not too many
 
-as_many : (ms : Members) → length (views_in ms) ≡ length (list_of_members ms)
-as_many no_members = refl
-as_many (member n t ms) = ap suc (as_many ms)
+few_from : (place : ℕ) (views : Members) → place ≤ view_limit → fault_from place views ≡ None → place + length (views_in views) ≤ view_limit
+few_from place no_members before is = omega (arith, before)
+few_from place (member name view rest) before is =
+    let inside : nat_lt place view_limit ≡ true = (and_parts (nat_lt place view_limit) (is_view name view) (is_formed place name view rest is)).0 in
+    let less : suc place ≤ view_limit = grind (arith, nat_tests, inside) in
+    let later = few_from (suc place) rest less (faultless_rest place name view rest is) in
+    omega (arith, later)
 
-few_at : (views : Option Json) → are_plain_views views ≡ true → length (views_at views) ≤ view_limit
-few_at None plain = omega arith
-few_at (Some (number n)) plain = omega arith
-few_at (Some is_false) plain = omega arith
-few_at (Some is_null) plain = omega arith
-few_at (Some is_true) plain = omega arith
-few_at (Some (object ms)) plain =
-    let few = leb-true (length (list_of_members ms)) view_limit (and_parts (are_few ms) (are_each_plain ms) plain).0 in
-    omega (arith, few, as_many ms)
-few_at (Some (array ts)) plain = omega arith
-few_at (Some (string s)) plain = omega arith
+few_at : (views : Option Json) → views_fault views ≡ None → length (views_at views) ≤ view_limit
+few_at None is = omega arith
+few_at (Some (number n)) is = omega arith
+few_at (Some is_false) is = omega arith
+few_at (Some is_null) is = omega arith
+few_at (Some is_true) is = omega arith
+few_at (Some (object ms)) is = let few = few_from 0 ms (omega arith) is in omega (arith, few)
+few_at (Some (array ts)) is = omega arith
+few_at (Some (string s)) is = omega arith
 
 pub views_are_few : (document : Json) → AreFew document
-views_are_few document plain = few_at (member_of (codes "views") document) (and_parts _ (are_plain_views (member_of (codes "views") document)) plain).1
+views_are_few document is = few_at (member_of (codes "views") document) (faultless_views document is)

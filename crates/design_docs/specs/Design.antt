@@ -6,6 +6,7 @@ use Rattle.json_terms.specs.Seen.{json}
 use Rattle.design_docs.specs.declared.design.Design.{Design}
 use Rattle.design_docs.specs.declared.design.View.{View}
 use Rattle.json_terms.specs.Kinds.{text_in, members_in}
+use Rattle.design_docs.specs.Reduces.{reduce_of}
 
 -- the language, which is `javascript` where none is given
 abbrev pub language_of : Json → List ℕ
@@ -20,7 +21,7 @@ abbrev pub map_of : Json → List ℕ
 map_of view = unwrap_or (option_and_then text_in (member_of (codes "map") view)) []
 
 abbrev pub view_of : List ℕ → Json → View
-view_of name view = record { name = name; map = map_of view }
+view_of name view = record { name = name; map = map_of view; reduce = reduce_of view }
 
 -- the views that members are, in their order
 abbrev pub views_in : Members → List View

@@ -1,4 +1,4 @@
--- The ids of documents.
+-- The ids of documents, and how large these may be.
 use Rattle.std.specs.Prelude.{ℕ, List, [], Bool, nat_eq, codes, option_and_then, unwrap_or}
 use Rattle.std.specs.List.{starts_with}
 use Rattle.json_terms.specs.Json.{Json}
@@ -16,3 +16,10 @@ is_special name = starts_with nat_eq name (codes "_")
 -- design documents are those whose ids begin so
 abbrev pub is_design_id : List ℕ → Bool
 is_design_id id = starts_with nat_eq id (codes "_design/")
+
+-- the greatest length of a document's text, in bytes, and its greatest depth
+abbrev pub size_limit : ℕ
+size_limit = 524288
+
+abbrev pub document_depth_limit : ℕ
+document_depth_limit = 64

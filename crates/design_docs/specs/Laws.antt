@@ -1,5 +1,5 @@
 -- What the definitions of designs say together.
-use Rattle.std.specs.Prelude.{◌≡◌, ◌≤◌, ℕ, List, map, length, codes, bytes_eq, IsTrue}
+use Rattle.std.specs.Prelude.{◌≡◌, ◌≤◌, ℕ, List, map, length, codes, bytes_eq, Some}
 use Rattle.std.specs.Ordering.{nat_cmp}
 use Rattle.std.specs.Cmp.Lexicographic.{slice_cmp}
 use Rattle.std.specs.List.Sorted.{IsStrictlySortedBy}
@@ -8,9 +8,8 @@ use Rattle.json_terms.specs.Json.{Json, object, Members}
 use Rattle.json_terms.specs.Terms.{IsTerm}
 use Rattle.json_terms.specs.Find.{with_member}
 use Rattle.design_docs.specs.declared.design.View.{View}
-use Rattle.design_docs.specs.Documents.{id_of, is_design_id}
-use Rattle.design_docs.specs.PlainDesign.{is_plain_design, IsPlainDesign, view_limit}
-use Rattle.design_docs.specs.PlainDocument.{is_plain}
+use Rattle.design_docs.specs.declared.fault.DesignFault.TheVariants.{NoMemory}
+use Rattle.design_docs.specs.Faults.{design_fault, HasDesign, view_limit}
 use Rattle.design_docs.specs.Design.{language_of, views_of, views_object, source_of}
 
 abbrev pub names_of : List View → List (List ℕ)
@@ -20,27 +19,27 @@ names_of = map (λ view. view.name)
 abbrev pub AreInOrderOfName : Json → Type 0
 AreInOrderOfName document = IsTerm document → IsStrictlySortedBy (slice_cmp nat_cmp) (names_of (views_of document))
 
--- a plain design has not too many views
+-- a design has not too many views
 abbrev pub AreFew : Json → Type 0
-AreFew document = IsPlainDesign document → length (views_of document) ≤ view_limit
+AreFew document = HasDesign document → length (views_of document) ≤ view_limit
 
 -- a view's name, beside the source of its map function
 abbrev pub entry_of : View → List ℕ × List ℕ
 entry_of view = (view.name, view.map)
 
--- among the views of a plain design each name has the source that stands in the document, and no other name has one
+-- among the views of a design each name has the source that stands in the document, and no other name has one
 abbrev pub HasViewsOfNames : Json → Type 0
 HasViewsOfNames document =
-    IsPlainDesign document → (name : List ℕ) → lookup (λ key. bytes_eq key name) (map entry_of (views_of document)) ≡ source_of name document
+    HasDesign document → (name : List ℕ) → lookup (λ key. bytes_eq key name) (map entry_of (views_of document)) ≡ source_of name document
 
--- a plain document with the id of a design document has a plain design
-abbrev pub HasPlainDesign : Json → Type 0
-HasPlainDesign document = IsTrue (is_plain document) → IsTrue (is_design_id (id_of document)) → IsPlainDesign document
+-- want of memory is no fault of a document
+abbrev pub IsNoFault : Json → Type 0
+IsNoFault document = design_fault document ≡ Some NoMemory → ⊥
 
 -- two documents with the same design
 abbrev pub HaveSameDesign : Json → Json → Type 0
 HaveSameDesign one other =
-    (is_plain_design one ≡ is_plain_design other) × (language_of one ≡ language_of other) × (views_of one ≡ views_of other) × (views_object one ≡ views_object other)
+    (design_fault one ≡ design_fault other) × (language_of one ≡ language_of other) × (views_of one ≡ views_of other) × (views_object one ≡ views_object other)
 
 -- a revision that is set leaves the design as it was
 abbrev pub RevisionLeavesDesign : Members → Json → Type 0

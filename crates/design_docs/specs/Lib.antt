@@ -1,5 +1,5 @@
 pub mod Documents
-pub mod PlainDesign
-pub mod PlainDocument
+pub mod Reduces
+pub mod Faults
 pub mod Design
 pub mod Laws

@@ -16,11 +16,33 @@ pub struct Design {
     pub term: Term,
 }
 
-/// A view: its name, and the source of its map function.
+/// A view: its name, the source of its map function, and how its rows are reduced.
 #[derive(Drop)]
 pub struct View {
     pub name: Chars,
     pub map: Chars,
+    pub reduce: Reduce,
+}
+
+/// A reduce that needs no query server.
+#[derive(Clone, Copy, Debug, PartialEq, Eq)]
+pub enum Builtin {
+    /// `_sum`
+    Sum,
+    /// `_count`
+    Count,
+    /// `_stats`
+    Stats,
+}
+
+/// How the rows of a view are reduced.
+#[derive(Drop)]
+pub enum Reduce {
+    /// They aren't.
+    Absent,
+    Builtin(Builtin),
+    /// By a query server, which is given this source.
+    Source(Chars),
 }
 
 /// Some views, seen by contracts as the list of them.

@@ -1,10 +1,13 @@
-//! The ids of documents. Nothing here takes memory.
+//! The ids of documents, and how large these may be. Nothing here takes memory.
 
 ghost use Rattle.std.specs.Prelude.{◌≡◌};
 ghost use Rattle.json_terms.specs.Seen.{json};
 ghost use Rattle.design_docs.specs.Documents as spec;
 
 use json_terms::{Term, member};
+
+/// The greatest length of a document's text, in bytes.
+pub const SIZE_LIMIT: usize = 524_288;
 
 /// What the ids of design documents begin with.
 pub const DESIGN_PREFIX: &str = "_design/";

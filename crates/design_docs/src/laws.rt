@@ -1,22 +1,22 @@
 //! The laws of the definitions. Each function states some, and does nothing.
 
 ghost use Rattle.json_terms.specs.Json.{Json, Members};
-ghost use Rattle.design_docs.specs.Laws.{AreInOrderOfName, AreFew, HasViewsOfNames, HasPlainDesign, RevisionLeavesDesign};
+ghost use Rattle.design_docs.specs.Laws.{AreInOrderOfName, AreFew, HasViewsOfNames, IsNoFault, RevisionLeavesDesign};
 
-/// The views of a plain design stand in strictly rising byte order of their names, and there are 32 at most.
+/// The views of a design stand in strictly rising byte order of their names, and there are 32 at most.
 pub fn views_are_few_and_in_order()
     ensures ordered { (document : Json) → AreInOrderOfName document }
     ensures few { (document : Json) → AreFew document }
 {}
 
-/// Among the views of a plain design each name has the source that stands in the document under it, and no other name has one.
+/// Among the views of a design each name has the source that stands in the document under it, and no other name has one.
 pub fn views_are_found_by_name()
     ensures { (document : Json) → HasViewsOfNames document }
 {}
 
-/// A plain document with the id of a design document has a plain design.
-pub fn plain_design_documents_have_plain_designs()
-    ensures { (document : Json) → HasPlainDesign document }
+/// Want of memory is no fault of a document.
+pub fn want_of_memory_is_no_fault()
+    ensures { (document : Json) → IsNoFault document }
 {}
 
 /// A document's revision has no part in its design.

@@ -1,22 +1,23 @@
-//! Design documents: which are plain, and what stands in them.
+//! Design documents: which have a design, and what stands in them.
 //!
-//! A design document's id begins with `_design/`. It names a language and views, each with the source of a map function. The
-//! documents that are taken so far are *plain*: `specs/PlainDocument.antt` and `specs/PlainDesign.antt` say which.
+//! A design document's id begins with `_design/`. It names a language and views, each with the source of a map function and
+//! maybe a reduce. `specs/Faults.antt` says which documents have no design, and why.
 #![tactic(auto)]
 
+mod check;
 mod design;
 mod document;
+mod fault;
 mod laws;
-mod plain;
-mod plain_design;
 mod read;
+mod reduce;
 
-pub use design::{Design, View, Views};
-pub use document::{DESIGN_PREFIX, id_of, is_design_id};
+pub use design::{Builtin, Design, Reduce, View, Views};
+pub use document::{DESIGN_PREFIX, SIZE_LIMIT, id_of, is_design_id};
+pub use fault::DesignFault;
 pub use laws::{
-    plain_design_documents_have_plain_designs, revisions_leave_designs, views_are_few_and_in_order,
-    views_are_found_by_name,
+    revisions_leave_designs, views_are_few_and_in_order, views_are_found_by_name,
+    want_of_memory_is_no_fault,
 };
-pub use plain::{SIZE_LIMIT, is_plain};
-pub use plain_design::is_plain_design;
 pub use read::read_design;
+pub use reduce::read_builtin;

@@ -7,11 +7,6 @@ abbrev pub without : List ℕ → Members → Members
 without name no_members = no_members
 without name (member n t rest) = if bytes_eq n name then without name rest else member n t (without name rest)
 
--- the document without its `_rev`
-abbrev pub unrevised : Json → Json
-unrevised (object members) = object (without (codes "_rev") members)
-unrevised other = other
-
 -- the document without its `_rev` and `_deleted`
 abbrev pub content : Json → Json
 content (object members) = object (without (codes "_deleted") (without (codes "_rev") members))

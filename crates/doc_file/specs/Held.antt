@@ -14,13 +14,11 @@ use Rattle.view_ports.specs.File.{File}
 use Rattle.view_ports.specs.declared.file_name.FileName.{FileName}
 use Rattle.view_ports.specs.declared.file_name.Stem.TheVariants.{Docs as DocsStem}
 use Rattle.design_docs.specs.Documents.{is_design_id}
-use Rattle.design_docs.specs.PlainDesign.{is_plain_design}
-use Rattle.design_docs.specs.PlainDocument.{is_plain}
+use Rattle.design_docs.specs.Faults.{HasDesign}
 use Rattle.doc_file.specs.declared.entry.LastWrite.{LastWrite}
 use Rattle.doc_file.specs.declared.entry.Entry.{Entry}
 use Rattle.doc_file.specs.Record.{IsRoot, record_bytes}
 use Rattle.doc_file.specs.Counts.{are_counted}
-use Rattle.doc_file.specs.Content.{unrevised}
 use Rattle.doc_file.specs.History.{Write, last_write, last_seq, generation}
 
 abbrev pub IsObject : Json → Type 0
@@ -39,11 +37,10 @@ pub record IsDocument (t : Json) : Type 0 where
   pub shallow : depth t ≤ 64
   pub counts : CountsFit t
 
--- what the body of an id spells: a document, and under the id of a design document one with a plain design
+-- what the body of an id spells: a document, and under the id of a design document one that has a design
 pub record IsBodyOf (id : List ℕ) (document : Json) : Type 0 where
   pub document_is : IsDocument document
-  pub plain : IsTrue (is_design_id id) → IsTrue (is_plain (unrevised document))
-  pub design : IsTrue (is_design_id id) → IsTrue (is_plain_design document)
+  pub design : IsTrue (is_design_id id) → HasDesign document
 
 -- the body of an id's last write is the spelling of this document
 pub record HasBody (id bytes : List ℕ) (last : LastWrite) (document : Json) : Type 0 where

@@ -5,10 +5,11 @@ use Rattle.json_terms.specs.Find.{member_of}
 use Rattle.json_terms.specs.Kinds.{text_in}
 use Rattle.json_terms.specs.Seen.{json}
 use Rattle.json_terms.specs.Text.{text_of}
-use Rattle.design_docs.specs.Documents.{id_of, is_special, is_design_id}
-use Rattle.design_docs.specs.PlainDocument.{size_limit, document_depth_limit}
+use Rattle.design_docs.specs.Documents.{id_of, is_special, is_design_id, size_limit, document_depth_limit}
+use Rattle.design_docs.specs.declared.fault.DesignFault.{DesignFault}
+use Rattle.design_docs.specs.Faults.{design_fault, HasDesign}
 use Rattle.doc_file.specs.declared.fault.DocFault.{DocFault}
-use Rattle.doc_file.specs.declared.fault.DocFault.TheVariants.{BadId, BadMember, BadRev, TooLarge, TooDeep, Conflict, Missing, Deleted, Gate, NoMemory}
+use Rattle.doc_file.specs.declared.fault.DocFault.TheVariants.{BadId, BadMember, BadRev, TooLarge, TooDeep, BadDesign, Conflict, Missing, Deleted, Gate, NoMemory}
 use Rattle.doc_file.specs.declared.incoming.Incoming.{Incoming}
 use Rattle.doc_file.specs.Content.{content}
 use Rattle.doc_file.specs.Revision.{IsRevision}
@@ -65,6 +66,18 @@ IsSmall document = length (text_of (content document)) ≤ size_limit
 abbrev pub IsShallow : Json → Type 0
 IsShallow document = depth document ≤ document_depth_limit
 
+abbrev pub says_true : Option Json → Bool
+says_true (Some is_true) = true
+says_true other = false
+
+-- whether the put is a deletion
+abbrev pub deletes : Json → Bool
+deletes document = says_true (member_of (codes "_deleted") document)
+
+-- a design document that isn't deleted has a design
+abbrev pub NeedsDesign : Json → Type 0
+NeedsDesign document = IsTrue (is_design_id (id_of document)) × (deletes document ≡ false)
+
 -- what a document must be to be put
 pub record IsWritable (document : Json) : Type 0 where
   pub id : HasId document
@@ -72,6 +85,7 @@ pub record IsWritable (document : Json) : Type 0 where
   pub revision : HasRevision document
   pub small : IsSmall document
   pub shallow : IsShallow document
+  pub design : NeedsDesign document → HasDesign document
 
 -- the first of these that a document isn't, which is its refusal
 abbrev pub IsUnfit : Json → DocFault → Type 0
@@ -80,6 +94,8 @@ IsUnfit document (BadMember name) = HasId document × (bad_member document ≡ S
 IsUnfit document BadRev = HasId document × HasMembers document × (HasRevision document → ⊥)
 IsUnfit document TooLarge = HasId document × HasMembers document × HasRevision document × (IsSmall document → ⊥)
 IsUnfit document TooDeep = HasId document × HasMembers document × HasRevision document × IsSmall document × (IsShallow document → ⊥)
+IsUnfit document (BadDesign fault) =
+    HasId document × HasMembers document × HasRevision document × IsSmall document × IsShallow document × NeedsDesign document × (design_fault document ≡ Some fault)
 IsUnfit document Conflict = ⊥
 IsUnfit document Missing = ⊥
 IsUnfit document Deleted = ⊥
@@ -90,13 +106,10 @@ IsUnfit document NoMemory = ⊥
 abbrev pub given_revision : Json → Option (List ℕ)
 given_revision document = option_and_then text_in (member_of (codes "_rev") document)
 
-abbrev pub says_true : Option Json → Bool
-says_true (Some is_true) = true
-says_true other = false
-
--- whether the put is a deletion
-abbrev pub deletes : Json → Bool
-deletes document = says_true (member_of (codes "_deleted") document)
+-- a design document, which isn't deleted, has this content, which has no design
+abbrev pub IsBadDesign : List ℕ → Bool → Json → DocFault → Type 0
+IsBadDesign id deletes content fault =
+    IsTrue (is_design_id id) × (deletes ≡ false) × ((why : DesignFault) × (design_fault content ≡ Some why) × (fault ≡ BadDesign why))
 
 -- what is read of a document that may be put
 pub record IsReadAs (document : Json) (incoming : Incoming) : Type 0 where

@@ -1,26 +1,20 @@
 -- Which puts and deletions are accepted, and what an accepted one writes.
-use Rattle.std.specs.Prelude.{◌≡◌, ◌⊎◌, ℕ, List, Bool, true, false, Option, Some, None, if◌then◌else◌, IsTrue}
+use Rattle.std.specs.Prelude.{◌≡◌, ◌⊎◌, ℕ, List, Bool, true, false, Option, Some, None, if◌then◌else◌}
 use Rattle.json_terms.specs.Json.{Json}
 use Rattle.gate_file.specs.declared.gate.GateFile.{GateFile}
 use Rattle.gate_file.specs.declared.fault.GateFault.TheVariants.{DiskFault}
 use Rattle.gate_file.specs.Calls.{too_long, used_up}
-use Rattle.design_docs.specs.Documents.{id_of, is_design_id}
-use Rattle.design_docs.specs.PlainDocument.{is_plain}
 use Rattle.doc_file.specs.declared.fault.DocFault.{DocFault}
 use Rattle.doc_file.specs.declared.fault.DocFault.TheVariants.{BadRev, Conflict, Gate}
 use Rattle.doc_file.specs.Accepted.{State, put_conflicts, delete_refusal}
 use Rattle.doc_file.specs.Content.{content}
-use Rattle.doc_file.specs.Incoming.{HasId, IsUnfit, IsWritable, deletes, given_revision}
+use Rattle.doc_file.specs.Incoming.{IsUnfit, IsWritable, deletes, given_revision}
 use Rattle.doc_file.specs.Revision.{IsRevision}
 
 -- why the state of its id refuses a write, which is a deletion or puts a document
 abbrev pub write_refusal : State → Bool → Option (List ℕ) → Option DocFault
 write_refusal state true given = delete_refusal state given
 write_refusal state false given = if put_conflicts state given then Some Conflict else None
-
--- a design document that is put, and not deleted, is plain but for what isn't stored
-abbrev pub IsPlainIfDesign : Json → Type 0
-IsPlainIfDesign document = HasId document → IsTrue (is_design_id (id_of document)) → deletes document ≡ false → IsTrue (is_plain (content document))
 
 -- a put is refused where the document isn't fit, and else where the state of its id refuses it
 abbrev pub IsRefusedPut : State → Json → DocFault → Type 0

@@ -4,18 +4,16 @@ ghost use Rattle.std.specs.Prelude.{◌≡◌, ◌↔◌, None, Ok, IfOk, IfSome
 ghost use Rattle.json_terms.specs.Json.{Json};
 ghost use Rattle.json_terms.specs.Seen.{json};
 ghost use Rattle.term_codec.specs.Spelling.{spelling};
-ghost use Rattle.design_docs.specs.PlainDocument.{is_plain};
-ghost use Rattle.doc_file.specs.Content.{unrevised};
+ghost use Rattle.design_docs.specs.Faults.{HasDesign};
 ghost use Rattle.doc_file.specs.Held.{IsBodyOf, IsDocument, IsObject};
 
-use crate::content::unrevised;
-use design_docs::{is_design_id, is_plain, is_plain_design};
+use design_docs::{DesignFault, is_design_id, read_design};
 use json_terms::{DOCUMENT_DEPTH, NoMemory, Term, depth_within};
 use std::alloc::Global;
 use term_codec::{CodecFault, decode_term};
 
 /// The document of an id that these bytes spell, whole, or none where they spell no object of depth 64 at most, or, under the
-/// id of a design document, one that but for its `_rev` isn't plain or has no plain design. The one error is want of memory.
+/// id of a design document, one that has no design. The one error is want of memory.
 pub fn read_body(alloc: Global, id: &str, bytes: &[u8]) -> Result<Option<Term>, NoMemory>
     ensures some { IfOk result
         (λ found. IfSome found (λ t. IsBodyOf id.now (json t) × (bytes.now ≡ spelling (json t)))) }
@@ -26,10 +24,7 @@ pub fn read_body(alloc: Global, id: &str, bytes: &[u8]) -> Result<Option<Term>, 
             if !is_design_id(id) {
                 return Ok(Some(document));
             }
-            if !is_plain_design(&document) {
-                return Ok(None);
-            }
-            if !is_plain_unrevised(alloc, &document)? {
+            if !has_design(alloc, &document)? {
                 return Ok(None);
             }
             Ok(Some(document))
@@ -73,10 +68,13 @@ fn is_object(term: &Term) -> bool
     }
 }
 
-/// Whether a document is plain but for its revision.
-fn is_plain_unrevised(alloc: Global, document: &Term) -> Result<bool, NoMemory>
-    ensures { IfOk result (λ plain. plain ≡ is_plain (unrevised (json document.now))) }
+/// Whether a document has a design.
+fn has_design(alloc: Global, document: &Term) -> Result<bool, NoMemory>
+    ensures { IfOk result (λ has. IsTrue has ↔ HasDesign (json document.now)) }
 {
-    let document = unrevised(alloc, document)?;
-    is_plain(alloc, &document)
+    match read_design(alloc, document) {
+        Ok(_design) => Ok(true),
+        Err(DesignFault::NoMemory) => Err(NoMemory),
+        Err(_fault) => Ok(false),
+    }
 }

@@ -2,8 +2,9 @@
 
 ghost use Rattle.std.specs.Prelude.{◌≡◌};
 ghost use Rattle.doc_file.specs.declared.fault.DocFault.TheVariants.{NoMemory as OutOfMemory};
-ghost use Rattle.doc_file.specs.Faults.{doc_fault};
+ghost use Rattle.doc_file.specs.Faults.{bad_design, doc_fault};
 
+use design_docs::DesignFault;
 use gate_file::GateFault;
 use json_terms::{Chars, NoMemory};
 use std::alloc::{AllocError, AllocFailed};
@@ -27,6 +28,9 @@ pub enum DocFault {
     /// Objects and arrays nest more than 64 deep.
     #[error("too deep")]
     TooDeep,
+    /// The design document has no design, for this fault.
+    #[error("bad design: {0}")]
+    BadDesign(DesignFault),
     /// The revision that was given isn't the present one, or none was given where one is needed.
     #[error("conflict")]
     Conflict,
@@ -51,6 +55,17 @@ impl From<GateFault> for DocFault {
         match fault {
             GateFault::NoMemory => DocFault::NoMemory,
             other => DocFault::Gate(other),
+        }
+    }
+}
+
+impl From<DesignFault> for DocFault {
+    ghost from_gives = { λ fault e. e ≡ bad_design fault };
+
+    fn from(fault: DesignFault) -> DocFault {
+        match fault {
+            DesignFault::NoMemory => DocFault::NoMemory,
+            other => DocFault::BadDesign(other),
         }
     }
 }

@@ -1,18 +1,19 @@
 //! Documents that are put: what they must be, and what of them is stored.
 
-ghost use Rattle.std.specs.Prelude.{◌≡◌, ◌≤◌, ◌⊎◌, ◌↔◌, ◌&&◌, not, IfOk, IfErr, IsTrue, length, map, option_map, codes, bytes_eq, string_bytes};
+ghost use Rattle.std.specs.Prelude.{◌≡◌, ◌≤◌, ◌⊎◌, ◌↔◌, ◌&&◌, not, false, IfOk, IfErr, OnOk, IsTrue, length, map, option_map, codes, bytes_eq, string_bytes};
 ghost use Rattle.json_terms.specs.Json.{members_of};
 ghost use Rattle.json_terms.specs.Seen.{json, pair_of};
 ghost use Rattle.json_terms.specs.Text.{text_of};
 ghost use Rattle.design_docs.specs.Documents as ids;
-ghost use Rattle.design_docs.specs.PlainDocument.{size_limit};
+ghost use Rattle.design_docs.specs.Documents.{size_limit};
+ghost use Rattle.design_docs.specs.Faults.{HasDesign};
 ghost use Rattle.doc_file.specs.Content as parts;
 ghost use Rattle.doc_file.specs.Incoming as spec;
 ghost use Rattle.doc_file.specs.Revision as revision;
 
 use crate::fault::DocFault;
 use crate::rev::is_revision;
-use design_docs::{DESIGN_PREFIX, SIZE_LIMIT, id_of, is_design_id};
+use design_docs::{DESIGN_PREFIX, SIZE_LIMIT, id_of, is_design_id, read_design};
 use json_terms::{
     Chars, DOCUMENT_DEPTH, Member, Members, NoMemory, Term, depth_within, member, write_term,
 };
@@ -61,7 +62,7 @@ impl Incoming {
 }
 
 /// Reads a document that is put, or refuses it with the first cause: its id, a member that no document may have, its
-/// revision, its size, its depth. Want of memory may come at any time: it takes as much as the document's text has bytes.
+/// revision, its size, its depth, its design. Want of memory may come at any time: it takes as much as the document's text has bytes.
 pub(crate) fn read_incoming(alloc: Global, document: Term) -> Result<Incoming, DocFault>
     ensures ok { IfOk result (λ incoming. spec.IsReadAs (json document) incoming) }
     ensures err { IfErr result (λ e. spec.IsUnfit (json document) e ⊎ (e ≡ DocFault.NoMemory)) }
@@ -86,12 +87,27 @@ pub(crate) fn read_incoming(alloc: Global, document: Term) -> Result<Incoming, D
     if !is_shallow {
         return Err(DocFault::TooDeep);
     }
+    check_design(alloc, id.as_str(), deletes, &content)?;
     Ok(Incoming {
         id,
         given,
         deletes,
         content,
     })
+}
+
+/// Gives the first fault of a content's design, if it has one and is put as a design document.
+fn check_design(alloc: Global, id: &str, deletes: bool, content: &Term) -> Result<(), DocFault>
+    ensures ok { OnOk result (IsTrue (ids.is_design_id id.now) × (deletes ≡ false)
+        → HasDesign (json content.now)) }
+    ensures err { IfErr result (λ e. spec.IsBadDesign id.now deletes (json content.now) e
+        ⊎ (e ≡ DocFault.NoMemory)) }
+{
+    if deletes || !is_design_id(id) {
+        return Ok(());
+    }
+    read_design(alloc, content)?;
+    Ok(())
 }
 
 /// The content with this `_rev`.

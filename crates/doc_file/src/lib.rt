@@ -3,7 +3,6 @@
 
 mod accept;
 mod body;
-mod content;
 mod docs;
 mod draft;
 mod entry;

@@ -107,13 +107,29 @@ const REFUSED: &str = r#"{"info":true
 {"put":{"_id":"_design/d","language":"field","options":{},"_deleted":true}}
 {"error":"not_found","reason":"missing"}
 {"put":{"_id":"_design/d","_rev":1}}
-{"error":"bad_request","reason":"not built yet"}
-{"put":{"_id":"_design/d","language":"field","options":{},"views":{}}}
-{"error":"bad_request","reason":"not built yet"}
+{"error":"bad_rev","reason":"revision is not well formed"}
+{"put":{"_id":"_design/d","_rev":"1-00000000000000000000000000000001","views":[]}}
+{"error":"invalid_design_doc","reason":"views"}
 {"put":{"_id":"_design/d","language":"field","views":{"lib":{"map":"n"}}}}
-{"error":"bad_request","reason":"not built yet"}
+{"error":"invalid_design_doc","reason":"view lib"}
+{"put":{"_id":"_design/d","views":{"\"":{"map":1}}}}
+{"error":"invalid_design_doc","reason":"view \""}
+{"put":{"_id":"_design/d","options":{"collation":"raw","local_seq":true}}}
+{"error":"invalid_design_doc","reason":"option local_seq"}
+{"put":{"_id":"_design/d","views":{"v":{"map":"n","reduce":"_x"}}}}
+{"error":"invalid_design_doc","reason":"builtin v"}
+{"put":{"_id":"_design/d","language":""}}
+{"error":"invalid_design_doc","reason":"language"}
+{"put":{"_id":"_design/d","_x":1,"language":""}}
+{"error":"bad_member","reason":"_x"}
 {"put":{"_id":"_design/d","language":"field","views":{"v":{"map":"n","reduce":"_sum"}}}}
 {"error":"bad_request","reason":"not built yet"}
+{"put":{"_id":"_design/d","_x":1,"_rev":1,"views":{"u":{"map":"n"},"v":{"map":"n","reduce":"r"}}}}
+{"error":"bad_request","reason":"not built yet"}
+{"put":{"_id":"_design/d","_deleted":true,"views":{"v":{"map":"n","reduce":"_sum"}}}}
+{"error":"not_found","reason":"missing"}
+{"put":{"_id":"_design/","views":{"v":{"map":"n","reduce":"_sum"}}}}
+{"error":"bad_id","reason":"document id is not allowed"}
 {"view":["people","by_name"]}
 {"error":"not_found","reason":"missing"}"#;
 

@@ -1,7 +1,6 @@
 //! Files of documents, calls on documents that are opened anew, and their outcomes as bytes.
 
 use crash_disk::MemoryFolder;
-use design_docs::{id_of, is_design_id};
 use doc_file::{Changes, DocFault, Docs, Rev};
 use gate_file::{GateFault, GateFile};
 use json_terms::{NoMemory, read_term, write_term};
@@ -40,12 +39,12 @@ pub fn told(alloc: Global, outcome: Result<Vec<u8>, DocFault>) -> Result<Vec<u8>
     }
 }
 
-/// Puts the document with this text. It is no design document.
+/// Puts the document with this text.
 pub fn put<F: Folder>(alloc: Global, folder: &mut F, text: &str) -> Result<Rev, DocFault> {
     let mut docs = Docs::open(alloc, folder)?;
     match read_term(alloc, text.as_bytes()) {
-        Ok(document) if !is_design_id(id_of(&document)) => docs.put(alloc, folder, document),
-        _ => Err(DocFault::NoMemory),
+        Ok(document) => docs.put(alloc, folder, document),
+        Err(_fault) => Err(DocFault::NoMemory),
     }
 }
 

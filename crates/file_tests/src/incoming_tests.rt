@@ -107,6 +107,71 @@ fn writes_are_stored_or_refused(rt: HostRuntime) -> Result<(), Fail> {
     Ok(())
 }
 
+/// Writes of design documents to one file, each with what it answers. A design that is refused is refused before the last write
+/// of its id, and behind all else.
+const DESIGNS: &[(Write<'static>, &str)] = &[
+    (Put(r#"{"_id":"_design/","views":1}"#), "BadId"),
+    (
+        Put(r#"{"_id":"_design/d","_x":1,"views":1}"#),
+        r#"BadMember(Chars { text: "_x" })"#,
+    ),
+    (Put(r#"{"_id":"_design/d","_rev":1,"views":1}"#), "BadRev"),
+    (
+        Put(r#"{"_id":"_design/d","_rev":"1-00000000000000000000000000000001","views":1}"#),
+        "BadDesign(BadViews)",
+    ),
+    (
+        Put(r#"{"_id":"_design/d","_deleted":false,"language":""}"#),
+        "BadDesign(BadLanguage)",
+    ),
+    (
+        Put(r#"{"_id":"_design/d","views":{"v":{}}}"#),
+        r#"BadDesign(BadView(Chars { text: "v" }))"#,
+    ),
+    (
+        Put(r#"{"_id":"_design/d","options":{"a":1}}"#),
+        r#"BadDesign(BadOption(Chars { text: "a" }))"#,
+    ),
+    (
+        Put(r#"{"_id":"_design/d","views":{"v":{"map":"m","reduce":"_x"}}}"#),
+        r#"BadDesign(UnknownBuiltin(Chars { text: "v" }))"#,
+    ),
+    (
+        Put(r#"{"_id":"_design/d","_deleted":true,"views":1}"#),
+        "Missing",
+    ),
+    (
+        Put(r#"{"_id":"design/d","views":1}"#),
+        r#"1 1design/d{"_id":"design/d","_rev":"1-00000000000000000000000000000001","views":1}"#,
+    ),
+    (
+        Put(r#"{"_id":"_design/d","views":{"v":{"map":"m","reduce":"_sum"}}}"#),
+        r#"1 2_design/d{"_id":"_design/d","_rev":"1-00000000000000000000000000000002","views":{"v":{"map":"m","reduce":"_sum"}}}"#,
+    ),
+    (
+        Put(r#"{"_id":"_design/d","views":1}"#),
+        "BadDesign(BadViews)",
+    ),
+    (Put(r#"{"_id":"_design/d","views":{}}"#), "Conflict"),
+    (
+        Put(
+            r#"{"_id":"_design/d","_rev":"1-00000000000000000000000000000002","_deleted":true,"views":1}"#,
+        ),
+        "2 3_design/d-",
+    ),
+];
+
+#[test]
+fn designs_are_stored_or_refused(rt: HostRuntime) -> Result<(), Fail> {
+    let alloc = rt.alloc();
+    let mut folder = MemoryFolder::new(alloc, Vec::new(alloc), false)?;
+    for &(write, want) in DESIGNS {
+        let answer = told(alloc, written(alloc, &mut folder, write))?;
+        assert!(rt; answer.as_slice() == want.as_bytes(), "{want}");
+    }
+    Ok(())
+}
+
 /// A document with these members, and a text of so many letters inside so many arrays.
 fn document_of(
     alloc: Global,
@@ -125,6 +190,8 @@ const LIMITS: &[(&str, usize, usize, &str)] = &[
     ("\"_id\":\"x\",\"_rev\":\"\"", 524_271, 0, "BadRev"),
     ("\"_id\":\"x\"", 524_271, 64, "TooLarge"),
     ("\"_id\":\"x\"", 0, 64, "TooDeep"),
+    (r#""_id":"_design/x","views":1"#, 524_271, 0, "TooLarge"),
+    (r#""_id":"_design/x","views":1"#, 0, 64, "TooDeep"),
     ("\"_id\":\"x\"", 524_270, 0, "1 1x{"),
     (
         "\"_id\":\"x\",\"_deleted\":false,\"_rev\":\"1-00000000000000000000000000000001\"",

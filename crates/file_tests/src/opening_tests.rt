@@ -13,7 +13,7 @@ const BODY: &[u8] = b"\x05\x01\0\0\0\x03\0\0\0_id\x07\x01\0\0\0a";
 /// The spelling of `["_id"]`, which is no object.
 const ARRAY: &[u8] = b"\x06\x01\0\0\0\x07\x03\0\0\0_id";
 
-/// The spelling of `{"_id":"a","views":1}`, which has no plain design.
+/// The spelling of `{"_id":"a","views":1}`, which has no design.
 const NO_DESIGN: &[u8] =
     b"\x05\x02\0\0\0\x03\0\0\0_id\x07\x01\0\0\0a\x05\0\0\0views\x01\x01\0\0\0\0\0\0\0";
 

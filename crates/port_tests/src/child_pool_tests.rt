@@ -1,7 +1,7 @@
 //! Documents mapped through servers that answer, fail and print what they shouldn't.
 
 use child_pool::{DocRowLists, Document, Pool, PoolFault};
-use design_docs::{Design, is_plain_design, read_design};
+use design_docs::{Design, DesignFault, read_design};
 use json_terms::{Chars, NoMemory, RowLists, Term, depth_within, read_term, write_term};
 use std::alloc::Global;
 use std::test::Fail;
@@ -43,10 +43,11 @@ fn shown(alloc: Global, given: Result<DocRowLists, PoolFault>) -> Result<String,
 /// The design of a document's text.
 fn design_of(alloc: Global, text: &str) -> Result<Design, Fail> {
     let document = read_term(alloc, text.as_bytes())?;
-    if !is_plain_design(&document) {
-        return Err(Fail::from("no plain design"));
+    match read_design(alloc, &document) {
+        Ok(design) => Ok(design),
+        Err(DesignFault::NoMemory) => Err(Fail::from(NoMemory)),
+        Err(_fault) => Err(Fail::from("no design")),
     }
-    Ok(read_design(alloc, &document)?)
 }
 
 fn document_of(alloc: Global, text: &str) -> Result<Document, Fail> {

@@ -30,6 +30,7 @@ unfit_not document (doc.BadMember name) unfit fit = let clash : Some name ≡ No
 unfit_not document doc.BadRev unfit fit = unfit.2 fit.revision
 unfit_not document doc.TooLarge unfit fit = unfit.3 fit.small
 unfit_not document doc.TooDeep unfit fit = unfit.4 fit.shallow
+unfit_not document (doc.BadDesign fault) unfit fit = let clash : Some fault ≡ None = sym unfit.6 ∙ fit.design unfit.5 in cc
 unfit_not document doc.Conflict unfit fit = unfit
 unfit_not document doc.Missing unfit fit = unfit
 unfit_not document doc.Deleted unfit fit = unfit
@@ -56,26 +57,37 @@ unfit_once document doc.BadId (doc.BadMember name) a b = absurd (a b.0)
 unfit_once document doc.BadId doc.BadRev a b = absurd (a b.0)
 unfit_once document doc.BadId doc.TooLarge a b = absurd (a b.0)
 unfit_once document doc.BadId doc.TooDeep a b = absurd (a b.0)
+unfit_once document doc.BadId (doc.BadDesign other) a b = absurd (a b.0)
 unfit_once document (doc.BadMember name) doc.BadId a b = absurd (b a.0)
 unfit_once document (doc.BadMember name) (doc.BadMember other) a b = let same : Some name ≡ Some other = sym a.1 ∙ b.1 in cc
 unfit_once document (doc.BadMember name) doc.BadRev a b = let clash : Some name ≡ None = sym a.1 ∙ b.1 in cc
 unfit_once document (doc.BadMember name) doc.TooLarge a b = let clash : Some name ≡ None = sym a.1 ∙ b.1 in cc
 unfit_once document (doc.BadMember name) doc.TooDeep a b = let clash : Some name ≡ None = sym a.1 ∙ b.1 in cc
+unfit_once document (doc.BadMember name) (doc.BadDesign other) a b = let clash : Some name ≡ None = sym a.1 ∙ b.1 in cc
 unfit_once document doc.BadRev doc.BadId a b = absurd (b a.0)
 unfit_once document doc.BadRev (doc.BadMember name) a b = let clash : Some name ≡ None = sym b.1 ∙ a.1 in cc
 unfit_once document doc.BadRev doc.BadRev a b = refl
 unfit_once document doc.BadRev doc.TooLarge a b = absurd (a.2 b.2)
 unfit_once document doc.BadRev doc.TooDeep a b = absurd (a.2 b.2)
+unfit_once document doc.BadRev (doc.BadDesign other) a b = absurd (a.2 b.2)
 unfit_once document doc.TooLarge doc.BadId a b = absurd (b a.0)
 unfit_once document doc.TooLarge (doc.BadMember name) a b = let clash : Some name ≡ None = sym b.1 ∙ a.1 in cc
 unfit_once document doc.TooLarge doc.BadRev a b = absurd (b.2 a.2)
 unfit_once document doc.TooLarge doc.TooLarge a b = refl
 unfit_once document doc.TooLarge doc.TooDeep a b = absurd (a.3 b.3)
+unfit_once document doc.TooLarge (doc.BadDesign other) a b = absurd (a.3 b.3)
 unfit_once document doc.TooDeep doc.BadId a b = absurd (b a.0)
 unfit_once document doc.TooDeep (doc.BadMember name) a b = let clash : Some name ≡ None = sym b.1 ∙ a.1 in cc
 unfit_once document doc.TooDeep doc.BadRev a b = absurd (b.2 a.2)
 unfit_once document doc.TooDeep doc.TooLarge a b = absurd (b.3 a.3)
 unfit_once document doc.TooDeep doc.TooDeep a b = refl
+unfit_once document doc.TooDeep (doc.BadDesign other) a b = absurd (a.4 b.4)
+unfit_once document (doc.BadDesign fault) doc.BadId a b = absurd (b a.0)
+unfit_once document (doc.BadDesign fault) (doc.BadMember name) a b = let clash : Some name ≡ None = sym b.1 ∙ a.1 in cc
+unfit_once document (doc.BadDesign fault) doc.BadRev a b = absurd (b.2 a.2)
+unfit_once document (doc.BadDesign fault) doc.TooLarge a b = absurd (b.3 a.3)
+unfit_once document (doc.BadDesign fault) doc.TooDeep a b = absurd (b.4 a.4)
+unfit_once document (doc.BadDesign fault) (doc.BadDesign other) a b = let same : Some fault ≡ Some other = sym a.6 ∙ b.6 in cc
 unfit_once document doc.Conflict second a b = absurd a
 unfit_once document doc.Missing second a b = absurd a
 unfit_once document doc.Deleted second a b = absurd a

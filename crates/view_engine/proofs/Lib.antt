@@ -5,7 +5,6 @@ pub mod EmittedRows
 pub mod RequestLimit
 pub mod OtherForms
 pub mod Pieces
-pub mod PlainPuts
 pub mod Around
 pub mod Writing
 pub mod Faults

@@ -114,6 +114,7 @@ module _ {F : Type 0} (f : Folders F) (docs : Docs) where
   read_reason old new doc.BadRev rose damaged full = tt
   read_reason old new doc.TooLarge rose damaged full = tt
   read_reason old new doc.TooDeep rose damaged full = tt
+  read_reason old new (doc.BadDesign fault) rose damaged full = tt
   read_reason old new doc.Conflict rose damaged full = tt
   read_reason old new doc.Missing rose damaged full = tt
   read_reason old new doc.Deleted rose damaged full = tt

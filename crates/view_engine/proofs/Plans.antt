@@ -8,7 +8,7 @@ use Rattle.design_docs.specs.declared.design.View.{View}
 use Rattle.design_docs.specs.Design.{IsDesignOf, language_of, source_of}
 use Rattle.design_docs.specs.Documents.{is_design_id}
 use Rattle.design_docs.specs.Laws.{entry_of}
-use Rattle.design_docs.specs.PlainDesign.{IsPlainDesign}
+use Rattle.design_docs.specs.Faults.{HasDesign}
 use Rattle.design_docs.proofs.ViewNames.{has_views_of_names}
 use Rattle.design_docs.proofs.ViewOrder.{views_are_few}
 use Rattle.child_pool.specs.Languages.{path_in}
@@ -26,9 +26,9 @@ use Rattle.view_engine.specs.ViewPlan.{IsPlan, source_at}
 is_design : (name : List ℕ) → is_design_id (design_id name) ≡ true
 is_design name = refl
 
--- what is stored under the id of a design document has a plain design
-pub plain_design : (name : ViewName) (id : List ℕ) (document : Json) → id ≡ design_id name.design → IsBodyOf id document → IsPlainDesign document
-plain_design name id document is body = body.design (ap is_design_id is ∙ is_design name.design)
+-- what is stored under the id of a design document has a design
+pub stored_design : (name : ViewName) (id : List ℕ) (document : Json) → id ≡ design_id name.design → IsBodyOf id document → HasDesign document
+stored_design name id document is body = body.design (ap is_design_id is ∙ is_design name.design)
 
 -- a live document isn't refused
 not_refused : (write : Option Write) (document : Json) → option_and_then (λ w. w.document) write ≡ Some document → not_live write ≡ None
@@ -36,7 +36,7 @@ not_refused None document is = let clash : ⊥ = cc in absurd clash
 not_refused (Some write) document is = rw is refl
 
 module _ (languages : List (List ℕ × List ℕ)) (history : List Write) (name : ViewName) (id : List ℕ) (document : Json) (design : Design)
-    (is : id ≡ design_id name.design) (live : live_document history id ≡ Some document) (plain : IsPlainDesign document) (of : IsDesignOf document design) where
+    (is : id ≡ design_id name.design) (live : live_document history id ≡ Some document) (has : HasDesign document) (of : IsDesignOf document design) where
   abbrev world : World
   world = record { history = history }
 
@@ -52,7 +52,7 @@ module _ (languages : List (List ℕ × List ℕ)) (history : List Write) (name 
       ∙ ap (λ (l : Option Json). first_of (no_view (option_and_then (source_of name.view) l) ∷ no_language languages l ∷ [])) lives
 
   named : lookup (λ key. bytes_eq key name.view) (map entry_of design.views) ≡ source_of name.view document
-  named = ap (λ (views : List View). lookup (λ key. bytes_eq key name.view) (map entry_of views)) of.1 ∙ has_views_of_names document plain name.view
+  named = ap (λ (views : List View). lookup (λ key. bytes_eq key name.view) (map entry_of views)) of.1 ∙ has_views_of_names document has name.view
 
   pub refused_view : None ≡ lookup (λ key. bytes_eq key name.view) (map entry_of design.views) → view_refusal languages world name ≡ Some MissingNamedView
   refused_view none = refusals ∙ ap (λ (s : Option (List ℕ)). first_of (no_view s ∷ no_path (language_of document) (path_in languages (language_of document)) ∷ [])) (sym (none ∙ named))
@@ -80,7 +80,7 @@ module _ (languages : List (List ℕ × List ℕ)) (history : List Write) (name 
           path_is = there_is;
           language = of.0;
           views = of.1;
-          few = subst (λ (views : List View). length views ≤ 32) (sym of.1) (views_are_few document plain);
+          few = subst (λ (views : List View). length views ≤ 32) (sym of.1) (views_are_few document has);
           id_is = is;
           accepted = served ∙ ap (λ (p : Option (List ℕ)). first_of (no_path (language_of document) p ∷ [])) there_is;
         }

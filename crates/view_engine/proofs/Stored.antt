@@ -160,6 +160,7 @@ module _ {F : Type 0} (f : Folders F) (docs docs' : Docs) (old new : F) (request
       why_halted doc.BadRev stored = tt
       why_halted doc.TooLarge stored = tt
       why_halted doc.TooDeep stored = tt
+      why_halted (doc.BadDesign fault) stored = tt
       why_halted doc.Conflict stored = tt
       why_halted doc.Missing stored = tt
       why_halted doc.Deleted stored = tt

@@ -33,6 +33,7 @@ refusal_is (doc.BadMember name) refusal is = cc
 refusal_is doc.BadRev refusal is = cc
 refusal_is doc.TooLarge refusal is = cc
 refusal_is doc.TooDeep refusal is = cc
+refusal_is (doc.BadDesign fault) refusal is = cc
 refusal_is doc.Conflict refusal is = cc
 refusal_is doc.Missing refusal is = cc
 refusal_is doc.Deleted refusal is = cc

@@ -31,6 +31,7 @@ halted_as (doc.BadMember name) = Refused (refusal.BadMember name)
 halted_as doc.BadRev = Refused refusal.BadRev
 halted_as doc.TooLarge = Refused refusal.DocumentTooLarge
 halted_as doc.TooDeep = Refused refusal.DocumentTooDeep
+halted_as (doc.BadDesign fault) = Refused (refusal.InvalidDesign fault)
 halted_as doc.Conflict = Refused refusal.Conflict
 halted_as doc.Missing = Refused refusal.Missing
 halted_as doc.Deleted = Refused refusal.Deleted

@@ -3,6 +3,7 @@ pub mod Kinds
 pub mod Rows
 pub mod Answer
 pub mod Requests
+pub mod DesignReasons
 pub mod Refusals
 pub mod Written
 pub mod Moments

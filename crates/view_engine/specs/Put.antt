@@ -1,8 +1,12 @@
 -- What a put does.
-use Rattle.std.specs.Prelude.{◌≡◌, ◌⊎◌, ℕ, List, Bool, false, not, ◌&&◌, nat_lt, length, codes, IsTrue}
-use Rattle.json_terms.specs.Json.{Json}
-use Rattle.design_docs.specs.Documents.{id_of, is_design_id}
-use Rattle.design_docs.specs.PlainDocument.{is_plain}
+use Rattle.std.specs.Prelude.{◌≡◌, ◌⊎◌, ℕ, List, [], ◌∷◌, Bool, true, false, not, ◌&&◌, ◌||◌, nat_le, nat_lt, length, codes, is_none, IsTrue}
+use Rattle.json_terms.specs.Json.{Json, depth}
+use Rattle.design_docs.specs.declared.design.Reduce.{Reduce}
+use Rattle.design_docs.specs.declared.design.Reduce.TheVariants.{Absent}
+use Rattle.design_docs.specs.declared.design.View.{View}
+use Rattle.design_docs.specs.Design.{views_of}
+use Rattle.design_docs.specs.Documents.{id_of, is_design_id, document_depth_limit}
+use Rattle.design_docs.specs.Faults.{design_fault}
 use Rattle.doc_file.specs.declared.fault.DocFault.{DocFault}
 use Rattle.doc_file.specs.Accepted.{state_of}
 use Rattle.doc_file.specs.History.{Write}
@@ -15,10 +19,24 @@ use Rattle.view_engine.specs.World.{World, written}
 use Rattle.view_engine.specs.Answer.{write_text}
 use Rattle.view_engine.specs.Refusals.{refused_as}
 
--- the document is put as a design document, and it isn't one that is taken so far
+abbrev pub is_reduced : Reduce → Bool
+is_reduced Absent = false
+is_reduced other = true
+
+-- one of these views has a reduce
+abbrev pub has_reduce : List View → Bool
+has_reduce [] = false
+has_reduce (view ∷ views) = is_reduced view.reduce || has_reduce views
+
+-- the document has a design, and a view of it has a reduce
+abbrev pub reduces : Json → Bool
+reduces document = is_none (design_fault document) && has_reduce (views_of document)
+
+-- the document is put as a design document of depth 64 at most, and a view of it has a reduce
 abbrev pub is_unbuilt : Json → Bool
 is_unbuilt document =
-    (is_design_id (id_of document) && nat_lt (length (codes "_design/")) (length (id_of document))) && (not (deletes document) && not (is_plain document))
+    (is_design_id (id_of document) && nat_lt (length (codes "_design/")) (length (id_of document)))
+    && (not (deletes document) && (nat_le (depth document) document_depth_limit && reduces document))
 
 -- a put is refused where its design isn't built yet, and else where the documents refuse it
 abbrev pub IsPutRefused : World → Json → Refusal → Type 0

@@ -9,7 +9,8 @@ use Rattle.doc_file.specs.declared.fault.DocFault.{DocFault}
 use Rattle.doc_file.specs.declared.fault.DocFault.TheVariants as doc
 use Rattle.view_engine.specs.declared.request.Request.{Request}
 use Rattle.view_engine.specs.declared.refusal.Refusal.{Refusal}
-use Rattle.view_engine.specs.declared.refusal.Refusal.TheVariants.{LineTooLong, NotJson, NotWhole, TooDeep, UnknownRequest, NotBuiltYet, BadId, BadMember, BadRev, DocumentTooLarge, DocumentTooDeep, Missing, Deleted, MissingNamedView, Conflict, UnknownLanguage, CompilationError, ServerFault, ServerReply, NoMemory}
+use Rattle.view_engine.specs.declared.refusal.Refusal.TheVariants.{LineTooLong, NotJson, NotWhole, TooDeep, UnknownRequest, NotBuiltYet, BadId, BadMember, BadRev, DocumentTooLarge, DocumentTooDeep, InvalidDesign, Missing, Deleted, MissingNamedView, Conflict, UnknownLanguage, CompilationError, ServerFault, ServerReply, NoMemory}
+use Rattle.view_engine.specs.DesignReasons.{design_reason}
 use Rattle.view_engine.specs.Requests.{form_of}
 
 -- the longest request line, in bytes
@@ -28,6 +29,7 @@ error_name (BadMember name) = codes "bad_member"
 error_name BadRev = codes "bad_rev"
 error_name DocumentTooLarge = codes "too_large"
 error_name DocumentTooDeep = codes "too_deep"
+error_name (InvalidDesign fault) = codes "invalid_design_doc"
 error_name Missing = codes "not_found"
 error_name Deleted = codes "not_found"
 error_name MissingNamedView = codes "not_found"
@@ -55,6 +57,7 @@ error_reason (BadMember name) = text_of (string name)
 error_reason BadRev = in_quotes (codes "revision is not well formed")
 error_reason DocumentTooLarge = in_quotes (codes "document passes 524288 bytes")
 error_reason DocumentTooDeep = in_quotes (codes "document passes depth 64")
+error_reason (InvalidDesign fault) = text_of (string (design_reason fault))
 error_reason Missing = in_quotes (codes "missing")
 error_reason Deleted = in_quotes (codes "deleted")
 error_reason MissingNamedView = in_quotes (codes "missing_named_view")
@@ -81,6 +84,7 @@ refused_as (doc.BadMember name) = BadMember name
 refused_as doc.BadRev = BadRev
 refused_as doc.TooLarge = DocumentTooLarge
 refused_as doc.TooDeep = DocumentTooDeep
+refused_as (doc.BadDesign fault) = InvalidDesign fault
 refused_as doc.Conflict = Conflict
 refused_as doc.Missing = Missing
 refused_as doc.Deleted = Deleted

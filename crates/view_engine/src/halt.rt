@@ -84,6 +84,7 @@ impl From<DocFault> for Halt {
             DocFault::BadRev => Halt::Refused(Refusal::BadRev),
             DocFault::TooLarge => Halt::Refused(Refusal::DocumentTooLarge),
             DocFault::TooDeep => Halt::Refused(Refusal::DocumentTooDeep),
+            DocFault::BadDesign(fault) => Halt::Refused(Refusal::InvalidDesign(fault)),
             DocFault::Conflict => Halt::Refused(Refusal::Conflict),
             DocFault::Missing => Halt::Refused(Refusal::Missing),
             DocFault::Deleted => Halt::Refused(Refusal::Deleted),

@@ -1,9 +1,11 @@
 //! Refusals, and the reply lines that name them.
 
-ghost use Rattle.std.specs.Prelude.{◌≡◌, OnOk};
+ghost use Rattle.std.specs.Prelude.{◌≡◌, ◌++◌, IfOk, OnOk, string_bytes};
+ghost use Rattle.view_engine.specs.DesignReasons.{design_reason as reason_of};
 ghost use Rattle.view_engine.specs.Written.{Adds, KeepsBefore};
 
 use crate::reply::Reply;
+use design_docs::DesignFault;
 use json_terms::{Chars, NoMemory, TermFault};
 use std::alloc::Global;
 
@@ -32,6 +34,8 @@ pub enum Refusal {
     DocumentTooLarge,
     /// Objects and arrays of the document nest more than 64 deep.
     DocumentTooDeep,
+    /// The design document has no design, for this fault.
+    InvalidDesign(DesignFault),
     /// The document was never written.
     Missing,
     /// The document is deleted.
@@ -87,6 +91,7 @@ impl Refusal {
             Refusal::BadRev => "bad_rev",
             Refusal::DocumentTooLarge => "too_large",
             Refusal::DocumentTooDeep => "too_deep",
+            Refusal::InvalidDesign(_fault) => "invalid_design_doc",
             Refusal::Missing | Refusal::Deleted | Refusal::MissingNamedView => "not_found",
             Refusal::Conflict => "conflict",
             Refusal::UnknownLanguage(_language) => "unknown_language",
@@ -119,6 +124,10 @@ impl Refusal {
             Refusal::Conflict => reply.put(b"\"Document update conflict.\""),
             Refusal::ServerFault => reply.put(b"\"query server failed twice\""),
             Refusal::NoMemory => reply.put(b"\"out of memory\""),
+            Refusal::InvalidDesign(fault) => {
+                let reason = design_reason(alloc, fault)?;
+                reply.put_string(alloc, reason.as_str())
+            }
             Refusal::BadMember(text)
             | Refusal::UnknownLanguage(text)
             | Refusal::CompilationError(text)
@@ -138,4 +147,27 @@ impl Refusal {
         reply.put(b"}")?;
         Ok(())
     }
+}
+
+/// What of a design is at fault, and the name that the fault holds.
+fn design_reason(alloc: Global, fault: &DesignFault) -> Result<String, NoMemory>
+    ensures { IfOk result (λ text. string_bytes text ≡ reason_of fault.now) }
+{
+    match fault {
+        DesignFault::BadViews => named(alloc, "views", ""),
+        DesignFault::BadView(name) => named(alloc, "view ", name.as_str()),
+        DesignFault::BadOption(name) => named(alloc, "option ", name.as_str()),
+        DesignFault::UnknownBuiltin(name) => named(alloc, "builtin ", name.as_str()),
+        DesignFault::BadLanguage => named(alloc, "language", ""),
+        DesignFault::NoMemory => named(alloc, "out of memory", ""),
+    }
+}
+
+/// A part of a design, and the name behind it.
+fn named(alloc: Global, part: &str, name: &str) -> Result<String, NoMemory>
+    ensures { IfOk result (λ text. string_bytes text ≡ part.now ++ name.now) }
+{
+    let mut text = String::from_str(alloc, part)?;
+    text.push_str(name)?;
+    Ok(text)
 }

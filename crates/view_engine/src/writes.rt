@@ -18,9 +18,9 @@ use crate::halt::Halt;
 use crate::refusal::Refusal;
 use crate::reply::Reply;
 use crate::request::Request;
-use design_docs::{DESIGN_PREFIX, id_of, is_design_id, is_plain};
+use design_docs::{DESIGN_PREFIX, DesignFault, Reduce, View, id_of, is_design_id, read_design};
 use doc_file::{DocFault, Docs};
-use json_terms::{Chars, Members, NoMemory, Term, member};
+use json_terms::{Chars, DOCUMENT_DEPTH, Members, NoMemory, Term, depth_within, member};
 use std::alloc::Global;
 use view_ports::Folder;
 
@@ -106,7 +106,7 @@ fn append_accepted(alloc: Global, docs: &Docs, id: &str, out: &mut Vec<u8>) -> R
     reply.end(written, out)
 }
 
-/// Whether a document is put as a design document and isn't one that is taken so far.
+/// Whether a document is put as a design document of which a view has a reduce.
 fn is_unbuilt(alloc: Global, document: &Term) -> Result<bool, NoMemory>
     ensures { IfOk result (λ unbuilt. unbuilt ≡ spec.is_unbuilt (json document.now)) }
 {
@@ -117,7 +117,38 @@ fn is_unbuilt(alloc: Global, document: &Term) -> Result<bool, NoMemory>
     if deletes(document) {
         return Ok(false);
     }
-    Ok(!is_plain(alloc, document)?)
+    if !depth_within(document, DOCUMENT_DEPTH) {
+        return Ok(false);
+    }
+    reduces(alloc, document)
+}
+
+/// Whether a document has a design of which a view has a reduce.
+fn reduces(alloc: Global, document: &Term) -> Result<bool, NoMemory>
+    ensures { IfOk result (λ found. found ≡ spec.reduces (json document.now)) }
+{
+    match read_design(alloc, document) {
+        Ok(design) => Ok(has_reduce(design.views.as_slice())),
+        Err(DesignFault::NoMemory) => Err(NoMemory),
+        Err(_fault) => Ok(false),
+    }
+}
+
+fn has_reduce(views: &[View]) -> bool
+    ensures { result ≡ spec.has_reduce views.now }
+{
+    for view in views {
+        if is_reduced(&view.reduce) {
+            return true;
+        }
+    }
+    false
+}
+
+fn is_reduced(reduce: &Reduce) -> bool
+    ensures { result ≡ spec.is_reduced reduce.now }
+{
+    !matches!(reduce, Reduce::Absent)
 }
 
 /// Whether a put of the document is a deletion.

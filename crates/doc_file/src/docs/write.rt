@@ -10,7 +10,7 @@ ghost use Rattle.doc_file.specs.Docs.{entries_of, file_of, seq_of, IsAt, IsOpen}
 ghost use Rattle.doc_file.specs.History.{Write};
 ghost use Rattle.doc_file.specs.Revision.{revision};
 ghost use Rattle.doc_file.specs.Stored.{next_rev as next_rev_of, next_revision, IsStorable};
-ghost use Rattle.doc_file.specs.Writes.{IsFileFault, IsPlainIfDesign};
+ghost use Rattle.doc_file.specs.Writes.{IsFileFault};
 
 use super::Docs;
 use crate::accept::{may_delete, may_put};
@@ -37,8 +37,9 @@ impl Docs {
     ///
     /// It is refused, in this order, as `BadId` (no text, empty, or with an underscore and not that of a named design
     /// document), `BadMember` (another member that begins with an underscore, or a `_deleted` that is neither true nor false),
-    /// `BadRev`, `TooLarge` (its text passes 524,288 bytes), `TooDeep` (past 64); and then by the last write of its id: a
-    /// deletion as `Missing` or `Deleted`, and both as a `Conflict`. A design document that isn't deleted is plain.
+    /// `BadRev`, `TooLarge` (its text passes 524,288 bytes), `TooDeep` (past 64), `BadDesign` (a design document that isn't
+    /// deleted and has no design); and then by the last write of its id: a deletion as `Missing` or `Deleted`, and both as a
+    /// `Conflict`.
     ///
     /// Each refusal but `Gate` leaves all as it was. At each moment a crash leaves the documents before the write or after
     /// it, and once the revision is answered those after it. After `Gate` the object is not to be used again.
@@ -49,7 +50,6 @@ impl Docs {
         document: Term,
     ) -> Result<Rev, DocFault>
         requires open { Told F.Folder folder.old (λ d. IsOpen self.old d.now) }
-        requires plain { IsPlainIfDesign (json document) }
         ensures { Puts F.Folder self.old self.new folder.old folder.new (json document) result }
     {
         document.validity();

@@ -4,6 +4,9 @@ ghost use Rattle.std.specs.Prelude.{◌≡◌, ◌≢◌, ◌++◌, ◌<◌, ◌
 ghost use Rattle.std.specs.Map.{lookup};
 ghost use Rattle.view_ports.specs.Lines.{ended};
 ghost use Rattle.raw_collation.specs.Sorting.{sorted_rows};
+ghost use Rattle.json_terms.specs.Seen.{json};
+ghost use Rattle.design_docs.specs.Design.{IsDesignOf};
+ghost use Rattle.design_docs.specs.Faults.{HasDesign};
 ghost use Rattle.design_docs.specs.Laws.{entry_of as named};
 ghost use Rattle.view_engine.specs.Answer.{answer};
 ghost use Rattle.view_engine.specs.Calls.{scene, Performed};
@@ -22,8 +25,8 @@ use crate::reply::Reply;
 use crate::request::{Request, ViewName};
 use crate::rows::rows_of;
 use child_pool::PoolFault;
-use design_docs::{DESIGN_PREFIX, Design, View, read_design};
-use json_terms::{Chars, NoMemory, RowLists};
+use design_docs::{DESIGN_PREFIX, Design, DesignFault, View, read_design};
+use json_terms::{Chars, NoMemory, RowLists, Term};
 use raw_collation::sort_rows;
 use std::alloc::Global;
 use view_ports::{Folder, Servers};
@@ -88,7 +91,7 @@ impl Engine {
             Ok(document) => document,
             Err(fault) => return Err(Halt::from(fault)),
         };
-        let design = read_design(alloc, &document)?;
+        let design = design_of(alloc, &document)?;
         let Some(place) = place_of(design.views.as_slice(), name.view.as_str()) else {
             return Err(Halt::Refused(Refusal::MissingNamedView));
         };
@@ -96,6 +99,18 @@ impl Engine {
             Some(_path) => Ok(Plan { id, design, place }),
             None => Err(Halt::Refused(Refusal::UnknownLanguage(design.language))),
         }
+    }
+}
+
+/// The design of a document that has one.
+fn design_of(alloc: Global, document: &Term) -> Result<Design, NoMemory>
+    requires { HasDesign (json document.now) }
+    ensures { IfOk result (λ design. IsDesignOf (json document.now) design) }
+{
+    match read_design(alloc, document) {
+        Ok(design) => Ok(design),
+        Err(DesignFault::NoMemory) => Err(NoMemory),
+        Err(_fault) => unreachable!(),
     }
 }
 

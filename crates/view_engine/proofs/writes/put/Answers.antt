@@ -8,7 +8,6 @@ use Rattle.doc_file.specs.Accepted.{state_in}
 use Rattle.doc_file.specs.Docs.{last_of}
 use Rattle.view_engine.specs.Replies.{accepted_reply}
 use Rattle.doc_file.proofs.NotOfFile.{put_not_of_file}
-use Rattle.view_engine.proofs.PlainPuts.{plain_where_built}
 use Rattle.view_engine.proofs.Stored.{refused_here_at_once, spent_here, unwritten_here, wrote_here}
 use Rattle.view_engine.proofs.Writing.{put_does, put_is_write, put_refused, reply_to}
 use Rattle.view_engine.proofs.writes.put.Goals as goal
@@ -21,9 +20,6 @@ returns-then-branch-clause-acts g c = refused_here_at_once c.requires.open (λ w
 
 pub returns-in_err-append_accepted-clause-acts : goal.returns-in_err-append_accepted-clause-acts
 returns-in_err-append_accepted-clause-acts g c = spent_here c.requires.open c.in_err-append_accepted.ensures.silent c.from_residual-in_err-append_accepted.ensures.1
-
-pub put-requires-clause-plain : goal.put-requires-clause-plain
-put-requires-clause-plain g c = plain_where_built (members_of c.args.document) (sym c.in_ok-is_unbuilt.ensures ∙ c.if-branch.false)
 
 pub returns-in-Ok-clause-acts : goal.returns-in-Ok-clause-acts
 returns-in-Ok-clause-acts g c =

@@ -42,7 +42,7 @@ pub store-requires-clause-storable : goal.store-requires-clause-storable
 store-requires-clause-storable g c =
     both (λ i content. IsStorable i content) (sym (c.into_stored-id.ensures.id ∙ c.in_ok-incoming.ensures.ok.id))
     (sym (content_is (json c.args.document) c.in_ok-incoming.incoming (option_map json c.into_stored-id.result.1) c.in_ok-incoming.ensures.ok c.into_stored-id.ensures.content))
-    (storable (json c.args.document) c.validity.ensures c.in_ok-incoming.ensures.ok.writable (c.requires.plain c.in_ok-incoming.ensures.ok.writable.id))
+    (storable (json c.args.document) c.validity.ensures c.in_ok-incoming.ensures.ok.writable)
 
 pub returns : goal.returns
 returns g c =

@@ -14,7 +14,7 @@ use Rattle.view_engine.specs.declared.refusal.Refusal.TheVariants.{MissingNamedV
 use Rattle.view_engine.specs.View.{design_id, view_refusal}
 use Rattle.view_engine.specs.ViewPlan.{source_at, IsPlan}
 use Rattle.view_engine.proofs.Reading.{read_of_get}
-use Rattle.view_engine.proofs.Plans.{plain_design, planned, refused_language, refused_same, refused_view}
+use Rattle.view_engine.proofs.Plans.{stored_design, planned, refused_language, refused_same, refused_view}
 use Rattle.view_engine.proofs.engine.Engine.plan.Goals as goal
 
 pub returns-in-Err-clause-reads : goal.returns-in-Err-clause-reads
@@ -36,7 +36,7 @@ returns-in_default-clause-refused g c = λ refusal is_refusal history.
     (λ d. IsAt docs d.now history → live_document history id ≡ Some document)
     (λ d. IsAt docs d.now history → view_refusal languages (record { history = history }) name ≡ Some refusal)
     (λ d live at. refused_same languages (record { history = history }) name MissingNamedView refusal same
-    (refused_view languages history name id document design is (live at) (plain_design name id document is c.in-Ok.ensures.body) c.in_ok-design.ensures none))
+    (refused_view languages history name id document design is (live at) (stored_design name id document is c.in-Ok.ensures.body) c.in_ok-design.ensures none))
     (c.in-Ok.ensures.document history)
 
 pub returns-in-Some-path_of-clause-plan : goal.returns-in-Some-path_of-clause-plan
@@ -57,7 +57,7 @@ returns-in-Some-path_of-clause-plan g c = λ history.
     (λ d. IsAt docs d.now history → live_document history id ≡ Some document)
     (λ d. IsAt docs d.now history → (path : List ℕ) → path_in languages design.language ≡ Some path → IsPlan languages (record { history = history }) name c.in_ok-id.id design place path)
     (λ d live at path known. subst (λ i. IsPlan languages (record { history = history }) name i design place path) c.as_str-2.ensures
-    (planned languages history name id document design is (live at) (plain_design name id document is c.in-Ok.ensures.body) c.in_ok-design.ensures place there path known))
+    (planned languages history name id document design is (live at) (stored_design name id document is c.in-Ok.ensures.body) c.in_ok-design.ensures place there path known))
     (c.in-Ok.ensures.document history)
 
 pub returns-in-Some-path_of-clause-few : goal.returns-in-Some-path_of-clause-few
@@ -66,8 +66,8 @@ returns-in-Some-path_of-clause-few g c =
     let document = json c.in-Ok.document in
     let views = c.in_ok-design.design.views in
     let is : id ≡ design_id c.args.name.now.design = c.as_str-2.ensures ∙ c.in_ok-id.ensures ∙ ap design_id c.as_str.ensures in
-    let plain = plain_design c.args.name.now id document is c.in-Ok.ensures.body in
-    let few : length views ≤ 32 = subst (λ (vs : List View). length vs ≤ 32) (sym c.in_ok-design.ensures.1) (views_are_few document plain) in
+    let has = stored_design c.args.name.now id document is c.in-Ok.ensures.body in
+    let few : length views ≤ 32 = subst (λ (vs : List View). length vs ≤ 32) (sym c.in_ok-design.ensures.1) (views_are_few document has) in
     omega (arith, few)
 
 pub returns-in-Some-path_of-clause-known : goal.returns-in-Some-path_of-clause-known
@@ -93,5 +93,5 @@ returns-in-None-clause-refused g c = λ refusal is_refusal history.
     (λ d. IsAt docs d.now history → live_document history id ≡ Some document)
     (λ d. IsAt docs d.now history → view_refusal languages (record { history = history }) name ≡ Some refusal)
     (λ d live at. refused_same languages (record { history = history }) name (UnknownLanguage design.language) refusal same
-    (refused_language languages history name id document design is (live at) (plain_design name id document is c.in-Ok.ensures.body) c.in_ok-design.ensures place there none))
+    (refused_language languages history name id document design is (live at) (stored_design name id document is c.in-Ok.ensures.body) c.in_ok-design.ensures place there none))
     (c.in-Ok.ensures.document history)
