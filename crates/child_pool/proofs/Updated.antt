@@ -114,7 +114,7 @@ module _ (functions : List ℕ → Functions) (honest : List ℕ → Type 0) (jo
         let last = document_prompts job.sources job.documents in
         let answered = subst (λ (prompts : List Prompt). AllAnswered rose prompts (v.added ++ w.added)) (sym (prompts_are job old slots is kept))
         (answered_then rose first last w.added v.added (answered_wider rose_first rose f first w.added prepared.1) (answered_wider rose_second rose g last v.added v.holds.answered)) in
-        let remembers = subst (λ (n : ℕ). IsKept pool job.path (max n kept)) is (subst (λ (p : Pool). IsKept p job.path (max slots kept)) (sym same) prepared.2) in
+        let remembers = subst (λ (n : ℕ). IsKept pool job.path (max n kept)) is (subst (λ (p : Pool). IsKept p job.path (max slots kept)) (sym same) (prepared.2 some)) in
         let talked : AreTurns (talk_of job.sources job.documents old.width) (talk (v.added ++ w.added)) ⊎ rose = elim (talk_answered rose (update_prompts job old.width kept) (v.added ++ w.added) answered) [
           | inl turns ↦ inl (subst (λ (dues : List Due). AreTurns dues (talk (v.added ++ w.added))) (update_lines job old.width kept old.one_child) turns)
           | inr counted ↦ inr counted

@@ -5,6 +5,7 @@ use Rattle.view_ports.specs.declared.command.Command.{Command}
 use Rattle.view_ports.specs.declared.command.Command.TheVariants.{Reset, AddFun, MapDoc, Reduce, Rereduce, Other}
 use Rattle.view_ports.specs.Calls.{Call, start, send, receive, stop, Session, child, slot_of}
 use Rattle.view_ports.specs.Functions.{IsMappable, line_limit}
+use Rattle.view_ports.specs.Honest.{log_limit}
 use Rattle.query_protocol.specs.CommandLines.{command_line}
 
 -- a design's path, the sources of its map functions in order of the views, and the documents that are mapped
@@ -48,10 +49,10 @@ abbrev pub HasChild : Option Session → Type 0
 HasChild None = ⊥
 HasChild (Some s) = s.sound ≡ true
 
--- and a line was sent to it that it hasn't answered
+-- and a line was sent to it that it hasn't answered, behind which it printed no more log lines than it may
 abbrev pub IsAsked : Option Session → Type 0
 IsAsked None = ⊥
-IsAsked (Some s) = (s.waiting ≢ []) × (s.sound ≡ true)
+IsAsked (Some s) = (s.waiting ≢ []) × (s.sound ≡ true) × (s.logs ≤ log_limit)
 
 -- A child is started by the job's path alone, a line of the job that isn't too long is sent to a slot that has a child, and
 -- a line is received from a child that was asked. After a call that failed nothing is sent to that child or received from it.

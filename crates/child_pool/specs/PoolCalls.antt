@@ -26,7 +26,7 @@ path_for pool design = path_in (languages_of pool) design.language
 abbrev pub RefusesUnknown : {T : Type 0} → Pool → Design → Result T PoolFault → Type 0
 RefusesUnknown pool design result = path_for pool design ≡ None → result ≡ Err UnknownLanguage
 
--- and then no server is called, and the pool stays as it was
+-- and while that is found out no server is called, and the pool stays as it was
 abbrev pub RefusesIdly : {C T : Type 0} → C → C → Pool → Pool → Design → Result T PoolFault → Type 0
 RefusesIdly old new pool pool' design result = path_for pool design ≡ None → (result ≡ Err UnknownLanguage) × (new ≡ old) × (pool' ≡ pool)
 
@@ -61,6 +61,10 @@ module _ {C : Type 0} (s : Servers C) (old new : C) where
   abbrev pub StopsAll : Pool → Pool → Type 0
   StopsAll pool pool' = (job : Job) (calls : List Call) → s.may_follow old calls
       → WentIn (s.may_follow new) job pool.width calls (λ added now. AreStopped pool.width pool' now × AllStops added)
+
+  -- a language without a path is refused, and then all children are stopped, and nothing else is done
+  abbrev pub RefusesStopping : {T : Type 0} → Pool → Pool → Design → Result T PoolFault → Type 0
+  RefusesStopping pool pool' design result = path_for pool design ≡ None → (result ≡ Err UnknownLanguage) × StopsAll pool pool'
 
   -- the children of the first slots are made ready, in rising order; the kept slots have a child of this path, and have one
   -- still where all went well

@@ -117,10 +117,11 @@ module _ (functions : List ℕ → Functions) (honest : List ℕ → Type 0) whe
   AfterReadying job kept slots rose (Ok done) before added now = AreTold job slots now × AllAnswered rose (slots_prompts job.sources kept slots) added
   AfterReadying job kept slots rose (Err f) before added now = Refused functions honest job (slots_prompts job.sources kept slots) rose f before added
 
-  -- the first slots were made ready, where so many had a child: the pool remembers these and the kept ones, and no others
+  -- the first slots were made ready, where so many had a child: where there are any, the pool remembers these and the kept ones, and no
+  -- others
   abbrev pub HasPrepared : Job → ℕ → ℕ → Type 0 → Pool → List Call → List Call → Type 0
   HasPrepared job kept slots rose pool added now =
-      AreTold job slots now × AllAnswered rose (slots_prompts job.sources kept slots) added × IsKept pool job.path (max slots kept) × HasItsChildren pool now
+      AreTold job slots now × AllAnswered rose (slots_prompts job.sources kept slots) added × (0 < slots → IsKept pool job.path (max slots kept)) × HasItsChildren pool now
 
   -- after a refusal the children may be as they were left
   abbrev pub AfterTrying : Job → Pool → ℕ → Type 0 → Pool → Result (Unit {0}) PoolFault → List Call → List Call → List Call → Type 0

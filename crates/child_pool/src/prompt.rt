@@ -1,6 +1,6 @@
 //! One prompt: a line is sent, and its answer is received behind log lines.
 
-ghost use Rattle.std.specs.Prelude.{◌≡◌, ◌<◌, Ok, None, false};
+ghost use Rattle.std.specs.Prelude.{◌≡◌, ◌<◌, ◌≤◌, Ok, None, false};
 ghost use Rattle.query_protocol.specs.CommandLines.{IsWhole};
 ghost use Rattle.child_pool.specs.Ends.{EndsOnce};
 ghost use Rattle.child_pool.specs.Hearing.{IsHeard, IsKept, IsShown};
@@ -24,7 +24,8 @@ fn receive_line<C: Servers>(
     kind: Kind,
     logs: u32,
 ) -> Result<Heard, PoolFault>
-    requires { slot < SLOT_COUNT }
+    requires slot { slot < SLOT_COUNT }
+    requires few { logs ≤ 1000 }
     ensures went { Hears C.Servers servers.old servers.new slot kind logs result }
     ensures ends { EndsOnce C.Servers servers.old servers.new Heard.Failed result }
     ensures few { result ≡ Ok Heard.Log → logs < 1000 }

@@ -22,7 +22,7 @@ use Rattle.view_engine.proofs.Worlds.{image_at}
 use Rattle.view_engine.specs.Calls.{IsStep, Scene}
 use Rattle.view_engine.specs.Disks.{AreOpen, IsReason}
 use Rattle.view_engine.specs.Worlds.{languages as languages_of}
-use Rattle.view_engine.proofs.Stepping.{step_around, step_damaged, step_full, step_sound, step_stopped, step_unwritten}
+use Rattle.view_engine.proofs.Stepping.{step_around, step_damaged, step_full, step_reads, step_writes, step_sound, step_stopped, step_unwritten}
 use Rattle.view_ports.specs.declared.folder.Folder.{Ghosts as Folders}
 use Rattle.view_ports.specs.declared.servers.Servers.{Ghosts as Servers}
 use Rattle.couchview_cli.specs.Session.{Answered, IsAnswered, IsUnanswered, StandsEither}
@@ -82,6 +82,7 @@ module _ {F C : Type 0} {f : Folders F} {s : Servers C} {old new : Scene F C} {l
       none = λ none. step.prints.none none ∙ empty;
       some = λ some. let printed = step.prints.some some in (printed.0, printed.1 ∙ ap (λ (front : List ℕ). front ++ ended printed.0) empty);
     };
+    still = step.disk.read;
     stays = step.stays;
   }
 
@@ -92,6 +93,7 @@ module _ {F C : Type 0} {f : Folders F} {s : Servers C} {old new : Scene F C} {l
         answered_spent s.functions s.honest (languages_of old.engine) before (f.disk old.folder) (f.disk new.folder) (s.may_follow new.servers) (s.faults new.servers) new.engine line step.asked
         (step.does before at) (step_unwritten step before at);
     prints = record { none = λ none. absurd (step.asked none); some = λ some. (refusal_text NoMemory, refl) };
+    still = step.disk.read;
     stays = step.stays;
   }
 
@@ -105,6 +107,7 @@ module _ {F C : Type 0} {f : Folders F} {s : Servers C} {old new : Scene F C} {l
       left = step_stopped step before at other;
     };
     cause = λ is. subst (IsReason f _ old.folder new.folder (request_of line)) is step.why;
-    found = record { halts = other; damaged = step_damaged is_open step };
+    found = record { halts = other; reads = step_reads step; damaged = step_damaged is_open step; writes = step_writes step };
+    still = step.disk.read;
     stays = step.stays;
   }

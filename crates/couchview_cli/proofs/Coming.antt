@@ -1,10 +1,10 @@
 -- A session goes on by the lines that it answers, and comes to an end.
-use Rattle.std.specs.Prelude.{◌≡◌, ℕ, List, Option}
+use Rattle.std.specs.Prelude.{◌≡◌, ℕ, List, [], ◌∷◌, Option}
 use Rattle.std.proofs.Common.{refl, sym, ◌∙◌, subst, arith}
 use Rattle.view_ports.specs.declared.folder.Folder.{Ghosts as Folders}
 use Rattle.view_ports.specs.declared.servers.Servers.{Ghosts as Servers}
-use Rattle.view_ports.specs.Disk.{LeavesOnly, Tells}
-use Rattle.view_ports.specs.Exchanges.{Exchange}
+use Rattle.view_ports.specs.Disk.{LeavesOnly, MovesNone, Tells}
+use Rattle.view_ports.specs.Exchanges.{Exchange, LeadsTo}
 use Rattle.view_ports.specs.Faults.{Rose}
 use Rattle.view_ports.proofs.Counting.{Rose-earlier}
 use Rattle.view_ports.proofs.Told.{told_now}
@@ -20,10 +20,10 @@ use Rattle.view_engine.specs.Calls.{Scene, StandsAt, Stays, scene}
 use Rattle.view_engine.specs.Moments.{Moment}
 use Rattle.view_engine.specs.Steps.{Answers}
 use Rattle.view_engine.specs.Worlds.{at_start, GoesOnFrom, StandsFor, languages as languages_of}
-use Rattle.view_engine.proofs.Worlds.{answers_grow}
+use Rattle.view_engine.proofs.Worlds.{answers_grow, stays_still, stays_still_then}
 use Rattle.couchview_cli.specs.declared.session.Session.{Session}
 use Rattle.couchview_cli.specs.Ends.{Comes}
-use Rattle.couchview_cli.specs.Reading.{HasReplied, IsReplied, Replies}
+use Rattle.couchview_cli.specs.Reading.{HasReplied, IsReplied, NoneWrites, Replies, Told}
 use Rattle.couchview_cli.specs.Serving.{width}
 use Rattle.couchview_cli.specs.Session.{HasCome, IsAnswered, IsUnanswered, KeepsPorts, Origin, StepsOf, scene_of}
 use Rattle.couchview_cli.proofs.Keeping.{Answered-of}
@@ -103,39 +103,59 @@ module _ {F C : Type 0} (f : Folders F) (s : Servers C) (r : Responds (Session F
   replies : (old new : Session F C) (seen : Unit {0}) (e : Exchange) → Unit {0} → Steps r old e new → (after : Unit {0}) × Replies seen e after × Unit {0}
   replies old new seen e known step = (tt, subst (IsReplied e.line) (sym step.1) ((answers old new e.line step.0).1).prints, tt)
 
+  -- where none of them writes a document no file changes
+  still : (start now : Session F C) (es : List Exchange) → LeadsTo (Steps r) start es now → NoneWrites es → Tells (f.disk start.folder.now) (f.disk now.folder.now) MovesNone
+  still start now [] leads none = subst (λ (session : Session F C). Tells (f.disk start.folder.now) (f.disk session.folder.now) MovesNone) (sym leads) (stays_still (f.disk start.folder.now))
+  still start now (e ∷ es) leads none =
+      stays_still_then (f.disk start.folder.now) (f.disk (leads.0).folder.now) (f.disk now.folder.now) (((answers start leads.0 e.line leads.1.0).1).still none.0) (still leads.0 now es leads.2 none.1)
+
   -- what the session replied, whatever the folder holds
   pub has_replied : (start last : Session F C) (left left' held held' : Option (List ℕ)) (end : LoopEnd StepFault) → Loops r start last left left' held held' end
-      → HasReplied left left' held held' (f.disk last.folder.now) end
+      → HasReplied left left' held held' (f.disk start.folder.now) (f.disk last.folder.now) end
   has_replied start last left left' held held' (loop_end.Run end) loops =
       let finishes = loops.ends in
-      let seen = Run-seen (λ (session : Session F C) (known : Unit {0}). Unit {0}) replies start last tt loops.bytes finishes.gained end tt finishes.run in
+      let run = finishes.run in
+      let seen = LeadsTo-seen (λ (session : Session F C) (known : Unit {0}). Unit {0}) replies start last tt run.exchanges tt run.leads in
       record {
         bytes = loops.bytes;
         reads = loops.reads;
         counts = loops.counts;
-        ends = record { gained = finishes.gained; run = seen.1; wrote = finishes.wrote };
+        ends = record {
+          gained = finishes.gained;
+          run = record {
+            exchanges = run.exchanges;
+            lines = run.lines;
+            rest = run.rest;
+            cut = run.cut;
+            answered = run.answered;
+            leads = seen.1;
+            written = run.written;
+          };
+          wrote = finishes.wrote;
+          still = still start last run.exchanges run.leads;
+        };
       }
   has_replied start last left left' held held' (loop_end.Stopped fault) loops =
       let cut = loops.ends in
       let seen = LeadsTo-seen (λ (session : Session F C) (known : Unit {0}). Unit {0}) replies start cut.mid tt cut.exchanges tt cut.leads in
+      let stopped = (stops cut.mid last cut.line fault cut.stops).1 in
       record {
         bytes = loops.bytes;
         reads = loops.reads;
         counts = loops.counts;
-        ends = (
-          record {
-            exchanges = cut.exchanges;
-            lines = cut.lines;
-            rest = cut.rest;
-            line = cut.line;
-            more = cut.more;
-            cut = cut.cut;
-            answered = cut.answered;
-            leads = seen.1;
-            wrote = cut.wrote;
-          },
-          ((stops cut.mid last cut.line fault cut.stops).1).found,
-        );
+        ends = record {
+          exchanges = cut.exchanges;
+          lines = cut.lines;
+          rest = cut.rest;
+          line = cut.line;
+          more = cut.more;
+          cut = cut.cut;
+          answered = cut.answered;
+          leads = seen.1;
+          wrote = cut.wrote;
+          found = stopped.found;
+          still = λ none silent. stays_still_then (f.disk start.folder.now) (f.disk cut.mid.folder.now) (f.disk last.folder.now) (still start cut.mid cut.exchanges cut.leads none) (stopped.still silent);
+        };
       }
 
   -- what every line keeps
@@ -186,6 +206,6 @@ comes_behind {F} {C} f s origin ran engine folder servers same_engine same_folde
     (subst (λ (x : F). Comes f s origin (scene ran.engine.now x servers) left left' held held' end) (sym same_folder)
     (subst (λ (x : C). Comes f s origin (scene ran.engine.now ran.folder.now x) left left' held held' end) (sym same_servers) comes))
 
-pub replied_behind : {F C : Type 0} (f : Folders F) (ran : Session F C) (folder : F) → folder ≡ ran.folder.now → {left left' held held' : Option (List ℕ)} {end : LoopEnd StepFault}
-    → HasReplied left left' held held' (f.disk ran.folder.now) end → HasReplied left left' held held' (f.disk folder) end
-replied_behind {F} f ran folder same {left} {left'} {held} {held'} {end} replied = subst (λ (x : F). HasReplied left left' held held' (f.disk x) end) (sym same) replied
+pub replied_behind : {F C : Type 0} (f : Folders F) (ran : Session F C) (folder : F) → folder ≡ ran.folder.now → {left left' held held' : Option (List ℕ)} {old : Told} {end : LoopEnd StepFault}
+    → HasReplied left left' held held' old (f.disk ran.folder.now) end → HasReplied left left' held held' old (f.disk folder) end
+replied_behind {F} f ran folder same {left} {left'} {held} {held'} {old} {end} replied = subst (λ (x : F). HasReplied left left' held held' old (f.disk x) end) (sym same) replied

@@ -18,7 +18,9 @@ use Rattle.view_ports.specs.declared.folder.Folder.{Ghosts as Folders}
 use Rattle.view_ports.specs.declared.servers.Servers.{Ghosts as Servers}
 use Rattle.view_engine.specs.Calls.{Scene}
 use Rattle.view_engine.proofs.RequestLimit.{Answers-cut, request_limit-is, request_of-long}
-use Rattle.couchview_cli.specs.Reading.{IsReplied}
+use Rattle.view_engine.specs.Disks.{ReadsDocuments}
+use Rattle.view_engine.specs.Halts.{Writes}
+use Rattle.couchview_cli.specs.Reading.{IsFoundOn, IsReplied}
 use Rattle.couchview_cli.specs.Session.{Answered, IsAnswered, IsUnanswered, IsHalted}
 use Rattle.couchview_cli.proofs.Moving.{Told}
 
@@ -77,6 +79,18 @@ replied_kept line text replied = record {
   some = λ some. replied.some (λ none. some (kept-none request_limit line none));
 }
 
+-- a line writes a document where what is kept of it does, and is not answered as that is not
+still_kept : {P : Type 0} (line : List ℕ) → ((Writes (request_of (kept request_limit line)) → ⊥) → P) → (Writes (request_of line) → ⊥) → P
+still_kept {P} line still = subst (λ request. (Writes request → ⊥) → P) (request_kept line) still
+
+found_kept : {disk : Told} {fault : StepFault} (line : List ℕ) → IsFoundOn disk (kept request_limit line) fault → IsFoundOn disk line fault
+found_kept line found = record {
+  halts = found.halts;
+  reads = λ name at is. subst ReadsDocuments (request_kept line) (found.reads name at is);
+  damaged = found.damaged;
+  writes = λ name length is. subst Writes (request_kept line) (found.writes name length is);
+}
+
 -- what a responder is given of a line is what is kept of it
 is_kept : (line given : List ℕ) → given ≡ kept 2097152 line → given ≡ kept request_limit line
 is_kept line given is = is ∙ ap (λ (limit : ℕ). kept limit line) (sym request_limit-is)
@@ -85,9 +99,9 @@ module _ {F C : Type 0} {f : Folders F} {s : Servers C} {old new : Scene F C} (l
   pub answered_whole : (text : List ℕ) → IsAnswered f s old new given text → IsAnswered f s old new line text
   answered_whole text answered =
       let kept_answered : IsAnswered f s old new (kept request_limit line) text = subst (λ (l : List ℕ). IsAnswered f s old new l text) (is_kept line given is) answered in
-      record { answers = λ before at. Answered-kept line (kept_answered.answers before at); prints = replied_kept line text kept_answered.prints; stays = answered.stays }
+      record { answers = λ before at. Answered-kept line (kept_answered.answers before at); prints = replied_kept line text kept_answered.prints; still = still_kept line kept_answered.still; stays = answered.stays }
 
   pub unanswered_whole : (fault : StepFault) → IsUnanswered f s old new given fault → IsUnanswered f s old new line fault
   unanswered_whole fault cut =
       let kept_unanswered : IsUnanswered f s old new (kept request_limit line) fault = subst (λ (l : List ℕ). IsUnanswered f s old new l fault) (is_kept line given is) cut in
-      record { halts = λ before at. IsHalted-kept line (kept_unanswered.halts before at); cause = cut.cause; found = cut.found; stays = cut.stays }
+      record { halts = λ before at. IsHalted-kept line (kept_unanswered.halts before at); cause = cut.cause; found = found_kept line kept_unanswered.found; still = still_kept line kept_unanswered.still; stays = cut.stays }

@@ -4,14 +4,16 @@ use Rattle.std.proofs.Common.{inl, inr}
 use Rattle.view_ports.specs.declared.run_end.RunEnd.{RunEnd}
 use Rattle.view_ports.specs.Runs.{status_of}
 use Rattle.line_loop.specs.declared.loop_end.LoopEnd.TheVariants as loop_end
+use Rattle.view_ports.specs.Disk.{Tells}
 use Rattle.view_engine.specs.declared.halt.StepFault.{StepFault}
+use Rattle.view_engine.specs.Openings.{IsMovedByOpening}
 use Rattle.couchview_cli.specs.Closing.{Closes}
-use Rattle.couchview_cli.specs.Reading.{AnswersLines, HasReplied}
+use Rattle.couchview_cli.specs.Reading.{AnswersLines, HasReplied, Told}
 use Rattle.couchview_cli.specs.Serving.{Outside}
 
-module _ (before after : Outside) (status : ℕ) where
+module _ (before after : Outside) (status : ℕ) (opened : Told) (moved : Tells before.disk opened IsMovedByOpening) where
   -- the session came to the end of a run
-  pub reads_on : (end : RunEnd) → status ≡ status_of end → HasReplied before.left after.left before.held after.held after.disk (loop_end.Run end) → AnswersLines before after status
+  pub reads_on : (end : RunEnd) → status ≡ status_of end → HasReplied before.left after.left before.held after.held opened after.disk (loop_end.Run end) → AnswersLines before after status
   reads_on end is replied =
       inl (record {
         bytes = replied.bytes;
@@ -19,11 +21,13 @@ module _ (before after : Outside) (status : ℕ) where
         ends = is;
         reads = replied.reads;
         counts = replied.counts;
+        opened = opened;
+        moved = moved;
         replies = replied.ends;
       })
 
   -- it was stopped in a line, and then the last line was written
-  pub is_cut_off : (held : Option (List ℕ)) (fault : StepFault) → HasReplied before.left after.left before.held held after.disk (loop_end.Stopped fault) → Closes held after.held [] fault status
+  pub is_cut_off : (held : Option (List ℕ)) (fault : StepFault) → HasReplied before.left after.left before.held held opened after.disk (loop_end.Stopped fault) → Closes held after.held [] fault status
       → AnswersLines before after status
   is_cut_off held fault replied closes =
       inr (inl (record {
@@ -32,7 +36,8 @@ module _ (before after : Outside) (status : ℕ) where
         held = held;
         reads = replied.reads;
         counts = replied.counts;
-        replies = replied.ends.0;
+        opened = opened;
+        moved = moved;
+        replies = replied.ends;
         closes = closes;
-        found = replied.ends.1;
       }))

@@ -1,9 +1,10 @@
 -- What serving does with lines, whatever the folder holds.
 use Rattle.std.specs.Prelude.{◌≡◌, ◌≢◌, ◌⊎◌, ◌≤◌, ℕ, List, [], ◌∷◌, ◌++◌, Option, length}
 use Rattle.std.specs.Io.KnownBytes.{Appends, Consumes, IsAtEnd}
+use Rattle.std.specs.List.{AllByRecursion}
 use Rattle.view_ports.specs.declared.run_end.RunEnd.{RunEnd}
 use Rattle.view_ports.specs.declared.file_name.FileName.{FileName}
-use Rattle.view_ports.specs.Disk.{Disk, IfTold, Tells}
+use Rattle.view_ports.specs.Disk.{Disk, IfTold, MovesNone, Tells}
 use Rattle.view_ports.specs.Exchanges.{Exchange, LeadsTo, lines_of, text_of}
 use Rattle.view_ports.specs.Lines.{IsCut, ended}
 use Rattle.view_ports.specs.Runs.{AreLines, HasRead, Run, input_limit, status_of}
@@ -12,7 +13,10 @@ use Rattle.line_loop.specs.declared.loop_end.LoopEnd.TheVariants as loop_end
 use Rattle.line_loop.specs.Loops.{HasReadBy}
 use Rattle.view_engine.specs.declared.halt.StepFault.{StepFault}
 use Rattle.view_engine.specs.declared.halt.StepFault.TheVariants.{Damaged, Full, NoMemory}
+use Rattle.view_engine.specs.Disks.{ReadsDocuments}
+use Rattle.view_engine.specs.Halts.{Writes}
 use Rattle.view_engine.specs.Openings.{IsMovedByOpening}
+use Rattle.view_engine.specs.Refusals.{request_of}
 use Rattle.view_engine.specs.Worlds.{HasBodyDamage, HasDamage}
 use Rattle.couchview_cli.specs.Closing.{Closes}
 use Rattle.couchview_cli.specs.Serving.{Outside}
@@ -26,20 +30,32 @@ pub record IsReplied (line text : List ℕ) : Type 0 where
 abbrev pub Replies : Unit {0} → Exchange → Unit {0} → Type 0
 Replies before exchange after = IsReplied exchange.line exchange.text
 
--- a line isn't answered, for this fault: memory didn't run out, and what is named as damaged is
-pub record IsFoundOn (disk : Option (Disk FileName)) (fault : StepFault) : Type 0 where
+-- a line isn't answered, for this fault: memory didn't run out; a request that reads documents met a body that is damaged; and one
+-- that writes a document met a full file
+pub record IsFoundOn (disk : Option (Disk FileName)) (line : List ℕ) (fault : StepFault) : Type 0 where
   pub halts : fault ≢ NoMemory
+  pub reads : (name : FileName) (at : ℕ) → fault ≡ Damaged name at → ReadsDocuments (request_of line)
   pub damaged : (name : FileName) (at : ℕ) → fault ≡ Damaged name at → IfTold disk (λ d. HasBodyDamage d.now name at)
+  pub writes : (name : FileName) (length : Option ℕ) → fault ≡ Full name length → Writes (request_of line)
 
-module _ (IsOver : Type 0) (held now : Option (List ℕ)) (bytes : List ℕ) where
-  -- the lines of these bytes were answered, as a run that came to this end answers them
+-- none of these lines is a request that writes a document
+abbrev pub NoneWrites : List Exchange → Type 0
+NoneWrites exchanges = AllByRecursion (λ e. Writes (request_of e.line) → ⊥) exchanges
+
+abbrev pub Told : Type 0
+Told = Option (Disk FileName)
+
+module _ (IsOver : Type 0) (held now : Option (List ℕ)) (bytes : List ℕ) (old new : Told) where
+  -- The lines of these bytes were answered, as a run that came to this end answers them. Where none of them writes a document no
+  -- file changed.
   pub record AreReplied (end : RunEnd) : Type 0 where
     pub gained : List ℕ
     pub run : Run Replies IsOver tt bytes gained end tt
     pub wrote : Appends held now gained
+    pub still : NoneWrites run.exchanges → Tells old new MovesNone
 
-  -- the first lines of them were answered, and the one behind them was not
-  pub record AreRepliedUpTo : Type 0 where
+  -- the first lines of them were answered, and the one behind them was not, for this fault
+  pub record AreRepliedUpTo (fault : StepFault) : Type 0 where
     pub exchanges : List Exchange
     pub lines : List (List ℕ)
     pub rest : List ℕ
@@ -49,19 +65,21 @@ module _ (IsOver : Type 0) (held now : Option (List ℕ)) (bytes : List ℕ) whe
     pub answered : AreLines IsOver lines rest (lines_of exchanges ++ line ∷ more)
     pub leads : LeadsTo Replies tt exchanges tt
     pub wrote : Appends held now (text_of exchanges)
+    pub found : IsFoundOn new line fault
+    pub still : NoneWrites exchanges → (Writes (request_of line) → ⊥) → Tells old new MovesNone
 
-  abbrev pub AreRepliedBy : Option (Disk FileName) → LoopEnd StepFault → Type 0
-  AreRepliedBy disk (loop_end.Run end) = AreReplied end
-  AreRepliedBy disk (loop_end.Stopped fault) = AreRepliedUpTo × IsFoundOn disk fault
+  abbrev pub AreRepliedBy : LoopEnd StepFault → Type 0
+  AreRepliedBy (loop_end.Run end) = AreReplied end
+  AreRepliedBy (loop_end.Stopped fault) = AreRepliedUpTo fault
 
--- a session read the bytes that the source lost, answered their lines, and came to this end over this disk
-pub record HasReplied (left left' held held' : Option (List ℕ)) (disk : Option (Disk FileName)) (end : LoopEnd StepFault) : Type 0 where
+-- a session read the bytes that the source lost, answered their lines, and came to this end, from the one disk to the other
+pub record HasReplied (left left' held held' : Option (List ℕ)) (old new : Told) (end : LoopEnd StepFault) : Type 0 where
   pub bytes : List ℕ
   pub reads : Consumes left left' bytes
   pub counts : HasReadBy end (length bytes)
-  pub ends : AreRepliedBy (IsAtEnd left') held held' bytes disk end
+  pub ends : AreRepliedBy (IsAtEnd left') held held' bytes old new end
 
--- ---- the whole run
+-- ---- the whole run, from the disk behind the opening of the folder on, which changed files only as it may
 
 -- it read the bytes that the source lost, answered their lines, and ended with this status
 pub record ReadsOn (before after : Outside) (status : ℕ) : Type 0 where
@@ -70,7 +88,9 @@ pub record ReadsOn (before after : Outside) (status : ℕ) : Type 0 where
   pub ends : status ≡ status_of end
   pub reads : Consumes before.left after.left bytes
   pub counts : HasRead end (length bytes)
-  pub replies : AreReplied (IsAtEnd after.left) before.held after.held bytes end
+  pub opened : Told
+  pub moved : Tells before.disk opened IsMovedByOpening
+  pub replies : AreReplied (IsAtEnd after.left) before.held after.held bytes opened after.disk end
 
 -- it was cut short in a line, and behind the replies to those before it stands the last line, which names the fault, unless the sink failed
 pub record IsCutOff (before after : Outside) (status : ℕ) : Type 0 where
@@ -79,9 +99,10 @@ pub record IsCutOff (before after : Outside) (status : ℕ) : Type 0 where
   pub held : Option (List ℕ)
   pub reads : Consumes before.left after.left bytes
   pub counts : length bytes ≤ input_limit
-  pub replies : AreRepliedUpTo (IsAtEnd after.left) before.held held bytes
+  pub opened : Told
+  pub moved : Tells before.disk opened IsMovedByOpening
+  pub replies : AreRepliedUpTo (IsAtEnd after.left) before.held held bytes opened after.disk fault
   pub closes : Closes held after.held [] fault status
-  pub found : IsFoundOn after.disk fault
 
 -- the folder wasn't opened, and nothing was read: no file changed but as opening changes it, what is named as damaged is, and no file is full
 pub record ReadsNothing (before after : Outside) (status : ℕ) : Type 0 where

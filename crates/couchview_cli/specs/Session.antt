@@ -3,7 +3,7 @@ use Rattle.std.specs.Prelude.{◌≡◌, ◌⊎◌, ℕ, List, Option, if◌then
 use Rattle.view_ports.specs.declared.file_name.FileName.{FileName}
 use Rattle.view_ports.specs.declared.folder.Folder.{Ghosts as Folders}
 use Rattle.view_ports.specs.declared.servers.Servers.{Ghosts as Servers}
-use Rattle.view_ports.specs.Disk.{Disk, IfTold, LeavesOnly, Tells}
+use Rattle.view_ports.specs.Disk.{Disk, IfTold, LeavesOnly, MovesNone, Tells}
 use Rattle.view_ports.specs.Exchanges.{Exchange}
 use Rattle.view_ports.specs.Faults.{Rose}
 use Rattle.view_ports.specs.Functions.{Functions}
@@ -12,6 +12,7 @@ use Rattle.view_engine.specs.declared.halt.StepFault.TheVariants.{Damaged, DiskF
 use Rattle.view_ports.specs.Lines.{ended}
 use Rattle.view_engine.specs.declared.refusal.Refusal.TheVariants as refusal
 use Rattle.view_engine.specs.Calls.{KeepsChild, Scene, StandsAt, Stays, scene}
+use Rattle.view_engine.specs.Halts.{Writes}
 use Rattle.view_engine.specs.Refusals.{refusal_text, request_of}
 use Rattle.view_engine.specs.Moments.{Moment}
 use Rattle.view_engine.specs.Steps.{Answers}
@@ -61,13 +62,15 @@ module _ {F C : Type 0} (f : Folders F) (s : Servers C) where
     pub answers : (before : Moment) → StandsAt f s old before
         → Answered s.functions s.honest (languages_of old.engine) (f.disk old.folder) (f.disk new.folder) before line text (StandsAt f s new)
     pub prints : IsReplied line text
+    pub still : (Writes (request_of line) → ⊥) → Tells (f.disk old.folder) (f.disk new.folder) MovesNone
     pub stays : Stays f s old new
 
   -- a line was not answered, for this fault
   pub record IsUnanswered (old new : Scene F C) (line : List ℕ) (fault : StepFault) : Type 0 where
     pub halts : (before : Moment) → StandsAt f s old before → IsHalted fault (f.disk old.folder) (f.disk new.folder) before line (KeepsChild f s new)
     pub cause : fault ≡ DiskFault → Rose (f.faults old.folder) (f.faults new.folder)
-    pub found : IsFoundOn (f.disk new.folder) fault
+    pub found : IsFoundOn (f.disk new.folder) line fault
+    pub still : (Writes (request_of line) → ⊥) → Tells (f.disk old.folder) (f.disk new.folder) MovesNone
     pub stays : Stays f s old new
 
   -- since the origin a session has come to this moment

@@ -34,6 +34,7 @@ module _ {F : Type 0} {f : Folders F} {docs : Docs} {request : Result Request Re
   disk_still {folder} is_open = record {
     moments = λ world at. moments_still docs (f.disk folder) request world at;
     own = λ world at. own_still (f.disk folder);
+    read = λ never. told_refl (f.disk folder) MovesNone none_refl;
     unmoved = λ given. told_refl (f.disk folder) MovesNone none_refl;
     unwritten = λ given world at. stands_still docs (f.disk folder) world.history at;
     still = λ world at never. still_same docs (f.disk folder) request world at never;
@@ -45,6 +46,7 @@ module _ {F : Type 0} {f : Folders F} {docs : Docs} {request : Result Request Re
   disk_read {old} {new} none is_open = record {
     moments = λ world at. moments_none docs (f.disk old) (f.disk new) none request world at;
     own = λ world at. own_none (f.disk old) (f.disk new) none;
+    read = λ never. none;
     unmoved = λ given. none;
     unwritten = λ given world at. stands_none docs (f.disk old) (f.disk new) none world.history at;
     still = λ world at never. none;
@@ -57,6 +59,7 @@ module _ {F : Type 0} {f : Folders F} {docs : Docs} {request : Result Request Re
       let there : KeepsDisk f docs docs' old old request GivenUp GoesOn = record {
         moments = λ world at. moments_still docs (f.disk old) request world at;
         own = λ world at. own_still (f.disk old);
+        read = λ never. told_refl (f.disk old) MovesNone none_refl;
         unmoved = λ given. told_refl (f.disk old) MovesNone none_refl;
         unwritten = λ given world at. stands_still docs (f.disk old) world.history at;
         still = λ world at never. still_same docs (f.disk old) request world at never;
@@ -70,6 +73,7 @@ module _ {F : Type 0} {f : Folders F} {docs : Docs} {request : Result Request Re
   disk_ends given goes keeps = record {
     moments = keeps.moments;
     own = keeps.own;
+    read = keeps.read;
     unmoved = λ was. keeps.unmoved (given was);
     unwritten = λ was. keeps.unwritten (given was);
     still = keeps.still;

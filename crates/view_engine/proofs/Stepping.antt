@@ -19,10 +19,11 @@ use Rattle.view_engine.specs.declared.halt.StepFault.TheVariants.{DiskFault, Dam
 use Rattle.view_engine.specs.declared.refusal.Refusal.{Refusal}
 use Rattle.view_engine.specs.declared.refusal.Refusal.TheVariants as refusal
 use Rattle.view_engine.specs.declared.request.Request.{Request}
+use Rattle.view_engine.specs.declared.request.Request.TheVariants.{Delete, Put}
 use Rattle.view_engine.specs.Calls.{DoesBy, KeepsChild, IsStep, IsToldAs, Performed, Scene, StandsAt, StepsBy}
-use Rattle.view_engine.specs.Disks.{AreOpen, IsReason}
+use Rattle.view_engine.specs.Disks.{AreOpen, IsReason, ReadsDocuments}
 use Rattle.doc_file.specs.History.{Write}
-use Rattle.view_engine.specs.Halts.{halted_by, FitsFor, IsDamage, IsFullFor, LeavesFiles, WouldWrite}
+use Rattle.view_engine.specs.Halts.{halted_by, FitsFor, IsDamage, IsFullFor, LeavesFiles, WouldWrite, Writes}
 use Rattle.view_engine.specs.Moments.{Moment}
 use Rattle.view_engine.specs.Refusals.{request_of, refusal_text}
 use Rattle.view_engine.specs.Steps.{Does, DoesRequest, DoesRequestText, IsWrite, MayHaveCalled}
@@ -236,3 +237,16 @@ step_damaged {f = f} {old = old} {new = new} {line = line} {fault = fault} is_op
     let why = subst (IsReason f old.engine.docs old.folder new.folder (request_of line)) is step.why in
     let still : LeavesFiles (Stopped fault) = subst (λ (e : StepFault). LeavesFiles (Stopped e)) (sym is) tt in
     damage_named (f.disk old.folder) (f.disk new.folder) old.engine.docs name at is_open why.1.0 (step.disk.unmoved still)
+
+full_writes : (docs : Docs) (request : Result Request Refusal) (name : FileName) (length : Option ℕ) → IsFullFor docs request name length → Writes request
+full_writes docs (Ok (Put document)) name length full = tt
+full_writes docs (Ok (Delete id given)) name length full = tt
+full_writes docs other name length full = absurd full
+
+module _ {F C : Type 0} {f : Folders F} {s : Servers C} {old new : Scene F C} {line out out' : List ℕ} {fault : StepFault} (step : IsStep f s old new line out out' (Err fault)) where
+  -- damage is met by a request that reads documents, and a full file by one that writes one
+  pub step_reads : (name : FileName) (at : ℕ) → fault ≡ Damaged name at → ReadsDocuments (request_of line)
+  step_reads name at is = (subst (IsReason f old.engine.docs old.folder new.folder (request_of line)) is step.why).0
+
+  pub step_writes : (name : FileName) (length : Option ℕ) → fault ≡ Full name length → Writes (request_of line)
+  step_writes name length is = full_writes old.engine.docs (request_of line) name length (subst (IsReason f old.engine.docs old.folder new.folder (request_of line)) is step.why).0

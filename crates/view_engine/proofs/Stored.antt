@@ -29,7 +29,7 @@ use Rattle.view_engine.specs.declared.refusal.Refusal.{Refusal}
 use Rattle.view_engine.specs.declared.request.Request.{Request}
 use Rattle.view_engine.specs.Calls.{ActsHere, DoesHere, DoesHereBy, IsRefusedHere, LeavesWorld}
 use Rattle.view_engine.specs.Disks.{AreOpen, IfStopped, IsReason, KeepsDisk, OverWorld}
-use Rattle.view_engine.specs.Halts.{halted_as, Fits, FitsFor, GoesOn, IsFull, IsFullFor, LeavesFiles}
+use Rattle.view_engine.specs.Halts.{halted_as, Fits, FitsFor, GoesOn, IsFull, IsFullFor, LeavesFiles, Writes as WritesOne}
 use Rattle.view_engine.specs.Steps.{IsWrite}
 use Rattle.view_engine.specs.World.{written, World}
 use Rattle.view_engine.proofs.Around.{moves_around}
@@ -93,7 +93,7 @@ module _ {F : Type 0} (f : Folders F) (docs docs' : Docs) (old new : F) (request
 
   module _ (id : List ℕ) (content : Option Json) (Accepted : Type 0) (IsRefused : DocFault → Type 0) (reply : List ℕ)
       (does : (files : FileName → File) (world : World) → AreAt docs files world.history → Accepted → DoesHere world request reply (written world (write_of world.history id content)))
-      (writes : (files : FileName → File) (world : World) → AreAt docs files world.history → Accepted → IsWrite world (Ok request) (write_of world.history id content)) where
+      (writes : (files : FileName → File) (world : World) → AreAt docs files world.history → Accepted → IsWrite world (Ok request) (write_of world.history id content)) (is_write : WritesOne (Ok request)) where
     abbrev Side : Result Rev DocFault → Type 0
     Side = Writes f docs docs' old new id content Accepted IsRefused
 
@@ -102,6 +102,7 @@ module _ {F : Type 0} (f : Folders F) (docs docs' : Docs) (old new : F) (request
       moments = λ world at. moves_around world (Ok request) (write_of world.history id content) (λ files. OnOk result (AreAt docs' files (write_of world.history id content ∷ world.history))) (f.disk old) (f.disk new)
           (told_now (f.disk old) (λ d. AreAt docs d.now world.history) (λ d. IsWrite world (Ok request) (write_of world.history id content)) (λ d is. writes d.now world is accepted) at) (stored.stored.stands world.history at);
       own = λ world at. own_moved (f.disk old) (f.disk new) _ _ (stored.stored.stands world.history at);
+      read = λ never. absurd (never is_write);
       unmoved = λ given. absurd (ungiven given);
       unwritten = λ given. absurd (ungiven given);
       still = λ world at never. still_written (f.disk old) (f.disk new) world (Ok request) (write_of world.history id content) _
@@ -220,13 +221,13 @@ module _ {F : Type 0} (f : Folders F) (docs docs' : Docs) (old new : F) (request
 module _ {F : Type 0} {f : Folders F} {docs docs' : Docs} {old new : F} {request : Request} {out out' : List ℕ} {id : List ℕ} {content : Option Json} {Accepted : Type 0} {IsRefused : DocFault → Type 0}
     (reply : List ℕ)
     (does : (files : FileName → File) (world : World) → AreAt docs files world.history → Accepted → DoesHere world request reply (written world (write_of world.history id content)))
-    (writes : (files : FileName → File) (world : World) → AreAt docs files world.history → Accepted → IsWrite world (Ok request) (write_of world.history id content)) where
+    (writes : (files : FileName → File) (world : World) → AreAt docs files world.history → Accepted → IsWrite world (Ok request) (write_of world.history id content)) (is_write : WritesOne (Ok request)) where
   pub wrote_here : {rev : Rev} → (Fits docs id content → FitsFor docs (Ok request)) → out' ≡ out ++ ended reply → Writes f docs docs' old new id content Accepted IsRefused (Ok rev) → ActsHere f docs docs' old new request out out' (Ok tt)
-  wrote_here {rev} = stored_done f docs docs' old new request out out' id content Accepted IsRefused reply does writes rev
+  wrote_here {rev} = stored_done f docs docs' old new request out out' id content Accepted IsRefused reply does writes is_write rev
 
   pub unwritten_here : {fault : DocFault} → ((g : GateFault) → IsRefused (doc.Gate g) → ⊥)
       → ((files : FileName → File) (world : World) → AreAt docs files world.history → (e : DocFault) → IsRefused e ⊎ IsFileFault (file_of docs) e ⊎ (e ≡ doc.NoMemory)
       → (refusal : Refusal) → halted_as e ≡ Refused refusal → IsRefusedHere world request refusal)
       → ((name : FileName) (length : Option ℕ) → IsFull docs id content name length → IsFullFor docs (Ok request) name length)
       → out' ≡ out → AreOpen f docs old → Writes f docs docs' old new id content Accepted IsRefused (Err fault) → ActsHere f docs docs' old new request out out' (Err (halted_as fault))
-  unwritten_here {fault} not_of_file refused full = stored_halted f docs docs' old new request out out' id content Accepted IsRefused reply does writes not_of_file refused full fault
+  unwritten_here {fault} not_of_file refused full = stored_halted f docs docs' old new request out out' id content Accepted IsRefused reply does writes is_write not_of_file refused full fault

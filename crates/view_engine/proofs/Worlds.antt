@@ -2,12 +2,14 @@
 use Rattle.std.specs.Prelude.{Bool, true, false, if◌then◌else◌}
 use Rattle.std.proofs.Common.{◌≡◌, ◌≤◌, ℕ, MatchOption, List, [], ◌∷◌, ◌++◌, Option, Result, Ok, refl, sym, ap, ◌∙◌, subst, append_assoc}
 use Rattle.view_ports.specs.Calls.{Call}
-use Rattle.view_ports.specs.Disk.{Disk, IfTold, IsImageOf}
+use Rattle.view_ports.specs.Disk.{Disk, IfTold, IsImageOf, MovesNone, Tells}
 use Rattle.view_ports.specs.Exchanges.{Exchange}
 use Rattle.view_ports.specs.File.{File}
 use Rattle.view_ports.specs.Functions.{Functions}
 use Rattle.view_ports.specs.declared.file_name.FileName.{FileName}
-use Rattle.view_ports.proofs.Told.{told_now}
+use Rattle.view_ports.proofs.DiskRuns.{none_refl}
+use Rattle.view_ports.proofs.Told.{told_now, told_refl}
+use Rattle.gate_file.proofs.Looks.{told_none_then}
 use Rattle.child_pool.specs.declared.pool.Started.{Started}
 use Rattle.child_pool.specs.Pools.{AreThere}
 use Rattle.doc_file.specs.History.{Write}
@@ -81,3 +83,11 @@ module _ (disk : Option (Disk FileName)) (may_follow : List Call → Type 0) (fa
   holds_at moment at =
       told_now disk (λ d. IsAtWorld engine d.now moment.world) (λ d. Holds d.now moment.world)
       (λ d here. world_held engine d.now moment.world here) at.documents
+
+-- ---- files that don't change
+
+pub stays_still : (disk : Option (Disk FileName)) → Tells disk disk MovesNone
+stays_still disk = told_refl disk MovesNone none_refl
+
+pub stays_still_then : (a b c : Option (Disk FileName)) → Tells a b MovesNone → Tells b c MovesNone → Tells a c MovesNone
+stays_still_then = told_none_then

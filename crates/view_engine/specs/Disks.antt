@@ -14,7 +14,7 @@ use Rattle.view_engine.specs.declared.refusal.Refusal.{Refusal}
 use Rattle.view_engine.specs.declared.request.Request.{Request}
 use Rattle.view_engine.specs.declared.request.Request.TheVariants.{Get, View}
 use Rattle.view_engine.specs.Worlds.{StandsAround, StandsFor}
-use Rattle.view_engine.specs.Halts.{GoesOn, IsDamage, IsFullFor, IsStill, LeavesFiles, MovesDocuments, WouldWrite}
+use Rattle.view_engine.specs.Halts.{GoesOn, IsDamage, IsFullFor, IsStill, LeavesFiles, MovesDocuments, WouldWrite, Writes}
 use Rattle.view_engine.specs.World.{World}
 
 -- ---- how a request ends
@@ -58,6 +58,8 @@ module _ {F : Type 0} (f : Folders F) where
     pub moments : OverWorld docs old (λ world. CrashLeaves old new (StandsAround world request))
     -- no file changes but those of the documents
     pub own : OverWorld docs old (λ world. Tells (f.disk old) (f.disk new) MovesDocuments)
+    -- a request that writes no document changes no file, whatever the folder holds
+    pub read : (Writes request → ⊥) → Tells (f.disk old) (f.disk new) MovesNone
     -- where it is given up, no file changes, and a crash leaves the world before it
     pub unmoved : HasGivenUp → Tells (f.disk old) (f.disk new) MovesNone
     pub unwritten : HasGivenUp → OverWorld docs old (λ world. CrashLeaves old new (λ image. StandsFor image world))

@@ -113,6 +113,12 @@ WouldWrite docs disk request = (world : World) → IfTold disk (λ d. IsAt docs 
 
 -- ---- what is written
 
+-- a request that writes a document
+abbrev pub Writes : Result Request Refusal → Type 0
+Writes (Ok (Put document)) = Unit {0}
+Writes (Ok (Delete id given)) = Unit {0}
+Writes other = ⊥
+
 -- only files of the documents change, and of each other file a crash leaves at each moment what it might have left before
 abbrev pub MovesDocuments : Disk FileName → Disk FileName → Type 0
 MovesDocuments = Moves IsDocsFile (λ image. Unit {0}) (λ files. Unit {0})

@@ -1,7 +1,7 @@
 // The calls of the pool: children are made ready, map documents, and are stopped.
 ghost use Rattle.std.specs.Prelude.{◌≡◌, ◌≢◌, ◌≤◌, ◌<◌, ◌^◌, ◌⊎◌, [], IfErr, IfOk, OnOk, None, Some, length, min};
 ghost use Rattle.design_docs.specs.Design.{map_sources};
-ghost use Rattle.child_pool.specs.PoolCalls.{Ends, MapsNothing, StaysAsMade, Maps, MapsAll, MapsBatch, Prepares, Readies, RefusesIdly, RefusesUnknown, StopsAll, path_for};
+ghost use Rattle.child_pool.specs.PoolCalls.{Ends, MapsNothing, StaysAsMade, Maps, MapsAll, MapsBatch, Prepares, Readies, RefusesIdly, RefusesStopping, RefusesUnknown, StopsAll, path_for};
 ghost use Rattle.child_pool.specs.Pools.{IsKeptOf};
 
 use crate::doc_rows::DocRowLists;
@@ -25,10 +25,9 @@ struct SetUp {
 impl Pool {
     /// Makes the children of the first `slots` slots ready for a design: each is started where none is there that was started
     /// by the path of the design's language, it is reset, and it is told each source in order of the views. There are
-    /// no more slots than the width, and there may be none. After a refusal no child is left.
+    /// no more slots than the width; where there are none, nothing is done. After a refusal no child is left.
     ///
-    /// `UnknownLanguage` comes exactly where the language has no path, and no server is called then. `ServerFault` comes only
-    /// where two attempts on one prompt failed, `BadReply` and `Compile` only of a line that was received in this call, and
+    /// `UnknownLanguage` comes exactly where the language has no path. `ServerFault` comes only where two attempts on one prompt failed, `BadReply` and `Compile` only of a line that was received in this call, and
     /// `NoMemory` where memory runs out. No prompt has a third attempt.
     pub fn prepare<C: Servers>(
         &mut self,
@@ -41,11 +40,12 @@ impl Pool {
         ensures went { Prepares C.Servers servers.old servers.new
             self.old design.now slots self.new result }
         ensures ends { Ends C.Servers servers.old servers.new self.old self.new design.now result }
-        ensures unknown { RefusesIdly servers.old servers.new self.old self.new design.now result }
+        ensures unknown { RefusesStopping C.Servers servers.old servers.new
+            self.old self.new design.now result }
+        ensures idle { slots ≡ 0 → OnOk result (self.new ≡ self.old) }
     {
         match self.try_prepare(alloc, servers, design, slots) {
             Ok(()) => Ok(()),
-            Err(PoolFault::UnknownLanguage) => Err(PoolFault::UnknownLanguage),
             Err(fault) => {
                 self.stop_all(servers);
                 Err(fault)
@@ -66,12 +66,12 @@ impl Pool {
         ensures went { MapsBatch C.Servers servers.old servers.new
             self.old design.now documents.now self.new result }
         ensures ends { Ends C.Servers servers.old servers.new self.old self.new design.now result }
-        ensures unknown { RefusesIdly servers.old servers.new self.old self.new design.now result }
+        ensures unknown { RefusesStopping C.Servers servers.old servers.new
+            self.old self.new design.now result }
         ensures remembers { OnOk result (self.new ≡ self.old) }
     {
         match self.try_map(alloc, servers, design, documents) {
             Ok(lists) => Ok(lists),
-            Err(PoolFault::UnknownLanguage) => Err(PoolFault::UnknownLanguage),
             Err(fault) => {
                 self.stop_all(servers);
                 Err(fault)
@@ -93,8 +93,8 @@ impl Pool {
         ensures went { MapsAll C.Servers servers.old servers.new
             self.old design.now documents.now self.new result }
         ensures ends { Ends C.Servers servers.old servers.new self.old self.new design.now result }
-        ensures unknown { documents.now ≢ [] →
-            RefusesIdly servers.old servers.new self.old self.new design.now result }
+        ensures unknown { documents.now ≢ [] → RefusesStopping C.Servers servers.old servers.new
+            self.old self.new design.now result }
         ensures idle { documents.now ≡ [] →
             MapsNothing servers.old servers.new self.old self.new result }
     {
@@ -132,12 +132,16 @@ impl Pool {
             self.old design.now slots self.new result }
         ensures ends { Ends C.Servers servers.old servers.new self.old self.new design.now result }
         ensures unknown { RefusesIdly servers.old servers.new self.old self.new design.now result }
+        ensures idle { slots ≡ 0 → OnOk result (self.new ≡ self.old) }
     {
         let plan = match self.plan_of(alloc, design) {
             Ok(plan) => plan,
             Err(fault) => return Err(fault),
         };
         let kept = self.count_of(plan.path.as_str());
+        if slots == 0 {
+            return Ok(());
+        }
         match prepare_slots(
             alloc,
             servers,

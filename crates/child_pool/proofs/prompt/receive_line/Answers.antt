@@ -12,12 +12,12 @@ use Rattle.child_pool.proofs.prompt.receive_line.Goals as goal
 pub returns-in-Err-Failed-clause-went : goal.returns-in-Err-Failed-clause-went
 returns-in-Err-Failed-clause-went g c = λ job sources prompt calls follows is of at.
     let slot = c.args.slot in
-    Went-call (receive slot None) c.in-Err-Failed.ensures.told follows refl (at_asked job.path sources prompt c.args.logs slot calls at) (AfterLine g.C.Servers.functions g.C.Servers.honest job sources prompt c.args.logs slot (Ok Failed) calls) (record { last = receive slot None; earlier = []; is = refl; failed = refl; went = refl })
+    Went-call (receive slot None) c.in-Err-Failed.ensures.told follows refl (at_asked job.path sources prompt c.args.logs slot calls c.requires.few at) (AfterLine g.C.Servers.functions g.C.Servers.honest job sources prompt c.args.logs slot (Ok Failed) calls) (record { last = receive slot None; earlier = []; is = refl; failed = refl; went = refl })
 
 pub returns-in-Err-NoMemory-clause-went : goal.returns-in-Err-NoMemory-clause-went
 returns-in-Err-NoMemory-clause-went g c = λ job sources prompt calls follows is of at.
     let slot = c.args.slot in
-    Went-call (receive slot None) c.in-Err-NoMemory.ensures.told follows refl (at_asked job.path sources prompt c.args.logs slot calls at) (AfterLine g.C.Servers.functions g.C.Servers.honest job sources prompt c.args.logs slot (Err NoMemory) calls) (tt, inl refl)
+    Went-call (receive slot None) c.in-Err-NoMemory.ensures.told follows refl (at_asked job.path sources prompt c.args.logs slot calls c.requires.few at) (AfterLine g.C.Servers.functions g.C.Servers.honest job sources prompt c.args.logs slot (Err NoMemory) calls) (tt, inl refl)
 
 pub returns-clause-went : goal.returns-clause-went
 returns-clause-went g c = λ job sources prompt calls follows is of at.
@@ -26,4 +26,4 @@ returns-clause-went g c = λ job sources prompt calls follows is of at.
     let functions = g.C.Servers.functions in
     let honest = g.C.Servers.honest in
     let P : List ℕ → Type 0 = λ bytes. IsHeard c.args.kind c.args.logs bytes c.heard_line.result in
-    Went-call (receive slot (Some line)) c.in-Ok.ensures.told follows refl (at_asked job.path sources prompt c.args.logs slot calls at) (AfterLine functions honest job sources prompt c.args.logs slot c.heard_line.result calls) (after_line functions honest job sources prompt c.args.logs slot calls line of at (c.in-Ok.ensures.answers calls follows) c.args.kind c.heard_line.result is (subst P c.as_slice.ensures.value c.heard_line.ensures))
+    Went-call (receive slot (Some line)) c.in-Ok.ensures.told follows refl (at_asked job.path sources prompt c.args.logs slot calls c.requires.few at) (AfterLine functions honest job sources prompt c.args.logs slot c.heard_line.result calls) (after_line functions honest job sources prompt c.args.logs slot calls line of at (c.in-Ok.ensures.answers calls follows) c.args.kind c.heard_line.result is (subst P c.as_slice.ensures.value c.heard_line.ensures))

@@ -29,7 +29,7 @@ returns-in-Ok-clause-acts g c =
     let appended : c.append_accepted.new.out.items ≡ c.args.out.now.items ++ ended (accepted_reply docs id) = search rules in
     both (λ i rev. ActsHere g.F.Folder docs c.delete.new.self c.args.folder.now c.delete.new.folder (Delete i rev) c.args.out.now.items c.append_accepted.new.out.items (Ok tt)) c.as_str-2.ensures c.text_of.ensures
     (wrote_here (accepted_reply docs id) (λ files world at accepted. delete_does docs files world at id given accepted (reply_to docs files world at c.as_str.result.now id (c.as_str.ensures ∙ sym c.as_str-2.ensures) (c.in_ok-append_accepted.ensures.history files world.history at)))
-    (λ files world at accepted. delete_is_write docs files world at id given accepted (reply_to docs files world at c.as_str.result.now id (c.as_str.ensures ∙ sym c.as_str-2.ensures) (c.in_ok-append_accepted.ensures.history files world.history at))) (λ fits. fits) appended c.in-Ok.ensures)
+    (λ files world at accepted. delete_is_write docs files world at id given accepted (reply_to docs files world at c.as_str.result.now id (c.as_str.ensures ∙ sym c.as_str-2.ensures) (c.in_ok-append_accepted.ensures.history files world.history at))) tt (λ fits. fits) appended c.in-Ok.ensures)
 
 pub returns-clause-acts : goal.returns-clause-acts
 returns-clause-acts g c =
@@ -39,6 +39,6 @@ returns-clause-acts g c =
     let silent : c.truncate.new.self.items ≡ c.args.out.now.items = grind (arith, common_steps) in
     rw c.from.ensures (both (λ i rev. ActsHere g.F.Folder docs c.delete.new.self c.args.folder.now c.delete.new.folder (Delete i rev) c.args.out.now.items c.truncate.new.self.items (Err (halted_as c.in-Err.fault)))
     c.as_str-2.ensures c.text_of.ensures (unwritten_here (accepted_reply docs id) (λ files world at accepted. delete_does docs files world at id given accepted (reply_to docs files world at c.as_str.result.now id (c.as_str.ensures ∙ sym c.as_str-2.ensures) (c.in_ok-append_accepted.ensures.history files world.history at)))
-    (λ files world at accepted. delete_is_write docs files world at id given accepted (reply_to docs files world at c.as_str.result.now id (c.as_str.ensures ∙ sym c.as_str-2.ensures) (c.in_ok-append_accepted.ensures.history files world.history at)))
+    (λ files world at accepted. delete_is_write docs files world at id given accepted (reply_to docs files world at c.as_str.result.now id (c.as_str.ensures ∙ sym c.as_str-2.ensures) (c.in_ok-append_accepted.ensures.history files world.history at))) tt
     (delete_not_of_file (state_in (last_of docs id)) given)
     (λ files world at fault is refusal met. delete_refused docs files world at docs.file id given fault refusal is met) (λ name length full. full) silent c.requires.open c.in-Err.ensures))

@@ -28,7 +28,7 @@ returns-in-Ok-clause-acts g c =
     let built = sym c.in_ok-is_unbuilt.ensures ∙ c.if-branch.false in
     let appended : c.append_accepted.new.out.items ≡ c.args.out.now.items ++ ended (accepted_reply docs (id_of json)) = search rules in
     wrote_here (accepted_reply docs (id_of json)) (λ files world at accepted. put_does docs files world at json built accepted (reply_to docs files world at c.id_of.result.now (id_of json) c.id_of.ensures (c.in_ok-append_accepted.ensures.history files world.history at)))
-    (λ files world at accepted. put_is_write docs files world at c.args.document built accepted (reply_to docs files world at c.id_of.result.now (id_of json) c.id_of.ensures (c.in_ok-append_accepted.ensures.history files world.history at))) (λ fits. fits) appended c.in-Ok.ensures
+    (λ files world at accepted. put_is_write docs files world at c.args.document built accepted (reply_to docs files world at c.id_of.result.now (id_of json) c.id_of.ensures (c.in_ok-append_accepted.ensures.history files world.history at))) tt (λ fits. fits) appended c.in-Ok.ensures
 
 pub returns-in-Err-clause-acts : goal.returns-in-Err-clause-acts
 returns-in-Err-clause-acts g c =
@@ -37,6 +37,6 @@ returns-in-Err-clause-acts g c =
     let built = sym c.in_ok-is_unbuilt.ensures ∙ c.if-branch.false in
     let silent : c.truncate.new.self.items ≡ c.args.out.now.items = grind (arith, common_steps) in
     rw c.from.ensures (unwritten_here (accepted_reply docs (id_of json)) (λ files world at accepted. put_does docs files world at json built accepted (reply_to docs files world at c.id_of.result.now (id_of json) c.id_of.ensures (c.in_ok-append_accepted.ensures.history files world.history at)))
-    (λ files world at accepted. put_is_write docs files world at c.args.document built accepted (reply_to docs files world at c.id_of.result.now (id_of json) c.id_of.ensures (c.in_ok-append_accepted.ensures.history files world.history at)))
+    (λ files world at accepted. put_is_write docs files world at c.args.document built accepted (reply_to docs files world at c.id_of.result.now (id_of json) c.id_of.ensures (c.in_ok-append_accepted.ensures.history files world.history at))) tt
     (put_not_of_file (state_in (last_of docs (id_of json))) json)
     (λ files world at fault is refusal met. put_refused docs files world at docs.file json fault refusal built is met) (λ name length full. full) silent c.requires.open c.in-Err.ensures)

@@ -48,7 +48,7 @@ returns-in-Ok-clause-went g c = λ path calls follows known stands.
     let first : 0 < slots = omega (arith, c.slots_for-slots.ensures, some, c.args.self.now.one_child) in
     let within : slots ≤ prepared.width = omega (arith, c.slots_for-slots.ensures, keeps.width) in
     let enough : min prepared.width (length documents) ≤ slots = omega (arith, c.slots_for-slots.ensures, keeps.width) in
-    let is_ready : IsReady functions honest job slots prepared w.now = record { remembered = (max slots kept, omega arith, prepared_now.2); there = prepared_now.3; told = prepared_now.0 } in
+    let is_ready : IsReady functions honest job slots prepared w.now = record { remembered = (max slots kept, omega arith, prepared_now.2 first); there = prepared_now.3; told = prepared_now.0 } in
     let v = subst (λ (n : ℕ). WentIn (g.C.Servers.may_follow c.map_batch.new.servers) job n w.now (AfterBatch functions honest job n slots documents (Rose y z) c.map_batch.new.self c.map_batch.result w.now)) keeps.width
     (c.map_batch.ensures.went path documents slots w.now w.follows known_still (among_themselves documents) within enough is_ready) in
     updated functions honest job c.args.self.now slots c.slots_for-slots.ensures (Rose x y) (Rose y z) (Rose x z) prepared c.map_batch.new.self c.map_batch.result first
