@@ -86,7 +86,8 @@ impl Docs {
     /// The stored document of an id, with its present revision.
     ///
     /// `Missing` comes exactly where the id was never written, `Deleted` exactly where its last write was a deletion. The
-    /// file is `Damaged` at the place of the body exactly where no object of depth 64 at most is spelled there.
+    /// file is `Damaged` at the place of the body exactly where what is spelled there is no object of depth 64 at most, or
+    /// where the id is that of a design and the object has none.
     pub fn get<F: Folder>(&self, alloc: Global, folder: &mut F, id: &str) -> Result<Term, DocFault>
         // Over a history: the live document, or why there is none, and never damage.
         ensures document { AtHistory F.Folder self.now folder.old
