@@ -25,5 +25,5 @@ mod Progress
 mod Known
 mod Tallies
 pub mod LastWrites
-mod MappedOrder
+pub mod MappedOrder
 mod MappedLater

@@ -1,0 +1,14 @@
+pub mod Lists
+pub mod Histories
+pub mod SortedRows
+pub mod Updates
+pub mod Firsts
+pub mod Distinct
+pub mod Free
+pub mod Pictures
+pub mod Columns
+pub mod Since
+pub mod Batches
+pub mod Worlds
+pub mod Strict
+pub mod Designs

@@ -1,0 +1,6 @@
+pub mod Since
+pub mod Rows
+pub mod Picture
+pub mod Update
+pub mod Laws
+pub mod World

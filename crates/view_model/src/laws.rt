@@ -1,0 +1,86 @@
+// The laws of rows and pictures. Each function states some, and does nothing.
+ghost use Rattle.std.specs.Prelude.{List, Option, ℕ};
+ghost use Rattle.json_terms.specs.Json.{Json};
+ghost use Rattle.view_model.specs.World.{DigestsTellDesigns, DropsKeepPictures, FirstsHavePictures, UpdatesKeepPictures, WritesKeepPictures};
+ghost use Rattle.design_docs.specs.declared.design.View.{View};
+ghost use Rattle.view_model.specs.Laws.{AreEmittedByView, AreInsertedInOrder, AreTakenByView, ChangedIsWrittenSince, FirstDropsNewest, MapsDistinctIds, MapsWrittenSince, ComplaintsMeetAll, IsSpoiledAsMet, IsSpoiledByMapped, IsTrueBefore, IsUpdatedInOrder, NoPictureIsTrue, RowsAreBySequence, RowsRise, StaysTrue, UpdatesAreAfresh, UpdatesAreFree, UpdatesExist, UpdatesGoInBatches, UpdatesGoInPages, UpdatesOfNothing, UpdatesRise, UpdatesStayTrue};
+
+use view_ports::Servers;
+
+/// The documents by sequence are the mapped documents, each once.
+pub fn documents_are_mapped_once()
+    ensures distinct { MapsDistinctIds }
+    ensures since { MapsWrittenSince }
+{}
+
+/// What the first writes and the writes since are.
+pub fn histories_are_cut_by_sequence()
+    ensures first { FirstDropsNewest }
+    ensures since { ChangedIsWrittenSince }
+{}
+
+/// An update of a true picture gives the rows that mapping all documents afresh gives.
+pub fn updates_are_afresh<C: Servers>()
+    ensures exist { (path : List ℕ) (views : List View) → UpdatesExist (C.functions path) (C.honest path) views }
+    ensures rows { (path : List ℕ) (views : List View) → UpdatesAreAfresh (C.functions path) (C.honest path) views }
+    ensures stays { (path : List ℕ) (views : List View) → UpdatesStayTrue (C.functions path) (C.honest path) views }
+{}
+
+/// An update may be made in batches.
+pub fn updates_go_in_batches()
+    ensures batches { UpdatesGoInBatches }
+    ensures pages { UpdatesGoInPages }
+{}
+
+/// Where nothing was written since, an update of a true picture leaves the rows as they are; and whatever was emitted,
+/// the rows of documents without a write since stay.
+pub fn updates_keep_rows<C: Servers>()
+    ensures nothing { (path : List ℕ) (views : List View) → UpdatesOfNothing (C.functions path) (C.honest path) views }
+    ensures free { (path : List ℕ) (views : List View) → UpdatesAreFree (C.functions path) (C.honest path) views }
+{}
+
+/// A picture that is true stays true, and none is true at first.
+pub fn pictures_stay_true<C: Servers>()
+    ensures none { (path : List ℕ) (views : List View) → NoPictureIsTrue (C.functions path) views }
+    ensures after { (path : List ℕ) (views : List View) → StaysTrue (C.functions path) views }
+    ensures before { (path : List ℕ) (views : List View) → IsTrueBefore (C.functions path) views }
+{}
+
+/// Where a map source doesn't compile, an update of a true picture maps all documents, and some where the views are spoiled.
+pub fn complaints_meet_all<C: Servers>()
+    ensures all { (path : List ℕ) (views : List View) → ComplaintsMeetAll (C.functions path) views }
+    ensures mapped { (path : List ℕ) (views : List View) → IsSpoiledByMapped (C.functions path) views }
+    ensures spoiled { (path : List ℕ) (views : List View) → IsSpoiledAsMet (C.functions path) (C.honest path) views }
+{}
+
+/// Emissions that come document by document may be taken view by view.
+pub fn emissions_are_taken_by_view()
+    ensures taken { AreTakenByView }
+    ensures emitted { AreEmittedByView }
+{}
+
+/// Each picture that must be true is true after a write, after an update, and where one is dropped.
+pub fn pictures_are_kept<C: Servers>()
+    ensures writes { (signature : Json → List ℕ) (path_for : Json → Option (List ℕ)) (views_for : Json → List View) → WritesKeepPictures signature path_for views_for C.functions C.honest }
+    ensures updates { (signature : Json → List ℕ) (path_for : Json → Option (List ℕ)) (views_for : Json → List View) → UpdatesKeepPictures signature path_for views_for C.functions C.honest }
+    ensures drops { (signature : Json → List ℕ) (path_for : Json → Option (List ℕ)) (views_for : Json → List View) → DropsKeepPictures signature path_for views_for C.functions C.honest }
+    ensures firsts { (signature : Json → List ℕ) (path_for : Json → Option (List ℕ)) (views_for : Json → List View) → FirstsHavePictures signature path_for views_for C.functions C.honest }
+{}
+
+/// Rows are those that inserting each before the first greater row gives, and any list in order with the same rows is theirs.
+pub fn rows_are_inserted_in_order()
+    ensures inserted { AreInsertedInOrder }
+    ensures any { IsUpdatedInOrder }
+    ensures by_sequence { RowsAreBySequence }
+{}
+
+/// No two rows of a view have one id and place, so that each is less than those after it.
+pub fn rows_rise_strictly()
+    ensures rows { RowsRise }
+    ensures updates { UpdatesRise }
+{}
+
+/// Where digests tell the designs of a history apart, designs with one digest have the same path and the same sources.
+pub fn digests_tell_designs()
+    ensures { DigestsTellDesigns }
+{}
