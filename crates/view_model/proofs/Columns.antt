@@ -4,8 +4,8 @@ use Rattle.std.specs.List.{AllByRecursion}
 use Rattle.std.proofs.Common.{ap, sym, ◌∙◌, append_assoc, length-append, arith}
 use Rattle.json_terms.specs.Json.{Json}
 use Rattle.view_ports.specs.Functions.{Functions}
-use Rattle.view_model.specs.Rows.{emitted_by}
-use Rattle.view_model.specs.Update.{by_view, emitted_at, emitted_for}
+use Rattle.view_model.specs.Rows.{emitted_by, emitted_at}
+use Rattle.view_model.specs.Update.{by_view, emitted_for}
 use Rattle.view_model.specs.Laws.{AreTakenByView, AreEmittedByView}
 use Rattle.design_docs.specs.declared.design.View.{View}
 

@@ -6,7 +6,7 @@ use Rattle.json_terms.specs.Find.{member_of}
 use Rattle.json_terms.specs.Kinds.{members_in}
 use Rattle.design_docs.specs.declared.design.View.{View}
 use Rattle.design_docs.specs.Design.{design_term, language_of, views_in, views_object, views_of}
-use Rattle.view_model.specs.World.{DigestsTellDesigns}
+use Rattle.view_model.specs.Standing.{DigestsTellDesigns}
 
 abbrev text_or_none : Json → List ℕ
 text_or_none (string s) = s

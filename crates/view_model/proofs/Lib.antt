@@ -9,6 +9,8 @@ pub mod Pictures
 pub mod Columns
 pub mod Since
 pub mod Batches
-pub mod Worlds
+pub mod Standing
 pub mod Strict
+pub mod Shapes
+pub mod Apart
 pub mod Designs

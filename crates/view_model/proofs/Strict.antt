@@ -21,8 +21,8 @@ use Rattle.raw_collation.proofs.Equals.{rows_cmp-equal}
 use Rattle.raw_collation.proofs.SortedRows.{sorted_rows_is_sorted, sorted_rows_permutes}
 use Rattle.doc_file.specs.History.{Write, changes_after, mapped_after}
 use Rattle.view_model.specs.Since.{is_among}
-use Rattle.view_model.specs.Rows.{emitted_by, emitted_rows, rows_from}
-use Rattle.view_model.specs.Update.{ids_of, unchanged_rows, same_place, RiseStrictly}
+use Rattle.view_model.specs.Rows.{emitted_by, emitted_rows, rows_from, same_place, RiseStrictly}
+use Rattle.view_model.specs.Update.{ids_of, unchanged_rows}
 use Rattle.view_model.specs.Laws.{RowsRise, UpdatesRise}
 use Rattle.view_model.proofs.Histories.{bytes_eq-sym}
 use Rattle.view_model.proofs.Distinct.{all_filter, mapped_among, mapped_distinct}

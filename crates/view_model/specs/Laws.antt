@@ -1,14 +1,14 @@
 -- The laws on which an index stands.
-use Rattle.std.specs.Prelude.{take, ◌≡◌, ◌-◌, ◌++◌, map, filter, drop, bytes_eq, nat_lt, if◌then◌else◌, ◌≤◌, ℕ, List, [], ◌∷◌, length, false, IsPermutation, IsSorted, None}
+use Rattle.std.specs.Prelude.{take, ◌≡◌, ◌-◌, ◌++◌, map, filter, drop, bytes_eq, nat_lt, if◌then◌else◌, ◌≤◌, ℕ, List, [], ◌∷◌, length, false, IsPermutation, IsSorted, None, ◌<◌, slice_index_or}
 use Rattle.std.specs.List.{AllByRecursion, AllZip, IsDistinct}
 use Rattle.raw_collation.specs.Collation.{rows_cmp}
 use Rattle.raw_collation.specs.Sorting.{sorted_rows}
 use Rattle.view_ports.specs.Functions.{Functions}
 use Rattle.doc_file.specs.History.{Write, changes_after, last_seq, mapped, mapped_after}
 use Rattle.view_model.specs.Since.{first, is_among, mapped_of}
-use Rattle.view_model.specs.Rows.{view_rows, emitted_rows, inserted, emitted_by, rows_of, spoiled, maps_compile, some_reduce_fails, has_some}
-use Rattle.view_model.specs.Picture.{Picture, IsTrueOf, picture_or_none}
-use Rattle.view_model.specs.Update.{by_view, emitted_for, ids_of, unchanged_rows, updated_rows, IsFreeUpdate, IsUpdated, same_place, RiseStrictly}
+use Rattle.view_model.specs.Rows.{view_rows, emitted_rows, inserted, emitted_by, rows_of, spoiled, maps_compile, some_reduce_fails, has_some, same_place, RiseStrictly}
+use Rattle.view_model.specs.Picture.{Picture, IsTrueOf, picture_or_none, IsShaped}
+use Rattle.view_model.specs.Update.{by_view, emitted_for, ids_of, unchanged_rows, updated_rows, IsFreeUpdate, IsUpdated, IsUpdatedView}
 use Rattle.json_terms.specs.Json.{Json}
 use Rattle.json_terms.specs.declared.term.Row.{Row}
 use Rattle.design_docs.specs.declared.design.View.{View}
@@ -59,10 +59,31 @@ module _ (functions : Functions) (honest : Type 0) (views : List View) where
       (history : List Write) (old new : Picture) → length old.rows ≡ length views → AllByRecursion (IsSorted rows_cmp) old.rows
       → IsUpdated functions honest views history old new → AllZip (IsFreeUpdate history old.seq) old.rows new.rows
 
+  -- whatever was emitted, in each view the rows of ids without a write since are the old ones, in their order
+  abbrev pub RowsOfOthers : Type 0
+  RowsOfOthers =
+      (history : List Write) (old new : Picture) → length old.rows ≡ length views → AllByRecursion (IsSorted rows_cmp) old.rows → IsUpdated functions honest views history old new
+      → map (unchanged_rows (changes_after old.seq history)) new.rows ≡ map (unchanged_rows (changes_after old.seq history)) old.rows
+
+  -- and each view is updated by itself, so that no row of one gets into another
+  abbrev pub ViewsAreUpdatedApart : Type 0
+  ViewsAreUpdatedApart =
+      (history : List Write) (old new : Picture) → length old.rows ≡ length views → IsUpdated functions honest views history old new
+      → (place : ℕ) (view : View) → place < length views
+      → IsUpdatedView functions honest (slice_index_or views place view) history old.seq (slice_index_or old.rows place []) (slice_index_or new.rows place [])
+
+  -- and the shape stays
+  abbrev pub UpdatesKeepShape : Type 0
+  UpdatesKeepShape = (history : List Write) (old new : Picture) → IsShaped views old → IsUpdated functions honest views history old new → IsShaped views new
+
 module _ (functions : Functions) (views : List View) where
   -- no picture is a true one
   abbrev pub NoPictureIsTrue : Type 0
   NoPictureIsTrue = (history : List Write) → IsTrueOf functions views history (picture_or_none views None)
+
+  -- a true picture has the shape of the views
+  abbrev pub TruePicturesAreShaped : Type 0
+  TruePicturesAreShaped = (history : List Write) (picture : Picture) → IsTrueOf functions views history picture → IsShaped views picture
 
   -- a write leaves a true picture true
   abbrev pub StaysTrue : Type 0
@@ -117,10 +138,15 @@ RowsAreBySequence =
     (functions : Functions) (source : List ℕ) (history : List Write)
     → sorted_rows (emitted_rows (ids_of (mapped_after 0 history)) (map (emitted_by functions source) (mapped_after 0 history))) ≡ view_rows functions source history
 
--- the rows of a view rise strictly, and so do updated ones where no two old ones have one id and place
+-- the rows of a view rise strictly
 abbrev pub RowsRise : Type 0
 RowsRise = (functions : Functions) (source : List ℕ) (history : List Write) → RiseStrictly (view_rows functions source history)
 
+-- rows that rise strictly are in order
+abbrev pub RisingRowsAreSorted : Type 0
+RisingRowsAreSorted = (rows : List Row) → RiseStrictly rows → IsSorted rows_cmp rows
+
+-- updated rows rise strictly where no two old ones have one id and place
 abbrev pub UpdatesRise : Type 0
 UpdatesRise =
     (history : List Write) (seq : ℕ) (old : List Row) (emitted : List (List (Json × Json))) → IsDistinct same_place old

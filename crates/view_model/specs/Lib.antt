@@ -3,4 +3,4 @@ pub mod Rows
 pub mod Picture
 pub mod Update
 pub mod Laws
-pub mod World
+pub mod Standing

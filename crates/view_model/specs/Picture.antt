@@ -4,8 +4,9 @@ use Rattle.json_terms.specs.declared.term.Row.{Row}
 use Rattle.view_ports.specs.Functions.{Functions}
 use Rattle.doc_file.specs.History.{Write}
 use Rattle.view_model.specs.Since.{first}
-use Rattle.view_model.specs.Rows.{rows_of, spoiled}
+use Rattle.view_model.specs.Rows.{rows_of, spoiled, RiseStrictly}
 use Rattle.design_docs.specs.declared.design.View.{View}
+use Rattle.std.specs.List.{AllByRecursion}
 
 -- the sequence, and the rows of each view
 pub record Picture : Type 0 where
@@ -22,3 +23,8 @@ pub record IsTrueOf (functions : Functions) (views : List View) (history : List 
   pub within : picture.seq ≤ length history
   pub rows : picture.rows ≡ rows_of functions views (first picture.seq history)
   pub sound : spoiled functions views (first picture.seq history) ≡ false
+
+-- the picture has a list of rows for each view, and each list rises strictly
+pub record IsShaped (views : List View) (picture : Picture) : Type 0 where
+  pub each_view : length picture.rows ≡ length views
+  pub rises : AllByRecursion RiseStrictly picture.rows

@@ -1,6 +1,6 @@
 -- The rows of a view of a history: those of all mapped documents, in order.
-use Rattle.std.specs.Prelude.{ℕ, suc, List, [], ◌∷◌, ◌++◌, map, Bool, true, false, not, ◌&&◌, ◌||◌, if◌then◌else◌}
-use Rattle.std.specs.List.{flat_map}
+use Rattle.std.specs.Prelude.{ℕ, suc, List, [], ◌∷◌, ◌++◌, map, Bool, true, false, not, ◌&&◌, ◌||◌, if◌then◌else◌, bytes_eq, nat_eq, slice_index_or}
+use Rattle.std.specs.List.{flat_map, IsDistinct}
 use Rattle.json_terms.specs.Json.{Json}
 use Rattle.json_terms.specs.Seen.{term}
 use Rattle.json_terms.specs.declared.term.Row.{Row}
@@ -11,6 +11,8 @@ use Rattle.doc_file.specs.History.{Write, mapped}
 use Rattle.design_docs.specs.declared.design.View.{View}
 use Rattle.design_docs.specs.declared.design.Reduce.{Reduce}
 use Rattle.design_docs.specs.declared.design.Reduce.TheVariants.{Source}
+use Rattle.std.specs.List.Sorted.{IsStrictlySortedBy}
+use Rattle.raw_collation.specs.Collation.{rows_cmp}
 
 -- the emissions of a document as rows, numbered by place
 abbrev pub rows_from : ℕ → List ℕ → List (Json × Json) → List Row
@@ -23,6 +25,10 @@ abbrev pub emitted_rows : List (List ℕ) → List (List (Json × Json)) → Lis
 emitted_rows [] emitted = []
 emitted_rows (id ∷ ids) [] = []
 emitted_rows (id ∷ ids) (emissions ∷ emitted) = rows_from 0 id emissions ++ emitted_rows ids emitted
+
+-- what one function emitted for each document
+abbrev pub emitted_at : ℕ → List (List (List (Json × Json))) → List (List (Json × Json))
+emitted_at view lists = map (λ emitted. slice_index_or emitted view []) lists
 
 -- what a map function emits for a document
 abbrev pub emitted_by : Functions → List ℕ → List ℕ × Json → List (Json × Json)
@@ -44,6 +50,16 @@ rows_of functions views history = map (λ view. view_rows functions view.map his
 abbrev pub inserted : List Row → List Row → List Row
 inserted rows [] = rows
 inserted rows (row ∷ more) = inserted (insert_row row rows) more
+
+-- ---- rows are told apart by id and place
+
+abbrev pub same_place : Row → Row → Bool
+same_place one other = bytes_eq one.id other.id && nat_eq one.place other.place
+
+-- no two rows have one id and place, and each is less than those after it
+pub record RiseStrictly (rows : List Row) : Type 0 where
+  pub apart : IsDistinct same_place rows
+  pub rises : IsStrictlySortedBy rows_cmp rows
 
 -- ---- views that can't be answered
 

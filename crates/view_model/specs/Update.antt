@@ -1,7 +1,6 @@
 -- What an update makes of a picture.
-use Rattle.std.specs.Prelude.{Bool, ◌&&◌, nat_eq, ◌≡◌, zero, suc, slice_index_or, ◌≢◌, Contains, ℕ, List, [], ◌∷◌, ◌++◌, map, filter, not, length, bytes_eq, true, IsSorted}
-use Rattle.std.specs.List.{AllByRecursion, IsDistinct}
-use Rattle.std.specs.List.Sorted.{IsStrictlySortedBy}
+use Rattle.std.specs.Prelude.{◌≡◌, zero, suc, ◌≢◌, Contains, ℕ, List, [], ◌∷◌, ◌++◌, map, filter, not, length, bytes_eq, true, IsSorted}
+use Rattle.std.specs.List.{AllByRecursion}
 use Rattle.json_terms.specs.Json.{Json}
 use Rattle.json_terms.specs.declared.term.Row.{Row}
 use Rattle.view_ports.specs.Functions.{Functions}
@@ -9,7 +8,7 @@ use Rattle.raw_collation.specs.Sorting.{sorted_rows}
 use Rattle.raw_collation.specs.Collation.{rows_cmp}
 use Rattle.doc_file.specs.History.{Write, changes_after, mapped, mapped_after}
 use Rattle.view_model.specs.Since.{is_among}
-use Rattle.view_model.specs.Rows.{emitted_by, emitted_rows, rows_from}
+use Rattle.view_model.specs.Rows.{emitted_by, emitted_rows, rows_from, emitted_at}
 use Rattle.view_model.specs.Picture.{Picture}
 use Rattle.design_docs.specs.declared.design.View.{View}
 
@@ -44,6 +43,16 @@ pub record IsUpdated (functions : Functions) (honest : Type 0) (views : List Vie
   pub seq : new.seq ≡ length history
   pub rows : new.rows ≡ updated_views (changes_after old.seq history) (ids_of (mapped_after old.seq history)) old.rows emitted
 
+-- ---- what an update makes of one view
+
+-- the new rows of a view are made of its own old rows and of what was emitted for it, which on an honest path is what its own map
+-- function emits
+pub record IsUpdatedView (functions : Functions) (honest : Type 0) (view : View) (history : List Write) (seq : ℕ) (old new : List Row) : Type 0 where
+  pub emitted : List (List (Json × Json))
+  pub each_document : length emitted ≡ length (mapped_after seq history)
+  pub right : honest → emitted ≡ map (emitted_by functions view.map) (mapped_after seq history)
+  pub rows : new ≡ updated_rows (changes_after seq history) (ids_of (mapped_after seq history)) old emitted
+
 -- ---- what an update leaves free, whatever was emitted
 
 -- the rows of an id are of one mapped document's emissions, with places from 0
@@ -59,23 +68,9 @@ pub record IsFreeUpdate (history : List Write) (seq : ℕ) (old new : List Row) 
   pub stay : unchanged_rows (changes_after seq history) new ≡ unchanged_rows (changes_after seq history) old
   pub others : (id : List ℕ) → is_among (changes_after seq history) id ≡ true → AreOfOne history id new
 
--- ---- rows are told apart by id and place
-
-abbrev pub same_place : Row → Row → Bool
-same_place one other = bytes_eq one.id other.id && nat_eq one.place other.place
-
--- no two rows have one id and place, and each is less than those after it
-pub record RiseStrictly (rows : List Row) : Type 0 where
-  pub apart : IsDistinct same_place rows
-  pub rises : IsStrictlySortedBy rows_cmp rows
-
 -- ---- emissions as they come, for each document a list for each view
 
--- what one function emitted for each document
-abbrev pub emitted_at : ℕ → List (List (List (Json × Json))) → List (List (Json × Json))
-emitted_at view lists = map (λ emitted. slice_index_or emitted view []) lists
-
--- the same of so many functions, from this one on
+-- what each of so many functions emitted for each document, from this function on
 abbrev pub by_view : ℕ → ℕ → List (List (List (Json × Json))) → List (List (List (Json × Json)))
 by_view from zero lists = []
 by_view from (suc count) lists = emitted_at from lists ∷ by_view (suc from) count lists

@@ -1,9 +1,9 @@
 // The laws of rows and pictures. Each function states some, and does nothing.
 ghost use Rattle.std.specs.Prelude.{List, Option, ℕ};
 ghost use Rattle.json_terms.specs.Json.{Json};
-ghost use Rattle.view_model.specs.World.{DigestsTellDesigns, DropsKeepPictures, FirstsHavePictures, UpdatesKeepPictures, WritesKeepPictures};
+ghost use Rattle.view_model.specs.Standing.{DigestsTellDesigns, DropsKeepPictures, FirstsHavePictures, NoPicturesStand, UpdatesKeepPictures, WritesKeepPictures};
 ghost use Rattle.design_docs.specs.declared.design.View.{View};
-ghost use Rattle.view_model.specs.Laws.{AreEmittedByView, AreInsertedInOrder, AreTakenByView, ChangedIsWrittenSince, FirstDropsNewest, MapsDistinctIds, MapsWrittenSince, ComplaintsMeetAll, IsSpoiledAsMet, IsSpoiledByMapped, IsTrueBefore, IsUpdatedInOrder, NoPictureIsTrue, RowsAreBySequence, RowsRise, StaysTrue, UpdatesAreAfresh, UpdatesAreFree, UpdatesExist, UpdatesGoInBatches, UpdatesGoInPages, UpdatesOfNothing, UpdatesRise, UpdatesStayTrue};
+ghost use Rattle.view_model.specs.Laws.{AreEmittedByView, AreInsertedInOrder, AreTakenByView, ChangedIsWrittenSince, FirstDropsNewest, MapsDistinctIds, MapsWrittenSince, ComplaintsMeetAll, IsSpoiledAsMet, IsSpoiledByMapped, IsTrueBefore, IsUpdatedInOrder, NoPictureIsTrue, RowsAreBySequence, RisingRowsAreSorted, RowsOfOthers, RowsRise, StaysTrue, TruePicturesAreShaped, UpdatesAreAfresh, UpdatesAreFree, UpdatesExist, UpdatesGoInBatches, UpdatesGoInPages, UpdatesKeepShape, UpdatesOfNothing, UpdatesRise, UpdatesStayTrue, ViewsAreUpdatedApart};
 
 use view_ports::Servers;
 
@@ -32,16 +32,21 @@ pub fn updates_go_in_batches()
     ensures pages { UpdatesGoInPages }
 {}
 
-/// Where nothing was written since, an update of a true picture leaves the rows as they are; and whatever was emitted,
-/// the rows of documents without a write since stay.
+/// Where nothing was written since, an update of a true picture leaves the rows as they are. Whatever was emitted, also on a
+/// path that isn't honest: the rows of documents without a write since stay, no row of one view gets into another, and the
+/// picture keeps its shape.
 pub fn updates_keep_rows<C: Servers>()
     ensures nothing { (path : List ℕ) (views : List View) → UpdatesOfNothing (C.functions path) (C.honest path) views }
+    ensures rows_of_others { (path : List ℕ) (views : List View) → RowsOfOthers (C.functions path) (C.honest path) views }
+    ensures apart { (path : List ℕ) (views : List View) → ViewsAreUpdatedApart (C.functions path) (C.honest path) views }
+    ensures shape { (path : List ℕ) (views : List View) → UpdatesKeepShape (C.functions path) (C.honest path) views }
     ensures free { (path : List ℕ) (views : List View) → UpdatesAreFree (C.functions path) (C.honest path) views }
 {}
 
-/// A picture that is true stays true, and none is true at first.
+/// No picture is a true one, a picture that is true stays true, and it has the shape of the views.
 pub fn pictures_stay_true<C: Servers>()
     ensures none { (path : List ℕ) (views : List View) → NoPictureIsTrue (C.functions path) views }
+    ensures shaped { (path : List ℕ) (views : List View) → TruePicturesAreShaped (C.functions path) views }
     ensures after { (path : List ℕ) (views : List View) → StaysTrue (C.functions path) views }
     ensures before { (path : List ℕ) (views : List View) → IsTrueBefore (C.functions path) views }
 {}
@@ -59,8 +64,10 @@ pub fn emissions_are_taken_by_view()
     ensures emitted { AreEmittedByView }
 {}
 
-/// Each picture that must be true is true after a write, after an update, and where one is dropped.
+/// Pictures stand where there are none, after a write, after an update on any path, where one is dropped, and at an earlier
+/// moment as far as they reach back.
 pub fn pictures_are_kept<C: Servers>()
+    ensures none { (signature : Json → List ℕ) (path_for : Json → Option (List ℕ)) (views_for : Json → List View) → NoPicturesStand signature path_for views_for C.functions C.honest }
     ensures writes { (signature : Json → List ℕ) (path_for : Json → Option (List ℕ)) (views_for : Json → List View) → WritesKeepPictures signature path_for views_for C.functions C.honest }
     ensures updates { (signature : Json → List ℕ) (path_for : Json → Option (List ℕ)) (views_for : Json → List View) → UpdatesKeepPictures signature path_for views_for C.functions C.honest }
     ensures drops { (signature : Json → List ℕ) (path_for : Json → Option (List ℕ)) (views_for : Json → List View) → DropsKeepPictures signature path_for views_for C.functions C.honest }
@@ -78,6 +85,7 @@ pub fn rows_are_inserted_in_order()
 pub fn rows_rise_strictly()
     ensures rows { RowsRise }
     ensures updates { UpdatesRise }
+    ensures sorted { RisingRowsAreSorted }
 {}
 
 /// Where digests tell the designs of a history apart, designs with one digest have the same path and the same sources.

@@ -1,4 +1,4 @@
--- Pictures stand after each write, update and drop.
+-- Pictures stand where there are none, after each write, update and drop, and at an earlier moment.
 use Rattle.std.specs.Prelude.{◌≡◌, ◌≤◌, ℕ, List, [], ◌∷◌, length, refl, true, false, Option, Some, None, unwrap_or, bytes_eq, Contains, nat_lt, if◌then◌else◌}
 use Rattle.std.proofs.Common.{ap, sym, ◌∙◌, subst, arith, inl, inr}
 use Rattle.std.proofs.lemmas.Bool.{cases_Bool, cases_lt}
@@ -8,12 +8,13 @@ use Rattle.json_terms.specs.Json.{Json}
 use Rattle.view_ports.specs.Functions.{Functions}
 use Rattle.doc_file.specs.History.{Write}
 use Rattle.view_model.specs.Since.{first}
-use Rattle.view_model.specs.Picture.{Picture, IsTrueOf, picture_or_none}
-use Rattle.view_model.specs.World.{AreSetAt, DropsKeepPictures, FirstsHavePictures, IsDesignIn, PicturesStand, UpdatesKeepPictures, WritesKeepPictures}
+use Rattle.view_model.specs.Picture.{Picture, IsTrueOf, picture_or_none, IsShaped}
+use Rattle.view_model.specs.Standing.{AreSetAt, DropsKeepPictures, FirstsHavePictures, IsDesignIn, PicturesStand, UpdatesKeepPictures, WritesKeepPictures, NoPicturesStand}
 use Rattle.view_model.proofs.Firsts.{first_all, first_less, first-first, length-first}
 use Rattle.view_model.proofs.Pictures.{is_true_before, no_picture_is_true, stays_true}
 use Rattle.view_model.proofs.Updates.{updates_stay_true}
 use Rattle.design_docs.specs.declared.design.View.{View}
+use Rattle.view_model.proofs.Shapes.{no_picture_is_shaped, updates_keep_shape}
 
 still_in : (history : List Write) (write : Write) (document : Json) → IsDesignIn history document → IsDesignIn (write ∷ history) document
 still_in history write document is = record { id = is.id; design = is.design; stored = Contains-append_right (write ∷ []) history (record { id = is.id; document = Some document }) is.stored }
@@ -43,10 +44,22 @@ module _ (signature : Json → List ℕ) (path_for : Json → Option (List ℕ))
   abbrev Stand : List Write → (List ℕ → Option Picture) → Type 0
   Stand = PicturesStand signature path_for views_for functions honest
 
+  pub no_pictures_stand : NoPicturesStand signature path_for views_for functions honest
+  no_pictures_stand history pictures none = record {
+    within = λ sig picture has. absurd (let clash : None ≡ Some picture = sym (none sig) ∙ has in cc);
+    owned = λ sig picture has. absurd (let clash : None ≡ Some picture = sym (none sig) ∙ has in cc);
+    shaped = λ sig picture document has. absurd (let clash : None ≡ Some picture = sym (none sig) ∙ has in cc);
+    are_true = λ sig picture document path has. absurd (let clash : None ≡ Some picture = sym (none sig) ∙ has in cc);
+  }
+
   pub writes_keep_pictures : WritesKeepPictures signature path_for views_for functions honest
   writes_keep_pictures history write pictures signed stand = record {
     within = λ sig picture has. let low = stand.within sig picture has in omega arith;
     owned = λ sig picture has. let own = stand.owned sig picture has in (own.0, subst (λ h. IsDesignIn h own.0) (sym (first_less picture.seq write history (stand.within sig picture has))) own.1, own.2);
+    shaped = λ sig picture document has design is.
+        let own = stand.owned sig picture has in
+        let same = signed document own.0 design (still_in history write own.0 (stored_in picture.seq history own.0 own.1)) (is ∙ sym own.2) in
+        subst (λ views. IsShaped views picture) (sym same.1) (stand.shaped sig picture own.0 has (stored_in picture.seq history own.0 own.1) own.2);
     are_true = λ sig picture document path has design is goes is_honest.
         let own = stand.owned sig picture has in
         let same = signed document own.0 design (still_in history write own.0 (stored_in picture.seq history own.0 own.1)) (is ∙ sym own.2) in
@@ -58,6 +71,11 @@ module _ (signature : Json → List ℕ) (path_for : Json → Option (List ℕ))
       → IsDesignIn history document → path_for document ≡ Some path → honest path → IsTrueOf (functions path) (views_for document) history (picture_or_none (views_for document) old)
   old_is_true history document path before None has stand design goes is_honest = no_picture_is_true (functions path) (views_for document) history
   old_is_true history document path before (Some picture) has stand design goes is_honest = stand.are_true (signature document) picture document path has design refl goes is_honest
+
+  old_is_shaped : (history : List Write) (document : Json) (before : List ℕ → Option Picture) (old : Option Picture) → before (signature document) ≡ old → Stand history before
+      → IsDesignIn history document → IsShaped (views_for document) (picture_or_none (views_for document) old)
+  old_is_shaped history document before None has stand design = no_picture_is_shaped (views_for document)
+  old_is_shaped history document before (Some picture) has stand design = stand.shaped (signature document) picture document has design refl
 
   pub updates_keep_pictures : UpdatesKeepPictures signature path_for views_for functions honest
   updates_keep_pictures history document path new before after signed stand design goes updated sound are =
@@ -74,6 +92,16 @@ module _ (signature : Json → List ℕ) (path_for : Json → Option (List ℕ))
               let all : first new.seq history ≡ history = first_all new.seq history (let end = updated.seq in omega (arith, end)) in
               (document, subst (λ h. IsDesignIn h document) (sym all ∙ ap (λ (p : Picture). first p.seq history) is) design, sym ((bytes_eq-Decides sig own).0 same)))
           | inr other ↦ stand.owned sig picture (is_kept own (Some new) before after are sig picture has other)
+        ];
+        shaped = λ sig picture asked has there is. elim (cases_Bool (bytes_eq sig own)) [
+          | inl same ↦
+              (let now : new ≡ picture = one_value new picture (is_set own (Some new) before after are sig picture has same) in
+              let like = signed asked document there design (is ∙ (bytes_eq-Decides sig own).0 same) in
+              let shape : IsShaped (views_for document) new =
+              updates_keep_shape (functions path) (honest path) (views_for document) history (picture_or_none (views_for document) (before own)) new
+              (old_is_shaped history document before (before own) refl stand design) updated in
+              subst (λ (p : Picture). IsShaped (views_for asked) p) now (subst (λ views. IsShaped views new) (sym like.1) shape))
+          | inr other ↦ stand.shaped sig picture asked (is_kept own (Some new) before after are sig picture has other) there is
         ];
         are_true = λ sig picture asked way has there is leads is_honest. elim (cases_Bool (bytes_eq sig own)) [
           | inl same ↦
@@ -101,6 +129,7 @@ module _ (signature : Json → List ℕ) (path_for : Json → Option (List ℕ))
   drops_keep_pictures history own before after stand are = record {
     within = λ sig picture has. stand.within sig picture (kept_if own before after are sig picture has);
     owned = λ sig picture has. stand.owned sig picture (kept_if own before after are sig picture has);
+    shaped = λ sig picture document has. stand.shaped sig picture document (kept_if own before after are sig picture has);
     are_true = λ sig picture document path has. stand.are_true sig picture document path (kept_if own before after are sig picture has);
   }
 
@@ -123,5 +152,8 @@ module _ (signature : Json → List ℕ) (path_for : Json → Option (List ℕ))
             let was = reach sig picture has in
             let own = stand.owned sig picture was.0 in
             (own.0, subst (λ h. IsDesignIn h own.0) (sym (first-first picture.seq count history was.1)) own.1, own.2);
+        shaped = λ sig picture document has design is.
+            let was = reach sig picture has in
+            stand.shaped sig picture document was.0 (stored_in count history document design) is;
         are_true = truth;
       }

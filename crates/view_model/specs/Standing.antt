@@ -8,7 +8,7 @@ use Rattle.view_ports.specs.Functions.{Functions}
 use Rattle.doc_file.specs.History.{Write}
 use Rattle.view_model.specs.Since.{first}
 use Rattle.view_model.specs.Rows.{spoiled}
-use Rattle.view_model.specs.Picture.{Picture, IsTrueOf, picture_or_none}
+use Rattle.view_model.specs.Picture.{Picture, IsTrueOf, picture_or_none, IsShaped}
 use Rattle.view_model.specs.Update.{IsUpdated}
 
 -- a write of the history stored this as a design document
@@ -27,19 +27,24 @@ module _ (signature : Json → List ℕ) (path_for : Json → Option (List ℕ))
   AreSigned history = (one other : Json) → IsDesignIn history one → IsDesignIn history other → signature one ≡ signature other → (path_for one ≡ path_for other) × (views_for one ≡ views_for other)
 
   module _ (functions : List ℕ → Functions) (honest : List ℕ → Type 0) where
-    -- no picture is newer than the history, each is that of a design which was stored by its sequence, and it is true where
-    -- the path of such a design is honest
+    -- no picture is newer than the history. Each is that of a design which was stored by its sequence, has the shape of each
+    -- such design, on any path, and is true where the path of such a design is honest
     pub record PicturesStand (history : List Write) (pictures : List ℕ → Option Picture) : Type 0 where
       pub within : (sig : List ℕ) (picture : Picture) → pictures sig ≡ Some picture → picture.seq ≤ length history
       pub owned : (sig : List ℕ) (picture : Picture) → pictures sig ≡ Some picture → (document : Json) × IsDesignIn (first picture.seq history) document × (signature document ≡ sig)
+      pub shaped : (sig : List ℕ) (picture : Picture) (document : Json) → pictures sig ≡ Some picture → IsDesignIn history document → signature document ≡ sig → IsShaped (views_for document) picture
       pub are_true : (sig : List ℕ) (picture : Picture) (document : Json) (path : List ℕ) → pictures sig ≡ Some picture → IsDesignIn history document → signature document ≡ sig
           → path_for document ≡ Some path → honest path → IsTrueOf (functions path) (views_for document) history picture
+
+    -- where there are no pictures they stand
+    abbrev pub NoPicturesStand : Type 0
+    NoPicturesStand = (history : List Write) (pictures : List ℕ → Option Picture) → ((sig : List ℕ) → pictures sig ≡ None) → PicturesStand history pictures
 
     -- a write leaves the pictures standing
     abbrev pub WritesKeepPictures : Type 0
     WritesKeepPictures = (history : List Write) (write : Write) (pictures : List ℕ → Option Picture) → AreSigned (write ∷ history) → PicturesStand history pictures → PicturesStand (write ∷ history) pictures
 
-    -- an update of a design that isn't spoiled does
+    -- an update does on any path, on an honest one of a design that isn't spoiled
     abbrev pub UpdatesKeepPictures : Type 0
     UpdatesKeepPictures =
         (history : List Write) (document : Json) (path : List ℕ) (new : Picture) (before after : List ℕ → Option Picture) → AreSigned history → PicturesStand history before
