@@ -7,7 +7,7 @@ use Rattle.json_terms.specs.Seen.{json, term}
 use Rattle.json_terms.specs.declared.rows.Emission.{Emission}
 use Rattle.json_terms.specs.declared.term.Row.{Row}
 use Rattle.json_terms.proofs.Sames.{term-json}
-use Rattle.view_engine.specs.Rows.{emitted_by, emitted_rows, rows_from}
+use Rattle.view_model.specs.Rows.{emitted_at, emitted_rows, rows_from}
 
 -- the row of an emission
 abbrev pub row_of : ℕ → List ℕ → Emission → Row
@@ -25,19 +25,19 @@ rows_step place id (x ∷ emissions) (suc at) e within is = rows_step place id e
 
 pub documents_step : (function : ℕ) (ids : List (List ℕ)) (lists : List (List (List (Json × Json)))) (at : ℕ) (id : List ℕ) (emitted : List (List (Json × Json)))
     → at < length ids → at < length lists → id ≡ get_or ids at id → emitted ≡ get_or lists at emitted
-    → emitted_rows (drop at ids) (emitted_by function (drop at lists))
-    ≡ rows_from 0 id (slice_index_or emitted function []) ++ emitted_rows (drop (suc at) ids) (emitted_by function (drop (suc at) lists))
+    → emitted_rows (drop at ids) (emitted_at function (drop at lists))
+    ≡ rows_from 0 id (slice_index_or emitted function []) ++ emitted_rows (drop (suc at) ids) (emitted_at function (drop (suc at) lists))
 documents_step function [] lists at id emitted within also is are = absurd (omega arith)
 documents_step function (d ∷ ids) [] at id emitted within also is are = absurd (omega arith)
 documents_step function (d ∷ ids) (l ∷ lists) zero id emitted within also is are =
-    ap (λ (x : List ℕ). rows_from 0 x (slice_index_or l function []) ++ emitted_rows ids (emitted_by function lists)) (sym is)
-    ∙ ap (λ (x : List (List (Json × Json))). rows_from 0 id (slice_index_or x function []) ++ emitted_rows ids (emitted_by function lists)) (sym are)
+    ap (λ (x : List ℕ). rows_from 0 x (slice_index_or l function []) ++ emitted_rows ids (emitted_at function lists)) (sym is)
+    ∙ ap (λ (x : List (List (Json × Json))). rows_from 0 id (slice_index_or x function []) ++ emitted_rows ids (emitted_at function lists)) (sym are)
 documents_step function (d ∷ ids) (l ∷ lists) (suc at) id emitted within also is are =
     documents_step function ids lists at id emitted (omega arith) (omega arith) is are
 
 -- behind the shorter of both lists there are none
 pub no_rows_left : (function : ℕ) (ids : List (List ℕ)) (lists : List (List (List (Json × Json)))) (at : ℕ) → (length ids ≤ at) ⊎ (length lists ≤ at)
-    → emitted_rows (drop at ids) (emitted_by function (drop at lists)) ≡ []
+    → emitted_rows (drop at ids) (emitted_at function (drop at lists)) ≡ []
 no_rows_left function [] lists zero h = refl
 no_rows_left function [] lists (suc at) h = refl
 no_rows_left function (d ∷ ids) [] zero h = refl

@@ -50,7 +50,7 @@ use Rattle.view_engine.specs.Engine.{Appends, IsAt, Leaves}
 use Rattle.view_engine.specs.Mapped.{AreMapped}
 use Rattle.view_engine.specs.Moments.{Moment}
 use Rattle.view_engine.specs.Refusals.{refusal_text}
-use Rattle.view_engine.specs.Rows.{emitted_by, emitted_rows}
+use Rattle.view_model.specs.Rows.{emitted_at, emitted_rows}
 use Rattle.view_engine.specs.Steps.{DoesRequest, DoesRequestText, MayHaveCalled}
 use Rattle.view_engine.specs.View.{DoesView, IsGivenUp, IsJobOf, IsMet, IsServed, PrintsRows, fault_of, prompts_of}
 use Rattle.view_engine.specs.ViewPlan.{IsPlan, met_by, source_at}
@@ -65,7 +65,7 @@ emitted_of_source functions (s ∷ sources) zero document within = refl
 emitted_of_source functions (s ∷ sources) (suc place) document within = emitted_of_source functions sources place document (omega arith)
 
 emitted_are : (functions : Functions) (sources : List (List ℕ)) (place : ℕ) (documents : List (List (List ℕ × Json))) → place < length sources
-    → emitted_by place (map (rows_of functions sources) documents) ≡ map (functions.map_of (slice_index_or sources place [])) documents
+    → emitted_at place (map (rows_of functions sources) documents) ≡ map (functions.map_of (slice_index_or sources place [])) documents
 emitted_are functions sources place [] within = refl
 emitted_are functions sources place (d ∷ documents) within = λ i. emitted_of_source functions sources place d within i ∷ emitted_are functions sources place documents within i
 
@@ -75,7 +75,7 @@ parts_at [] place parts = tt
 parts_at (r ∷ rows) zero parts = parts.0
 parts_at (r ∷ rows) (suc place) parts = parts_at rows place parts.1
 
-emitted_parts : (place : ℕ) (lists : List (List (List (Json × Json)))) → AllByRecursion AreParts lists → AreParts (emitted_by place lists)
+emitted_parts : (place : ℕ) (lists : List (List (List (Json × Json)))) → AllByRecursion AreParts lists → AreParts (emitted_at place lists)
 emitted_parts place [] parts = tt
 emitted_parts place (rows ∷ lists) parts = (parts_at rows place parts.0, emitted_parts place lists parts.1)
 
@@ -128,17 +128,17 @@ module _ (functions : List ℕ → Functions) (honest : List ℕ → Type 0) (la
   there = subst (λ (n : ℕ). place < n) (sym (length-map design.views (λ (v : View). v.map))) within
 
   abbrev printed : List (List (List (Json × Json))) → List ℕ
-  printed lists = answer (sorted_rows (emitted_rows ids (emitted_by place lists)))
+  printed lists = answer (sorted_rows (emitted_rows ids (emitted_at place lists)))
 
   prints : (lists : List (List (List (Json × Json)))) (rose : Type 0) (added : List Call) → Known → HasUpdated functions honest job before.width rose lists added → PrintsRows functions honest job source before.world (printed lists)
   prints lists rose added known has = record {
-    emitted = emitted_by place lists;
+    emitted = emitted_at place lists;
     each = length-map lists (λ (emitted : List (List (Json × Json))). slice_index_or emitted place []) ∙ has.rows.each ∙ ap length known.documents_are
         ∙ length-map (mapped before.world) (λ (entry : List ℕ × Json). document_of entry.1);
     parts = emitted_parts place lists has.rows.parts;
-    right = λ h. ap (emitted_by place) (has.rows.right h (few known)) ∙ emitted_are (functions job.path) job.sources place documents there;
+    right = λ h. ap (emitted_at place) (has.rows.right h (few known)) ∙ emitted_are (functions job.path) job.sources place documents there;
     compile = has.compile;
-    prints = ap (λ is. answer (sorted_rows (emitted_rows is (emitted_by place lists)))) known.ids_are;
+    prints = ap (λ is. answer (sorted_rows (emitted_rows is (emitted_at place lists)))) known.ids_are;
   }
 
   module _ (may_follow : List Call → Type 0) (old new : ℕ) (pool : Pool) (counts : old ≡ before.faults) (later : old ≤ new) (old_pool : Pool) (was : old_pool.width ≡ before.width) (keeps : pool.width ≡ old_pool.width) (started : old_pool.started ≡ before.started) where

@@ -1,6 +1,5 @@
 pub mod World
 pub mod Kinds
-pub mod Rows
 pub mod Answer
 pub mod Requests
 pub mod DesignReasons

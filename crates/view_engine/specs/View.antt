@@ -27,7 +27,7 @@ use Rattle.doc_file.specs.History.{live_document}
 use Rattle.view_engine.specs.World.{World, mapped}
 use Rattle.view_engine.specs.Get.{get_refusal}
 use Rattle.view_engine.specs.Moments.{Called, Moment}
-use Rattle.view_engine.specs.Rows.{emitted_rows}
+use Rattle.view_model.specs.Rows.{emitted_rows}
 use Rattle.view_engine.specs.Answer.{answer}
 use Rattle.view_engine.specs.Refusals.{first_of, refusal_text}
 

@@ -2,7 +2,7 @@
 
 ghost use Rattle.std.specs.Prelude.{◌≡◌, ◌++◌, [], OnOk, IfOk, map, slice_index_or};
 ghost use Rattle.json_terms.specs.Emitted.{key_value};
-ghost use Rattle.view_engine.specs.Rows.{emitted_by, emitted_rows, rows_from};
+ghost use Rattle.view_model.specs.Rows.{emitted_at, emitted_rows, rows_from};
 
 use json_terms::{Chars, Emission, NoMemory, Row, RowLists, copy_term};
 use std::alloc::Global;
@@ -15,7 +15,7 @@ pub fn rows_of(
     function: usize,
 ) -> Result<Vec<Row>, NoMemory>
     ensures { IfOk result (λ rows. rows.items ≡ emitted_rows ids.now
-        (emitted_by function lists.now)) }
+        (emitted_at function lists.now)) }
 {
     let mut rows = Vec::new(alloc);
     for at in 0..ids.len().min(lists.len()) {

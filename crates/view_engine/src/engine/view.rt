@@ -11,7 +11,7 @@ ghost use Rattle.design_docs.specs.Laws.{entry_of as named};
 ghost use Rattle.view_engine.specs.Answer.{answer};
 ghost use Rattle.view_engine.specs.Calls.{scene, Performed};
 ghost use Rattle.view_engine.specs.Disks.{AreOpen, Reads};
-ghost use Rattle.view_engine.specs.Rows.{emitted_by, emitted_rows};
+ghost use Rattle.view_model.specs.Rows.{emitted_at, emitted_rows};
 ghost use Rattle.view_engine.specs.View as spec;
 ghost use Rattle.view_engine.specs.Planning.{HasPath, PlansView, RefusesView};
 ghost use Rattle.view_engine.specs.ViewPlan.{met_by, source_at};
@@ -151,7 +151,7 @@ fn append_rows(
     out: &mut Vec<u8>,
 ) -> Result<(), Halt>
     ensures ok { OnOk result (out.new.items ≡ out.old.items ++ ended
-        (answer (sorted_rows (emitted_rows ids.now (emitted_by place lists.now))))) }
+        (answer (sorted_rows (emitted_rows ids.now (emitted_at place lists.now))))) }
     ensures silent { OnErr result (out.new.items ≡ out.old.items) }
     ensures memory { IfErr result (λ halt. halt ≡ Halt.Stopped StepFault.NoMemory) }
 {

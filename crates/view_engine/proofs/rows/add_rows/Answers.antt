@@ -2,7 +2,7 @@
 use Rattle.std.proofs.Common.{◌≡◌, ◌∙◌, ◌<◌, ◌++◌, ℕ, suc, List, [], ◌∷◌, length, map, drop, sym, ap, arith, rules, add-one, append_assoc}
 use Rattle.json_terms.specs.Emitted.{key_value}
 use Rattle.json_terms.specs.declared.term.Row.{Row}
-use Rattle.view_engine.specs.Rows.{rows_from}
+use Rattle.view_model.specs.Rows.{rows_from}
 use Rattle.view_engine.proofs.EmittedRows.{row_of, rows_step}
 use Rattle.view_engine.proofs.rows.add_rows.Goals as goal
 

@@ -1,6 +1,6 @@
 use Rattle.std.proofs.Common.{◌≡◌, ◌++◌, map, drop}
 use Rattle.json_terms.specs.Emitted.{key_value}
-use Rattle.view_engine.specs.Rows.{rows_from}
+use Rattle.view_model.specs.Rows.{rows_from}
 use Rattle.view_engine.proofs.rows.add_rows.Given as goal
 
 -- the rows so far and those of the emissions that are left are all

@@ -2,7 +2,7 @@
 use Rattle.std.specs.Prelude.{slice_index_or}
 use Rattle.std.proofs.Common.{◌≡◌, ◌∙◌, ◌⊎◌, ◌<◌, ◌≤◌, ◌++◌, ℕ, zero, suc, List, [], length, drop, sym, ap, inl, inr, arith, add-one, append_assoc, append-nil}
 use Rattle.json_terms.specs.declared.term.Row.{Row}
-use Rattle.view_engine.specs.Rows.{emitted_by, emitted_rows, rows_from}
+use Rattle.view_model.specs.Rows.{emitted_at, emitted_rows, rows_from}
 use Rattle.view_engine.proofs.EmittedRows.{documents_step, no_rows_left}
 use Rattle.view_engine.proofs.rows.rows_of.Goals as goal
 
@@ -22,11 +22,11 @@ loop-at-preserved c =
     let emitted = c.index-lists-at.result in
     let rows = c.loop-at.rows.items in
     let more = rows_from 0 id (slice_index_or emitted function []) in
-    let rest = emitted_rows (drop (suc at) ids) (emitted_by function (drop (suc at) lists)) in
+    let rest = emitted_rows (drop (suc at) ids) (emitted_at function (drop (suc at) lists)) in
     let within : at < length ids = omega arith in
     let also : at < length lists = omega arith in
     let added : c.add_document.new.rows.items ≡ rows ++ more = c.in_ok-add_document.ensures ∙ ap (λ n. rows ++ rows_from 0 n (slice_index_or emitted function [])) c.as_str.ensures in
-    ap (λ (n : ℕ). c.add_document.new.rows.items ++ emitted_rows (drop n ids) (emitted_by function (drop n lists))) (add-one at)
+    ap (λ (n : ℕ). c.add_document.new.rows.items ++ emitted_rows (drop n ids) (emitted_at function (drop n lists))) (add-one at)
     ∙ ap (λ (items : List Row). items ++ rest) added
     ∙ append_assoc rows more rest
     ∙ ap (λ (all : List Row). rows ++ all) (sym (documents_step function ids lists at id emitted within also c.index-ids-at.is c.index-lists-at.is))

@@ -11,7 +11,7 @@ use Rattle.doc_file.specs.Docs.{IsAt as AreAt}
 use Rattle.view_engine.specs.declared.halt.Halt.TheVariants.{Stopped}
 use Rattle.view_engine.specs.declared.halt.StepFault.TheVariants.{NoMemory}
 use Rattle.view_engine.specs.Answer.{answer}
-use Rattle.view_engine.specs.Rows.{emitted_by, emitted_rows}
+use Rattle.view_model.specs.Rows.{emitted_at, emitted_rows}
 use Rattle.view_engine.proofs.Keeping.{at_none}
 use Rattle.view_engine.proofs.OnDisk.{reads_then}
 use Rattle.view_engine.proofs.Unasked.{told_refused, unasked, IsRefusedThere}
@@ -48,7 +48,7 @@ returns-in-Err-load_mapped g c = viewed_halted c.requires.open tt (reads_then c.
 
 pub returns-in-Ok-map_all : goal.returns-in-Ok-map_all
 returns-in-Ok-map_all g c = viewed c.requires.open (reads_then c.in-Ok.ensures.reads c.in-Ok-load_mapped.ensures.reads)
-    (on_ok_weaker c.append_rows.result (λ appended. (answer (sorted_rows (emitted_rows c.as_slice-in-Ok-map_all.result.now (emitted_by c.in-Ok.plan.place c.as_slice-in-Ok-map_all-2.result.now))), appended)) c.append_rows.ensures.ok) (on_ok_weaker c.append_rows.result (λ appended. tt) c.append_rows.ensures.ok) c.append_rows.ensures.silent c.append_rows.ensures.memory (
+    (on_ok_weaker c.append_rows.result (λ appended. (answer (sorted_rows (emitted_rows c.as_slice-in-Ok-map_all.result.now (emitted_at c.in-Ok.plan.place c.as_slice-in-Ok-map_all-2.result.now))), appended)) c.append_rows.ensures.ok) (on_ok_weaker c.append_rows.result (λ appended. tt) c.append_rows.ensures.ok) c.append_rows.ensures.silent c.append_rows.ensures.memory (
     let x = g.F.Folder.disk c.args.folder.now in
     let y = g.F.Folder.disk c.plan.new.folder in
     let z = g.F.Folder.disk c.load_mapped.new.folder in
@@ -68,7 +68,7 @@ returns-in-Ok-map_all g c = viewed c.requires.open (reads_then c.in-Ok.ensures.r
     (g.C.Servers.may_follow c.map_all.new.servers) (g.C.Servers.faults c.args.servers.now) (g.C.Servers.faults c.map_all.new.servers) c.map_all.new.self at.child.counts c.map_all.ensures.ends.later c.args.self.now.pool at.child.width c.map_all.ensures.ends.keeps.width at.child.started
     x z docs (at_none docs x z (told_none_then x y z c.plan.ensures.reads.disk c.load_mapped.ensures.reads.disk) history at.documents) known lists c.args.out.now.items c.append_rows.new.out.items
     (c.in-Ok-map_all.ensures.went path before.calls at.child.follows c.in-Ok.ensures.known.1 at.child.child) (λ none. ap (λ (p : Pool). p.started) (c.map_all.ensures.idle none).2)
-    (appended ∙ (λ i. c.args.out.now.items ++ ended (answer (sorted_rows (emitted_rows (c.as_slice-in-Ok-map_all.ensures.value i) (emitted_by plan.place (c.as_slice-in-Ok-map_all-2.ensures i))))))))
+    (appended ∙ (λ i. c.args.out.now.items ++ ended (answer (sorted_rows (emitted_rows (c.as_slice-in-Ok-map_all.ensures.value i) (emitted_at plan.place (c.as_slice-in-Ok-map_all-2.ensures i))))))))
     c.append_rows.ensures.ok)
     (
     let x = g.F.Folder.disk c.args.folder.now in
