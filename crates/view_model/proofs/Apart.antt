@@ -1,15 +1,17 @@
 -- Whatever is emitted, rows of ids without a write since stay, and each view is updated by itself.
 use Rattle.std.specs.Prelude.{◌≡◌, ◌<◌, ℕ, zero, suc, List, [], ◌∷◌, map, length, refl, slice_index_or}
 use Rattle.std.specs.List.{AllByRecursion, AllZip}
-use Rattle.std.proofs.Common.{ap, sym, subst, arith}
+use Rattle.std.proofs.Common.{ap, sym, ◌∙◌, subst, arith}
 use Rattle.json_terms.specs.Json.{Json}
 use Rattle.json_terms.specs.declared.term.Row.{Row}
 use Rattle.design_docs.specs.declared.design.View.{View}
 use Rattle.view_ports.specs.Functions.{Functions}
 use Rattle.doc_file.specs.History.{Write, changes_after, mapped_after}
 use Rattle.view_model.specs.Update.{emitted_for, ids_of, unchanged_rows, updated_views, IsFreeUpdate, IsUpdatedView}
-use Rattle.view_model.specs.Laws.{RowsOfOthers, ViewsAreUpdatedApart}
+use Rattle.view_model.specs.Laws.{RowsOfOthers, ViewsAreUpdatedApart, UpdatesOfNothing}
 use Rattle.view_model.proofs.Free.{updates_are_free}
+use Rattle.view_model.proofs.Lists.{filter_all}
+use Rattle.view_model.proofs.Firsts.{changes_none}
 
 module _ (history : List Write) (seq : ℕ) where
   same_unchanged : (old new : List (List Row)) → AllZip (IsFreeUpdate history seq) old new
@@ -22,6 +24,21 @@ module _ (history : List Write) (seq : ℕ) where
 pub rows_of_others : (functions : Functions) (honest : Type 0) (views : List View) → RowsOfOthers functions honest views
 rows_of_others functions honest views history old new same all updated =
     same_unchanged history old.seq old.rows new.rows (updates_are_free functions honest views history old new same all updated)
+
+-- ---- where nothing was written since
+
+unchanged_none : (views : List (List Row)) → map (unchanged_rows []) views ≡ views
+unchanged_none [] = refl
+unchanged_none (rows ∷ views) = (λ i. filter_all rows i ∷ unchanged_none views i)
+
+pub updates_of_nothing : (functions : Functions) (honest : Type 0) (views : List View) → UpdatesOfNothing functions honest views
+updates_of_nothing functions honest views history old new same all updated now =
+    let none : changes_after old.seq history ≡ [] = changes_none old.seq history (omega (arith, now)) in
+    sym (unchanged_none new.rows)
+    ∙ ap (λ (cs : List (ℕ × Write)). map (unchanged_rows cs) new.rows) (sym none)
+    ∙ rows_of_others functions honest views history old new same all updated
+    ∙ ap (λ (cs : List (ℕ × Write)). map (unchanged_rows cs) old.rows) none
+    ∙ unchanged_none old.rows
 
 -- ---- view by view
 

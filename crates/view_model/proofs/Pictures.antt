@@ -10,7 +10,7 @@ use Rattle.doc_file.specs.History.{Write, changes_after, mapped, mapped_after}
 use Rattle.view_model.specs.Since.{first, is_among}
 use Rattle.view_model.specs.Rows.{rows_of, spoiled, maps_compile, has_some, reduce_fails, some_reduce_fails}
 use Rattle.view_model.specs.Picture.{Picture, IsTrueOf}
-use Rattle.view_model.specs.Laws.{NoPictureIsTrue, StaysTrue, IsTrueBefore, UpdatesOfNothing, ComplaintsMeetAll, IsSpoiledAsMet, IsSpoiledByMapped}
+use Rattle.view_model.specs.Laws.{NoPictureIsTrue, StaysTrue, IsTrueBefore, ComplaintsMeetAll, IsSpoiledAsMet, IsSpoiledByMapped}
 use Rattle.view_model.proofs.Firsts.{first_all, first_less, first_none, first-first, length-first}
 use Rattle.view_model.proofs.Histories.{mapped_since}
 use Rattle.doc_file.proofs.MappedOrder.{mapped_listed}
@@ -112,12 +112,6 @@ module _ (functions : Functions) (views : List View) where
         rows = is.rows ∙ ap (rows_of functions views) (sym same);
         sound = ap (spoiled functions views) same ∙ is.sound;
       }
-
-pub updates_of_nothing : (functions : Functions) (honest : Type 0) (views : List View) → UpdatesOfNothing functions honest views
-updates_of_nothing functions honest views history old new is is_honest updated all =
-    updates_are_afresh functions honest views history old new is is_honest updated
-    ∙ ap (rows_of functions views) (sym (first_all old.seq history (omega (arith, all))))
-    ∙ sym is.rows
 
 pub is_spoiled_as_met : (functions : Functions) (honest : Type 0) (views : List View) → IsSpoiledAsMet functions honest views
 is_spoiled_as_met functions honest views history old new is is_honest updated =

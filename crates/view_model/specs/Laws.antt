@@ -49,10 +49,6 @@ module _ (functions : Functions) (honest : Type 0) (views : List View) where
   abbrev pub UpdatesExist : Type 0
   UpdatesExist = (history : List Write) (old : Picture) → (new : Picture) × IsUpdated functions honest views history old new
 
-  -- where nothing was written since, the rows are the same
-  abbrev pub UpdatesOfNothing : Type 0
-  UpdatesOfNothing = (history : List Write) (old new : Picture) → IsTrueOf functions views history old → honest → IsUpdated functions honest views history old new → old.seq ≡ length history → new.rows ≡ old.rows
-
   -- whatever was emitted, rows of ids without a write since stay, and the others are of mapped documents, in order
   abbrev pub UpdatesAreFree : Type 0
   UpdatesAreFree =
@@ -64,6 +60,12 @@ module _ (functions : Functions) (honest : Type 0) (views : List View) where
   RowsOfOthers =
       (history : List Write) (old new : Picture) → length old.rows ≡ length views → AllByRecursion (IsSorted rows_cmp) old.rows → IsUpdated functions honest views history old new
       → map (unchanged_rows (changes_after old.seq history)) new.rows ≡ map (unchanged_rows (changes_after old.seq history)) old.rows
+
+  -- so where nothing was written since, all rows stay
+  abbrev pub UpdatesOfNothing : Type 0
+  UpdatesOfNothing =
+      (history : List Write) (old new : Picture) → length old.rows ≡ length views → AllByRecursion (IsSorted rows_cmp) old.rows → IsUpdated functions honest views history old new
+      → old.seq ≡ length history → new.rows ≡ old.rows
 
   -- and each view is updated by itself, so that no row of one gets into another
   abbrev pub ViewsAreUpdatedApart : Type 0

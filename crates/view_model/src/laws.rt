@@ -7,7 +7,7 @@ ghost use Rattle.view_model.specs.Laws.{AreEmittedByView, AreInsertedInOrder, Ar
 
 use view_ports::Servers;
 
-/// The documents by sequence are the mapped documents, each once.
+/// The documents that were written since are of distinct ids, and are those whose last write has a greater number.
 pub fn documents_are_mapped_once()
     ensures distinct { MapsDistinctIds }
     ensures since { MapsWrittenSince }
@@ -32,9 +32,8 @@ pub fn updates_go_in_batches()
     ensures pages { UpdatesGoInPages }
 {}
 
-/// Where nothing was written since, an update of a true picture leaves the rows as they are. Whatever was emitted, also on a
-/// path that isn't honest: the rows of documents without a write since stay, no row of one view gets into another, and the
-/// picture keeps its shape.
+/// Whatever is emitted, also on a path that isn't honest: an update leaves the rows of documents without a write since, and so
+/// all rows where there is none, no row of one view gets into another, and the picture keeps its shape.
 pub fn updates_keep_rows<C: Servers>()
     ensures nothing { (path : List ℕ) (views : List View) → UpdatesOfNothing (C.functions path) (C.honest path) views }
     ensures rows_of_others { (path : List ℕ) (views : List View) → RowsOfOthers (C.functions path) (C.honest path) views }
