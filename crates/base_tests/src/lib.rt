@@ -1,5 +1,5 @@
 //! Tests of the public calls of the crates `json_terms`, `raw_collation`, `term_codec`, `view_ports` (query servers),
-//! `design_docs`, `view_signature` and `query_protocol`; nothing else.
+//! `design_docs`, `view_signature`, `query_protocol` and `view_model`; nothing else.
 #![tactic(auto)]
 
 #[cfg(test)]
@@ -14,5 +14,7 @@ mod raw_collation_tests;
 mod server_tests;
 #[cfg(test)]
 mod term_codec_tests;
+#[cfg(test)]
+mod view_model_tests;
 #[cfg(test)]
 mod view_signature_tests;
