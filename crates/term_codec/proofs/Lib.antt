@@ -1,5 +1,6 @@
 mod Counts
 pub mod Words
+pub mod Wholes
 pub mod Texts
 pub mod Spelled
 mod Read

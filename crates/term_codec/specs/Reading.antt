@@ -1,10 +1,10 @@
 -- Reading a spelling from the front of bytes: what is read and the bytes behind it, or none. For private clauses.
 use Rattle.std.specs.Prelude.{ℕ, ◌^◌, zero, suc, List, [], ◌∷◌, ◌++◌, length, take, drop, Bool, true, ◌&&◌, ◌==◌, nat_le, nat_lt, bytes_eq, if◌then◌else◌, Option, Some, None, option_map, option_and_then}
-use Rattle.std.specs.Int.{cast_signed, from_le_bytes, to_le_bytes, w32, w64}
+use Rattle.std.specs.Int.{cast_signed, from_le_bytes, to_le_bytes, w16, w32, w64}
 use Rattle.std.specs.Str.{is_utf8}
 use Rattle.std.specs.Ordering.{nat_cmp, is_lt}
 use Rattle.std.specs.Cmp.Lexicographic.{slice_cmp}
-use Rattle.term_codec.specs.Spelling.{count_bytes}
+use Rattle.term_codec.specs.Spelling.{count_bytes, whole_bytes, short_bytes}
 use Rattle.json_terms.specs.Json.{Json, number, is_false, is_null, is_true, object, array, string, items_of, members_of}
 
 -- this count, where the bytes begin with it
@@ -14,6 +14,20 @@ count_if n bytes = if nat_lt n (2 ^ 32) && bytes_eq (count_bytes n) (take 4 byte
 -- a count or a length
 unfoldable pub count_in : List ℕ → Option (ℕ × List ℕ)
 count_in bytes = count_if (from_le_bytes w32 bytes) bytes
+
+abbrev pub whole_if : ℕ → List ℕ → Option (ℕ × List ℕ)
+whole_if n bytes = if nat_lt n (2 ^ 64) && bytes_eq (whole_bytes n) (take 8 bytes) then Some (n, drop 8 bytes) else None
+
+-- a natural number in 8 bytes
+unfoldable pub whole_in : List ℕ → Option (ℕ × List ℕ)
+whole_in bytes = whole_if (from_le_bytes w64 bytes) bytes
+
+abbrev pub short_if : ℕ → List ℕ → Option (ℕ × List ℕ)
+short_if n bytes = if nat_lt n (2 ^ 16) && bytes_eq (short_bytes n) (take 2 bytes) then Some (n, drop 2 bytes) else None
+
+-- a natural number in 2 bytes
+unfoldable pub short_in : List ℕ → Option (ℕ × List ℕ)
+short_in bytes = short_if (from_le_bytes w16 bytes) bytes
 
 -- the number with these 64 bits, where the bytes begin with them
 abbrev pub number_if : ℕ → List ℕ → Option (Json × List ℕ)

@@ -1,12 +1,20 @@
 -- How a term is spelled in bytes: a byte for its kind, and behind it what the kind needs. Counts and lengths stand in
 -- 4 bytes, numbers in 8 bytes in two's complement, the low byte first.
 use Rattle.std.specs.Prelude.{ℕ, ℤ, suc, List, [], ◌∷◌, ◌++◌, length}
-use Rattle.std.specs.Int.{cast_unsigned, to_le_bytes, w32, w64}
+use Rattle.std.specs.Int.{cast_unsigned, to_le_bytes, w16, w32, w64}
 use Rattle.json_terms.specs.Json.{Json, number, is_false, is_null, is_true, object, array, string, Items, no_items, item, Members, no_members, member}
 
 -- a count or a length
 unfoldable pub count_bytes : ℕ → List ℕ
 count_bytes n = to_le_bytes w32 n
+
+-- a natural number below 2^64
+unfoldable pub whole_bytes : ℕ → List ℕ
+whole_bytes n = to_le_bytes w64 n
+
+-- a natural number below 2^16
+unfoldable pub short_bytes : ℕ → List ℕ
+short_bytes n = to_le_bytes w16 n
 
 -- a whole number
 unfoldable pub number_bytes : ℤ → List ℕ

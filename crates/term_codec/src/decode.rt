@@ -5,8 +5,8 @@ ghost use Rattle.std.specs.Prelude.{◌≡◌, ℕ, ◌≤◌, ◌⊎◌, ◌↔
 ghost use Rattle.json_terms.specs.Json.{Json};
 ghost use Rattle.json_terms.specs.Seen.{json, pair_of};
 ghost use Rattle.term_codec.specs.SpelledAt.{IsSpelledAt};
-ghost use Rattle.term_codec.specs.Spelling.{count_bytes, number_bytes};
-ghost use Rattle.term_codec.specs.Reading.{count_in, number_in, text_of_length, text_in, string_in, array_in, array_of_count, object_in, object_of_count, member_after, follows, reading};
+ghost use Rattle.term_codec.specs.Spelling.{count_bytes, number_bytes, whole_bytes, short_bytes};
+ghost use Rattle.term_codec.specs.Reading.{count_in, whole_in, short_in, number_in, text_of_length, text_in, string_in, array_in, array_of_count, object_in, object_of_count, member_after, follows, reading};
 
 use crate::fault::CodecFault;
 use json_terms::{Chars, DEPTH_LIMIT, Member, Members, NoMemory, Term, Terms};
@@ -54,6 +54,40 @@ pub fn read_count(bytes: &[u8]) -> Option<(usize, &[u8])>
 {
     match bytes.split_first_chunk::<4>() {
         Some((head, rest)) => Some((count_of(*head) as usize, rest)),
+        None => None,
+    }
+}
+
+// The natural number with these 8 bytes.
+fn whole_of(bytes: [u8; 8]) -> u64
+    ensures { whole_bytes result ≡ bytes }
+{
+    u64::from_le_bytes(bytes)
+}
+
+/// The natural number in the first 8 bytes, and the bytes behind it; none where there are fewer.
+pub fn read_whole(bytes: &[u8]) -> Option<(u64, &[u8])>
+    ensures { option_map (λ r. (r.0, r.1.now)) result ≡ whole_in bytes.now }
+{
+    match bytes.split_first_chunk::<8>() {
+        Some((head, rest)) => Some((whole_of(*head), rest)),
+        None => None,
+    }
+}
+
+// The natural number with these 2 bytes.
+fn short_of(bytes: [u8; 2]) -> u16
+    ensures { short_bytes result ≡ bytes }
+{
+    u16::from_le_bytes(bytes)
+}
+
+/// The natural number in the first 2 bytes, and the bytes behind it; none where there are fewer.
+pub fn read_short(bytes: &[u8]) -> Option<(u16, &[u8])>
+    ensures { option_map (λ r. (r.0, r.1.now)) result ≡ short_in bytes.now }
+{
+    match bytes.split_first_chunk::<2>() {
+        Some((head, rest)) => Some((short_of(*head), rest)),
         None => None,
     }
 }

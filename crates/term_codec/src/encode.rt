@@ -3,7 +3,7 @@
 ghost use Rattle.std.specs.Prelude.{◌≡◌, ◌^◌, ◌<◌, ◌++◌, length, map, OnOk, OnErr};
 ghost use Rattle.json_terms.specs.Json.{items_of, members_of};
 ghost use Rattle.json_terms.specs.Seen.{json, pair_of};
-ghost use Rattle.term_codec.specs.Spelling.{spelling, items_spelling, members_spelling, count_bytes, number_bytes, text_bytes};
+ghost use Rattle.term_codec.specs.Spelling.{spelling, items_spelling, members_spelling, count_bytes, number_bytes, whole_bytes, short_bytes, text_bytes};
 ghost use Rattle.term_codec.specs.SpelledAt.{IsWithin, CountsFit, ItemsFit, MembersFit};
 
 use json_terms::{Member, NoMemory, Term};
@@ -32,6 +32,24 @@ pub fn put_count(count: usize, out: &mut Vec<u8>) -> Result<(), NoMemory>
     ensures err { OnErr result (out.new.items ≡ out.old.items) }
 {
     out.extend_from_slice(&(count as u32).to_le_bytes())?;
+    Ok(())
+}
+
+/// Writes a natural number behind what `out` holds, in 8 bytes. Where memory runs out, `out` holds what it held.
+pub fn put_whole(number: u64, out: &mut Vec<u8>) -> Result<(), NoMemory>
+    ensures ok { OnOk result (out.new.items ≡ out.old.items ++ whole_bytes number) }
+    ensures err { OnErr result (out.new.items ≡ out.old.items) }
+{
+    out.extend_from_slice(&number.to_le_bytes())?;
+    Ok(())
+}
+
+/// The same in 2 bytes.
+pub fn put_short(number: u16, out: &mut Vec<u8>) -> Result<(), NoMemory>
+    ensures ok { OnOk result (out.new.items ≡ out.old.items ++ short_bytes number) }
+    ensures err { OnErr result (out.new.items ≡ out.old.items) }
+{
+    out.extend_from_slice(&number.to_le_bytes())?;
     Ok(())
 }
 

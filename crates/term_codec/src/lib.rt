@@ -13,7 +13,7 @@ mod encode;
 mod fault;
 mod laws;
 
-pub use decode::{decode_term, read_count, read_text};
-pub use encode::{encode_term, put_count, put_text};
+pub use decode::{decode_term, read_count, read_short, read_text, read_whole};
+pub use encode::{encode_term, put_count, put_short, put_text, put_whole};
 pub use fault::CodecFault;
 pub use laws::spellings_are_prefix_free;

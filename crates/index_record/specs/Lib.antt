@@ -1,0 +1,5 @@
+pub mod Rows
+pub mod BackIndex
+pub mod Record
+pub mod Runs
+pub mod Parsed

@@ -1,0 +1,16 @@
+use Rattle.std.proofs.Common.{◌++◌, sym, ap, ◌∙◌}
+use Rattle.std.proofs.lemmas.List.{take-append-drop}
+use Rattle.term_codec.specs.Reading.{whole_in}
+use Rattle.term_codec.proofs.Wholes.{whole_in-spelled, whole_in-none}
+use Rattle.term_codec.proofs.decode.read_whole.Goals as goal
+
+pub returns-in-Some : goal.returns-in-Some
+returns-in-Some c =
+    let head = c.in-Some.ensures.cases.0 in
+    let behind = c.in-Some.ensures.cases.1 in
+    let bytes = c.args.bytes.now in
+    let whole = sym (take-append-drop 8 bytes) ∙ (λ i. (sym head ∙ sym c.whole_of.ensures) i ++ sym behind i) in
+    sym (ap whole_in whole ∙ whole_in-spelled c.whole_of.result c.in-Some.rest.now c.whole_of.type_inv)
+
+pub returns-in-None : goal.returns-in-None
+returns-in-None c = sym (whole_in-none c.args.bytes.now c.in-None.ensures.cases)
