@@ -9,7 +9,7 @@ mod Carried
 mod Setting
 pub mod Histories
 mod Standing
-mod Sizes
+pub mod Sizes
 mod Changed
 mod Left
 mod Contents

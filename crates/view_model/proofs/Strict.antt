@@ -30,20 +30,20 @@ use Rattle.view_model.proofs.Updates.{rows_are_by_sequence}
 
 -- ---- lists whose elements are told apart
 
-all_each : {X : Type 0} (P Q : X → Type 0) → ((x : X) → P x → Q x) → (xs : List X) → AllByRecursion P xs → AllByRecursion Q xs
+pub all_each : {X : Type 0} (P Q : X → Type 0) → ((x : X) → P x → Q x) → (xs : List X) → AllByRecursion P xs → AllByRecursion Q xs
 all_each P Q f [] all = tt
 all_each P Q f (x ∷ xs) all = (f x all.0, all_each P Q f xs all.1)
 
-all_append : {X : Type 0} (P : X → Type 0) (xs ys : List X) → AllByRecursion P xs → AllByRecursion P ys → AllByRecursion P (xs ++ ys)
+pub all_append : {X : Type 0} (P : X → Type 0) (xs ys : List X) → AllByRecursion P xs → AllByRecursion P ys → AllByRecursion P (xs ++ ys)
 all_append P [] ys a b = b
 all_append P (x ∷ xs) ys a b = (a.0, all_append P xs ys a.1 b)
 
-distinct_append : {X : Type 0} (e : X → X → Bool) (xs ys : List X) → IsDistinct e xs → IsDistinct e ys → AllByRecursion (λ x. AllByRecursion (λ y. e x y ≡ false) ys) xs → IsDistinct e (xs ++ ys)
+pub distinct_append : {X : Type 0} (e : X → X → Bool) (xs ys : List X) → IsDistinct e xs → IsDistinct e ys → AllByRecursion (λ x. AllByRecursion (λ y. e x y ≡ false) ys) xs → IsDistinct e (xs ++ ys)
 unfolding IsDistinct
 distinct_append e [] ys a b apart = b
 distinct_append e (x ∷ xs) ys a b apart = (all_append (λ y. e x y ≡ false) xs ys a.0 apart.0, distinct_append e xs ys a.1 b apart.1)
 
-distinct_part : {X : Type 0} (e : X → X → Bool) (p : X → Bool) (xs : List X) → IsDistinct e xs → IsDistinct e (filter p xs)
+pub distinct_part : {X : Type 0} (e : X → X → Bool) (p : X → Bool) (xs : List X) → IsDistinct e xs → IsDistinct e (filter p xs)
 unfolding IsDistinct
 distinct_part e p [] apart = tt
 distinct_part e p (x ∷ xs) apart =
@@ -54,7 +54,7 @@ distinct_part e p (x ∷ xs) apart =
       | false ↦ rest
     ]
 
-all_passed : {X : Type 0} (p : X → Bool) (xs : List X) → AllByRecursion (λ x. p x ≡ true) (filter p xs)
+pub all_passed : {X : Type 0} (p : X → Bool) (xs : List X) → AllByRecursion (λ x. p x ≡ true) (filter p xs)
 all_passed p [] = tt
 all_passed p (x ∷ xs) =
     let rest = all_passed p xs in
@@ -74,7 +74,7 @@ nat_eq-less m n less = grind (arith, nat_tests)
 nat_eq-same : (n : ℕ) → nat_eq n n ≡ true
 nat_eq-same n = grind (arith, nat_tests)
 
-same_place-sym : (one other : Row) → same_place one other ≡ same_place other one
+pub same_place-sym : (one other : Row) → same_place one other ≡ same_place other one
 same_place-sym one other = λ i. bytes_eq-sym one.id other.id i && nat_eq-sym one.place other.place i
 
 and_false : (b : Bool) → (b && false) ≡ false
@@ -99,7 +99,7 @@ document_apart place id (e ∷ emissions) = (
   document_apart (suc place) id emissions,
 )
 
-emitted_ids : (P : List ℕ → Type 0) (ids : List (List ℕ)) (emitted : List (List (Json × Json))) → AllByRecursion P ids → AllByRecursion (λ (row : Row). P row.id) (emitted_rows ids emitted)
+pub emitted_ids : (P : List ℕ → Type 0) (ids : List (List ℕ)) (emitted : List (List (Json × Json))) → AllByRecursion P ids → AllByRecursion (λ (row : Row). P row.id) (emitted_rows ids emitted)
 emitted_ids P [] emitted all = tt
 emitted_ids P (id ∷ ids) [] all = tt
 emitted_ids P (id ∷ ids) (emissions ∷ emitted) all =
@@ -107,7 +107,7 @@ emitted_ids P (id ∷ ids) (emissions ∷ emitted) all =
     (all_each (λ (row : Row). row.id ≡ id) (λ (row : Row). P row.id) (λ row is. subst P (sym is) all.0) (rows_from 0 id emissions) (of_id 0 id emissions))
     (emitted_ids P ids emitted all.1)
 
-emitted_apart : (ids : List (List ℕ)) (emitted : List (List (Json × Json))) → IsDistinct bytes_eq ids → IsDistinct same_place (emitted_rows ids emitted)
+pub emitted_apart : (ids : List (List ℕ)) (emitted : List (List (Json × Json))) → IsDistinct bytes_eq ids → IsDistinct same_place (emitted_rows ids emitted)
 unfolding IsDistinct
 emitted_apart [] emitted apart = tt
 emitted_apart (id ∷ ids) [] apart = tt
@@ -149,7 +149,7 @@ rises (x ∷ rows) sorted apart =
           subst (λ n. lt (get_or (x ∷ rows) n d) (get_or rows k d) ≡ false) next (sorted (suc k) d (omega arith) (omega arith))) apart.1,
     )
 
-in_order : (rows : List Row) → IsDistinct same_place rows → RiseStrictly (sorted_rows rows)
+pub in_order : (rows : List Row) → IsDistinct same_place rows → RiseStrictly (sorted_rows rows)
 in_order rows apart =
     let still : IsDistinct same_place (sorted_rows rows) = IsDistinct-IsPermutation same_place same_place-sym rows (sorted_rows rows) (sorted_rows_permutes rows) apart in
     record { apart = still; rises = rises (sorted_rows rows) (sorted_rows_is_sorted rows) still }

@@ -1,0 +1,11 @@
+pub mod Lent
+pub mod Each
+pub mod Emitted
+pub mod Written
+pub mod Fits
+pub mod Exchanged
+pub mod Pendings
+pub mod Writable
+pub mod Rising
+pub mod Carried
+pub mod Committing

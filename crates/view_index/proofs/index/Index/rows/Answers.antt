@@ -1,0 +1,19 @@
+-- The rows of a view are those that the picture has of it.
+use Rattle.std.specs.Prelude.{◌≡◌, ◌<◌, List, [], map, length, slice_index_or}
+use Rattle.std.proofs.Common.{ap, sym, ◌∙◌, arith}
+use Rattle.std.proofs.lemmas.List.{get_or-map, length-map}
+use Rattle.json_terms.specs.declared.term.Row.{Row}
+use Rattle.view_index.specs.declared.view_rows.ViewRows.{ViewRows}
+use Rattle.view_index.specs.Index.{both_in}
+use Rattle.view_index.specs.ViewRows.{both_of, rows_of}
+use Rattle.view_index.proofs.index.Index.rows.Goals as goal
+
+pub returns : goal.returns
+returns c =
+    let views : List ViewRows = c.args.self.now.views.items in
+    let view = c.args.view in
+    let within : view < length views = omega (arith, c.requires, length-map views both_of) in
+    c.rows.ensures
+    ∙ ap rows_of (c.index-as_slice-view.is ∙ ap (λ (l : List ViewRows). slice_index_or l view c.index-as_slice-view.result) c.as_slice.ensures.value)
+    ∙ sym (get_or-map (λ (both : List Row × List Row). both.0) (map both_of views) view (both_of c.index-as_slice-view.result) [] c.requires
+    ∙ ap (λ (both : List Row × List Row). both.0) (get_or-map both_of views view c.index-as_slice-view.result (both_of c.index-as_slice-view.result) within))

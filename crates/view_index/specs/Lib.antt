@@ -1,0 +1,9 @@
+pub mod Held
+pub mod Faults
+pub mod Ids
+pub mod Rows
+pub mod ViewRows
+pub mod Replaced
+pub mod Index
+pub mod Pending
+pub mod Calls
