@@ -1,16 +1,17 @@
 -- Documents are mapped one after another: what one more adds.
 use Rattle.std.proofs.Common.{◌≡◌, ◌<◌, ◌≤◌, ◌+◌, ℕ, zero, suc, List, [], ◌∷◌, ◌++◌, length, map, get_or, refl, sym, ap, ◌∙◌, subst, arith}
-use Rattle.std.specs.List.{AllByRecursion}
+use Rattle.std.specs.List.{AllByRecursion, AllZip}
 use Rattle.std.proofs.lemmas.List.{length-append, map-append}
 use Rattle.json_terms.specs.Json.{Json}
 use Rattle.view_ports.specs.Calls.{Call}
-use Rattle.view_ports.specs.Functions.{Functions}
+use Rattle.view_ports.specs.Functions.{Functions, IsMappable, source_limit}
 use Rattle.view_ports.specs.Honest.{rows_of}
+use Rattle.query_protocol.specs.Replies.{AreFew}
 use Rattle.child_pool.specs.declared.pool_fault.PoolFault.{PoolFault}
 use Rattle.child_pool.specs.declared.pool_fault.PoolFault.TheVariants.{NoMemory}
 use Rattle.child_pool.specs.Histories.{Went}
 use Rattle.child_pool.specs.Jobs.{Job}
-use Rattle.child_pool.specs.Mapping.{AreParts, HasMapped}
+use Rattle.child_pool.specs.Mapping.{AreHonestRows, AreParts, HasMapped}
 use Rattle.child_pool.specs.Pools.{AreRowsOf, HasMappedEach}
 use Rattle.child_pool.specs.Refused.{Refused}
 use Rattle.child_pool.specs.Sessions.{HasTold, IsThere}
@@ -31,16 +32,33 @@ all_more : {X : Type 0} (P : X → Type 0) (xs : List X) (x : X) → AllByRecurs
 all_more P [] x all p = (p, tt)
 all_more P (y ∷ xs) x all p = (all.0, all_more P xs x all.1 p)
 
+zip_more : {X Y : Type 0} (R : X → Y → Type 0) (xs : List X) (x : X) (ys : List Y) (y : Y) → AllZip R xs ys → R x y → AllZip R (xs ++ x ∷ []) (ys ++ y ∷ [])
+zip_more R [] x [] y all r = (r, tt)
+zip_more R [] x (b ∷ ys) y all r = absurd all
+zip_more R (a ∷ xs) x [] y all r = absurd all
+zip_more R (a ∷ xs) x (b ∷ ys) y all r = (all.0, zip_more R xs x ys y all.1 r)
+
 -- one document's prompt more
 one_more : (sources : List (List ℕ)) (documents : List (List (List ℕ × Json))) (document : List (List ℕ × Json))
     → document_prompts sources documents ++ document_prompt 0 sources document ∷ [] ≡ document_prompts sources (documents ++ document ∷ [])
 one_more sources documents document = sym (map-append (document_prompt 0 sources) documents (document ∷ []))
 
+-- the rows of documents that can be stored are those of an honest path
+pub honest_lists : (functions : List ℕ → Functions) (honest : List ℕ → Type 0) (path : List ℕ) (sources : List (List ℕ)) (documents : List (List (List ℕ × Json))) (lists : List (List (List (Json × Json))))
+    → honest path → length sources ≤ source_limit → AllByRecursion IsMappable documents → AllZip (AreHonestRows functions honest path sources) documents lists → lists ≡ map (rows_of (functions path) sources) documents
+honest_lists functions honest path sources [] [] is few stored all = refl
+honest_lists functions honest path sources [] (rows ∷ lists) is few stored all = absurd all
+honest_lists functions honest path sources (document ∷ documents) [] is few stored all = absurd all
+honest_lists functions honest path sources (document ∷ documents) (rows ∷ lists) is few stored all =
+    let first = all.0 is few stored.0 in
+    let others = honest_lists functions honest path sources documents lists is few stored.1 all.1 in
+    λ i. first i ∷ others i
+
 module _ (functions : List ℕ → Functions) (honest : List ℕ → Type 0) (job : Job) where
   -- ---- rows
 
   pub no_rows : AreRowsOf functions honest job.path job.sources [] []
-  no_rows = record { each = refl; all = tt; parts = tt; right = λ is_honest few. refl }
+  no_rows = record { each = refl; all = tt; parts = tt; few = tt; right = tt }
 
   rows_more : (documents : List (List (List ℕ × Json))) (document : List (List ℕ × Json)) (lists : List (List (List (Json × Json)))) (rows : List (List (Json × Json))) (P : List Call → Type 0) (added now : List Call)
       → AreRowsOf functions honest job.path job.sources documents lists → HasMapped functions honest job 0 document P rows added now
@@ -48,12 +66,9 @@ module _ (functions : List ℕ → Functions) (honest : List ℕ → Type 0) (jo
   rows_more documents document lists rows P added now are h = record {
     each = length-append lists (rows ∷ []) ∙ ap (λ n. n + 1) are.each ∙ sym (length-append documents (document ∷ []));
     parts = all_more AreParts lists rows are.parts h.parts;
+    few = all_more AreFew lists rows are.few h.few;
     all = all_more (λ (r : List (List (Json × Json))). length r ≡ length job.sources) lists rows are.all h.each;
-    right = λ is_honest few.
-        let f = rows_of (functions job.path) job.sources in
-        let first = are.right is_honest few in
-        let last = h.right is_honest few in
-        ap (λ (l : List (List (List (Json × Json)))). l ++ rows ∷ []) first ∙ ap (λ (r : List (List (Json × Json))). map f documents ++ r ∷ []) last ∙ sym (map-append f documents (document ∷ []));
+    right = zip_more (AreHonestRows functions honest job.path job.sources) documents document lists rows are.right h.right;
   }
 
   module _ {first second : List Call → Type 0} {calls : List Call} where

@@ -1,5 +1,6 @@
 -- An honest path's lines are proper replies.
 use Rattle.std.proofs.Common.{◌≡◌, ◌≤◌, ℕ, List, [], ◌∷◌, ◌++◌, length, Bool, true, false, Option, Some, None, Result, Ok, Err, MatchBool, refl, sym, ap, ◌∙◌, subst, inl, inr, arith}
+use Rattle.std.specs.List.{AllByRecursion}
 use Rattle.std.proofs.lemmas.Bool.{le-leb}
 use Rattle.std.proofs.lemmas.List.{length-map}
 use Rattle.json_terms.specs.Json.{Json, is_true}
@@ -9,7 +10,7 @@ use Rattle.view_ports.specs.declared.command.Command.{Command}
 use Rattle.view_ports.specs.declared.command.Command.TheVariants.{Reset, AddFun, MapDoc, Reduce, Rereduce, Other}
 use Rattle.view_ports.specs.Calls.{Call, start, send, receive, stop, Session, child, is_log, is_log_read, is_short, is_yes_read, is_yes}
 use Rattle.view_ports.specs.Commands.{command}
-use Rattle.view_ports.specs.Functions.{Functions, line_limit, source_limit}
+use Rattle.view_ports.specs.Functions.{Functions, IsMappable, line_limit, source_limit}
 use Rattle.view_ports.specs.Honest.{Answers, Complains, IsAnswerable, IsHonestLine, Spells, is_complaint_read, rows_of}
 use Rattle.query_protocol.specs.declared.reply.Kind.{Kind}
 use Rattle.query_protocol.specs.declared.reply.Kind.TheVariants as kind
@@ -19,7 +20,7 @@ use Rattle.query_protocol.specs.Replies.{reply_of, reply_read}
 use Rattle.child_pool.specs.Causes.{IsBadReply, kind_of}
 use Rattle.child_pool.specs.Honesty.{ComplainsRightly, GivesNoBadReply, IsHonestJob, SomeSourceFails}
 use Rattle.child_pool.specs.Histories.{HasReceived, IsReceipt}
-use Rattle.child_pool.specs.Jobs.{Job, IsPromptOf}
+use Rattle.child_pool.specs.Jobs.{IsAmong, Job, IsPromptOf}
 use Rattle.child_pool.specs.Outcomes.{WasBad, WasComplaint}
 use Rattle.child_pool.proofs.Replies.{yes_no_complaint}
 use Rattle.child_pool.proofs.RowReplies.{proper_reply}
@@ -62,11 +63,16 @@ source_answer line false log h = (reply.Compile, complaint_read (is_short line) 
 no_reply : (o : Option Reply) (said : Reply) → o ≡ Some said → o ≡ None → ⊥
 no_reply o said is none = let never : Some said ≡ None = sym is ∙ none in cc
 
+one_of : {X : Type 0} (P : X → Type 0) (xs : List X) (x : X) → AllByRecursion P xs → IsAmong xs x → P x
+one_of P [] x all among = absurd among
+one_of P (y ∷ ys) x all (inl same) = subst P (sym same) all.0
+one_of P (y ∷ ys) x all (inr other) = one_of P ys x all.1 other
+
 module _ (functions : List ℕ → Functions) (honest : List ℕ → Type 0) (job : Job) where
   answerable : IsHonestJob honest job → (sources : List (List ℕ)) (c : Command) → IsPromptOf job sources c → IsAnswerable sources c
   answerable h sources Reset of = tt
   answerable h sources (AddFun source) of = tt
-  answerable h sources (MapDoc document) of = (of.2, subst (λ (s : List (List ℕ)). length s ≤ source_limit) (sym of.1) h.few)
+  answerable h sources (MapDoc document) of = (one_of IsMappable job.documents document h.stored of.0, subst (λ (s : List (List ℕ)). length s ≤ source_limit) (sym of.1) h.few)
   answerable h sources (Reduce source rows) of = absurd of
   answerable h sources (Rereduce source values) of = absurd of
   answerable h sources Other of = absurd of

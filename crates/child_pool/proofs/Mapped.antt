@@ -1,23 +1,22 @@
 -- A document was asked for: what follows.
-use Rattle.std.proofs.Common.{◌≡◌, ◌≤◌, ◌+◌, ℕ, List, [], ◌∷◌, ◌++◌, length, length-append, codes, Bool, true, false, Option, Some, None, is_some, Result, Ok, Err, refl, sym, ap, ◌∙◌, subst, inl, inr, arith}
+use Rattle.std.proofs.Common.{◌≡◌, ◌≤◌, ◌+◌, ℕ, List, [], ◌∷◌, ◌++◌, length, Bool, true, false, Option, Some, None, is_some, Result, Ok, Err, refl, sym, ap, ◌∙◌, subst, inl, inr, arith}
 use Rattle.std.proofs.lemmas.List.{length-map}
 use Rattle.json_terms.specs.Json.{Json, number, is_false, is_null, is_true, array, depth, list_of_members, members_of, object, string}
 use Rattle.json_terms.specs.Kinds.{members_in}
-use Rattle.json_terms.specs.Terms.{IsTerm}
-use Rattle.json_terms.specs.Text.{text_of}
 use Rattle.json_terms.proofs.Sames.{members_of-list_of_members}
 use Rattle.json_terms.specs.declared.rows.RowLists.{RowLists}
 use Rattle.view_ports.specs.declared.command.Command.{Command}
 use Rattle.view_ports.specs.declared.command.Command.TheVariants.{MapDoc}
 use Rattle.view_ports.specs.Calls.{Call, child, is_log, is_yes, sources_after}
 use Rattle.view_ports.specs.Commands.{command, document_depth}
-use Rattle.view_ports.specs.Functions.{Functions, IsMappable, lists_term}
+use Rattle.view_ports.specs.Functions.{Functions, lists_term}
 use Rattle.view_ports.specs.Honest.{IsHonestLine, Spells, rows_of}
 use Rattle.query_protocol.specs.CommandLines.{command_line, document_of, IsDocument, IsProperCommand}
 use Rattle.query_protocol.specs.declared.reply.Kind.TheVariants as kind
 use Rattle.query_protocol.specs.declared.reply.Reply.{Reply}
 use Rattle.query_protocol.specs.declared.reply.Reply.TheVariants as reply
-use Rattle.query_protocol.specs.Replies.{reply_of}
+use Rattle.query_protocol.specs.Replies.{AreFew, HasFewRows, reply_of}
+use Rattle.query_protocol.proofs.RowCounts.{few_rows}
 use Rattle.child_pool.specs.declared.pool_fault.PoolFault.{PoolFault}
 use Rattle.child_pool.specs.declared.pool_fault.PoolFault.TheVariants.{ServerFault}
 use Rattle.child_pool.specs.Jobs.{Job}
@@ -62,16 +61,6 @@ abbrev pub failed_result : Result Bool PoolFault → Result RowLists PoolFault
 failed_result (Ok started) = Err ServerFault
 failed_result (Err f) = Err f
 
-within_text : (name text : List ℕ) → length text ≤ length (91 ∷ (name ++ 44 ∷ (text ++ 93 ∷ [])))
-within_text name text =
-    let whole : length (91 ∷ (name ++ 44 ∷ (text ++ 93 ∷ []))) ≡ 1 + (length name + (1 + (length text + 1))) = simp length-append (omega arith) in
-    omega arith
-
--- an object is within the line that asks for its rows
-within_line : (document : List (List ℕ × Json)) → length (text_of (object (members_of document))) ≤ length (command_line (MapDoc document))
-unfolding command_line
-within_line document = within_text (text_of (string (codes "map_doc"))) (text_of (object (members_of document)))
-
 -- a document is the object of its members
 pub object_of_document : (d : Json) → IsDocument d → object (members_of (document_of d)) ≡ d
 object_of_document d h = ap (λ (t : Json). object (members_of (document_of t))) h.is ∙ ap object (members_of-list_of_members (members_of h.members)) ∙ sym h.is
@@ -95,16 +84,12 @@ proper_document d h =
     let same = object_of_document d h in
     subst (λ (t : Json). depth t ≤ document_depth) (sym same) h.shallow
 
--- a document whose line isn't too long is within the bounds
-pub is_mappable : (d : Json) → IsDocument d → IsTerm d → length (command_line (MapDoc (document_of d))) ≤ 1048576 → IsMappable (document_of d)
-is_mappable d h valid short =
-    let same = object_of_document d h in
-    let within = within_line (document_of d) in
-    record {
-      valid = subst IsTerm (sym same) valid;
-      size = omega (arith, within, short);
-      nested = subst (λ (t : Json). depth t ≤ 64) (sym same) h.shallow;
-    }
+few_said : (said : Reply) → HasFewRows said → AreFew (rows_said said)
+few_said (reply.Rows rows) few = few
+few_said reply.Log few = omega arith
+few_said reply.Yes few = omega arith
+few_said (reply.Value value) few = omega arith
+few_said reply.Compile few = omega arith
 
 spelled_rows : (functions : Functions) (sources : List (List ℕ)) (logs : ℕ) (document : List (List ℕ × Json)) (line : List ℕ) → is_log line ≡ false → IsHonestLine functions sources logs (MapDoc document) line → Spells line (lists_term (rows_of functions sources document))
 spelled_rows functions sources logs document line no_log h = elim h [
@@ -131,8 +116,8 @@ module _ (functions : List ℕ → Functions) (honest : List ℕ → Type 0) whe
     reads : reply_of (kind.Rows (length sources)) r.line ≡ Some said
     reads = subst (λ (c : Command). reply_of (kind_of c (length sources)) r.line ≡ Some said) is r.reads
 
-    pub honest_rows : IsMappable document → AreHonestRows functions honest path sources document (rows_said said)
-    honest_rows mappable = λ h few.
+    pub honest_rows : AreHonestRows functions honest path sources document (rows_said said)
+    honest_rows = λ h few mappable.
         let answered = honest_line functions honest path sources line r.logs (child slot r.earlier) r.line r.asked.is r.answers h (MapDoc document) is (mappable, few) in
         let lists : List (List (Json × Json)) = rows_of (functions path) sources document in
         let spells = spelled_rows (functions path) sources r.logs document r.line r.no_log answered in
@@ -152,6 +137,9 @@ module _ (functions : List ℕ → Functions) (honest : List ℕ → Type 0) whe
         let found = rows_reply (length sources) r.line said (no_log_said functions honest path line slot sources said added now r) reads in
         subst (λ (saying : Reply). AreParts (rows_said saying)) (sym found.1) found.3
 
+    pub few_counted : AreFew (rows_said said)
+    few_counted = few_said said (few_rows (kind.Rows (length sources)) r.line said reads)
+
     pub mapped_turns : line ≡ command_line (MapDoc document) → AreTurns (asks slot (MapDoc document) (length sources)) (course added)
     mapped_turns spelled =
         let found = rows_reply (length sources) r.line said (no_log_said functions honest path line slot sources said added now r) reads in
@@ -159,24 +147,25 @@ module _ (functions : List ℕ → Functions) (honest : List ℕ → Type 0) whe
         ((refl, spelled), ((refl, record { reply = reply.Rows found.0; answer = tt; reads = reads ∙ ap Some found.1 }), tt))
 
   module _ {follow : List Call → Type 0} {slot : ℕ} {calls : List Call} (job : Job) where
-    pub map_went : (line : List ℕ) (document : List (List ℕ × Json)) (result : Result (Option Reply) PoolFault) → IsMappable document → HasTold functions honest job.path job.sources slot calls → command line ≡ MapDoc document → line ≡ command_line (MapDoc document)
+    pub map_went : (line : List ℕ) (document : List (List ℕ × Json)) (result : Result (Option Reply) PoolFault) → HasTold functions honest job.path job.sources slot calls → command line ≡ MapDoc document → line ≡ command_line (MapDoc document)
         → Went follow job slot calls (AfterPrompt functions honest job job.sources line slot (says slot line ∷ []) result calls)
         → Went follow job slot calls (AfterAnswer functions honest job slot document (asks slot (MapDoc document) (length job.sources)) (map_result result) calls)
-    map_went line document (Ok None) mappable told is spelled w = Went-map w (AfterAnswer functions honest job slot document (asks slot (MapDoc document) (length job.sources)) (Ok None) calls)
+    map_went line document (Ok None) told is spelled w = Went-map w (AfterAnswer functions honest job slot document (asks slot (MapDoc document) (length job.sources)) (Ok None) calls)
         (failed_prompt slot (MapDoc document) (length job.sources) line w.added spelled w.holds)
-    map_went line document (Err f) mappable told is spelled w =
+    map_went line document (Err f) told is spelled w =
         Went-map w (AfterAnswer functions honest job slot document (asks slot (MapDoc document) (length job.sources)) (Err f) calls)
         (record { caused = w.holds.0; cut = cut_prompt slot (MapDoc document) (length job.sources) line (course w.added) spelled w.holds.1 })
-    map_went line document (Ok (Some said)) mappable told is spelled w =
+    map_went line document (Ok (Some said)) told is spelled w =
         Went-map w (AfterAnswer functions honest job slot document (asks slot (MapDoc document) (length job.sources)) (Ok (Some (rows_said said))) calls) (record {
           told = record {
             idle = subst (λ (c : Command). IsIdle job.path (sources_after c (is_yes w.holds.line) job.sources) slot w.now) is w.holds.idle;
             compile = told.compile;
           };
           tried = mapped_turns job.path job.sources line document slot said w.added w.now w.holds is spelled;
-          right = honest_rows job.path job.sources line document slot said w.added w.now w.holds is mappable;
+          right = honest_rows job.path job.sources line document slot said w.added w.now w.holds is;
           each = rows_counted job.path job.sources line document slot said w.added w.now w.holds is;
           parts = parts_counted job.path job.sources line document slot said w.added w.now w.holds is;
+          few = few_counted job.path job.sources line document slot said w.added w.now w.holds is;
         })
 
     -- a first attempt that gave rows, or was refused
@@ -184,7 +173,7 @@ module _ (functions : List ℕ → Functions) (honest : List ℕ → Type 0) whe
         → Went follow job slot calls (AfterAnswer functions honest job slot document prompt.once result calls) → Went follow job slot calls (AfterMap functions honest job slot document prompt rose last calls)
     first_rows document prompt rose result (Ok rows) e mine other w =
         let v : Went follow job slot calls (AfterAnswer functions honest job slot document prompt.once (Ok (Some rows)) calls) = subst (λ (r : Result (Option RowLists) PoolFault). Went follow job slot calls (AfterAnswer functions honest job slot document prompt.once r calls)) e w in
-        Went-map v (AfterMap functions honest job slot document prompt rose (Ok rows) calls) (record { told = v.holds.told; tried = inl v.holds.tried; right = v.holds.right; each = v.holds.each; parts = v.holds.parts })
+        Went-map v (AfterMap functions honest job slot document prompt rose (Ok rows) calls) (record { told = v.holds.told; tried = inl v.holds.tried; right = v.holds.right; each = v.holds.each; parts = v.holds.parts; few = v.holds.few })
     first_rows document prompt rose result (Err f) e mine other w =
         let v : Went follow job slot calls (AfterAnswer functions honest job slot document prompt.once (Err f) calls) = subst (λ (r : Result (Option RowLists) PoolFault). Went follow job slot calls (AfterAnswer functions honest job slot document prompt.once r calls)) e w in
         Went-map v (AfterMap functions honest job slot document prompt rose (Err f) calls) (refused_once functions honest job slot prompt rose f calls v.added mine (λ is. other (e ∙ ap Err is)) v.holds)
@@ -223,13 +212,14 @@ module _ (functions : List ℕ → Functions) (honest : List ℕ → Type 0) whe
         → Went third job slot calls (AfterMap functions honest job slot document (document_prompt slot job.sources document) rose last calls)
     once_more (Ok (Some rows)) last e other v =
         let x = Went-then u v (λ added now. HasMapped functions honest job slot document (λ calls. AreTurns (again_in slot job document) (course calls)) rows added now)
-        (record { told = v.holds.told; tried = turns_then (fresh_in slot job) (once_in slot job document) u.added v.added u.holds.1 v.holds.tried; right = v.holds.right; each = v.holds.each; parts = v.holds.parts }) in
+        (record { told = v.holds.told; tried = turns_then (fresh_in slot job) (once_in slot job document) u.added v.added u.holds.1 v.holds.tried; right = v.holds.right; each = v.holds.each; parts = v.holds.parts; few = v.holds.few }) in
         subst (MapsTo third job slot document rose calls) e (Went-then w x (AfterMap functions honest job slot document (prompt_in slot job document) rose (Ok rows) calls) (record {
           told = x.holds.told;
           tried = inr (counted, again functions honest job (prompt_in slot job document) (λ calls. AreTurns (again_in slot job document) (course calls)) w x w.holds x.holds.tried);
           right = x.holds.right;
           each = x.holds.each;
           parts = x.holds.parts;
+          few = x.holds.few;
         }))
     once_more (Ok None) last e other v =
         let x = Went-then u v (λ added now. HasFailedIn (again_in slot job document) added) (failed_later (fresh_in slot job) (once_in slot job document) u.added v.added u.holds.1 v.holds) in

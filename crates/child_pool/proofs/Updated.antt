@@ -1,16 +1,16 @@
 -- Mapping all documents: the children are made ready, and then map them.
-use Rattle.std.proofs.Common.{◌≡◌, ◌⊎◌, ◌<◌, ◌++◌, ℕ, List, [], ◌∷◌, length, map, max, min, OnOk, Result, Ok, Err, refl, sym, ap, ◌∙◌, subst, inl, inr, arith, append_assoc}
-use Rattle.std.specs.List.{AllByRecursion}
+use Rattle.std.proofs.Common.{◌≡◌, ◌⊎◌, ◌<◌, ◌++◌, ℕ, List, [], ◌∷◌, length, max, min, OnOk, Result, Ok, Err, refl, sym, ap, ◌∙◌, subst, inl, inr, arith, append_assoc}
+use Rattle.std.specs.List.{AllByRecursion, AllZip}
 use Rattle.json_terms.specs.Json.{Json}
 use Rattle.view_ports.specs.Calls.{Call}
 use Rattle.view_ports.specs.Functions.{Functions}
-use Rattle.view_ports.specs.Honest.{rows_of}
+use Rattle.query_protocol.specs.Replies.{AreFew}
 use Rattle.child_pool.specs.declared.doc_rows.DocRowLists.{DocRowLists}
 use Rattle.child_pool.specs.declared.pool.Pool.{Pool}
 use Rattle.child_pool.specs.declared.pool_fault.PoolFault.{PoolFault}
 use Rattle.child_pool.specs.Histories.{WentIn, talk}
 use Rattle.child_pool.specs.Jobs.{IsAmong, Job}
-use Rattle.child_pool.specs.Mapping.{AreParts}
+use Rattle.child_pool.specs.Mapping.{AreHonestRows, AreParts}
 use Rattle.child_pool.specs.Pools.{AfterBatch, AfterPreparing, AreKept, AreStopped, HasGivenUp, HasItsChildren, IsKept}
 use Rattle.child_pool.specs.Prompts.{document_prompts, slots_prompts, update_prompts}
 use Rattle.child_pool.specs.Refused.{Refused}
@@ -54,8 +54,10 @@ module _ (functions : List ℕ → Functions) (honest : List ℕ → Type 0) (jo
       rows = record {
         each = ap (λ (l : DocRowLists). length l) empty ∙ sym (ap (λ (d : List (List (List ℕ × Json))). length d) none);
         parts = subst (λ (l : DocRowLists). AllByRecursion AreParts l) (sym empty) tt;
+        few = subst (λ (l : DocRowLists). AllByRecursion AreFew l) (sym empty) tt;
         all = subst (λ (l : DocRowLists). AllByRecursion (λ rows. length rows ≡ length job.sources) l) (sym empty) tt;
-        right = λ is_honest few. empty ∙ sym (ap (map (rows_of (functions job.path) job.sources)) none);
+        right = subst (AllZip (AreHonestRows functions honest job.path job.sources) job.documents) (sym empty)
+            (subst (λ (d : List (List (List ℕ × Json))). AllZip (AreHonestRows functions honest job.path job.sources) d []) (sym none) tt);
       };
       compile = λ is_honest some. absurd (some none);
       talked = inl (subst (λ (dues : List Due). AreTurns dues []) (sym (no_talk width)) tt);

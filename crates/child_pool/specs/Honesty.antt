@@ -1,15 +1,17 @@
 -- What an honest path's children are not refused for.
 use Rattle.std.specs.Prelude.{◌≡◌, ◌≤◌, ℕ, List, length, false}
+use Rattle.std.specs.List.{AllByRecursion}
 use Rattle.view_ports.specs.Calls.{Call}
-use Rattle.view_ports.specs.Functions.{Functions, source_limit}
+use Rattle.view_ports.specs.Functions.{Functions, IsMappable, source_limit}
 use Rattle.child_pool.specs.declared.pool_fault.PoolFault.TheVariants.{BadReply, Compile}
 use Rattle.child_pool.specs.Jobs.{Job, IsAmong}
 use Rattle.child_pool.specs.Outcomes.{IsCaused}
 
--- a job on an honest path whose sources aren't too many
+-- a job on an honest path whose sources aren't too many, and whose documents can be stored
 pub record IsHonestJob (honest : List ℕ → Type 0) (job : Job) : Type 0 where
   pub path : honest job.path
   pub few : length job.sources ≤ source_limit
+  pub stored : AllByRecursion IsMappable job.documents
 
 -- one of the sources doesn't compile
 pub record SomeSourceFails (functions : Functions) (sources : List (List ℕ)) : Type 0 where

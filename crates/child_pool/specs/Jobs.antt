@@ -4,7 +4,7 @@ use Rattle.json_terms.specs.Json.{Json}
 use Rattle.view_ports.specs.declared.command.Command.{Command}
 use Rattle.view_ports.specs.declared.command.Command.TheVariants.{Reset, AddFun, MapDoc, Reduce, Rereduce, Other}
 use Rattle.view_ports.specs.Calls.{Call, start, send, receive, stop, Session, child, slot_of}
-use Rattle.view_ports.specs.Functions.{IsMappable, line_limit}
+use Rattle.view_ports.specs.Functions.{line_limit}
 use Rattle.view_ports.specs.Honest.{log_limit}
 use Rattle.query_protocol.specs.CommandLines.{command_line}
 
@@ -34,12 +34,11 @@ IsCommandOf job Other = ⊥
 abbrev pub IsLineOfJob : Job → List ℕ → Type 0
 IsLineOfJob job line = (command : Command) × IsCommandOf job command × (line ≡ command_line command)
 
--- a prompt of the job to a child that has these sources: where it maps a document, they are all those of the job, and the
--- document is within the bounds
+-- a prompt of the job to a child that has these sources: where it maps a document, they are all those of the job
 abbrev pub IsPromptOf : Job → List (List ℕ) → Command → Type 0
 IsPromptOf job sources Reset = Unit {0}
 IsPromptOf job sources (AddFun source) = IsAmong job.sources source
-IsPromptOf job sources (MapDoc document) = IsAmong job.documents document × (sources ≡ job.sources) × IsMappable document
+IsPromptOf job sources (MapDoc document) = IsAmong job.documents document × (sources ≡ job.sources)
 IsPromptOf job sources (Reduce source rows) = ⊥
 IsPromptOf job sources (Rereduce source values) = ⊥
 IsPromptOf job sources Other = ⊥

@@ -7,8 +7,9 @@ use Rattle.json_terms.specs.declared.rows.RowLists.{RowLists}
 use Rattle.view_ports.specs.declared.command.Command.TheVariants.{MapDoc}
 use Rattle.view_ports.specs.declared.servers.Servers.{Ghosts as Servers}
 use Rattle.view_ports.specs.Calls.{Call}
-use Rattle.view_ports.specs.Functions.{Functions, part_depth, part_limit, source_limit}
+use Rattle.view_ports.specs.Functions.{Functions, IsMappable, part_depth, part_limit, source_limit}
 use Rattle.view_ports.specs.Honest.{rows_of}
+use Rattle.query_protocol.specs.Replies.{AreFew}
 use Rattle.child_pool.specs.declared.pool_fault.PoolFault.{PoolFault}
 use Rattle.child_pool.specs.Ends.{HasRisen}
 use Rattle.child_pool.specs.Histories.{Went, course}
@@ -29,9 +30,9 @@ abbrev pub AreParts : List (List (Json × Json)) → Type 0
 AreParts rows = AllByRecursion (AllByRecursion (λ row. IsPart row.0 × IsPart row.1)) rows
 
 module _ (functions : List ℕ → Functions) (honest : List ℕ → Type 0) where
-  -- on an honest path these are the rows of the path's map functions
+  -- on an honest path these are the rows of the path's map functions, where the document can be stored
   abbrev pub AreHonestRows : List ℕ → List (List ℕ) → List (List ℕ × Json) → List (List (Json × Json)) → Type 0
-  AreHonestRows path sources document rows = honest path → length sources ≤ source_limit → rows ≡ rows_of (functions path) sources document
+  AreHonestRows path sources document rows = honest path → length sources ≤ source_limit → IsMappable document → rows ≡ rows_of (functions path) sources document
 
   -- a document was mapped: the session is as ready as before, of the calls `P` holds, and there is a list of rows for each source,
   -- which are those of an honest path
@@ -41,6 +42,7 @@ module _ (functions : List ℕ → Functions) (honest : List ℕ → Type 0) whe
     pub right : AreHonestRows job.path job.sources document rows
     pub each : length rows ≡ length job.sources
     pub parts : AreParts rows
+    pub few : AreFew rows
 
   abbrev pub AfterMap : Job → ℕ → List (List ℕ × Json) → Prompt → Type 0 → Result RowLists PoolFault → List Call → List Call → List Call → Type 0
   AfterMap job slot document prompt rose (Ok rows) before added now = HasMapped job slot document (IsAnswered rose prompt) rows added now

@@ -1,12 +1,12 @@
 -- The pool: the paths of languages, and the children that it started.
 use Rattle.std.specs.Prelude.{◌≡◌, ◌⊎◌, ◌<◌, ◌≤◌, ◌++◌, ℕ, List, [], bytes_eq, if◌then◌else◌, map, max, length, Option, Some, None, Result, Ok, Err, MatchOption}
-use Rattle.std.specs.List.{AllByRecursion}
+use Rattle.std.specs.List.{AllByRecursion, AllZip}
 use Rattle.json_terms.specs.Json.{Json}
 use Rattle.view_ports.specs.Calls.{Call, child}
-use Rattle.view_ports.specs.Functions.{Functions, source_limit}
-use Rattle.view_ports.specs.Honest.{rows_of}
+use Rattle.view_ports.specs.Functions.{Functions}
 use Rattle.query_protocol.specs.declared.reply.Reply.{Reply}
 use Rattle.query_protocol.specs.declared.reply.Reply.TheVariants.{Log, Yes, Rows, Value, Compile}
+use Rattle.query_protocol.specs.Replies.{AreFew}
 use Rattle.child_pool.specs.declared.pool.Language.{Language}
 use Rattle.child_pool.specs.declared.pool.Pool.{Pool}
 use Rattle.child_pool.specs.declared.pool.Started.{Started}
@@ -16,7 +16,7 @@ use Rattle.child_pool.specs.Histories.{AllStops}
 use Rattle.child_pool.specs.Jobs.{Job}
 use Rattle.child_pool.specs.Refused.{Refused, RefusedIn}
 use Rattle.child_pool.specs.Sessions.{HasTold, IsThere}
-use Rattle.child_pool.specs.Mapping.{AreParts}
+use Rattle.child_pool.specs.Mapping.{AreHonestRows, AreParts}
 use Rattle.child_pool.specs.Prompts.{document_prompts, slots_prompts}
 use Rattle.child_pool.specs.Talk.{Due}
 use Rattle.child_pool.specs.Tries.{AllAnswered, Prompt}
@@ -135,13 +135,14 @@ module _ (functions : List ℕ → Functions) (honest : List ℕ → Type 0) whe
   AfterPreparing job old slots rose pool (Err f) before added now =
       ForKept old job.path (λ kept. HasGivenUp job old.width (slots_prompts job.sources kept slots) rose pool f before added now)
 
-  -- for each document a list of rows for each source, none too long or too deep, which on an honest path are those of the path's map
-  -- functions
+  -- for each document a list of rows for each source, none too long or too deep and not too many, which on an honest path are those of
+  -- the path's map functions, where the document can be stored
   pub record AreRowsOf (path : List ℕ) (sources : List (List ℕ)) (documents : List (List (List ℕ × Json))) (lists : List (List (List (Json × Json)))) : Type 0 where
     pub each : length lists ≡ length documents
     pub all : AllByRecursion (λ rows. length rows ≡ length sources) lists
     pub parts : AllByRecursion AreParts lists
-    pub right : honest path → length sources ≤ source_limit → lists ≡ map (rows_of (functions path) sources) documents
+    pub few : AllByRecursion AreFew lists
+    pub right : AllZip (AreHonestRows functions honest path sources) documents lists
 
   -- documents were mapped one after another, and the children of the first slots are ready still
   pub record HasMappedAll (job : Job) (slots : ℕ) (documents : List (List (List ℕ × Json))) (rose : Type 0) (pool : Pool) (lists : List (List (List (Json × Json)))) (added now : List Call) : Type 0 where

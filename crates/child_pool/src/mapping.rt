@@ -1,8 +1,7 @@
 //! Mapping a document through a child whose session is ready.
 
-ghost use Rattle.std.specs.Prelude.{◌≡◌, ◌<◌, ◌^◌, None, length, IfOk, OnOk};
+ghost use Rattle.std.specs.Prelude.{◌≡◌, ◌<◌, ◌^◌, None, length, IfOk};
 ghost use Rattle.view_ports.specs.Commands.{command};
-ghost use Rattle.view_ports.specs.Functions.{IsMappable};
 ghost use Rattle.query_protocol.specs.CommandLines.{command_line, IsWhole};
 ghost use Rattle.child_pool.specs.Ends.{EndsOnce, EndsTwice};
 ghost use Rattle.child_pool.specs.Mapping.{AsksRows, MapsOne};
@@ -15,11 +14,10 @@ use crate::session::start_over;
 use json_terms::{Chars, NoMemory, RowLists};
 use query_protocol::{Kind, Reply, map_line};
 use std::alloc::Global;
-use view_ports::{Command, DOCUMENT_LINE_LIMIT, SLOT_COUNT, Servers};
+use view_ports::{Command, SLOT_COUNT, Servers};
 
-/// The line that asks for a document's rows. There is no memory for one of more than 1,048,576 bytes.
+/// The line that asks for a document's rows.
 fn document_line(alloc: Global, document: &Document) -> Result<Vec<u8>, NoMemory>
-    ensures mappable { OnOk result (IsMappable document.now) }
     ensures line { IfOk result (λ line. line.items ≡ command_line (Command.MapDoc document.now)) }
     ensures whole { IfOk result (λ line. IsWhole line.items) }
     ensures reads { IfOk result (λ line. command line.items ≡ Command.MapDoc document.now) }
@@ -28,9 +26,6 @@ fn document_line(alloc: Global, document: &Document) -> Result<Vec<u8>, NoMemory
     term.validity();
     let mut line = Vec::new(alloc);
     map_line(alloc, term, &mut line)?;
-    if line.len() > DOCUMENT_LINE_LIMIT {
-        return Err(NoMemory);
-    }
     Ok(line)
 }
 

@@ -43,7 +43,7 @@ spells_of_root = record {
 
 -- without a root there are no writes, whatever the bytes are
 no_writes : (bytes image : List ℕ) (history : List Write) → HoldsWrites None bytes history → HoldsWrites None image history
-no_writes bytes image [] holds = record { entries = []; holds = (refl, refl); each = λ id. tt }
+no_writes bytes image [] holds = record { entries = []; holds = (refl, refl); each = λ id. tt; stored = tt }
 no_writes bytes image (write ∷ history) holds = absurd (let count = holds.holds.0 in omega arith)
 
 pub writes_of_root : IsOfRoot HoldsWrites
@@ -53,5 +53,6 @@ writes_of_root = record {
     entries = holds.entries;
     holds = carried_root bytes image has root root.number (length history) holds.entries behind holds.holds;
     each = carried_each bytes image has history holds.entries holds.each;
+    stored = holds.stored;
   };
 }

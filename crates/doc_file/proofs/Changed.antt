@@ -10,7 +10,7 @@ use Rattle.json_terms.specs.Terms.{AreMembers, ComesBefore}
 use Rattle.json_terms.specs.Find.{find, with_member}
 use Rattle.term_codec.specs.Spelling.{spelling, members_spelling, members_count, text_bytes}
 use Rattle.term_codec.specs.SpelledAt.{CountsFit, MembersFit}
-use Rattle.doc_file.specs.Content.{without}
+use Rattle.view_ports.specs.Stored.{without}
 
 -- ---- a member left out
 

@@ -21,7 +21,8 @@ use Rattle.term_codec.proofs.Words.{length-count_bytes}
 use Rattle.design_docs.specs.Documents.{id_of, is_design_id}
 use Rattle.design_docs.proofs.Revised.{find-with_member}
 use Rattle.doc_file.specs.Held.{IsDocument, IsObject}
-use Rattle.doc_file.specs.Content.{content, without}
+use Rattle.view_ports.specs.Stored.{without}
+use Rattle.doc_file.specs.Content.{content}
 use Rattle.doc_file.specs.Incoming.{IsWritable}
 use Rattle.doc_file.specs.Revision.{revision, stored_document}
 use Rattle.doc_file.proofs.Changed.{AreMembers-without, depth-without, find-without, members_count-with_member, MembersFit-with_member, depth-with_member, length-with_member}
@@ -38,11 +39,11 @@ IsObject-writable other writable = let id = writable.id in absurd (cc)
 
 -- ---- the id
 
-find-kept : (members : Members) → find (codes "_id") (kept members) ≡ find (codes "_id") members
+pub find-kept : (members : Members) → find (codes "_id") (kept members) ≡ find (codes "_id") members
 find-kept members =
     find-without (codes "_id") (codes "_deleted") (without (codes "_rev") members) refl ∙ find-without (codes "_id") (codes "_rev") members refl
 
-abbrev id_at : Option Json → List ℕ
+abbrev pub id_at : Option Json → List ℕ
 id_at found = unwrap_or (option_and_then text_in found) []
 
 pub id_of-content : (document : Json) → id_of (content document) ≡ id_of document

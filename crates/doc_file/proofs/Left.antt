@@ -7,7 +7,7 @@ use Rattle.json_terms.specs.declared.term.Member.{Member}
 use Rattle.json_terms.specs.Json.{Json, Members, no_members, member, members_of}
 use Rattle.json_terms.specs.Terms.{AreMembers, ComesBefore, ComesAfter}
 use Rattle.json_terms.specs.Seen.{json, pair_of}
-use Rattle.doc_file.specs.Content.{without}
+use Rattle.view_ports.specs.Stored.{without}
 use Rattle.doc_file.proofs.Changed.{before}
 
 abbrev pub kept : Members → Members

@@ -13,6 +13,7 @@ pub mod Sizes
 mod Changed
 mod Left
 mod Contents
+mod StoredAs
 pub mod Stores
 mod Storing
 mod Written
@@ -27,3 +28,4 @@ mod Tallies
 pub mod LastWrites
 pub mod MappedOrder
 mod MappedLater
+pub mod CanBeStored

@@ -5,7 +5,7 @@ use Rattle.std.proofs.Math.Seq.{take-append_seam, drop-append_seam}
 use Rattle.std.specs.Str.Parse.{ParsesUnsigned}
 use Rattle.std.proofs.lemmas.Fmt.{parse-decimal, IsAscii-decimal}
 use Rattle.std.proofs.lemmas.Str.{IsUtf8-from_ascii}
-use Rattle.doc_file.specs.Revision.{IsGeneration, IsSequence, IsRevision}
+use Rattle.view_ports.specs.Stored.{IsGeneration, IsSequence, IsRevision}
 
 pub length-IsSequence : (text : List ℕ) → IsSequence text → length text ≡ 33
 length-IsSequence text seq = let long : length text ≡ length (codes "-" ++ seq.0) = ap length seq.3 in omega (arith, seq.1)

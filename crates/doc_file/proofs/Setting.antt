@@ -24,7 +24,7 @@ pub equal_id : (a b : List ℕ) → slice_cmp nat_cmp a b ≡ Equal → a ≡ b
 equal_id a b equal = same_id a b (sym (is_eq-slice_cmp a b) ∙ ap is_eq equal)
 
 -- an id that is greater is another
-greater_differs : (a b : List ℕ) → slice_cmp nat_cmp a b ≡ Greater → a ≡ b → ⊥
+pub greater_differs : (a b : List ℕ) → slice_cmp nat_cmp a b ≡ Greater → a ≡ b → ⊥
 greater_differs a b greater same =
     let equal : bytes_eq a b ≡ true = ap (bytes_eq a) (sym same) ∙ bytes_eq-same a in
     let test : is_eq (slice_cmp nat_cmp a b) ≡ true = is_eq-slice_cmp a b ∙ equal in

@@ -1,6 +1,6 @@
 -- What the documents' file stands for while a write is stored, and after it.
 use Rattle.std.proofs.Common.{◌≡◌, ℕ, ◌+◌, ◌^◌, ◌<◌, ◌≤◌, List, [], ◌∷◌, ◌++◌, length, take, Option, Some, None, IsUtf8, refl, sym, ap, ◌∙◌, subst, arith, append_assoc, append-nil, length-append}
-use Rattle.std.specs.Prelude.{true, is_none, nat_le}
+use Rattle.std.specs.Prelude.{true, is_none, nat_le, MatchOption}
 use Rattle.std.specs.List.{list_all}
 use Rattle.std.proofs.Math.Seq.{take-append_seam, drop-append_seam}
 use Rattle.std.proofs.lemmas.Bool.Decides.{nat_tests}
@@ -18,7 +18,7 @@ use Rattle.doc_file.specs.declared.entry.Entry.{Entry}
 use Rattle.doc_file.specs.declared.rev.Rev.{Rev}
 use Rattle.doc_file.specs.Record.{IsEntry, IsRoot, AreEntries, record_bytes}
 use Rattle.doc_file.specs.Counts.{is_counted, are_counted, most_writes}
-use Rattle.doc_file.specs.History.{Write, generation}
+use Rattle.doc_file.specs.History.{AreStored, IsStoredAs, Write, generation}
 use Rattle.doc_file.specs.Held.{HoldsRoot, HoldsWrites, IsBodyOf, KeepsDocument, KeepsEach, find_last}
 use Rattle.doc_file.specs.Stored.{body_of, entry_of, generation_in, last_of, next_rev, place_in, revised, with_last, write_of}
 use Rattle.std.specs.Cmp.{first_so, second_so}
@@ -52,7 +52,7 @@ counted_more : (seq : ℕ) (e : Entry) → is_counted seq e ≡ true → is_coun
 counted_more seq e is = grind (arith, nat_tests)
 
 -- there is room for one more write
-pub seq_room : (commits seq : ℕ) (entries : List Entry) → are_counted commits seq entries ≡ true → seq + 1 < 2 ^ 64
+pub seq_room : (commits seq : ℕ) (entries : List Entry) → are_counted commits seq entries ≡ true → seq + 1 < 2 ^ 63
 seq_room commits seq entries counted =
     let le : nat_le seq (most_writes commits) ≡ true = first_so (nat_le seq (most_writes commits)) (list_all (is_counted seq) entries) counted in
     let most : seq ≤ most_writes commits = grind (arith, nat_tests) in
@@ -163,7 +163,8 @@ module _ (gate : GateFile) (seq : ℕ) (entries : List Entry) (id : List ℕ) (r
 
         -- over a history that the bytes before hold
         module _ (history : List Write) (content : Option Json) (document_is : document ≡ revised content rev) (count : seq ≡ length history)
-            (old : List ℕ) (older : HasAll old front) (each : KeepsEach history old entries) (body : (t : Json) → document ≡ Some t → IsBodyOf id t) where
+            (old : List ℕ) (older : HasAll old front) (each : KeepsEach history old entries) (body : (t : Json) → document ≡ Some t → IsBodyOf id t)
+            (are_stored : AreStored history) (storable : (t : Json) → document ≡ Some t → IsStoredAs id t) where
           generations : rev.generation ≡ generation history id + 1
           generations = generation_is ∙ ap (λ n. n + 1) (generation_kept history old entries each id)
 
@@ -183,9 +184,14 @@ module _ (gate : GateFile) (seq : ℕ) (entries : List Entry) (id : List ℕ) (r
               numbers generations
               (subst (KeepsDocument id (front ++ (body_of document ++ record_part)) (last_of (start_of gate) rev document)) document_written (body_written document refl body))
 
+          stored_here : (d : Option Json) → document ≡ d → MatchOption d (Unit {0}) (IsStoredAs id)
+          stored_here None is = tt
+          stored_here (Some t) is = storable t is
+
           pub writes_written : next.number ≡ gate.commits + 1 → HoldsWrites (Some next) (front ++ (body_of document ++ record_part)) (write_of history id content ∷ history)
           writes_written number = record {
             entries = entries';
             holds = subst (λ n. HoldsRoot (Some next) next.number (front ++ (body_of document ++ record_part)) n entries') (ap (λ n. n + 1) count ∙ omega arith) (holds_written next.number number);
             each = each_here;
+            stored = (stored_here (write_of history id content).document document_written, are_stored);
           }

@@ -13,7 +13,8 @@ use Rattle.doc_file.specs.declared.entry.LastWrite.{LastWrite}
 use Rattle.doc_file.specs.declared.entry.Entry.{Entry}
 use Rattle.doc_file.specs.Accepted.{delete_refusal, state_in}
 use Rattle.doc_file.specs.Counts.{has_room}
-use Rattle.doc_file.specs.Content.{without, content}
+use Rattle.view_ports.specs.Stored.{without}
+use Rattle.doc_file.specs.Content.{content}
 use Rattle.doc_file.specs.Held.{IsObject, find_last}
 use Rattle.doc_file.specs.declared.fault.DocFault.{DocFault}
 use Rattle.doc_file.specs.Incoming.{HasId, HasMembers, HasRevision, IsBadDesign, IsShallow, IsSmall, IsUnfit, IsWritable, deletes}
@@ -22,6 +23,7 @@ use Rattle.doc_file.specs.Stored.{IsStorable, entry_of}
 use Rattle.doc_file.specs.Writes.{content_of}
 use Rattle.doc_file.proofs.Contents.{IsDocument-stored, IsObject-writable, IsUtf8-revision, id_short, length-revision, spelling_short}
 use Rattle.doc_file.proofs.Setting.{passes, same_id}
+use Rattle.doc_file.proofs.StoredAs.{stored_as}
 
 -- leaving out a member leaves what another name finds
 found_without : (name other : List ℕ) (ms : Members) → bytes_eq other name ≡ false → find name (without other ms) ≡ find name ms
@@ -85,18 +87,21 @@ storable document term writable = by_kind (deletes document) refl
   where
     by_kind : (b : Bool) → deletes document ≡ b → IsStorable (id_of document) (if b then None else Some (content document))
     by_kind true is = tt
-    by_kind false is = λ rev small.
-        let text = revision rev.generation rev.seq in
-        let an_object = IsObject-writable document writable in
-        let utf8 = IsUtf8-revision rev.generation rev.seq small in
-        let short = length-revision rev.generation rev.seq small in
-        record {
-          body = record {
-            document_is = IsDocument-stored document text term an_object writable utf8 short;
-            design = λ design. stored_design document text an_object (writable.design (design, is));
+    by_kind false is = record {
+      written = λ rev small.
+          let text = revision rev.generation rev.seq in
+          let an_object = IsObject-writable document writable in
+          let utf8 = IsUtf8-revision rev.generation rev.seq small in
+          let short = length-revision rev.generation rev.seq small in
+          record {
+            body = record {
+              document_is = IsDocument-stored document text term an_object writable utf8 short;
+              design = λ design. stored_design document text an_object (writable.design (design, is));
+            };
+            short = spelling_short document text term an_object writable utf8 short;
           };
-          short = spelling_short document text term an_object writable utf8 short;
-        }
+      stored = λ rev some few. stored_as document term (IsObject-writable document writable) writable rev.generation rev.seq some few;
+    }
 
 pub id_fits : (document : Json) → IsWritable document → length (id_of document) + 33 < 2 ^ 32
 id_fits document writable = omega (arith, id_short document (IsObject-writable document writable) writable)

@@ -40,6 +40,7 @@ module _ (docs : Docs) (files : FileName → File) (open_now : IsOpen docs files
         is_open = open_now;
         count = one.0;
         each = subst (KeepsEach history (bytes_in docs files)) (sym one.1) holds.each;
+        stored = holds.stored;
       }
 
   pub writes_at : IsAt docs files history → HoldsWrites (root_of (file_of docs)) (bytes_in docs files) history
@@ -48,6 +49,7 @@ module _ (docs : Docs) (files : FileName → File) (open_now : IsOpen docs files
     holds = subst (λ n. HoldsRoot (root_of (file_of docs)) (commits_in (root_of (file_of docs))) (bytes_in docs files) n (entries_of docs)) at.count
         (counted_own (bytes_in docs files) (seq_of docs) (entries_of docs) (root_of (file_of docs)) (commits_of (file_of docs)) open_now.pair.keeps.counted open_now.loaded);
     each = at.each;
+    stored = at.stored;
   }
 
   -- each image that a crash may leave now stands for the history

@@ -22,10 +22,10 @@ use Rattle.doc_file.specs.declared.rev.Rev.{Rev}
 use Rattle.doc_file.specs.Counts.{are_counted, has_room}
 use Rattle.doc_file.specs.Docs.{bytes_in, entries_of, file_of, seq_of, IsAt, IsDocsFile, IsLoaded, IsOpen}
 use Rattle.doc_file.specs.Drafts.{IsDraft}
-use Rattle.doc_file.specs.Held.{HoldsRoot, HoldsWrites, IsBodyOf, SpellsRoot, Stands}
-use Rattle.doc_file.specs.History.{Write}
+use Rattle.doc_file.specs.Held.{HoldsRoot, HoldsWrites, IsBodyOf, SpellsRoot, Stands, find_last}
+use Rattle.doc_file.specs.History.{IsStoredAs, Write}
 use Rattle.doc_file.specs.Record.{AreEntries, record_bytes}
-use Rattle.doc_file.specs.Stored.{body_of, entry_of, last_of, revised, with_last, write_of, IsStorable}
+use Rattle.doc_file.specs.Stored.{body_of, entry_of, generation_in, last_of, revised, with_last, write_of, IsStorable}
 use Rattle.doc_file.proofs.Carried.{spells_of_root, writes_of_root}
 use Rattle.doc_file.proofs.CountsKept.{room_of}
 use Rattle.doc_file.proofs.Setting.{list_all-with_last}
@@ -57,26 +57,38 @@ module _ (docs : Docs) (id : List ℕ) (content : Option Json) (draft : Draft) (
   skipped_body : skipped ≡ length (body_of (revised content draft.rev))
   skipped_body = skipped_is ∙ is.body
 
-  generation_fits : (draft.rev).generation < 2 ^ 64
-  generation_fits =
-      let generation : (draft.rev).generation ≡ _ = ap (λ (r : Rev). r.generation) is.rev in
+  generation_is : (draft.rev).generation ≡ generation_in (find_last id (entries_of docs)) + 1
+  generation_is = ap (λ (r : Rev). r.generation) is.rev
+
+  generation_few : (draft.rev).generation < 2 ^ 63
+  generation_few =
       let room = generation_room (commits_of (file_of docs)) (seq_of docs) (entries_of docs) id docs.counted in
       let most = seq_room (commits_of (file_of docs)) (seq_of docs) (entries_of docs) docs.counted in
-      omega arith
+      omega (arith, generation_is, room, most)
+
+  generation_fits : (draft.rev).generation < 2 ^ 64
+  generation_fits = omega (arith, generation_few)
 
   body_small : length (body_of (revised content draft.rev)) < 2 ^ 32
   body_small = by_content content storable
     where
       by_content : (c : Option Json) → IsStorable id c → length (body_of (revised c draft.rev)) < 2 ^ 32
       by_content None all = omega arith
-      by_content (Some c) all = (all draft.rev generation_fits).short
+      by_content (Some c) all = (all.written draft.rev generation_fits).short
 
   body_is : (t : Json) → revised content draft.rev ≡ Some t → IsBodyOf id t
   body_is = by_content content storable
     where
       by_content : (c : Option Json) → IsStorable id c → (t : Json) → revised c draft.rev ≡ Some t → IsBodyOf id t
       by_content None all t same = absurd (let clash : ⊥ = cc in clash)
-      by_content (Some c) all t same = subst (IsBodyOf id) (let s : _ ≡ t = cc in s) (all draft.rev generation_fits).body
+      by_content (Some c) all t same = subst (IsBodyOf id) (let s : _ ≡ t = cc in s) (all.written draft.rev generation_fits).body
+
+  stored_is : (t : Json) → revised content draft.rev ≡ Some t → IsStoredAs id t
+  stored_is = by_content content storable
+    where
+      by_content : (c : Option Json) → IsStorable id c → (t : Json) → revised c draft.rev ≡ Some t → IsStoredAs id t
+      by_content None all t same = absurd (let clash : ⊥ = cc in clash)
+      by_content (Some c) all t same = subst (IsStoredAs id) (let s : _ ≡ t = cc in s) (all.stored draft.rev (omega (arith, generation_is)) generation_few)
 
   abbrev next : Root
   next = published_root (file_of docs) (length bytes) skipped
@@ -125,7 +137,7 @@ module _ (docs : Docs) (id : List ℕ) (content : Option Json) (draft : Draft) (
         (writes_written (file_of docs) (seq_of docs) (entries_of docs) id draft.rev (revised content draft.rev) is.rev docs.counted few entries_now is.utf8 short is.place body_small
         front (record_bytes (seq_of docs + 1) draft.entries.items) long many (ap (record_bytes (seq_of docs + 1)) is.entries_are) next
         (ap (λ n. start_of (file_of docs) + n) skipped_body) record_long
-        history content refl at.count (bytes_in docs files) has at.each body_is refl)
+        history content refl at.count (bytes_in docs files) has at.each body_is at.stored stored_is refl)
 
   -- while the draft is published
   pub publishes : {T E : Type 0} (old new : Told) (history : List Write) (result : Result T E) (ends : (FileName → File) → Type 0)

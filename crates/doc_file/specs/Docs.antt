@@ -13,7 +13,7 @@ use Rattle.doc_file.specs.declared.docs.Info.{Info}
 use Rattle.doc_file.specs.declared.entry.LastWrite.{LastWrite}
 use Rattle.doc_file.specs.declared.entry.Entry.{Entry}
 use Rattle.doc_file.specs.Held.{HasBody, HoldsIn, HoldsWrites, KeepsEach, SpellsRoot, find_last}
-use Rattle.doc_file.specs.History.{Write, last_writes, live, update_seq}
+use Rattle.doc_file.specs.History.{AreStored, Write, last_writes, live, update_seq}
 
 abbrev pub file_of : Docs → GateFile
 file_of docs = docs.file
@@ -47,11 +47,12 @@ pub record IsOpen (docs : Docs) (files : FileName → File) : Type 0 where
   pub pair : IsOpenPair DocsStem (file_of docs) files
   pub loaded : IsLoaded docs files
 
--- the object and the folder are at the end of this history
+-- the object and the folder are at the end of this history, whose documents can be stored
 pub record IsAt (docs : Docs) (files : FileName → File) (history : List Write) : Type 0 where
   pub is_open : IsOpen docs files
   pub count : seq_of docs ≡ length history
   pub each : KeepsEach history (bytes_in docs files) (entries_of docs)
+  pub stored : AreStored history
 
 -- nothing is pending of the documents' files, and they stand for this history
 abbrev pub HoldsHistory : (FileName → File) → List Write → Type 0

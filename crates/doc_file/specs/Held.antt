@@ -19,7 +19,7 @@ use Rattle.doc_file.specs.declared.entry.LastWrite.{LastWrite}
 use Rattle.doc_file.specs.declared.entry.Entry.{Entry}
 use Rattle.doc_file.specs.Record.{IsRoot, record_bytes}
 use Rattle.doc_file.specs.Counts.{are_counted}
-use Rattle.doc_file.specs.History.{Write, last_write, last_seq, generation}
+use Rattle.doc_file.specs.History.{AreStored, Write, last_write, last_seq, generation}
 
 abbrev pub IsObject : Json → Type 0
 IsObject (object ms) = Unit {0}
@@ -93,11 +93,12 @@ commits_in (Some root) = root.number
 abbrev pub SpellsRoot : Option Root → List ℕ → ℕ × List Entry → Type 0
 SpellsRoot root bytes spelled = HoldsRoot root (commits_in root) bytes spelled.0 spelled.1
 
--- a root holds the history: its record spells the last write of each id
+-- a root holds the history, whose documents can be stored: its record spells the last write of each id
 pub record HoldsWrites (root : Option Root) (bytes : List ℕ) (history : List Write) : Type 0 where
   pub entries : List Entry
   pub holds : HoldsRoot root (commits_in root) bytes (length history) entries
   pub each : KeepsEach history bytes entries
+  pub stored : AreStored history
 
 -- an image of the disk stands for the history, as far as documents go
 abbrev pub Stands : (FileName → List ℕ) → List Write → Type 0

@@ -1,16 +1,29 @@
 -- The history of the documents: the accepted writes, the newest first.
-use Rattle.std.specs.Prelude.{ℕ, List, [], ◌∷◌, ◌++◌, not, Option, Some, None, option_map, option_and_then, bytes_eq, if◌then◌else◌, count_by, filter, length, nat_lt}
-use Rattle.std.specs.List.{filter_map}
+use Rattle.std.specs.Prelude.{◌≡◌, ℕ, List, [], ◌∷◌, ◌++◌, not, Option, Some, None, option_map, option_and_then, bytes_eq, if◌then◌else◌, count_by, filter, length, nat_lt, MatchOption}
+use Rattle.std.specs.List.{filter_map, AllByRecursion}
 use Rattle.std.specs.Ordering.{nat_cmp}
 use Rattle.std.specs.Cmp.Lexicographic.{slice_cmp}
 use Rattle.std.specs.BTreeMap.{insert_entry}
 use Rattle.json_terms.specs.Json.{Json}
-use Rattle.design_docs.specs.Documents.{is_design_id}
+use Rattle.view_ports.specs.Stored.{IsStoredDocument}
+use Rattle.design_docs.specs.Documents.{id_of, is_design_id}
 
 -- an accepted write: the stored document of an id, or a deletion (a tombstone), which stores none
 pub record Write : Type 0 where
   pub id : List ℕ
   pub document : Option Json
+
+-- a document that can be stored, of this id
+pub record IsStoredAs (id : List ℕ) (document : Json) : Type 0 where
+  pub stored : IsStoredDocument document
+  pub named : id_of document ≡ id
+
+abbrev pub IsStoredIn : Write → Type 0
+IsStoredIn write = MatchOption write.document (Unit {0}) (λ document. IsStoredAs write.id document)
+
+-- each write stores a document that can be stored, of its id, or none
+abbrev pub AreStored : List Write → Type 0
+AreStored history = AllByRecursion IsStoredIn history
 
 -- the number of accepted writes: the newest one has this number
 abbrev pub update_seq : List Write → ℕ

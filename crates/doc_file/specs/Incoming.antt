@@ -1,10 +1,11 @@
 -- What a document must be to be put, and what of it is stored.
-use Rattle.std.specs.Prelude.{◌≡◌, ℕ, ◌≤◌, List, Bool, true, false, not, ◌&&◌, ◌||◌, nat_lt, length, codes, bytes_eq, if◌then◌else◌, Option, Some, None, option_and_then, IsTrue}
+use Rattle.std.specs.Prelude.{◌≡◌, ℕ, ◌≤◌, List, Bool, true, false, not, ◌&&◌, ◌||◌, length, codes, bytes_eq, if◌then◌else◌, Option, Some, None, option_and_then, IsTrue}
 use Rattle.json_terms.specs.Json.{Json, number, is_false, is_null, is_true, object, array, string, Members, no_members, member, depth}
 use Rattle.json_terms.specs.Find.{member_of}
 use Rattle.json_terms.specs.Kinds.{text_in}
 use Rattle.json_terms.specs.Seen.{json}
 use Rattle.json_terms.specs.Text.{text_of}
+use Rattle.view_ports.specs.Stored.{is_id, IsRevision}
 use Rattle.design_docs.specs.Documents.{id_of, is_special, is_design_id, size_limit, document_depth_limit}
 use Rattle.design_docs.specs.declared.fault.DesignFault.{DesignFault}
 use Rattle.design_docs.specs.Faults.{design_fault, HasDesign}
@@ -12,11 +13,6 @@ use Rattle.doc_file.specs.declared.fault.DocFault.{DocFault}
 use Rattle.doc_file.specs.declared.fault.DocFault.TheVariants.{BadId, BadMember, BadRev, TooLarge, TooDeep, BadDesign, Conflict, Missing, Deleted, Gate, NoMemory}
 use Rattle.doc_file.specs.declared.incoming.Incoming.{Incoming}
 use Rattle.doc_file.specs.Content.{content}
-use Rattle.doc_file.specs.Revision.{IsRevision}
-
--- an id isn't empty, and begins with an underscore only where it is that of a design document with a name
-abbrev pub is_id : List ℕ → Bool
-is_id id = nat_lt 0 (length id) && (not (is_special id) || (is_design_id id && nat_lt (length (codes "_design/")) (length id)))
 
 abbrev pub HasId : Json → Type 0
 HasId document = IsTrue (is_id (id_of document))

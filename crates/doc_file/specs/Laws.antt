@@ -1,6 +1,8 @@
 -- What the definitions of documents say together.
 use Rattle.std.specs.Prelude.{◌≡◌, ◌<◌, ℕ, List, [], Some, filter, nat_lt, All, AllPairs}
+use Rattle.std.specs.List.{AllByRecursion}
 use Rattle.std.specs.List.Sorted.{IsPermutation}
+use Rattle.json_terms.specs.Json.{Json}
 use Rattle.view_ports.specs.File.{File, settled}
 use Rattle.view_ports.specs.Disk.{IsImageOf}
 use Rattle.view_ports.specs.declared.file_name.FileName.{FileName}
@@ -8,7 +10,7 @@ use Rattle.doc_file.specs.declared.docs.Docs.{Docs}
 use Rattle.doc_file.specs.Accepted.{state_in, state_of}
 use Rattle.doc_file.specs.Docs.{last_of, HoldsHistory, IsAt, IsDocsFile}
 use Rattle.doc_file.specs.Held.{Stands}
-use Rattle.doc_file.specs.History.{Write, changes_after, last_seq, last_write, mapped, mapped_after}
+use Rattle.doc_file.specs.History.{AreStored, IsStoredAs, Write, changes_after, last_seq, last_write, live_document, mapped, mapped_after}
 
 -- a crash leaves of open documents what stands for their history
 abbrev pub ImagesStand : Type 0
@@ -38,3 +40,11 @@ LaterAreListed = (seq : ℕ) (history : List Write) → IsPermutation (filter (�
 abbrev pub ChangesAreNumbered : Type 0
 ChangesAreNumbered = (seq : ℕ) (history : List Write) → AllPairs (λ change later. change.0 < later.0) (changes_after seq history)
     × All (λ change. (last_write history (change.1).id ≡ Some change.1) × (last_seq history (change.1).id ≡ change.0)) (changes_after seq history)
+
+-- of a history whose documents can be stored each live document can be, and is of its id
+abbrev pub LiveAreStored : Type 0
+LiveAreStored = (history : List Write) → AreStored history → (id : List ℕ) (document : Json) → live_document history id ≡ Some document → IsStoredAs id document
+
+-- and so is each that views map
+abbrev pub MappedAreStored : Type 0
+MappedAreStored = (history : List Write) → AreStored history → (seq : ℕ) → AllByRecursion (λ entry. IsStoredAs entry.0 entry.1) (mapped_after seq history)

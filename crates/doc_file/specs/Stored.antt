@@ -10,7 +10,7 @@ use Rattle.doc_file.specs.declared.rev.Rev.{Rev}
 use Rattle.doc_file.specs.Record.{record_bytes}
 use Rattle.doc_file.specs.Held.{IsBodyOf, find_last}
 use Rattle.doc_file.specs.Revision.{revision, stored_document}
-use Rattle.doc_file.specs.History.{Write, generation}
+use Rattle.doc_file.specs.History.{IsStoredAs, Write, generation}
 
 abbrev pub entry_of : List ℕ → LastWrite → Entry
 entry_of id last = record { id = id; last = last }
@@ -75,6 +75,11 @@ pub record IsShort (id : List ℕ) (content : Json) (revision : List ℕ) : Type
   pub body : IsBodyOf id (stored_document content revision)
   pub short : length (spelling (stored_document content revision)) < 2 ^ 32
 
+-- what a write of an id stores may be written under each revision, and can be stored under each that the id may have
+pub record IsContentOf (id : List ℕ) (content : Json) : Type 0 where
+  pub written : (rev : Rev) → rev.generation < 2 ^ 64 → IsShort id content (revision rev.generation rev.seq)
+  pub stored : (rev : Rev) → 0 < rev.generation → rev.generation < 2 ^ 63 → IsStoredAs id (stored_document content (revision rev.generation rev.seq))
+
 abbrev pub IsStorable : List ℕ → Option Json → Type 0
 IsStorable id None = Unit {0}
-IsStorable id (Some content) = (rev : Rev) → rev.generation < 2 ^ 64 → IsShort id content (revision rev.generation rev.seq)
+IsStorable id (Some content) = IsContentOf id content

@@ -1,6 +1,7 @@
 -- Which puts and deletions are accepted, and what an accepted one writes.
 use Rattle.std.specs.Prelude.{◌≡◌, ◌⊎◌, ℕ, List, Bool, true, false, Option, Some, None, if◌then◌else◌}
 use Rattle.json_terms.specs.Json.{Json}
+use Rattle.view_ports.specs.Stored.{IsRevision}
 use Rattle.gate_file.specs.declared.gate.GateFile.{GateFile}
 use Rattle.gate_file.specs.declared.fault.GateFault.TheVariants.{DiskFault}
 use Rattle.gate_file.specs.Calls.{too_long, used_up}
@@ -9,7 +10,6 @@ use Rattle.doc_file.specs.declared.fault.DocFault.TheVariants.{BadRev, Conflict,
 use Rattle.doc_file.specs.Accepted.{State, put_conflicts, delete_refusal}
 use Rattle.doc_file.specs.Content.{content}
 use Rattle.doc_file.specs.Incoming.{IsUnfit, IsWritable, deletes, given_revision}
-use Rattle.doc_file.specs.Revision.{IsRevision}
 
 -- why the state of its id refuses a write, which is a deletion or puts a document
 abbrev pub write_refusal : State → Bool → Option (List ℕ) → Option DocFault

@@ -7,6 +7,7 @@ ghost use Rattle.json_terms.specs.Text.{text_of};
 ghost use Rattle.design_docs.specs.Documents as ids;
 ghost use Rattle.design_docs.specs.Documents.{size_limit};
 ghost use Rattle.design_docs.specs.Faults.{HasDesign};
+ghost use Rattle.view_ports.specs.Stored as documents;
 ghost use Rattle.doc_file.specs.Content as parts;
 ghost use Rattle.doc_file.specs.Incoming as spec;
 ghost use Rattle.doc_file.specs.Revision as revision;
@@ -127,7 +128,7 @@ pub(crate) fn stored(alloc: Global, content: Term, rev: String) -> Result<Term, 
 /// Whether an id is that of a document: it isn't empty, and begins with an underscore only where it is that of a design
 /// document with a name.
 fn is_id(id: &str) -> bool
-    ensures { result ≡ spec.is_id id.now }
+    ensures { result ≡ documents.is_id id.now }
 {
     if id.is_empty() {
         return false;
@@ -231,7 +232,7 @@ fn content(alloc: Global, document: Term) -> Result<Term, NoMemory>
 
 /// The members but `_rev` and `_deleted`.
 fn kept(alloc: Global, members: Members) -> Result<Members, NoMemory>
-    ensures { IfOk result (λ left. members_of left ≡ parts.without (codes "_deleted") (parts.without (codes "_rev") (members_of members))) }
+    ensures { IfOk result (λ left. members_of left ≡ documents.without (codes "_deleted") (documents.without (codes "_rev") (members_of members))) }
 {
     members.validity();
     let mut left = Members::with_capacity(alloc, members.len())?;

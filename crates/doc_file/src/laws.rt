@@ -1,6 +1,6 @@
 //! Laws of the documents' file. Each holds for all values, and its function does nothing.
 
-ghost use Rattle.doc_file.specs.Laws.{ChangesAreNumbered, EmptyFoldersHoldNoWrites, FilesHold, ImagesStand, LaterAreListed, MappedAreListed, StatesAreTold};
+ghost use Rattle.doc_file.specs.Laws.{ChangesAreNumbered, EmptyFoldersHoldNoWrites, FilesHold, ImagesStand, LaterAreListed, LiveAreStored, MappedAreListed, MappedAreStored, StatesAreTold};
 
 /// Each image that a crash may leave of open documents stands for their history.
 pub fn images_of_open_documents_stand()
@@ -35,4 +35,10 @@ pub fn later_documents_are_listed()
 /// What has changed is the last write of its id, and is listed in the order of the numbers.
 pub fn changes_are_numbered()
     ensures { ChangesAreNumbered }
+{}
+
+/// Of a history whose documents can be stored, each live document and each that views map can be stored, and is of its id.
+pub fn live_documents_can_be_stored()
+    ensures live { LiveAreStored }
+    ensures mapped { MappedAreStored }
 {}

@@ -2,7 +2,8 @@
 
 ghost use Rattle.std.specs.Prelude.{◌≡◌, ℕ, ◌≤◌, ◌<◌, ◌^◌, ◌↔◌, IfOk, IsTrue, EachIndex, slice_index, string_bytes, decimal, option_map};
 ghost use Rattle.doc_file.specs.Writes.{IsGiven};
-ghost use Rattle.doc_file.specs.Revision.{revision, IsHexDigit, IsGeneration, IsSequence, IsRevision};
+ghost use Rattle.view_ports.specs.Stored.{IsHexDigit, IsGeneration, IsSequence, IsRevision};
+ghost use Rattle.doc_file.specs.Revision.{revision};
 
 use itoa::Buffer;
 use json_terms::NoMemory;

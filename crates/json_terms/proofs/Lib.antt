@@ -8,3 +8,4 @@ pub mod ReadBack
 pub mod Readings
 pub mod Sames
 pub mod Utf8
+pub mod ValueCounts

@@ -1,12 +1,12 @@
 -- The line of a command is one line, and reads as the command.
-use Rattle.std.proofs.Common.{◌≡◌, ◌≢◌, ◌≤◌, ℕ, List, [], ◌∷◌, All, Bool, true, Option, Some, Result, Ok, Err, OnOk, map, codes, nat_le, refl, sym, ap, ◌∙◌, subst, arith}
+use Rattle.std.proofs.Common.{◌≡◌, ◌≤◌, List, [], ◌∷◌, Some, Result, Ok, Err, OnOk, map, codes, refl, ap, arith}
 use Rattle.std.proofs.lemmas.Bool.{le-leb}
 use Rattle.std.proofs.lemmas.Str.{IsUtf8-from_is_utf8}
 use Rattle.std.specs.Str.{is_utf8, chars}
 use lib.Utf8.{encode}
 use Rattle.json_terms.specs.declared.fault.NoMemory.{NoMemory}
-use Rattle.json_terms.specs.Json.{Json, object, array, string, Items, item, no_items, items_of, members_of, list_of_members, list_of_items, depth}
-use Rattle.json_terms.specs.Reading.{reading, depth_limit}
+use Rattle.json_terms.specs.Json.{Json, object, array, string, items_of, members_of, depth}
+use Rattle.json_terms.specs.Reading.{depth_limit}
 use Rattle.json_terms.specs.Terms.{IsTerm}
 use Rattle.json_terms.specs.Text.{text_of}
 use Rattle.json_terms.proofs.OneLine.{line-text_of}
@@ -14,7 +14,7 @@ use Rattle.json_terms.proofs.ReadBack.{reading-text_of}
 use Rattle.json_terms.proofs.Sames.{list_of_items-items_of, list_of_members-members_of}
 use Rattle.view_ports.specs.declared.command.Command.{Command}
 use Rattle.view_ports.specs.declared.command.Command.TheVariants.{Reset, AddFun, MapDoc, Reduce, Rereduce, Other}
-use Rattle.view_ports.specs.Commands.{command, command_of, command_read, command_term, document_in, document_depth, list2, or_other, reduce_row_term, reduce_rows_of, rows_in, some_rows, some_values, unless_deep, values_in}
+use Rattle.view_ports.specs.Commands.{command, command_of, command_term, document_depth, list2, reduce_row_term, reduce_rows_of, rows_in, unless_deep, values_in}
 use Rattle.view_ports.specs.Functions.{IsSomeList}
 use Rattle.view_ports.specs.ReduceRow.{ReduceRow}
 use Rattle.view_ports.proofs.Counted.{document_in-some}

@@ -1,5 +1,5 @@
 -- What a line means that a query server sent in reply to a command of some kind.
-use Rattle.std.specs.Prelude.{ℕ, suc, List, [], ◌∷◌, length, Bool, true, false, nat_eq, nat_le, ◌&&◌, if◌then◌else◌, Option, Some, None, option_map, option_and_then, Result, Ok, Err}
+use Rattle.std.specs.Prelude.{◌≤◌, ℕ, List, [], ◌∷◌, length, sum_by, Bool, true, false, nat_eq, nat_le, ◌&&◌, if◌then◌else◌, Option, Some, None, option_map, option_and_then, Result, Ok, Err}
 use Rattle.json_terms.specs.Json.{Json, Items, no_items, item, depth}
 use Rattle.json_terms.specs.Kinds.{items_in, one_in, two_in}
 use Rattle.json_terms.specs.Reading.{reading}
@@ -7,7 +7,7 @@ use Rattle.json_terms.specs.Seen.{term}
 use Rattle.json_terms.specs.Text.{text_of}
 use Rattle.json_terms.specs.declared.fault.TermFault.{TermFault}
 use Rattle.view_ports.specs.Calls.{is_log_term, is_short, is_yes_term}
-use Rattle.view_ports.specs.Functions.{part_limit, part_depth}
+use Rattle.view_ports.specs.Functions.{line_limit, part_limit, part_depth}
 use Rattle.view_ports.specs.Honest.{is_complaint_term}
 use Rattle.query_protocol.specs.declared.reply.Kind.{Kind}
 use Rattle.query_protocol.specs.declared.reply.Kind.TheVariants as kind
@@ -92,3 +92,14 @@ reply_read asked short (Err fault) = None
 -- what the line means, or nothing where it is no proper reply
 abbrev pub reply_of : Kind → List ℕ → Option Reply
 reply_of asked line = reply_read asked (is_short line) (reading line)
+
+-- a document has no more rows, over all functions, than a line may have bytes, so that they are fewer than 2^32
+abbrev pub AreFew : List (List (Json × Json)) → Type 0
+AreFew rows = sum_by (λ list. length list) rows ≤ line_limit
+
+abbrev pub HasFewRows : Reply → Type 0
+HasFewRows (Rows rows) = AreFew rows
+HasFewRows Log = Unit {0}
+HasFewRows Yes = Unit {0}
+HasFewRows (Value value) = Unit {0}
+HasFewRows Compile = Unit {0}

@@ -47,11 +47,12 @@ pub enum Reply {
 /// - `Log` for `["log",TEXT]`;
 /// - `Compile` for `["error","compilation_error",TEXT]`, or the same with `"fatal"`, where the kind has a source;
 /// - the proper answer of the kind, on a line of 134,217,728 bytes at most. Each key, value and result has a text of
-///   1,048,576 bytes at most and depth 96 at most.
+///   1,048,576 bytes at most and depth 96 at most, and there are no more rows than the line may have bytes.
 ///
 /// `BadReply` comes exactly for every other line. Otherwise the one error is want of memory.
 pub fn read_reply(alloc: Global, kind: Kind, line: &[u8]) -> Result<Reply, ReplyFault>
     ensures ok { IfOk result (λ reply. spec.reply_of kind line.now ≡ Some reply) }
+    ensures few { IfOk result spec.HasFewRows }
     ensures err { IfErr result (λ e. e ≢ ReplyFault.NoMemory → spec.reply_of kind line.now ≡ None) }
 {
     match read_term(alloc, line) {

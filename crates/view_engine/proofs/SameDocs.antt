@@ -31,4 +31,5 @@ module _ (old new : Docs) (files : FileName → File) (same : IsSame old new) wh
     count = same.seq ∙ at.count;
     each = subst (λ (g : GateFile). KeepsEach history (files (name_of g)).seen (entries_of new)) (sym same.file)
         (subst (λ (entries : List Entry). KeepsEach history (bytes_in old files) entries) (sym same.entries) at.each);
+    stored = at.stored;
   }

@@ -1,15 +1,18 @@
 -- A view, as its servers answered it.
-use Rattle.std.specs.Prelude.{slice_index_or}
+use Rattle.std.specs.Prelude.{slice_index_or, sum_by}
 use Rattle.std.proofs.Common.{◌≡◌, ◌≢◌, ◌⊎◌, ◌<◌, ◌≤◌, ◌∙◌, ◌++◌, ℕ, zero, suc, max, min, List, [], ◌∷◌, length, map, Option, None, Some, Result, Ok, Err, refl, sym, ap, subst, inl, inr, arith}
 use Rattle.std.specs.List.{AllByRecursion}
 use Rattle.std.proofs.lemmas.List.{length-map}
-use Rattle.json_terms.specs.Json.{Json}
+use Rattle.std.proofs.lemmas.List.Sums.{sum_by-cons}
+use Rattle.json_terms.specs.Json.{Json, number, is_false, is_null, is_true, object, array, string}
+use Rattle.json_terms.proofs.Sames.{members_of-list_of_members}
 use Rattle.view_ports.specs.Calls.{Call}
 use Rattle.view_ports.specs.Disk.{Disk, IfTold, MovesNone, Tells}
 use Rattle.view_ports.specs.Faults.{Rose, RoseBy}
-use Rattle.view_ports.specs.Functions.{Functions}
+use Rattle.view_ports.specs.Functions.{Functions, IsMappable, line_limit}
 use Rattle.view_ports.specs.Honest.{rows_of}
 use Rattle.view_ports.specs.Lines.{ended}
+use Rattle.view_ports.specs.Stored.{IsStoredDocument}
 use Rattle.view_ports.specs.declared.file_name.FileName.{FileName}
 use Rattle.view_ports.proofs.Told.{told_now}
 use Rattle.raw_collation.specs.Sorting.{sorted_rows}
@@ -17,6 +20,7 @@ use Rattle.design_docs.specs.declared.design.Design.{Design}
 use Rattle.design_docs.specs.declared.design.View.{View}
 use Rattle.design_docs.specs.Design.{map_sources}
 use Rattle.query_protocol.specs.CommandLines.{document_of}
+use Rattle.query_protocol.specs.Replies.{AreFew}
 use Rattle.child_pool.specs.declared.doc_rows.DocRowLists.{DocRowLists}
 use Rattle.child_pool.specs.declared.pool.Pool.{Pool}
 use Rattle.child_pool.specs.declared.pool_fault.PoolFault.{PoolFault}
@@ -32,10 +36,13 @@ use Rattle.child_pool.specs.Outcomes.{IsCaused}
 use Rattle.child_pool.specs.Tries.{AllAnswered, Prompt, StopsAt}
 use Rattle.child_pool.specs.Updates.{AfterTries, AfterUpdate, HasUpdated}
 use Rattle.child_pool.proofs.Remembered.{kept_is}
+use Rattle.child_pool.proofs.Batches.{honest_lists}
 use Rattle.child_pool.proofs.Honesty.{complains_rightly, no_bad_reply}
 use Rattle.child_pool.proofs.Updated.{stands_stopped}
 use Rattle.doc_file.specs.declared.docs.Docs.{Docs}
 use Rattle.doc_file.specs.Docs.{IsAt as AreAt}
+use Rattle.doc_file.specs.History.{AreStored, IsStoredAs}
+use Rattle.doc_file.proofs.CanBeStored.{mapped_are_stored}
 use Rattle.view_engine.specs.declared.halt.Halt.{Halt}
 use Rattle.view_engine.specs.declared.halt.Halt.TheVariants.{Refused, Stopped}
 use Rattle.view_engine.specs.declared.halt.StepFault.TheVariants.{NoMemory}
@@ -79,12 +86,38 @@ emitted_parts : (place : ℕ) (lists : List (List (List (Json × Json)))) → Al
 emitted_parts place [] parts = tt
 emitted_parts place (rows ∷ lists) parts = (parts_at rows place parts.0, emitted_parts place lists parts.1)
 
+-- nor are they too many
+few_at : (rows : List (List (Json × Json))) (place : ℕ) → sum_by (λ list. length list) rows ≤ line_limit → length (slice_index_or rows place []) ≤ line_limit
+few_at [] place few = omega arith
+few_at (r ∷ rows) zero few = omega (arith, sum_by-cons (λ (list : List (Json × Json)). length list) r rows, few)
+few_at (r ∷ rows) (suc place) few = few_at rows place (omega (arith, sum_by-cons (λ (list : List (Json × Json)). length list) r rows, few))
+
+emitted_few : (place : ℕ) (lists : List (List (List (Json × Json)))) → AllByRecursion AreFew lists → AllByRecursion (λ list. length list ≤ line_limit) (emitted_by place lists)
+emitted_few place [] few = tt
+emitted_few place (rows ∷ lists) few = (few_at rows place few.0, emitted_few place lists few.1)
+
+-- ---- documents that can be stored are those that functions are asked about
+
+mappable : (document : Json) → IsStoredDocument document → IsMappable (document_of document)
+mappable (object ms) is = subst IsStoredDocument (ap object (sym (members_of-list_of_members ms))) is
+mappable (number n) is = absurd (let found = is.id.1 in cc)
+mappable is_false is = absurd (let found = is.id.1 in cc)
+mappable is_null is = absurd (let found = is.id.1 in cc)
+mappable is_true is = absurd (let found = is.id.1 in cc)
+mappable (array ts) is = absurd (let found = is.id.1 in cc)
+mappable (string s) is = absurd (let found = is.id.1 in cc)
+
+all_mappable : (entries : List (List ℕ × Json)) → AllByRecursion (λ entry. IsStoredAs entry.0 entry.1) entries → AllByRecursion IsMappable (map (λ entry. document_of entry.1) entries)
+all_mappable [] all = tt
+all_mappable (entry ∷ entries) all = (mappable entry.1 all.0.stored, all_mappable entries all.1)
+
 -- ---- what is known once the request is planned and the documents are read, where the folder tells its disk
 
 pub record IsKnown (languages : List (List ℕ × List ℕ)) (before : Moment) (name : ViewName) (id : List ℕ) (design : Design) (place : ℕ) (path : List ℕ) (ids : List (List ℕ)) (documents : List (List (List ℕ × Json))) : Type 0 where
   pub plan : IsPlan languages before.world name id design place path
   pub ids_are : ids ≡ map (λ entry. entry.0) (mapped before.world)
   pub documents_are : documents ≡ map (λ entry. document_of entry.1) (mapped before.world)
+  pub stored : AllByRecursion IsMappable documents
 
 -- what planning and reading say of the disk, that neither changed
 pub known_at : (languages : List (List ℕ × List ℕ)) (before : Moment) (name : ViewName) (id : List ℕ) (design : Design) (place : ℕ) (path : List ℕ) (documents : List (List (List ℕ × Json))) (m : Mapped) (x y : Option (Disk FileName)) (docs : Docs)
@@ -93,12 +126,14 @@ pub known_at : (languages : List (List ℕ × List ℕ)) (before : Moment) (name
     → IfTold y (λ d. AreAt docs d.now before.world.history → AreMapped before.world.history m) → IfTold x (λ d. IsKnown languages before name id design place path m.ids.items documents)
 known_at languages before name id design place path documents m x y docs documents_are at moves path_is plans maps =
     let history = before.world.history in
-    let planned : IfTold x (λ d. AreAt docs d.now history → IsPlan languages before.world name id design place path) =
+    let planned : IfTold x (λ d. AreAt docs d.now history → IsPlan languages before.world name id design place path × AreStored history) =
     told_now x (λ d. AreAt docs d.now history → (p : List ℕ) → path_in languages design.language ≡ Some p → IsPlan languages before.world name id design place p)
-    (λ d. AreAt docs d.now history → IsPlan languages before.world name id design place path) (λ d is there. is there path path_is) plans in
-    told_now x (λ d. IsPlan languages before.world name id design place path × AreMapped history m) (λ d. IsKnown languages before name id design place path m.ids.items documents)
-    (λ d both. record { plan = both.0; ids_are = both.1.ids; documents_are = documents_are ∙ both.1.documents })
-    (told_known x y docs history (IsPlan languages before.world name id design place path) (AreMapped history m) at moves planned maps)
+    (λ d. AreAt docs d.now history → IsPlan languages before.world name id design place path × AreStored history) (λ d is there. (is there path path_is, there.stored)) plans in
+    told_now x (λ d. (IsPlan languages before.world name id design place path × AreStored history) × AreMapped history m) (λ d. IsKnown languages before name id design place path m.ids.items documents)
+    (λ d both.
+    let documents_is : documents ≡ map (λ entry. document_of entry.1) (mapped before.world) = documents_are ∙ both.1.documents in
+    record { plan = both.0.0; ids_are = both.1.ids; documents_are = documents_is; stored = subst (AllByRecursion IsMappable) (sym documents_is) (all_mappable (mapped before.world) (mapped_are_stored history both.0.1 0)) })
+    (told_known x y docs history (IsPlan languages before.world name id design place path × AreStored history) (AreMapped history m) at moves planned maps)
 
 module _ (functions : List ℕ → Functions) (honest : List ℕ → Type 0) (languages : List (List ℕ × List ℕ)) (before : Moment) (name : ViewName) (id : List ℕ) (design : Design) (place : ℕ) (path : List ℕ)
     (within : place < length design.views) (ids : List (List ℕ)) (documents : List (List (List ℕ × Json))) where
@@ -136,7 +171,9 @@ module _ (functions : List ℕ → Functions) (honest : List ℕ → Type 0) (la
     each = length-map lists (λ (emitted : List (List (Json × Json))). slice_index_or emitted place []) ∙ has.rows.each ∙ ap length known.documents_are
         ∙ length-map (mapped before.world) (λ (entry : List ℕ × Json). document_of entry.1);
     parts = emitted_parts place lists has.rows.parts;
-    right = λ h. ap (emitted_at place) (has.rows.right h (few known)) ∙ emitted_are (functions job.path) job.sources place documents there;
+    few = emitted_few place lists has.rows.few;
+    right = λ h. ap (emitted_at place) (honest_lists functions honest job.path job.sources documents lists h (few known) known.stored has.rows.right)
+        ∙ emitted_are (functions job.path) job.sources place documents there;
     compile = has.compile;
     prints = ap (λ is. answer (sorted_rows (emitted_rows is (emitted_at place lists)))) known.ids_are;
   }
@@ -232,7 +269,7 @@ module _ (functions : List ℕ → Functions) (honest : List ℕ → Type 0) (la
         subst (IsMet functions honest name job before (after now) added) same (subst (λ (n : ℕ). RoseBy 2 n new) counts (twice refl))
     met (fault.BadReply line) added now r known caused twice is =
         let same : refusal.ServerReply line ≡ r = cc in
-        subst (IsMet functions honest name job before (after now) added) same (caused, λ h. no_bad_reply functions honest job added before.calls line (record { path = h; few = few known }) caused)
+        subst (IsMet functions honest name job before (after now) added) same (caused, λ h. no_bad_reply functions honest job added before.calls line (record { path = h; few = few known; stored = known.stored }) caused)
     met fault.Compile added now r known caused twice is =
         let same : refusal.CompilationError id ≡ r = cc in
         subst (IsMet functions honest name job before (after now) added) same (known.plan.id_is, caused, λ h. complains_rightly functions honest job added before.calls h caused)

@@ -1,10 +1,11 @@
 -- What a view request does.
-use Rattle.std.specs.Prelude.{◌≡◌, ◌≢◌, ◌⊎◌, ◌++◌, ℕ, max, min, List, [], ◌∷◌, map, length, codes, Option, Some, None, option_and_then}
+use Rattle.std.specs.Prelude.{◌≡◌, ◌≢◌, ◌⊎◌, ◌≤◌, ◌++◌, ℕ, max, min, List, [], ◌∷◌, map, length, codes, Option, Some, None, option_and_then}
+use Rattle.std.specs.List.{AllByRecursion}
 use Rattle.json_terms.specs.Json.{Json}
 use Rattle.design_docs.specs.Design.{language_of, map_sources, source_of, views_of}
 use Rattle.view_ports.specs.Calls.{Call}
 use Rattle.view_ports.specs.Faults.{Rose, RoseBy}
-use Rattle.view_ports.specs.Functions.{Functions}
+use Rattle.view_ports.specs.Functions.{Functions, line_limit}
 use Rattle.query_protocol.specs.CommandLines.{document_of}
 use Rattle.child_pool.specs.declared.pool_fault.PoolFault.{PoolFault}
 use Rattle.child_pool.specs.declared.pool_fault.PoolFault.TheVariants as fault
@@ -102,12 +103,13 @@ fault_of other = fault.NoMemory
 
 module _ (functions : List ℕ → Functions) (honest : List ℕ → Type 0) where
   -- The rows of the view, sorted, are printed. There is a list of emissions for each document, none of a key or a value that is
-  -- longer or deeper than a reply may hold. On an honest path it is that of the path's map function, and all sources of the design
-  -- compile there, unless no document is mapped.
+  -- longer or deeper than a reply may hold, and no more of them than a line may have bytes. On an honest path it is that of the path's
+  -- map function, and all sources of the design compile there, unless no document is mapped.
   pub record PrintsRows (job : Job) (source : List ℕ) (world : World) (reply : List ℕ) : Type 0 where
     pub emitted : List (List (Json × Json))
     pub each : length emitted ≡ length (mapped world)
     pub parts : AreParts emitted
+    pub few : AllByRecursion (λ list. length list ≤ line_limit) emitted
     pub right : honest job.path → emitted ≡ map ((functions job.path).map_of source) job.documents
     pub compile : honest job.path → job.documents ≢ [] → AllCompile (functions job.path) job.sources
     pub prints : reply ≡ answer (sorted_rows (emitted_rows (map (λ entry. entry.0) (mapped world)) emitted))

@@ -5,6 +5,7 @@ use Rattle.json_terms.specs.Json.{Json, object, array, no_items, item, items_of,
 use Rattle.json_terms.specs.Text.{text_of}
 use Rattle.json_terms.specs.Terms.{IsTerm}
 use Rattle.view_ports.specs.ReduceRow.{ReduceRow}
+use Rattle.view_ports.specs.Stored.{IsStoredDocument}
 
 -- A line from or to a child has so many bytes at most.
 abbrev pub line_limit : ℕ
@@ -28,11 +29,9 @@ pub record IsWithinBounds (t : Json) : Type 0 where
   pub size : length (text_of t) ≤ part_limit
   pub nested : depth t ≤ part_depth
 
--- A document that functions are asked about: its text, revision included, has 1,048,576 bytes at most, and its depth is 64 at most.
-pub record IsMappable (document : List (List ℕ × Json)) : Type 0 where
-  pub valid : IsTerm (object (members_of document))
-  pub size : length (text_of (object (members_of document))) ≤ 1048576
-  pub nested : depth (object (members_of document)) ≤ 64
+-- functions are asked about documents that can be stored
+abbrev pub IsMappable : List (List ℕ × Json) → Type 0
+IsMappable document = IsStoredDocument (object (members_of document))
 
 -- ---- rows as a term: for each function an array of `[KEY,VALUE]`
 
@@ -75,7 +74,7 @@ pub record Functions : Type 0 where
   -- rereducing the results of parts is reducing all rows
   pub rejoins : (source : List ℕ) (parts : List (List ReduceRow)) → IsSomeList parts → AllByRecursion IsSomeList parts
       → rereduce_of source (map (reduce_of source) parts) ≡ reduce_of source (joined parts)
-  -- what is made of documents, rows and values within the bounds is within the bounds
+  -- what is made of documents that can be stored, and of rows and values within the bounds, is within the bounds
   pub proper_maps : (sources : List (List ℕ)) (document : List (List ℕ × Json)) → length sources ≤ source_limit → IsMappable document
       → AreProper (map (λ source. map_of source document) sources)
   pub proper_reduces : (source : List ℕ) (rows : List ReduceRow) → IsSomeList rows → AllByRecursion IsReduceRowWithinBounds rows → IsWithinBounds (reduce_of source rows)

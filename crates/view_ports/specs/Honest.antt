@@ -66,7 +66,7 @@ Complains line = (length line ≤ line_limit) × (is_complaint_read (reading lin
 abbrev pub rows_of : Functions → List (List ℕ) → List (List ℕ × Json) → List (List (Json × Json))
 rows_of functions sources document = map (λ source. functions.map_of source document) sources
 
--- what a server is asked about: documents, rows and values within the bounds, and 32 sources at most
+-- what a server is asked about: documents that can be stored, by 32 sources at most, and rows and values within the bounds
 abbrev pub IsAnswerable : List (List ℕ) → Command → Type 0
 IsAnswerable sources Reset = Unit {0}
 IsAnswerable sources (AddFun source) = Unit {0}

@@ -5,6 +5,7 @@ pub mod Runs
 pub mod Memory
 pub mod ReduceRow
 pub mod Commands
+pub mod Stored
 pub mod Functions
 pub mod Calls
 pub mod Honest

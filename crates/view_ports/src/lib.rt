@@ -29,7 +29,7 @@ pub use field_session::{FieldServers, FieldSession};
 pub use file_name::{FileName, Stem};
 pub use folder::{Folder, FolderFault};
 pub use in_process::InProcess;
-pub use limits::{DOCUMENT_LINE_LIMIT, LINE_LIMIT, PART_DEPTH, PART_LIMIT, PIECE};
+pub use limits::{LINE_LIMIT, PART_DEPTH, PART_LIMIT, PIECE};
 pub use lines::{cut_in_one_way, cut_line, keep_bytes};
 pub use memory_sink::MemorySink;
 pub use memory_source::MemorySource;

@@ -9,8 +9,5 @@ pub const PART_LIMIT: usize = 1_048_576;
 /// How deep a key, a value or a result nests at most.
 pub const PART_DEPTH: u32 = 96;
 
-/// How many bytes the line has at most that asks for a document's rows.
-pub const DOCUMENT_LINE_LIMIT: usize = 1_048_576;
-
 /// How many bytes are read at a time, at most.
 pub const PIECE: usize = 65_536;

@@ -28,8 +28,8 @@ returns-in-Ok-Some-clause-went g c = λ path documents calls follows among told.
     let line = c.as_slice.result.now in
     let spelled : line ≡ command_line (MapDoc document) = c.as_slice.ensures.value ∙ c.in-Ok.ensures.line in
     let is : command line ≡ MapDoc document = ap command c.as_slice.ensures.value ∙ c.in-Ok.ensures.reads in
-    let asked = c.ask.ensures.went job sources calls follows (ap (λ (a : Command). kind_of a (length sources)) (sym is)) (MapDoc document, among, spelled) (subst (IsPromptOf job sources) (sym is) (among, refl, c.in-Ok.ensures.mappable)) told.idle in
-    let went = map_went functions honest job line document c.ask.result c.in-Ok.ensures.mappable told is spelled asked in
+    let asked = c.ask.ensures.went job sources calls follows (ap (λ (a : Command). kind_of a (length sources)) (sym is)) (MapDoc document, among, spelled) (subst (IsPromptOf job sources) (sym is) (among, refl)) told.idle in
+    let went = map_went functions honest job line document c.ask.result told is spelled asked in
     subst (λ (r : Result (Option RowLists) PoolFault). Went (g.C.Servers.may_follow c.ask.new.servers) job slot calls (AfterAnswer functions honest job slot document (asks slot (MapDoc document) (length sources)) r calls)) (ap map_result (c.in-Ok-Some.is ∙ ap Ok c.in-Ok-Some.field-0-is) ∙ ap (λ rows. Ok (Some rows)) (sym c.rows_in.ensures)) went
 
 pub returns-in-Ok-None-clause-went : goal.returns-in-Ok-None-clause-went
@@ -43,8 +43,8 @@ returns-in-Ok-None-clause-went g c = λ path documents calls follows among told.
     let line = c.as_slice.result.now in
     let spelled : line ≡ command_line (MapDoc document) = c.as_slice.ensures.value ∙ c.in-Ok.ensures.line in
     let is : command line ≡ MapDoc document = ap command c.as_slice.ensures.value ∙ c.in-Ok.ensures.reads in
-    let asked = c.ask.ensures.went job sources calls follows (ap (λ (a : Command). kind_of a (length sources)) (sym is)) (MapDoc document, among, spelled) (subst (IsPromptOf job sources) (sym is) (among, refl, c.in-Ok.ensures.mappable)) told.idle in
-    let went = map_went functions honest job line document c.ask.result c.in-Ok.ensures.mappable told is spelled asked in
+    let asked = c.ask.ensures.went job sources calls follows (ap (λ (a : Command). kind_of a (length sources)) (sym is)) (MapDoc document, among, spelled) (subst (IsPromptOf job sources) (sym is) (among, refl)) told.idle in
+    let went = map_went functions honest job line document c.ask.result told is spelled asked in
     subst (λ (r : Result (Option RowLists) PoolFault). Went (g.C.Servers.may_follow c.ask.new.servers) job slot calls (AfterAnswer functions honest job slot document (asks slot (MapDoc document) (length sources)) r calls)) (ap map_result (c.in-Ok-None.is ∙ ap Ok c.in-Ok-None.field-0-is)) went
 
 pub returns-clause-went : goal.returns-clause-went
@@ -58,8 +58,8 @@ returns-clause-went g c = λ path documents calls follows among told.
     let line = c.as_slice.result.now in
     let spelled : line ≡ command_line (MapDoc document) = c.as_slice.ensures.value ∙ c.in-Ok.ensures.line in
     let is : command line ≡ MapDoc document = ap command c.as_slice.ensures.value ∙ c.in-Ok.ensures.reads in
-    let asked = c.ask.ensures.went job sources calls follows (ap (λ (a : Command). kind_of a (length sources)) (sym is)) (MapDoc document, among, spelled) (subst (IsPromptOf job sources) (sym is) (among, refl, c.in-Ok.ensures.mappable)) told.idle in
-    let went = map_went functions honest job line document c.ask.result c.in-Ok.ensures.mappable told is spelled asked in
+    let asked = c.ask.ensures.went job sources calls follows (ap (λ (a : Command). kind_of a (length sources)) (sym is)) (MapDoc document, among, spelled) (subst (IsPromptOf job sources) (sym is) (among, refl)) told.idle in
+    let went = map_went functions honest job line document c.ask.result told is spelled asked in
     subst (λ (r : Result (Option RowLists) PoolFault). Went (g.C.Servers.may_follow c.ask.new.servers) job slot calls (AfterAnswer functions honest job slot document (asks slot (MapDoc document) (length sources)) r calls)) (ap map_result c.in-Err-ask.is) went
 
 pub returns-in-Err-clause-went : goal.returns-in-Err-clause-went

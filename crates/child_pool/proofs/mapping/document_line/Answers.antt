@@ -1,12 +1,11 @@
 -- The line is read as the command that maps the document.
-use Rattle.std.proofs.Common.{◌≡◌, ◌∙◌, ◌++◌, ℕ, List, length, ap, subst, arith}
+use Rattle.std.proofs.Common.{◌∙◌, ◌++◌, ℕ, List, ap}
 use Rattle.json_terms.specs.Seen.{json}
 use Rattle.json_terms.specs.Json.{Json}
 use Rattle.view_ports.specs.declared.command.Command.TheVariants.{MapDoc}
 use Rattle.view_ports.specs.Commands.{command}
-use Rattle.view_ports.specs.Functions.{IsMappable}
 use Rattle.query_protocol.specs.CommandLines.{command_line, document_of}
-use Rattle.child_pool.proofs.Mapped.{is_mappable, proper_document}
+use Rattle.child_pool.proofs.Mapped.{proper_document}
 use Rattle.child_pool.proofs.mapping.document_line.Goals as goal
 
 pub returns-clause-line : goal.returns-clause-line
@@ -20,11 +19,3 @@ returns-clause-reads c =
     ap command (c.in_ok-map_line.ensures.ok ∙ ap (λ bytes. bytes ++ line) c.new-line.ensures.items)
     ∙ c.in_ok-map_line.ensures.reads (proper_document (json c.term-term.result.now) c.term-term.ensures.document)
     ∙ ap MapDoc c.term-term.ensures.members
-
-pub returns-clause-mappable : goal.returns-clause-mappable
-returns-clause-mappable c =
-    let document = json c.term-term.result.now in
-    let line = command_line (MapDoc (document_of document)) in
-    let is : c.map_line.new.out.items ≡ line = c.in_ok-map_line.ensures.ok ∙ ap (λ bytes. bytes ++ line) c.new-line.ensures.items in
-    let same : length c.map_line.new.out.items ≡ length line = ap (λ (l : List ℕ). length l) is in
-    subst IsMappable c.term-term.ensures.members (is_mappable document c.term-term.ensures.document c.validity.ensures (omega (arith, same)))

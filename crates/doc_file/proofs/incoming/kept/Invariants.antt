@@ -1,7 +1,7 @@
 use Rattle.std.proofs.Common.{◌≡◌, codes, map}
 use Rattle.json_terms.specs.Json.{members_of}
 use Rattle.json_terms.specs.Seen.{pair_of}
-use Rattle.doc_file.specs.Content.{without}
+use Rattle.view_ports.specs.Stored.{without}
 use Rattle.doc_file.proofs.incoming.kept.Given as goal
 
 -- what is left of the members so far

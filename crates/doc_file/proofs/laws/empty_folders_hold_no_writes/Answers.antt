@@ -6,4 +6,4 @@ use Rattle.doc_file.proofs.Carried.{writes_of_root}
 use Rattle.doc_file.proofs.laws.empty_folders_hold_no_writes.Goals as goal
 
 pub returns : goal.returns
-returns c = λ files empty. empty_holds DocsStem HoldsWrites writes_of_root files empty [] (record { entries = []; holds = (refl, refl); each = λ id. tt })
+returns c = λ files empty. empty_holds DocsStem HoldsWrites writes_of_root files empty [] (record { entries = []; holds = (refl, refl); each = λ id. tt; stored = tt })

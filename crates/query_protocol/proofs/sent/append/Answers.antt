@@ -1,5 +1,5 @@
 -- The term's text is the command's line.
-use Rattle.std.proofs.Common.{◌≡◌, subst, sym, ap, OnOk, ◌++◌}
+use Rattle.std.proofs.Common.{subst}
 use Rattle.json_terms.specs.Terms.{IsTerm}
 use Rattle.query_protocol.proofs.Commanded.{line_of, whole, reads}
 use Rattle.query_protocol.proofs.sent.append.Goals as goal

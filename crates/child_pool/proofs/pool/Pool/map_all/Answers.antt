@@ -1,5 +1,5 @@
 -- Without documents nothing is done; else the children are made ready first.
-use Rattle.std.proofs.Common.{◌≡◌, ◌∙◌, ◌==◌, ◌<◌, ◌≤◌, ℕ, max, min, List, [], ◌∷◌, false, Some, length, Err, sym, subst, arith}
+use Rattle.std.proofs.Common.{◌≡◌, ◌∙◌, ◌==◌, ◌<◌, ◌≤◌, ℕ, max, min, List, [], ◌∷◌, false, Some, length, sym, subst, arith}
 use Rattle.std.proofs.lemmas.Bool.{eqb-true}
 use Rattle.std.proofs.lemmas.List.{nil_from_length}
 use Rattle.view_ports.specs.Faults.{Rose}
@@ -9,8 +9,6 @@ use Rattle.child_pool.specs.Jobs.{job_of}
 use Rattle.child_pool.specs.Languages.{path_in}
 use Rattle.child_pool.specs.Pools.{AfterBatch, IsReady}
 use Rattle.child_pool.proofs.Attempts.{Rose-wider}
-use Rattle.child_pool.specs.Updates.{AfterTries, AfterUpdate}
-use Rattle.child_pool.proofs.Slots.{map_in}
 use Rattle.child_pool.proofs.Updated.{among_themselves, nothing_done, refused_at_first, updated}
 use Rattle.child_pool.proofs.pool.Pool.map_all.Goals as goal
 
