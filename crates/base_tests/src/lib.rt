@@ -1,9 +1,11 @@
-//! Tests of the public calls of the crates `json_terms`, `raw_collation`, `term_codec`, `view_ports` (query servers),
-//! `design_docs`, `view_signature`, `query_protocol` and `view_model`; nothing else.
+//! Tests of the public calls of the crates `json_terms`, `raw_collation`, `term_codec`, `index_record`, `view_ports` (query
+//! servers), `design_docs`, `view_signature`, `query_protocol` and `view_model`; nothing else.
 #![tactic(auto)]
 
 #[cfg(test)]
 mod design_docs_tests;
+#[cfg(test)]
+mod index_record_tests;
 #[cfg(test)]
 mod json_terms_tests;
 #[cfg(test)]

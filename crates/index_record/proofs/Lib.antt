@@ -1,7 +1,10 @@
 pub mod Lists
 mod Runs
 mod Listing
-mod Contents
+pub mod Contents
 mod Rising
 mod Parts
 mod Splits
+mod Members
+mod Grouping
+mod Standing

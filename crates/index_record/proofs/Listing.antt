@@ -61,7 +61,7 @@ each-insert_match : {X : Type 0} (P : X → Type 0) (b : Bool) (x y : X) (ys mor
 each-insert_match P true x y ys more one two all rest = (one, (two, all))
 each-insert_match P false x y ys more one two all rest = (two, rest)
 
-each-insert : {X : Type 0} (P : X → Type 0) (cmp : X → X → Ordering) (x : X) (ys : List X) → P x → AllByRecursion P ys → AllByRecursion P (insert_by cmp x ys)
+pub each-insert : {X : Type 0} (P : X → Type 0) (cmp : X → X → Ordering) (x : X) (ys : List X) → P x → AllByRecursion P ys → AllByRecursion P (insert_by cmp x ys)
 each-insert P cmp x [] one all = (one, tt)
 each-insert P cmp x (y ∷ ys) one all = each-insert_match P (is_lt (cmp x y)) x y ys (insert_by cmp x ys) one all.0 all.1 (each-insert P cmp x ys one all.1)
 

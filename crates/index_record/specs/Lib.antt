@@ -3,3 +3,4 @@ pub mod BackIndex
 pub mod Record
 pub mod Runs
 pub mod Parsed
+pub mod Laws

@@ -11,10 +11,14 @@
 #![tactic(auto)]
 
 mod back_index;
+mod laws;
+mod lend;
 mod read;
 mod record;
 mod write;
 
+pub use laws::{documents_have_entries, entries_hold_rows};
+pub use lend::lend_views;
 pub use read::read_record;
 pub use record::Record;
 pub use write::write_record;

@@ -11,6 +11,7 @@ ghost use Rattle.term_codec.specs.Spelling.{spelling};
 ghost use Rattle.index_record.specs.Parsed.{IsParsed, AreParsed};
 ghost use Rattle.index_record.specs.Record.{sized, row_item, row_bytes, rows_bytes, record_bytes, IsContent, IsRecordOf, IsOneRecord, IsNoRecord};
 
+use crate::lend::lend_views;
 use crate::record::Record;
 use crate::write::write_record;
 use json_terms::{Chars, NoMemory, Row, Term, depth_within};
@@ -18,21 +19,21 @@ use raw_collation::raw_cmp;
 use std::alloc::Global;
 use std::cmp::Ordering;
 use term_codec::{CodecFault, decode_term, read_count, read_short, read_text, read_whole};
-
-/// How deep a key or a value of a record nests at most.
-const PART_DEPTH: u32 = 96;
+use view_ports::PART_DEPTH;
 
 /// What the bytes hold as the record of an index of so many views, or none where they are the record of none, whole: where
 /// they end early or go on, the number of views is another, a term or an id is none, a row isn't within the limits of a record,
 /// the rows of a view don't rise strictly by key, id and place, or the back-index isn't that of the rows.
 ///
-/// The one error is want of memory. It is also answered where one document has 2^32 rows or more. A number of items is
-/// compared with the bytes that are left before memory is taken for it.
+/// What was read may be written again. The one error is want of memory. It is also answered where one document has 2^32 rows
+/// or more. A number of items is compared with the bytes that are left before memory is taken for it.
 pub fn read_record(alloc: Global, bytes: &[u8], count: usize) -> Result<Option<Record>, NoMemory>
     ensures some { IfOk result
         (λ found. IfSome found (λ r. IsRecordOf count bytes.now r.seq (own_views r.views.items))) }
     ensures only { IfOk result
         (λ found. IfSome found (λ r. IsOneRecord count bytes.now r.seq (own_views r.views.items))) }
+    ensures fit { IfOk result (λ found. IfSome found
+        (λ r. AllByRecursion (AllByRecursion IsRow) (own_views r.views.items))) }
     ensures none { result ≡ Ok None → IsNoRecord count bytes.now }
 {
     match parse_record(alloc, bytes, count)? {
@@ -56,26 +57,6 @@ fn is_written_so(alloc: Global, parsed: &Record, bytes: &[u8]) -> Result<bool, N
     let views = lend_views(alloc, parsed.views.as_slice())?;
     let written = write_record(alloc, parsed.seq, views.as_slice())?;
     Ok(written.as_slice() == bytes)
-}
-
-fn lend_views(alloc: Global, views: &[Vec<Row>]) -> Result<Vec<Vec<&Row>>, NoMemory>
-    ensures { IfOk result (λ lent. lent_views lent.items ≡ own_views views.now) }
-{
-    let mut lent = Vec::new(alloc);
-    for rows in views {
-        lent.push(lend_rows(alloc, rows.as_slice())?)?;
-    }
-    Ok(lent)
-}
-
-fn lend_rows(alloc: Global, rows: &[Row]) -> Result<Vec<&Row>, NoMemory>
-    ensures { IfOk result (λ lent. map (λ row. row.now) lent.items ≡ rows.now) }
-{
-    let mut lent = Vec::new(alloc);
-    for row in rows {
-        lent.push(row)?;
-    }
-    Ok(lent)
 }
 
 fn parse_record(alloc: Global, bytes: &[u8], count: usize) -> Result<Option<Record>, NoMemory>

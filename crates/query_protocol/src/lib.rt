@@ -15,5 +15,6 @@ mod sent;
 pub use document_line::map_line;
 pub use fault::ReplyFault;
 pub use lines::{add_fun_line, reset_line};
+pub use parts::is_within_bounds;
 pub use reduce_lines::{reduce_line, rereduce_line};
 pub use reply::{Kind, Reply, read_reply};

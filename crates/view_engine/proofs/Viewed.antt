@@ -92,7 +92,7 @@ few_at [] place few = omega arith
 few_at (r ∷ rows) zero few = omega (arith, sum_by-cons (λ (list : List (Json × Json)). length list) r rows, few)
 few_at (r ∷ rows) (suc place) few = few_at rows place (omega (arith, sum_by-cons (λ (list : List (Json × Json)). length list) r rows, few))
 
-emitted_few : (place : ℕ) (lists : List (List (List (Json × Json)))) → AllByRecursion AreFew lists → AllByRecursion (λ list. length list ≤ line_limit) (emitted_by place lists)
+emitted_few : (place : ℕ) (lists : List (List (List (Json × Json)))) → AllByRecursion AreFew lists → AllByRecursion (λ list. length list ≤ line_limit) (emitted_at place lists)
 emitted_few place [] few = tt
 emitted_few place (rows ∷ lists) few = (few_at rows place few.0, emitted_few place lists few.1)
 

@@ -1,5 +1,5 @@
 -- What the files of an index stand for while the exchanges are committed, and after it.
-use Rattle.std.specs.Prelude.{◌≡◌, ◌⊎◌, ◌+◌, ◌-◌, ◌<◌, ◌^◌, ℕ, zero, suc, List, [], ◌∷◌, ◌++◌, map, length, take, drop, Bool, true, Option, Some, None, Result, OnOk, refl}
+use Rattle.std.specs.Prelude.{◌≡◌, ◌⊎◌, ◌+◌, ◌-◌, ℕ, zero, suc, List, [], ◌∷◌, ◌++◌, map, length, take, drop, Bool, true, Option, Some, None, Result, OnOk, refl}
 use Rattle.std.specs.List.{AllByRecursion, list_all}
 use Rattle.std.specs.Cmp.{first_so, second_so}
 use Rattle.std.proofs.Common.{ap, sym, ◌∙◌, subst, arith, append-nil, inl}
@@ -10,9 +10,8 @@ use Rattle.json_terms.specs.declared.term.Row.{Row}
 use Rattle.view_ports.specs.Disk.{Disk, IfTold, Moves, OthersStay, Tells}
 use Rattle.view_ports.specs.File.{File}
 use Rattle.view_ports.specs.declared.file_name.FileName.{FileName}
-use Rattle.view_ports.specs.declared.file_name.Stem.{Stem}
 use Rattle.gate_file.specs.declared.gate.GateFile.{GateFile}
-use Rattle.gate_file.specs.GateFile.{commits_of, name_of, root_of, start_of}
+use Rattle.gate_file.specs.GateFile.{name_of, root_of, start_of}
 use Rattle.gate_file.specs.Open.{IsPart}
 use Rattle.gate_file.specs.Pair.{IsOpenPair, own_bytes}
 use Rattle.gate_file.specs.Publish.{IsPublished, Publishes, WillHold, published}

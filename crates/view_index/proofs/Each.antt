@@ -1,6 +1,6 @@
 -- Elements that are written one after another.
-use Rattle.std.specs.Prelude.{◌≡◌, ◌+◌, ◌<◌, ◌≤◌, ℕ, zero, suc, List, [], ◌∷◌, ◌++◌, map, length, take, drop, refl}
-use Rattle.std.proofs.Common.{ap, sym, ◌∙◌, subst, arith, get_or, set, append-nil, add-one}
+use Rattle.std.specs.Prelude.{◌≡◌, ◌+◌, ◌<◌, ◌≤◌, ℕ, zero, suc, List, [], ◌∷◌, ◌++◌, map, length, take, refl}
+use Rattle.std.proofs.Common.{ap, sym, ◌∙◌, arith, get_or, set, add-one}
 use Rattle.std.proofs.Math.Seq.{take-suc}
 use Rattle.view_index.specs.Replaced.{each_from, so_far}
 

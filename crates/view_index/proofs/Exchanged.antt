@@ -1,8 +1,7 @@
 -- What a replacement makes of the rows of a view.
 use Rattle.std.specs.Prelude.{◌≡◌, ◌^◌, ◌<◌, ℕ, zero, suc, List, [], ◌∷◌, ◌++◌, map, length, filter, Bool, true, false, not, ◌&&◌, ◌||◌, bytes_eq, slice_index_or, if◌then◌else◌, nat_eq, refl}
-use Rattle.std.specs.List.{list_all, list_any}
-use Rattle.std.proofs.Common.{ap, sym, ◌∙◌, subst, append_assoc, append-nil, arith}
-use Rattle.std.proofs.lemmas.Bool.{cases_Bool}
+use Rattle.std.specs.List.{list_all}
+use Rattle.std.proofs.Common.{ap, sym, ◌∙◌, subst, append_assoc, append-nil}
 use Rattle.std.proofs.lemmas.List.{map-append}
 use Rattle.std.proofs.lemmas.List.Elements.{filter-append, filter_agree}
 use Rattle.std.proofs.lemmas.List.Folds.{list_all-append, list_any-append}
@@ -13,7 +12,7 @@ use Rattle.json_terms.specs.declared.term.Row.{Row}
 use Rattle.json_terms.proofs.Sames.{json-term}
 use Rattle.query_protocol.specs.Replies.{is_within_bounds}
 use Rattle.raw_collation.specs.Sorting.{sorted_rows}
-use Rattle.view_model.specs.Rows.{emitted_at, emitted_rows, rows_from}
+use Rattle.view_model.specs.Rows.{rows_from}
 use Rattle.view_model.proofs.Lists.{filter_both}
 use Rattle.view_model.proofs.SortedRows.{filter-sorted_rows, sorted_rows-sorted_front}
 use Rattle.view_model.proofs.Histories.{bytes_eq-sym}
@@ -24,7 +23,7 @@ use Rattle.view_index.specs.Replaced.{each_from, ids_of, is_change, is_emission,
 use Rattle.view_index.specs.ViewRows.{are_fit, next_rows, of_others}
 use Rattle.view_index.specs.Index.{with_new, without}
 use Rattle.view_index.proofs.Each.{length-so_far}
-use Rattle.view_index.proofs.Fits.{both_so, list_all-each}
+use Rattle.view_index.proofs.Fits.{both_so}
 
 -- ---- one document more
 

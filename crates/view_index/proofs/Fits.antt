@@ -1,7 +1,7 @@
 -- Rows that an index may hold, after a step.
 use Rattle.std.specs.Prelude.{◌≡◌, ℕ, suc, List, [], ◌∷◌, ◌++◌, map, filter, Bool, true, false, not, ◌&&◌, if◌then◌else◌, refl}
 use Rattle.std.specs.List.{list_all}
-use Rattle.std.proofs.Common.{ap, sym, ◌∙◌, subst}
+use Rattle.std.proofs.Common.{ap, ◌∙◌}
 use Rattle.std.proofs.lemmas.List.Folds.{list_all-append}
 use Rattle.std.specs.Cmp.{first_so, second_so}
 use Rattle.json_terms.specs.declared.term.Row.{Row}
@@ -10,7 +10,7 @@ use Rattle.raw_collation.specs.Collation.{rows_cmp}
 use Rattle.raw_collation.specs.Sorting.{insert_row, sorted_rows}
 use Rattle.view_index.specs.Rows.{is_row}
 use Rattle.view_index.specs.ViewRows.{are_fit, next_rows, of_others}
-use Rattle.view_index.specs.Index.{rolled_back, settled, without}
+use Rattle.view_index.specs.Index.{rolled_back, settled, unexchanged, without}
 use Rattle.view_index.specs.Replaced.{each_from}
 
 pub both_so : (a b : Bool) → a ≡ true → b ≡ true → (a && b) ≡ true
@@ -63,3 +63,9 @@ fit_next these both fit = list_all-sorted is_row (of_others these both.0 ++ both
 
 pub fit_settled : (these : List ℕ → Bool) (both : List Row × List Row) → are_fit both ≡ true → are_fit (settled these both) ≡ true
 fit_settled these both fit = both_so (list_all is_row (next_rows these both)) true (fit_next these both fit) refl
+
+pub fit_unexchanged : (rows : List (List Row)) → list_all (list_all is_row) rows ≡ true → list_all are_fit (map unexchanged rows) ≡ true
+fit_unexchanged [] all = refl
+fit_unexchanged (r ∷ rows) all =
+    both_so (are_fit (unexchanged r)) (list_all are_fit (map unexchanged rows)) (both_so (list_all is_row r) true (first_so (list_all is_row r) (list_all (list_all is_row) rows) all) refl)
+    (fit_unexchanged rows (second_so (list_all is_row r) (list_all (list_all is_row) rows) all))

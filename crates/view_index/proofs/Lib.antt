@@ -9,3 +9,6 @@ pub mod Writable
 pub mod Rising
 pub mod Carried
 pub mod Committing
+pub mod Loaded
+pub mod Opening
+pub mod Emptying

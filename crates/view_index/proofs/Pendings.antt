@@ -1,7 +1,7 @@
 -- Exchanges that the next commit makes, through the steps of a replacement.
-use Rattle.std.specs.Prelude.{◌≡◌, ℕ, suc, List, [], ◌∷◌, ◌++◌, map, filter, Bool, true, false, not, ◌&&◌, ◌||◌, bytes_eq, nat_eq, if◌then◌else◌, refl}
-use Rattle.std.specs.List.{AllByRecursion, IsDistinct, list_any}
-use Rattle.std.proofs.Common.{ap, sym, ◌∙◌, subst, append-nil, inl, inr}
+use Rattle.std.specs.Prelude.{◌≡◌, ℕ, suc, List, [], ◌∷◌, map, filter, Bool, true, false, not, ◌||◌, bytes_eq, nat_eq, if◌then◌else◌, refl}
+use Rattle.std.specs.List.{AllByRecursion, IsDistinct}
+use Rattle.std.proofs.Common.{ap, sym, ◌∙◌, append-nil, inl, inr}
 use Rattle.std.proofs.lemmas.Bool.{cases_Bool, and_left, or_right}
 use Rattle.std.proofs.lemmas.Slice.Eq.{bytes_eq-Decides}
 use Rattle.json_terms.specs.declared.term.Row.{Row}

@@ -1,6 +1,6 @@
 -- The views of an index, written one after another.
-use Rattle.std.specs.Prelude.{◌≡◌, ◌+◌, ◌<◌, ◌≤◌, ℕ, suc, List, map, length}
-use Rattle.std.proofs.Common.{ap, sym, ◌∙◌, subst, arith, get_or, set, add-one}
+use Rattle.std.specs.Prelude.{◌≡◌, ◌+◌, ◌<◌, ◌≤◌, ℕ, List, map, length}
+use Rattle.std.proofs.Common.{ap, sym, ◌∙◌, arith, get_or, set, add-one}
 use Rattle.std.proofs.lemmas.List.{get_or-map, length-map, map-set}
 use Rattle.json_terms.specs.declared.term.Row.{Row}
 use Rattle.view_index.specs.declared.view_rows.ViewRows.{ViewRows}

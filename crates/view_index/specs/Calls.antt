@@ -1,5 +1,5 @@
 -- What the calls on an index promise that reach its files.
-use Rattle.std.specs.Prelude.{◌≡◌, ◌⊎◌, ◌+◌, ◌<◌, ◌≤◌, ◌^◌, ℕ, List, map, length, Result, Err, Some, Option, IfErr, OnOk, OnErr}
+use Rattle.std.specs.Prelude.{◌≡◌, ◌⊎◌, ◌+◌, ◌<◌, ◌≤◌, ◌^◌, ℕ, map, length, Result, Err, Some, Option, IfErr, OnOk, OnErr}
 use Rattle.raw_collation.specs.Sorting.{sorted_rows}
 use Rattle.view_ports.specs.Causes.{HasCauseIf}
 use Rattle.view_ports.specs.Disk.{IfTold, Moves, Tells}
@@ -18,7 +18,7 @@ use Rattle.view_index.specs.declared.fault.IndexFault.{IndexFault}
 use Rattle.view_index.specs.declared.fault.IndexFault.TheVariants.{NoMemory, Store}
 use Rattle.view_index.specs.declared.index.Index.{Index}
 use Rattle.view_index.specs.Held.{or_empty, HoldsPicture, IsFileOf, Stands}
-use Rattle.view_index.specs.Index.{file_of, next_in, picture_of, seq_of, views_of, IsSame}
+use Rattle.view_index.specs.Index.{file_of, next_in, picture_of, views_of}
 use Rattle.view_index.specs.Pending.{ArePending}
 
 -- the index that the files are of

@@ -1,15 +1,13 @@
 -- What an index keeps.
-use Rattle.std.specs.Prelude.{◌≡◌, ℕ, suc, List, [], ◌∷◌, ◌++◌, map, length, Bool, Vec}
-use Rattle.std.specs.declared.alloc.Global.{Global}
+use Rattle.std.specs.Prelude.{◌≡◌, ℕ, List, [], ◌++◌, map, length, Bool}
 use Rattle.json_terms.specs.declared.term.Row.{Row}
 use Rattle.gate_file.specs.declared.gate.GateFile.{GateFile}
 use Rattle.view_model.specs.Picture.{Picture}
 use Rattle.view_index.specs.declared.doc_rows.DocRows.{DocRows}
 use Rattle.view_index.specs.declared.index.Index.{Index}
-use Rattle.view_index.specs.declared.view_rows.ViewRows.{ViewRows}
-use Rattle.view_index.specs.Ids.{has, is_among}
+use Rattle.view_index.specs.Ids.{has}
 use Rattle.view_index.specs.Replaced.{new_rows}
-use Rattle.view_index.specs.ViewRows.{both_of, next_rows, of_others, rows_of}
+use Rattle.view_index.specs.ViewRows.{both_of, next_rows, of_others}
 
 abbrev pub file_of : Index → GateFile
 file_of index = index.file
@@ -43,6 +41,10 @@ next_in index = map (next_rows (is_touched index)) (both_in index)
 -- the rows that were added of these documents are taken back
 abbrev pub without : (List ℕ → Bool) → List Row × List Row → List Row × List Row
 without these both = (both.0, of_others these both.1)
+
+-- rows of which none is exchanged
+abbrev pub unexchanged : List Row → List Row × List Row
+unexchanged rows = (rows, [])
 
 -- all that was added is taken back
 abbrev pub rolled_back : List Row × List Row → List Row × List Row

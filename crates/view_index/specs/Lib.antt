@@ -7,3 +7,5 @@ pub mod Replaced
 pub mod Index
 pub mod Pending
 pub mod Calls
+pub mod Loads
+pub mod Opens

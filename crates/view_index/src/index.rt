@@ -1,6 +1,7 @@
 //! The index of a signature's views.
 
 mod commit;
+mod open;
 mod replace;
 mod roll_back;
 

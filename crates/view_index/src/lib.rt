@@ -5,6 +5,7 @@ mod doc_rows;
 mod fault;
 mod ids;
 mod index;
+mod load;
 mod new_rows;
 mod view_rows;
 

@@ -1,5 +1,5 @@
 -- One document's rows follow those of the others.
-use Rattle.std.specs.Prelude.{◌≡◌, ◌++◌, [], List, ℕ, take, slice_index_or}
+use Rattle.std.specs.Prelude.{◌++◌, [], List, ℕ, take, slice_index_or}
 use Rattle.std.proofs.Common.{ap, sym, ◌∙◌}
 use Rattle.json_terms.specs.declared.term.Row.{Row}
 use Rattle.view_model.specs.Rows.{rows_from}

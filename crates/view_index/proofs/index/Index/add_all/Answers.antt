@@ -1,12 +1,11 @@
 -- However many views got their new rows, the others are as they were.
-use Rattle.std.specs.Prelude.{◌≡◌, List, ℕ, map, length, true}
-use Rattle.std.specs.List.{list_all}
-use Rattle.std.proofs.Common.{ap, sym, ◌∙◌, subst}
+use Rattle.std.specs.Prelude.{◌≡◌, List, map, length}
+use Rattle.std.proofs.Common.{ap, sym, ◌∙◌}
 use Rattle.std.proofs.lemmas.List.{length-map, with_items_is}
 use Rattle.json_terms.specs.declared.term.Row.{Row}
 use Rattle.view_index.specs.Index.{both_in, views_of, with_new}
 use Rattle.view_index.specs.Replaced.{so_far}
-use Rattle.view_index.specs.ViewRows.{are_fit, both_of}
+use Rattle.view_index.specs.ViewRows.{both_of}
 use Rattle.view_index.proofs.Each.{length-so_far}
 use Rattle.view_index.proofs.Exchanged.{few_now, fit_now, rows_now}
 use Rattle.view_index.proofs.index.Index.add_all.Goals as goal

@@ -1,13 +1,13 @@
 -- All rows can be written.
 use Rattle.std.specs.Prelude.{◌≡◌, List, ℕ, map, IfOk, length}
 use Rattle.std.specs.List.{AllByRecursion}
-use Rattle.std.proofs.Common.{ap, sym, ◌∙◌, subst, rules}
+use Rattle.std.proofs.Common.{ap, sym, ◌∙◌, subst}
 use Rattle.std.specs.Prelude.{Vec}
 use Rattle.std.specs.Borrow.{Bor}
 use Rattle.std.specs.declared.alloc.Global.{Global}
 use Rattle.std.proofs.lemmas.List.{length-map}
 use Rattle.json_terms.specs.declared.term.Row.{Row}
-use Rattle.index_record.specs.Record.{record_bytes, IsRecordOf}
+use Rattle.index_record.specs.Record.{IsRecordOf}
 use Rattle.index_record.specs.Rows.{IsRow, PlacesRise, lent_rows, lent_views}
 use Rattle.view_index.specs.Index.{both_in, is_touched, next_in, views_of}
 use Rattle.view_index.specs.ViewRows.{both_of, next_rows}

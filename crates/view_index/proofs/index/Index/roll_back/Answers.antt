@@ -1,8 +1,8 @@
 -- Each view goes back by itself.
-use Rattle.std.specs.Prelude.{◌≡◌, List, ℕ, map, length, true}
+use Rattle.std.specs.Prelude.{◌≡◌, List, map, length, true}
 use Rattle.std.specs.List.{list_all, AllByRecursion}
 use Rattle.std.specs.Vec.{with_items}
-use Rattle.std.proofs.Common.{◌<◌, ◌^◌, ap, sym, ◌∙◌, subst, arith, rules}
+use Rattle.std.proofs.Common.{◌<◌, ◌^◌, ap, sym, ◌∙◌, subst}
 use Rattle.std.proofs.lemmas.List.{with_items_is}
 use Rattle.view_index.specs.Index.{both_in, rolled_back}
 use Rattle.json_terms.specs.declared.term.Row.{Row}

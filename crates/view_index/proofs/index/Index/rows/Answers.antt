@@ -1,10 +1,9 @@
 -- The rows of a view are those that the picture has of it.
-use Rattle.std.specs.Prelude.{◌≡◌, ◌<◌, List, [], map, length, slice_index_or}
+use Rattle.std.specs.Prelude.{◌<◌, List, [], map, length, slice_index_or}
 use Rattle.std.proofs.Common.{ap, sym, ◌∙◌, arith}
 use Rattle.std.proofs.lemmas.List.{get_or-map, length-map}
 use Rattle.json_terms.specs.declared.term.Row.{Row}
 use Rattle.view_index.specs.declared.view_rows.ViewRows.{ViewRows}
-use Rattle.view_index.specs.Index.{both_in}
 use Rattle.view_index.specs.ViewRows.{both_of, rows_of}
 use Rattle.view_index.proofs.index.Index.rows.Goals as goal
 

@@ -1,10 +1,10 @@
 -- Each view settles by itself.
 use Rattle.std.specs.Prelude.{◌≡◌, map, length, true}
 use Rattle.std.specs.List.{list_all}
-use Rattle.std.proofs.Common.{◌<◌, ◌^◌, ap, sym, ◌∙◌, subst, arith, rules}
+use Rattle.std.proofs.Common.{◌<◌, ◌^◌, ap, sym, ◌∙◌, subst}
 use Rattle.std.proofs.lemmas.List.{with_items_is}
 use Rattle.view_index.specs.Ids.{has}
-use Rattle.view_index.specs.Index.{both_in, settled}
+use Rattle.view_index.specs.Index.{settled}
 use Rattle.view_index.specs.ViewRows.{are_fit, both_of}
 use Rattle.view_index.proofs.Each.{each_from-map}
 use Rattle.view_index.proofs.Fits.{fit_settled, list_all-each}

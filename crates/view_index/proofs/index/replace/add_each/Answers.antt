@@ -1,12 +1,12 @@
 -- Each view gets its new rows, or none.
-use Rattle.std.specs.Prelude.{◌≡◌, ◌+◌, ◌++◌, List, ℕ, map}
-use Rattle.std.proofs.Common.{ap, sym, ◌∙◌, add-one, get_or}
+use Rattle.std.specs.Prelude.{◌≡◌, ◌+◌, ◌++◌, List, ℕ}
+use Rattle.std.proofs.Common.{ap, ◌∙◌, get_or}
 use Rattle.std.proofs.Math.Seq.{map-set_same}
 use Rattle.json_terms.specs.declared.term.Row.{Row}
 use Rattle.view_index.specs.declared.view_rows.ViewRows.{ViewRows}
 use Rattle.view_index.specs.Index.{with_new}
 use Rattle.view_index.specs.Replaced.{new_rows}
-use Rattle.view_index.specs.ViewRows.{added_of, both_of, rows_of}
+use Rattle.view_index.specs.ViewRows.{added_of, both_of}
 use Rattle.view_index.proofs.Written.{write_next}
 use Rattle.view_index.proofs.index.replace.add_each.Goals as goal
 

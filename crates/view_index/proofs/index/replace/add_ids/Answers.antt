@@ -1,5 +1,5 @@
 -- The set has one id more.
-use Rattle.std.specs.Prelude.{◌≡◌, ◌||◌, ◌∷◌, ◌++◌, [], List, ℕ, true, if◌then◌else◌, bytes_eq, take}
+use Rattle.std.specs.Prelude.{◌||◌, List, ℕ, true, if◌then◌else◌, bytes_eq, take}
 use Rattle.std.proofs.Common.{ap, sym, ◌∙◌}
 use Rattle.view_index.specs.declared.doc_rows.DocRows.{DocRows}
 use Rattle.view_index.specs.Ids.{has, is_among}

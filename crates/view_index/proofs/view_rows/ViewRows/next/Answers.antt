@@ -17,7 +17,7 @@ pub returns : goal.returns
 returns c =
     let sort = c.sort_unstable_by.ensures in
     let pushed : map now_of c.loop-row-2.rows.items ≡ of_others (has c.args.ids.now) (rows_of c.args.self.now) ++ added_of c.args.self.now = c.loop-row-2.invariant ∙ ap (λ l. of_others (has c.args.ids.now) (rows_of c.args.self.now) ++ l)
-        (take_all c.loop-row-2.row-index (added_of c.args.self.now) (omega (arith, c.loop-row-2-test.false, ap length c.deref-row-items-2.ensures.value))) in
+    (take_all c.loop-row-2.row-index (added_of c.args.self.now) (omega (arith, c.loop-row-2-test.false, ap length c.deref-row-items-2.ensures.value))) in
     sorted_lent _ _ sort.permutation
     (sort.sorted (λ (r s : Bor Row). is_lt (rows_cmp r.now s.now)) (ranks_by rows_cmp_total (λ (r : Bor Row). r.now))
     (answers_always _ _ _ (λ f a r g h. search rules)))

@@ -1,0 +1,162 @@
+-- An index that is emptied, and what it stands for meanwhile.
+use Rattle.std.specs.Prelude.{◌≡◌, ◌≢◌, ◌⊎◌, ◌<◌, ◌≤◌, ℕ, List, [], true, false, nat_le, Option, Some, None, Result, Ok, Err, OnOk, IfOk, if◌then◌else◌, refl}
+use Rattle.std.proofs.Common.{ap, sym, ◌∙◌, subst, inl, inr, ⊎_elim, arith}
+use Rattle.std.proofs.lemmas.Bool.Decides.{nat_tests}
+use Rattle.view_ports.specs.Disk.{Disk, Moves, OthersStay, Tells}
+use Rattle.view_ports.specs.File.{File, IsImage, settled}
+use Rattle.view_ports.specs.declared.file_name.FileName.{FileName}
+use Rattle.view_ports.specs.declared.file_name.Stem.{Stem}
+use Rattle.view_ports.proofs.DiskRuns.{moves_then, moves_wider}
+use Rattle.view_ports.proofs.Images.{IsImage-settled}
+use Rattle.view_ports.proofs.Told.{told_both, told_then}
+use Rattle.gate_file.specs.GateFile.{name_of}
+use Rattle.gate_file.specs.Open.{side_of}
+use Rattle.gate_file.specs.Opens.{Empties}
+use Rattle.gate_file.proofs.Images.{empty_holds, empty_stands}
+use Rattle.gate_file.proofs.Pairs.{apart, sides}
+use Rattle.gate_file.proofs.Published.{image_now}
+use Rattle.view_model.specs.Picture.{Picture}
+use Rattle.view_index.specs.declared.index.Index.{Index}
+use Rattle.view_index.specs.Calls.{stem_of, IsAt, IsOpen}
+use Rattle.view_index.specs.Held.{or_empty, up_to, HoldsIndex, HoldsPicture, IsFileOf, Stands}
+use Rattle.view_index.specs.Index.{file_of, seq_of, views_of}
+use Rattle.view_index.specs.Opens.{IsLoaded, Shows}
+use Rattle.view_index.proofs.Carried.{picture_of_root}
+
+-- ---- which pictures are kept
+
+pub up_to_kept : (views newest : ℕ) (picture : Option Picture) → (or_empty views picture).seq ≤ newest → up_to newest picture ≡ picture
+up_to_kept views newest None within = refl
+up_to_kept views newest (Some p) within = let test : nat_le p.seq newest ≡ true = grind (arith, nat_tests) in ap (λ b. if b then Some p else None) test
+
+pub up_to_past : (views newest : ℕ) (picture : Option Picture) → newest < (or_empty views picture).seq → up_to newest picture ≡ None
+up_to_past views newest None past = refl
+up_to_past views newest (Some p) past = let test : nat_le p.seq newest ≡ false = grind (arith, nat_tests) in ap (λ b. if b then Some p else None) test
+
+-- ---- a side is cleared
+
+own_or_other : (stem : Stem) (own n : FileName) → own.stem ≡ stem → n.stem ≡ stem → (n ≡ own) ⊎ (n ≢ own)
+own_or_other stem own n own_of n_of = by_side (sides stem n n_of) (sides stem own own_of)
+  where
+    by_side : (n ≡ side_of stem false) ⊎ (n ≡ side_of stem true) → (own ≡ side_of stem false) ⊎ (own ≡ side_of stem true) → (n ≡ own) ⊎ (n ≢ own)
+    by_side (inl low) (inl own_low) = inl (low ∙ sym own_low)
+    by_side (inl low) (inr own_high) = inr (λ same. apart stem (sym own_high ∙ sym same ∙ low))
+    by_side (inr high) (inl own_low) = inr (λ same. apart stem (sym high ∙ same ∙ own_low))
+    by_side (inr high) (inr own_high) = inl (high ∙ sym own_high)
+
+module _ (index : Index) (old : FileName → File) (is_open : IsOpen index old) where
+  others_empty : (n : FileName) → n.stem ≡ stem_of index → n ≢ name_of (file_of index) → old n ≡ settled []
+  others_empty n of_pair differs = is_open.other n of_pair differs
+
+  -- without bytes the files stand for no picture
+  pub cleared : (new : FileName → File) → OthersStay (λ n. n ≡ name_of (file_of index)) old new → new (name_of (file_of index)) ≡ settled [] → HoldsIndex (stem_of index) (views_of index) new None
+  cleared new others done = empty_holds (stem_of index) (HoldsPicture (views_of index)) (picture_of_root (views_of index)) new
+      (λ n of_pair. ⊎_elim (λ same. ap new same ∙ done) (λ differs. others n differs ∙ others_empty n of_pair differs) (own_or_other (stem_of index) (name_of (file_of index)) n refl of_pair)) None tt
+
+  -- what a crash leaves meanwhile stands for the picture, or for none
+  while_cleared : (picture : Option Picture) → IsAt index old picture → (image : FileName → List ℕ) → IsImage (old (name_of (file_of index))) (image (name_of (file_of index))) ⊎ (image (name_of (file_of index)) ≡ [])
+      → ((n : FileName) → n ≢ name_of (file_of index) → IsImage (old n) (image n)) → Stands (stem_of index) (views_of index) image picture ⊎ Stands (stem_of index) (views_of index) image None
+  while_cleared picture at image (inl before) outside =
+      inl (image_now (stem_of index) (file_of index) old is_open (HoldsPicture (views_of index)) (picture_of_root (views_of index)) picture at.holds image
+      (λ n of_pair. ⊎_elim (λ same. subst (λ k. IsImage (old k) (image k)) (sym same) before) (λ differs. outside n differs) (own_or_other (stem_of index) (name_of (file_of index)) n refl of_pair)))
+  while_cleared picture at image (inr none) outside =
+      inr (empty_stands (stem_of index) (HoldsPicture (views_of index)) (picture_of_root (views_of index)) image
+      (λ n of_pair. ⊎_elim (λ same. ap image same ∙ none)
+      (λ differs. IsImage-settled [] (image n) (subst (λ f. IsImage f (image n)) (others_empty n of_pair differs) (outside n differs))) (own_or_other (stem_of index) (name_of (file_of index)) n refl of_pair))
+      None tt)
+
+ended_holds : {E : Type 0} (index : Index) (result : Result (Unit {0}) E) (files now : FileName → File) → IsOpen index files → OthersStay (λ n. n ≡ name_of (file_of index)) files now
+    → OnOk result (now (name_of (file_of index)) ≡ settled []) → OnOk result (HoldsIndex (stem_of index) (views_of index) now None)
+ended_holds index (Ok v) files now is_open others done = cleared index files is_open now others done
+ended_holds index (Err e) files now is_open others done = tt
+
+clear_moved : {E : Type 0} (index : Index) (a b : Disk FileName) (picture : Option Picture) (result : Result (Unit {0}) E) → IsAt index a.now picture → Empties (name_of (file_of index)) result a b
+    → Moves (IsFileOf (stem_of index)) (λ image. Stands (stem_of index) (views_of index) image picture ⊎ Stands (stem_of index) (views_of index) image None)
+    (λ files. OnOk result (HoldsIndex (stem_of index) (views_of index) files None)) a b
+clear_moved index a b picture result here moved =
+    moves_wider (λ n. n ≡ name_of (file_of index)) (IsFileOf (stem_of index))
+    (λ image. IsImage (a.now (name_of (file_of index))) (image (name_of (file_of index))) ⊎ (image (name_of (file_of index)) ≡ []))
+    (λ image. Stands (stem_of index) (views_of index) image picture ⊎ Stands (stem_of index) (views_of index) image None)
+    (λ files. OnOk result (files (name_of (file_of index)) ≡ settled []))
+    (λ files. OnOk result (HoldsIndex (stem_of index) (views_of index) files None)) a b
+    (λ n same. ap (λ (k : FileName). k.stem) same)
+    (λ image framed. while_cleared index a.now here.is_open picture here image framed.inside framed.outside)
+    (λ others ended. ended_holds index result a.now b.now here.is_open others ended) moved
+
+-- ---- as the folder tells it
+
+module _ {E : Type 0} (stem : Stem) (views newest : ℕ) (index : Index) (number : views_of index ≡ views) (past : newest < seq_of index) (result : Result (Unit {0}) E) where
+  is_past : (files : FileName → File) (picture : Option Picture) → IsAt index files picture → up_to newest picture ≡ None
+  is_past files picture at =
+      let seq : seq_of index ≡ (or_empty (views_of index) picture).seq = ap (λ (p : Picture). p.seq) at.last in
+      up_to_past (views_of index) newest picture (omega (arith, past, seq))
+
+  -- an index that was opened is cleared
+  pub stands_cleared : (old mid new : Option (Disk FileName)) (picture : Option Picture)
+      → Tells old mid (Moves (IsFileOf stem) (λ image. Stands stem views image picture) (λ files. IsAt index files picture)) → Tells old mid (λ a b. IsLoaded stem views a.now b.now index)
+      → Tells mid new (Empties (name_of (file_of index)) result)
+      → Tells old new (Moves (IsFileOf stem) (λ image. Stands stem views image picture ⊎ Stands stem views image (up_to newest picture)) (λ files. OnOk result (HoldsIndex stem views files None) × (up_to newest picture ≡ None)))
+  stands_cleared old mid new picture first loaded second =
+      told_then old mid new
+      (λ a b. Moves (IsFileOf stem) (λ image. Stands stem views image picture) (λ files. IsAt index files picture) a b × IsLoaded stem views a.now b.now index)
+      (Empties (name_of (file_of index)) result)
+      (Moves (IsFileOf stem) (λ image. Stands stem views image picture ⊎ Stands stem views image (up_to newest picture)) (λ files. OnOk result (HoldsIndex stem views files None) × (up_to newest picture ≡ None)))
+      (λ a b d opens clears.
+      let gone = is_past b.now picture opens.0.ended in
+      let moved : Moves (IsFileOf stem) (λ image. Stands stem views image picture ⊎ Stands stem views image None) (λ files. OnOk result (HoldsIndex stem views files None)) b d =
+      subst (λ (s : Stem). Moves (IsFileOf s) (λ image. Stands s views image picture ⊎ Stands s views image None) (λ files. OnOk result (HoldsIndex s views files None)) b d) opens.1.named
+      (subst (λ n. Moves (IsFileOf (stem_of index)) (λ image. Stands (stem_of index) n image picture ⊎ Stands (stem_of index) n image None) (λ files. OnOk result (HoldsIndex (stem_of index) n files None)) b d) number
+      (clear_moved index b d picture result opens.0.ended clears)) in
+      moves_then (IsFileOf stem) (λ image. Stands stem views image picture) (λ image. Stands stem views image picture ⊎ Stands stem views image None) (λ image. Stands stem views image picture ⊎ Stands stem views image (up_to newest picture))
+      (λ files. IsAt index files picture) (λ files. OnOk result (HoldsIndex stem views files None)) (λ files. OnOk result (HoldsIndex stem views files None) × (up_to newest picture ≡ None)) a b d
+      (λ image stands. inl stands)
+      (λ at image either. ⊎_elim (λ stands. inl stands) (λ none. inr (subst (λ (p : Option Picture). Stands stem views image p) (sym gone) none)) either)
+      (λ at holds. (holds, gone)) opens.0 moved)
+      (told_both old mid (Moves (IsFileOf stem) (λ image. Stands stem views image picture) (λ files. IsAt index files picture)) (λ a b. IsLoaded stem views a.now b.now index) _ (λ a b one other. (one, other)) first loaded)
+      second
+
+  -- it showed a picture past the newest write, and now there is none
+  pub record WasPast (old new : FileName → File) : Type 0 where
+    pub picture : Option Picture
+    pub shows : Shows stem views old picture
+    pub gone : up_to newest picture ≡ None
+    pub none : OnOk result (HoldsIndex stem views new None)
+
+  pub was_past : (old mid new : Option (Disk FileName)) → Tells old mid (λ a b. IsLoaded stem views a.now b.now index) → Tells mid new (Empties (name_of (file_of index)) result) → Tells old new (λ a b. WasPast a.now b.now)
+  was_past old mid new loaded second =
+      told_then old mid new (λ a b. IsLoaded stem views a.now b.now index) (Empties (name_of (file_of index)) result) (λ a b. WasPast a.now b.now)
+      (λ a b d opens clears.
+      let moved = clear_moved index b d opens.picture result opens.at clears in
+      record {
+        picture = opens.picture;
+        shows = opens.shows;
+        gone = is_past b.now opens.picture opens.at;
+        none = subst (λ (s : Stem). OnOk result (HoldsIndex s views d.now None)) opens.named (subst (λ n. OnOk result (HoldsIndex (stem_of index) n d.now None)) number moved.ended);
+      })
+      loaded second
+
+-- other files stay through both
+pub others_both : (stem : Stem) (old mid new : Option (Disk FileName)) → Tells old mid (Moves (IsFileOf stem) (λ image. Unit {0}) (λ files. Unit {0})) → Tells mid new (Moves (IsFileOf stem) (λ image. Unit {0}) (λ files. Unit {0}))
+    → Tells old new (Moves (IsFileOf stem) (λ image. Unit {0}) (λ files. Unit {0}))
+others_both stem old mid new first second =
+    told_then old mid new (Moves (IsFileOf stem) (λ image. Unit {0}) (λ files. Unit {0})) (Moves (IsFileOf stem) (λ image. Unit {0}) (λ files. Unit {0})) (Moves (IsFileOf stem) (λ image. Unit {0}) (λ files. Unit {0}))
+    (λ a b d one other. moves_then (IsFileOf stem) (λ image. Unit {0}) (λ image. Unit {0}) (λ image. Unit {0}) (λ files. Unit {0}) (λ files. Unit {0}) (λ files. Unit {0}) a b d
+    (λ image is. tt) (λ ended image is. tt) (λ one_ended other_ended. tt) one other)
+    first second
+
+-- and where a file of an index that was opened is cleared
+pub others_cleared : {E : Type 0} (stem : Stem) (views : ℕ) (index : Index) (result : Result (Unit {0}) E) (old mid new : Option (Disk FileName)) → Tells old mid (Moves (IsFileOf stem) (λ image. Unit {0}) (λ files. Unit {0}))
+    → Tells old mid (λ a b. IsLoaded stem views a.now b.now index) → Tells mid new (Empties (name_of (file_of index)) result) → Tells old new (Moves (IsFileOf stem) (λ image. Unit {0}) (λ files. Unit {0}))
+others_cleared stem views index result old mid new first loaded second =
+    told_then old mid new (λ a b. Moves (IsFileOf stem) (λ image. Unit {0}) (λ files. Unit {0}) a b × IsLoaded stem views a.now b.now index) (Empties (name_of (file_of index)) result) (Moves (IsFileOf stem) (λ image. Unit {0}) (λ files. Unit {0}))
+    (λ a b d one clears. moves_then (IsFileOf stem) (λ image. Unit {0}) (λ image. Unit {0}) (λ image. Unit {0}) (λ files. Unit {0}) (λ files. Unit {0}) (λ files. Unit {0}) a b d
+    (λ image is. tt) (λ ended image is. tt) (λ one_ended other_ended. tt) one.0
+    (moves_wider (λ n. n ≡ name_of (file_of index)) (IsFileOf stem) (λ image. IsImage (b.now (name_of (file_of index))) (image (name_of (file_of index))) ⊎ (image (name_of (file_of index)) ≡ [])) (λ image. Unit {0})
+    (λ files. OnOk result (files (name_of (file_of index)) ≡ settled [])) (λ files. Unit {0}) b d
+    (λ n same. ap (λ (k : FileName). k.stem) same ∙ one.1.named) (λ image framed. tt) (λ others ended. tt) clears))
+    (told_both old mid (Moves (IsFileOf stem) (λ image. Unit {0}) (λ files. Unit {0})) (λ a b. IsLoaded stem views a.now b.now index) _ (λ a b one other. (one, other)) first loaded)
+    second
+
+pub both_ok : {T E : Type 0} (result : Result T E) (P Q R : T → Type 0) → ((x : T) → P x → Q x → R x) → IfOk result P → IfOk result Q → IfOk result R
+both_ok (Ok x) P Q R f one other = f x one other
+both_ok (Err e) P Q R f one other = tt
