@@ -7,6 +7,7 @@ use Rattle.view_ports.proofs.Told.{told_still}
 use Rattle.view_ports.proofs.DiskRuns.{moves_none}
 use Rattle.std.proofs.Math.Seq.{take-append_seam, drop-append_seam}
 use Rattle.json_terms.specs.declared.term.Row.{Row}
+use Rattle.raw_collation.specs.Sorting.{sorted_rows}
 use Rattle.view_ports.specs.Disk.{Disk, IfTold, Moves, OthersStay, Tells}
 use Rattle.view_ports.specs.File.{File}
 use Rattle.view_ports.specs.declared.file_name.FileName.{FileName}
@@ -28,7 +29,7 @@ use Rattle.view_index.specs.Rows.{is_row}
 use Rattle.view_index.specs.ViewRows.{are_fit, next_rows}
 use Rattle.view_index.proofs.Carried.{picture_of_root}
 use Rattle.view_index.proofs.Fits.{both_so, fit_next}
-use Rattle.view_index.proofs.Rising.{next_rise_all}
+use Rattle.view_index.proofs.Rising.{next_rise_all, rising_stay}
 
 -- ---- the next rows
 
@@ -53,6 +54,10 @@ module _ (index : Index) (files : FileName → File) (picture : Option Picture) 
       by_picture None root holds = empty_rise (views_of index)
       by_picture (Some p) None holds = absurd holds
       by_picture (Some p) (Some root) holds = rise_of p.rows holds.0.content.each
+
+  -- the rows of the last commit are in order
+  pub last_sorted : map sorted_rows (picture_of index).rows ≡ (picture_of index).rows
+  last_sorted = rising_stay (picture_of index).rows last_rise
 
   pub next_rises : AllByRecursion PlacesRise (next_in index)
   next_rises = next_rise_all (is_touched index) (both_in index) last_rise at.pending

@@ -1,11 +1,11 @@
 -- The places of the next rows rise, where those of the last ones do.
-use Rattle.std.specs.Prelude.{◌≡◌, ◌+◌, ℕ, suc, List, [], ◌∷◌, ◌++◌, map, Bool, true, false, not, ◌&&◌, bytes_eq, nat_eq, IsSorted, refl}
+use Rattle.std.specs.Prelude.{◌≡◌, ◌+◌, ℕ, zero, suc, List, [], ◌∷◌, ◌++◌, map, Bool, true, false, not, ◌&&◌, bytes_eq, nat_eq, IsSorted, refl}
 use Rattle.std.specs.List.{AllByRecursion, IsDistinct}
 use Rattle.std.specs.declared.cmp.Ordering.{Ordering}
 use Rattle.std.specs.declared.cmp.Ordering.TheVariants.{Less, Equal, Greater}
 use Rattle.std.specs.Ordering.{is_eq, is_lt, nat_cmp, ordering_reverse, ordering_then}
 use Rattle.std.specs.Cmp.Lexicographic.{slice_cmp}
-use Rattle.std.proofs.Common.{ap, sym, ◌∙◌, subst, arith, get_or, inl, inr}
+use Rattle.std.proofs.Common.{add-one, ap, sym, ◌∙◌, subst, arith, get_or, inl, inr}
 use Rattle.std.proofs.lemmas.Bool.{cases_Bool}
 use Rattle.std.proofs.lemmas.Bool.Decides.{nat_tests}
 use Rattle.std.proofs.lemmas.Map.Keys.{IsDistinct-IsPermutation}
@@ -16,7 +16,7 @@ use Rattle.json_terms.specs.declared.term.Term.TheVariants.{Null}
 use Rattle.raw_collation.specs.Collation.{json_cmp, rows_cmp}
 use Rattle.raw_collation.specs.Sorting.{sorted_rows}
 use Rattle.raw_collation.proofs.Equals.{both_equal, bytes_cmp-equal, nat_cmp-equal}
-use Rattle.raw_collation.proofs.SortedRows.{sorted_rows_is_sorted, sorted_rows_permutes}
+use Rattle.raw_collation.proofs.SortedRows.{sorted_rows-sorted, sorted_rows_is_sorted, sorted_rows_permutes}
 use Rattle.raw_collation.proofs.Spelled.{ordering_then-Equal}
 use Rattle.raw_collation.proofs.Totals.{rows_cmp_total}
 use Rattle.view_model.specs.Rows.{same_place}
@@ -135,6 +135,31 @@ next_rise these both rise pending =
     let apart : IsDistinct one_place (kept ++ both.1) = distinct_append one_place kept both.1 (distinct_part one_place test both.0 (rising_apart both.0 rise)) (added_apart both.1 pending.apart) across in
     sorted_rise (sorted_rows (kept ++ both.1)) (sorted_rows_is_sorted (kept ++ both.1))
     (IsDistinct-IsPermutation one_place one_place-sym (kept ++ both.1) (sorted_rows (kept ++ both.1)) (sorted_rows_permutes (kept ++ both.1)) apart)
+
+-- rows whose places rise are in order
+by_less : (x y : Row) → place_cmp x y ≡ Less → is_lt (rows_cmp y x) ≡ false
+by_less x y less =
+    let first : rows_cmp x y ≡ Less = rows_cmp-place x y ∙ ap (λ o. ordering_then o (json_cmp (json x.value) (json y.value))) less in
+    ap is_lt (rows_cmp_total.antisymm y x ∙ ap ordering_reverse first)
+
+rising_sorted : (rows : List Row) → PlacesRise rows → IsSorted rows_cmp rows
+rising_sorted [] rise = λ k d low high. absurd (omega (arith, high))
+rising_sorted (x ∷ []) rise = λ k d low high. absurd (omega (arith, high))
+rising_sorted (x ∷ y ∷ rows) rise = at (rising_sorted (y ∷ rows) rise.1)
+  where
+    at : IsSorted rows_cmp (y ∷ rows) → IsSorted rows_cmp (x ∷ y ∷ rows)
+    at rest zero d low high = by_less x y rise.0
+    at rest (suc k) d low high =
+        let next : k + 1 ≡ suc k = add-one k in
+        let after : suc k + 1 ≡ suc (suc k) = add-one (suc k) in
+        subst (λ n. is_lt (rows_cmp (get_or (x ∷ y ∷ rows) n d) (get_or (y ∷ rows) k d)) ≡ false) (sym after)
+        (subst (λ n. is_lt (rows_cmp (get_or (y ∷ rows) n d) (get_or (y ∷ rows) k d)) ≡ false) next (rest k d (omega arith) (omega (arith, high, next))))
+
+pub rising_stay : (views : List (List Row)) → AllByRecursion PlacesRise views → map sorted_rows views ≡ views
+rising_stay [] rise = refl
+rising_stay (rows ∷ views) rise =
+    let first : sorted_rows rows ≡ rows = sorted_rows-sorted rows (rising_sorted rows rise.0) in
+    λ i. first i ∷ rising_stay views rise.1 i
 
 -- of all views
 pub next_rise_all : (these : List ℕ → Bool) (both : List (List Row × List Row)) → AllByRecursion PlacesRise (map (λ b. b.0) both) → AllByRecursion (IsPending these) both → AllByRecursion PlacesRise (map (next_rows these) both)
