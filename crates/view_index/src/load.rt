@@ -15,18 +15,18 @@ ghost use Rattle.view_index.specs.Calls.{IsCounted};
 ghost use Rattle.view_index.specs.Held.{empty_views, SpellsPicture};
 ghost use Rattle.view_index.specs.Loads.{HasLoaded};
 ghost use Rattle.view_index.specs.Opens.{FindsDamage, IsOpenFault};
-ghost use Rattle.view_index.specs.Rows.{is_id, is_row};
+ghost use Rattle.view_index.specs.Rows.{is_row};
 
 use crate::fault::IndexFault;
 use gate_file::{GateFault, GateFile};
 use index_record::{Record, read_record};
-use json_terms::{NoMemory, Row, write_text};
+use json_terms::{NoMemory, Row};
 use query_protocol::is_within_bounds;
 use std::alloc::Global;
 use view_ports::Folder;
 
-/// The longest text of an id.
-const ID_LIMIT: usize = 524_288;
+/// An id of a record has fewer bytes.
+const ID_LIMIT: usize = 1 << 32;
 
 /// What the root record of an open file holds; without one there are no rows. The file is `Damaged` at the place of the record
 /// exactly where it is none of so many views, or one with a row out of bounds.
@@ -119,21 +119,13 @@ fn are_rows_of_view(alloc: Global, rows: &[Row]) -> Result<bool, NoMemory>
     Ok(true)
 }
 
-/// Whether a row is within the bounds: its id is one that a document may have, and its key and its value are such as are emitted.
+/// Whether a row is within the bounds: its id fits a record, and its key and its value are such as are emitted.
 fn is_row(alloc: Global, row: &Row) -> Result<bool, NoMemory>
     ensures { IfOk result (λ is. is ≡ is_row row.now) }
 {
     Ok(
-        is_id(alloc, row.id.as_str())?
+        row.id.as_str().len() < ID_LIMIT
             && is_within_bounds(alloc, &row.key)?
             && is_within_bounds(alloc, &row.value)?,
     )
-}
-
-fn is_id(alloc: Global, id: &str) -> Result<bool, NoMemory>
-    ensures { IfOk result (λ is. is ≡ is_id id.now) }
-{
-    let mut text = Vec::new(alloc);
-    write_text(alloc, id, &mut text)?;
-    Ok(text.len() <= ID_LIMIT)
 }

@@ -28,11 +28,10 @@ impl Index {
         changes: &[DocRows],
     ) -> Result<(), IndexFault>
         requires changes { IsTrue (list_all (is_change (views_of self.old)) changes.now) }
-        requires distinct { IsDistinct bytes_eq (ids_of changes.now) }
         ensures same { IsSame self.old self.new }
         ensures picture { picture_of self.new ≡ picture_of self.old }
         ensures replaced { OnOk result (next_in self.new ≡ replaced_views changes.now (next_in self.old)) }
-        ensures pending { OnOk result (ArePending self.old → ArePending self.new) }
+        ensures pending { IsDistinct bytes_eq (ids_of changes.now) → OnOk result (ArePending self.old → ArePending self.new) }
         ensures faults { IfErr result (λ e. e ≡ IndexFault.NoMemory) }
         ensures folder { folder.new ≡ folder.old }
     {

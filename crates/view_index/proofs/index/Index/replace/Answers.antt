@@ -41,7 +41,7 @@ returns-clause-replaced g c =
     ap (map (next_rows (is_touched last))) both ∙ exchanged changes (is_touched old) (is_touched last) touched 0 (both_in old)
 
 pub returns-clause-pending : goal.returns-clause-pending
-returns-clause-pending g c = λ pending.
+returns-clause-pending g c = λ distinct pending.
     let changes = c.args.changes.now in
     let old = c.args.self.now in
     let last = c.add_all.new.self in
@@ -50,4 +50,4 @@ returns-clause-pending g c = λ pending.
     let both : both_in last ≡ each_from (with_new changes) 0 (map (without (is_among (ids_of changes))) (both_in old)) =
     c.in_ok-add_all.ensures.ok ∙ ap (each_from (with_new changes) 0) (c.touch.ensures.views ∙ c.forget.ensures.views ∙ without_agree (has c.in_ok-ids.ids) (is_among (ids_of changes)) c.in_ok-ids.ensures (both_in old)) in
     subst (AllByRecursion (IsPending (is_touched last))) (sym both)
-    (pending_new changes c.requires.distinct (is_touched old) (is_touched last) touched 0 (both_in old) pending)
+    (pending_new changes distinct (is_touched old) (is_touched last) touched 0 (both_in old) pending)
