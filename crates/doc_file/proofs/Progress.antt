@@ -1,10 +1,12 @@
 -- The changes that were found so far.
 use Rattle.std.proofs.Common.{◌≡◌, ◌⊎◌, inl, inr, ℕ, suc, zero, ◌+◌, ◌-◌, ◌<◌, ◌≤◌, List, [], ◌∷◌, ◌++◌, length, map, take, get_or, Option, Some, None, refl, sym, ap, ◌∙◌, subst, arith, append-nil, append_assoc, length-append}
-use Rattle.std.specs.Prelude.{false, option_map, All, AllPairs, Contains}
+use Rattle.std.specs.Prelude.{◌^◌, false, true, option_map, All, AllPairs, Contains}
 use Rattle.std.proofs.lemmas.Bool.{cases_lt}
 use Rattle.std.proofs.lemmas.List.{map-append}
 use Rattle.std.proofs.lemmas.List.Elements.{All-contains, All-nil, All-push, Contains-append_left, Contains-push}
 use Rattle.std.proofs.lemmas.List.Quantifiers.{all_pairs_push}
+use Rattle.std.proofs.lemmas.List.Sums.{AllPass-from_list_all}
+use Rattle.std.proofs.lemmas.Bool.Decides.{nat_tests}
 use Rattle.json_terms.specs.Json.{Json}
 use Rattle.json_terms.specs.Seen.{json}
 use Rattle.view_ports.specs.Disk.{Disk, IfTold, Tells, MovesNone}
@@ -17,7 +19,8 @@ use Rattle.doc_file.specs.declared.docs.Docs.{Docs}
 use Rattle.doc_file.specs.declared.docs.changes.Change.{Change}
 use Rattle.doc_file.specs.declared.entry.Entry.{Entry}
 use Rattle.doc_file.specs.Record.{AreEntries}
-use Rattle.doc_file.specs.Changes.{numbered, AreInOrder, AreWhole, HasDocument, IsChange, IsNext, IsSpoiledAfter, IsStored}
+use Rattle.doc_file.specs.Changes.{numbered, AreInOrder, AreWhole, HasDocument, HasShortId, IsChange, IsNext, IsSpoiledAfter, IsStored}
+use Rattle.doc_file.specs.Counts.{has_room}
 use Rattle.doc_file.specs.Docs.{bytes_in, entries_of, file_of, last_of, seq_of, IsAt, IsLoaded, IsSpoiled}
 use Rattle.doc_file.specs.Held.{find_last}
 use Rattle.doc_file.specs.History.{Write, changes_after}
@@ -32,6 +35,7 @@ pub record IsSoFar (docs : Docs) (seq n after index : ℕ) (before : Option (Dis
   pub rise : AllPairs (λ change later. change.seq < later.seq) items
   pub whole : All (λ entry. seq < (entry.last).seq → (entry.last).seq ≤ after → Contains (map (λ change. change.seq) items) (entry.last).seq) (entries_of docs)
   pub bodies : All HasDocument items
+  pub short : All HasShortId items
   pub each : IfTold before (λ d. IsLoaded docs d.now → All (IsChange docs (bytes_in docs d.now)) items)
   pub written : (history : List Write) → IfTold before (λ d. IsAt docs d.now history → map numbered items ++ take (n - index) (changes_after after history) ≡ take n (changes_after seq history))
 
@@ -48,6 +52,7 @@ so_far_none docs seq n before = record {
   rise = λ i j d before' in'. absurd (omega arith);
   whole = λ k d in' behind low. absurd (omega arith);
   bodies = All-nil HasDocument;
+  short = All-nil HasShortId;
   each = told_all before (λ d. IsLoaded docs d.now → All (IsChange docs (bytes_in docs d.now)) []) (λ d loaded. All-nil (IsChange docs (bytes_in docs d.now)));
   written = λ history. told_all before (λ d. IsAt docs d.now history → take (n - 0) (changes_after seq history) ≡ take n (changes_after seq history))
       (λ d at. let all : n - 0 ≡ n = omega arith in ap (λ m. take m (changes_after seq history)) all);
@@ -65,6 +70,9 @@ take_nil (suc n) = refl
 module _ (docs : Docs) (seq n after index : ℕ) (before : Option (Disk FileName)) (items : List Change) (so_far : IsSoFar docs seq n after index before items) (e : Entry) (next : IsNext after (entries_of docs) (Some e)) where
   pub found_next : AreEntries (entries_of docs) → last_of docs e.id ≡ Some e.last
   found_next are = All-contains (λ (x : Entry). find_last x.id (entries_of docs) ≡ Some x.last) (entries_of docs) e (found_entries (entries_of docs) are) next.0
+
+  short_next : Contains (entries_of docs) e → length e.id < 2 ^ 32
+  short_next there = let room : has_room e ≡ true = All-contains (λ (x : Entry). has_room x ≡ true) (entries_of docs) e (AllPass-from_list_all has_room (entries_of docs) docs.room) there in grind (arith, nat_tests)
 
   module _ (change : Change) (more : index < n) (seq_is : change.seq ≡ (e.last).seq) (id_is : change.id ≡ e.id) where
     numbered_is : (doc : Option Json) → option_map json change.doc ≡ doc → numbered change ≡ ((e.last).seq, record { id = e.id; document = doc })
@@ -112,6 +120,7 @@ module _ (docs : Docs) (seq n after index : ℕ) (before : Option (Disk FileName
       rise = all_pairs_push (λ (c : Change) (later : Change). c.seq < later.seq) items change so_far.rise (λ k d in'. let low = so_far.below k d in' in omega (arith, next.1));
       whole = whole_more;
       bodies = All-push HasDocument items change so_far.bodies body;
+      short = All-push HasShortId items change so_far.short (subst (λ id. length id < 2 ^ 32) (sym id_is) (short_next next.0));
       each = told_pair before (λ d. IsLoaded docs d.now → All (IsChange docs (bytes_in docs d.now)) items) (λ d. IsStored e.id (bytes_in docs d.now) e.last (option_map json change.doc))
           (λ d. IsLoaded docs d.now → All (IsChange docs (bytes_in docs d.now)) (items ++ change ∷ []))
           (λ d old new loaded. All-push (IsChange docs (bytes_in docs d.now)) items change (old loaded) (record {

@@ -1,5 +1,5 @@
 -- What has changed since a write: the last writes with greater numbers.
-use Rattle.std.specs.Prelude.{◌≡◌, ◌⊎◌, ℕ, ◌<◌, ◌≤◌, List, length, map, true, false, Option, Some, None, option_map, IfSome, All, AllPairs, Contains}
+use Rattle.std.specs.Prelude.{◌≡◌, ◌⊎◌, ℕ, ◌<◌, ◌≤◌, ◌^◌, List, length, map, true, false, Option, Some, None, option_map, IfSome, All, AllPairs, Contains}
 use Rattle.json_terms.specs.Json.{Json}
 use Rattle.json_terms.specs.Seen.{json}
 use Rattle.doc_file.specs.declared.docs.Docs.{Docs}
@@ -22,6 +22,10 @@ IsStored id bytes last (Some document) = (last.deleted ≡ false) × HasBody id 
 -- what is stored is a document of the change's id
 abbrev pub HasDocument : Change → Type 0
 HasDocument change = IfSome (option_map json change.doc) (IsBodyOf change.id)
+
+-- its id is short
+abbrev pub HasShortId : Change → Type 0
+HasShortId change = length change.id < 2 ^ 32
 
 -- the change is the last write of its id
 pub record IsChange (docs : Docs) (bytes : List ℕ) (change : Change) : Type 0 where

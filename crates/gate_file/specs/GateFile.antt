@@ -2,6 +2,7 @@
 use Rattle.std.specs.Prelude.{◌≡◌, ℕ, ◌+◌, ◌<◌, ◌≤◌, List, [], ◌++◌, length, Option, Some, None, option_map, IfSome, IsTrue, ◌↔◌, max, is_some}
 use Rattle.view_ports.specs.File.{File, settled}
 use Rattle.view_ports.specs.declared.file_name.FileName.{FileName}
+use Rattle.view_ports.specs.declared.file_name.Stem.{Stem}
 use Rattle.gate_file.specs.declared.root.Root.{Root}
 use Rattle.gate_file.specs.declared.gate.GateFile.{GateFile}
 use Rattle.gate_file.specs.Header.{data_start, slot_at, place_of, IsOpen, IsFit, open_root}
@@ -9,6 +10,10 @@ use Rattle.gate_file.specs.Shown.{Shows, KeepsDurable, IsFront}
 
 abbrev pub name_of : GateFile → FileName
 name_of gate = gate.name
+
+-- it is a file of this pair
+abbrev pub IsOfStem : Stem → GateFile → Type 0
+IsOfStem stem gate = (name_of gate).stem ≡ stem
 
 -- how long the file is; a file that isn't made yet has length 0
 abbrev pub length_of : GateFile → ℕ

@@ -1,10 +1,10 @@
 -- What the files of an index stand for while the exchanges are committed, and after it.
-use Rattle.std.specs.Prelude.{◌≡◌, ◌⊎◌, ◌+◌, ◌-◌, ℕ, zero, suc, List, [], ◌∷◌, ◌++◌, map, length, take, drop, Bool, true, Option, Some, None, Result, OnOk, refl}
+use Rattle.std.specs.Prelude.{◌≡◌, ◌⊎◌, ◌+◌, ◌-◌, ℕ, List, [], ◌∷◌, ◌++◌, map, length, take, drop, Bool, true, Option, Some, None, Result, OnOk, refl}
 use Rattle.std.specs.List.{AllByRecursion, list_all}
 use Rattle.std.specs.Cmp.{first_so, second_so}
 use Rattle.std.proofs.Common.{ap, sym, ◌∙◌, subst, arith, append-nil, inl}
-use Rattle.view_ports.proofs.Told.{told_still}
-use Rattle.view_ports.proofs.DiskRuns.{moves_none}
+use Rattle.view_ports.proofs.Told.{told_all, told_given, told_still}
+use Rattle.view_ports.proofs.DiskRuns.{moves_none, moves_wider}
 use Rattle.std.proofs.Math.Seq.{take-append_seam, drop-append_seam}
 use Rattle.json_terms.specs.declared.term.Row.{Row}
 use Rattle.raw_collation.specs.Sorting.{sorted_rows}
@@ -18,28 +18,20 @@ use Rattle.gate_file.specs.Pair.{IsOpenPair, own_bytes}
 use Rattle.gate_file.specs.Publish.{IsPublished, Publishes, WillHold, published}
 use Rattle.gate_file.proofs.Published.{image_now, published_holds, published_open, publishing_stands}
 use Rattle.index_record.specs.Record.{record_bytes, IsRecordOf}
-use Rattle.index_record.specs.Rows.{AreRows, PlacesRise}
+use Rattle.index_record.specs.Rows.{PlacesRise}
 use Rattle.view_model.specs.Picture.{Picture}
 use Rattle.view_index.specs.declared.index.Index.{Index}
 use Rattle.view_index.specs.Calls.{next_picture, stem_of, IsAt, IsOpen}
-use Rattle.view_index.specs.Held.{empty_views, or_empty, HoldsPicture, IsFileOf, IsPictureOf, Stands}
+use Rattle.view_index.specs.Held.{or_empty, HoldsPicture, IsFileOf, IsPictureOf, Stands}
 use Rattle.view_index.specs.Index.{both_in, file_of, is_touched, next_in, picture_of, views_of}
 use Rattle.view_index.specs.Pending.{ArePending}
 use Rattle.view_index.specs.Rows.{is_row}
 use Rattle.view_index.specs.ViewRows.{are_fit, next_rows}
 use Rattle.view_index.proofs.Carried.{picture_of_root}
 use Rattle.view_index.proofs.Fits.{both_so, fit_next}
-use Rattle.view_index.proofs.Rising.{next_rise_all, rising_stay}
+use Rattle.view_index.proofs.Rising.{empty_rise, next_rise_all, rise_of, rising_stay}
 
 -- ---- the next rows
-
-rise_of : (views : List (List Row)) → AllByRecursion AreRows views → AllByRecursion PlacesRise views
-rise_of [] all = tt
-rise_of (rows ∷ views) all = ((all.0).rise, rise_of views all.1)
-
-empty_rise : (views : ℕ) → AllByRecursion PlacesRise (empty_views views)
-empty_rise zero = tt
-empty_rise (suc views) = (tt, empty_rise views)
 
 pub fit_views : (these : List ℕ → Bool) (both : List (List Row × List Row)) → list_all are_fit both ≡ true → list_all (list_all is_row) (map (next_rows these) both) ≡ true
 fit_views these [] all = refl
@@ -118,3 +110,26 @@ module _ (index : Index) (seq : ℕ) (bytes : List ℕ) (bytes_are : bytes ≡ r
       last = picture_now;
       pending = pending;
     }
+
+-- ---- whatever is published, other files stay
+
+pub others_stay_published : {T E : Type 0} (index : Index) (bytes : List ℕ) (old new : Option (Disk FileName)) (result : Result T E) (ends : (FileName → File) → Type 0)
+    → ((a b : Disk FileName) → IsOpen index a.now → OthersStay (λ n. n ≡ name_of (file_of index)) a.now b.now
+    → OnOk result (IsPublished (published (file_of index) (length bytes) 0) bytes (a.now (name_of (file_of index))) (b.now (name_of (file_of index)))) → ends b.now)
+    → IfTold old (λ d. IsOpen index d.now) → Tells old new (Publishes (file_of index) bytes 0 result) → Tells old new (Moves (IsFileOf (stem_of index)) (λ image. Unit {0}) ends)
+others_stay_published index bytes old new result ends endings is_open moves =
+    told_given old new (λ d. IsOpen index d.now) (Publishes (file_of index) bytes 0 result) (Moves (IsFileOf (stem_of index)) (λ image. Unit {0}) ends)
+    (λ a b is moved. moves_wider (λ n. n ≡ name_of (file_of index)) (IsFileOf (stem_of index)) _ (λ image. Unit {0})
+    (λ now. OnOk result (IsPublished (published (file_of index) (length bytes) 0) bytes (a.now (name_of (file_of index))) (now (name_of (file_of index))))) ends a b
+    (λ n same. ap (λ (k : FileName). k.stem) same) (λ image framed. tt) (λ others ended. endings a b is others ended) moved)
+    is_open moves
+
+pub others_unmoved : (disk : Option (Disk FileName)) (stem : _) (ends : (FileName → File) → Type 0) → ((files : FileName → File) → ends files) → Tells disk disk (Moves (IsFileOf stem) (λ image. Unit {0}) ends)
+others_unmoved disk stem ends ended =
+    told_still disk (λ d. Unit {0}) (Moves (IsFileOf stem) (λ image. Unit {0}) ends) (λ d is. moves_none (IsFileOf stem) (λ image. Unit {0}) ends d (λ image left. tt) (ended d.now)) (told_all disk (λ d. Unit {0}) (λ d. tt))
+
+-- the object is of its files once it is published
+pub open_published : (index now : Index) (bytes : List ℕ) (a b : Disk FileName) → file_of now ≡ published (file_of index) (length bytes) 0 → IsOpen index a.now → OthersStay (λ n. n ≡ name_of (file_of index)) a.now b.now
+    → IsPublished (published (file_of index) (length bytes) 0) bytes (a.now (name_of (file_of index))) (b.now (name_of (file_of index))) → IsOpen now b.now
+open_published index now bytes a b file_now is others done =
+    subst (λ (g : GateFile). IsOpenPair (name_of g).stem g b.now) (sym file_now) (published_open (stem_of index) (file_of index) bytes 0 a.now is b.now others done)

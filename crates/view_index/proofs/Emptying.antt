@@ -8,7 +8,7 @@ use Rattle.view_ports.specs.declared.file_name.FileName.{FileName}
 use Rattle.view_ports.specs.declared.file_name.Stem.{Stem}
 use Rattle.view_ports.proofs.DiskRuns.{moves_then, moves_wider}
 use Rattle.view_ports.proofs.Images.{IsImage-settled}
-use Rattle.view_ports.proofs.Told.{told_both, told_then}
+use Rattle.view_ports.proofs.Told.{told_both, told_map, told_then}
 use Rattle.gate_file.specs.GateFile.{name_of}
 use Rattle.gate_file.specs.Open.{side_of}
 use Rattle.gate_file.specs.Opens.{Empties}
@@ -85,7 +85,7 @@ clear_moved index a b picture result here moved =
 
 -- ---- as the folder tells it
 
-module _ {E : Type 0} (stem : Stem) (views newest : ℕ) (index : Index) (number : views_of index ≡ views) (past : newest < seq_of index) (result : Result (Unit {0}) E) where
+module _ {E : Type 0} (stem : Stem) (views newest : ℕ) (index : Index) (named : stem_of index ≡ stem) (number : views_of index ≡ views) (past : newest < seq_of index) (result : Result (Unit {0}) E) where
   is_past : (files : FileName → File) (picture : Option Picture) → IsAt index files picture → up_to newest picture ≡ None
   is_past files picture at =
       let seq : seq_of index ≡ (or_empty (views_of index) picture).seq = ap (λ (p : Picture). p.seq) at.last in
@@ -104,7 +104,7 @@ module _ {E : Type 0} (stem : Stem) (views newest : ℕ) (index : Index) (number
       (λ a b d opens clears.
       let gone = is_past b.now picture opens.0.ended in
       let moved : Moves (IsFileOf stem) (λ image. Stands stem views image picture ⊎ Stands stem views image None) (λ files. OnOk result (HoldsIndex stem views files None)) b d =
-      subst (λ (s : Stem). Moves (IsFileOf s) (λ image. Stands s views image picture ⊎ Stands s views image None) (λ files. OnOk result (HoldsIndex s views files None)) b d) opens.1.named
+      subst (λ (s : Stem). Moves (IsFileOf s) (λ image. Stands s views image picture ⊎ Stands s views image None) (λ files. OnOk result (HoldsIndex s views files None)) b d) named
       (subst (λ n. Moves (IsFileOf (stem_of index)) (λ image. Stands (stem_of index) n image picture ⊎ Stands (stem_of index) n image None) (λ files. OnOk result (HoldsIndex (stem_of index) n files None)) b d) number
       (clear_moved index b d picture result opens.0.ended clears)) in
       moves_then (IsFileOf stem) (λ image. Stands stem views image picture) (λ image. Stands stem views image picture ⊎ Stands stem views image None) (λ image. Stands stem views image picture ⊎ Stands stem views image (up_to newest picture))
@@ -131,7 +131,7 @@ module _ {E : Type 0} (stem : Stem) (views newest : ℕ) (index : Index) (number
         picture = opens.picture;
         shows = opens.shows;
         gone = is_past b.now opens.picture opens.at;
-        none = subst (λ (s : Stem). OnOk result (HoldsIndex s views d.now None)) opens.named (subst (λ n. OnOk result (HoldsIndex (stem_of index) n d.now None)) number moved.ended);
+        none = subst (λ (s : Stem). OnOk result (HoldsIndex s views d.now None)) named (subst (λ n. OnOk result (HoldsIndex (stem_of index) n d.now None)) number moved.ended);
       })
       loaded second
 
@@ -145,17 +145,14 @@ others_both stem old mid new first second =
     first second
 
 -- and where a file of an index that was opened is cleared
-pub others_cleared : {E : Type 0} (stem : Stem) (views : ℕ) (index : Index) (result : Result (Unit {0}) E) (old mid new : Option (Disk FileName)) → Tells old mid (Moves (IsFileOf stem) (λ image. Unit {0}) (λ files. Unit {0}))
-    → Tells old mid (λ a b. IsLoaded stem views a.now b.now index) → Tells mid new (Empties (name_of (file_of index)) result) → Tells old new (Moves (IsFileOf stem) (λ image. Unit {0}) (λ files. Unit {0}))
-others_cleared stem views index result old mid new first loaded second =
-    told_then old mid new (λ a b. Moves (IsFileOf stem) (λ image. Unit {0}) (λ files. Unit {0}) a b × IsLoaded stem views a.now b.now index) (Empties (name_of (file_of index)) result) (Moves (IsFileOf stem) (λ image. Unit {0}) (λ files. Unit {0}))
-    (λ a b d one clears. moves_then (IsFileOf stem) (λ image. Unit {0}) (λ image. Unit {0}) (λ image. Unit {0}) (λ files. Unit {0}) (λ files. Unit {0}) (λ files. Unit {0}) a b d
-    (λ image is. tt) (λ ended image is. tt) (λ one_ended other_ended. tt) one.0
-    (moves_wider (λ n. n ≡ name_of (file_of index)) (IsFileOf stem) (λ image. IsImage (b.now (name_of (file_of index))) (image (name_of (file_of index))) ⊎ (image (name_of (file_of index)) ≡ [])) (λ image. Unit {0})
+pub others_cleared : {E : Type 0} (stem : Stem) (index : Index) (named : stem_of index ≡ stem) (result : Result (Unit {0}) E) (old mid new : Option (Disk FileName)) → Tells old mid (Moves (IsFileOf stem) (λ image. Unit {0}) (λ files. Unit {0}))
+    → Tells mid new (Empties (name_of (file_of index)) result) → Tells old new (Moves (IsFileOf stem) (λ image. Unit {0}) (λ files. Unit {0}))
+others_cleared stem index named result old mid new first second =
+    others_both stem old mid new first
+    (told_map mid new (Empties (name_of (file_of index)) result) (Moves (IsFileOf stem) (λ image. Unit {0}) (λ files. Unit {0}))
+    (λ b d clears. moves_wider (λ n. n ≡ name_of (file_of index)) (IsFileOf stem) (λ image. IsImage (b.now (name_of (file_of index))) (image (name_of (file_of index))) ⊎ (image (name_of (file_of index)) ≡ [])) (λ image. Unit {0})
     (λ files. OnOk result (files (name_of (file_of index)) ≡ settled [])) (λ files. Unit {0}) b d
-    (λ n same. ap (λ (k : FileName). k.stem) same ∙ one.1.named) (λ image framed. tt) (λ others ended. tt) clears))
-    (told_both old mid (Moves (IsFileOf stem) (λ image. Unit {0}) (λ files. Unit {0})) (λ a b. IsLoaded stem views a.now b.now index) _ (λ a b one other. (one, other)) first loaded)
-    second
+    (λ n same. ap (λ (k : FileName). k.stem) same ∙ named) (λ image framed. tt) (λ others ended. tt) clears) second)
 
 pub both_ok : {T E : Type 0} (result : Result T E) (P Q R : T → Type 0) → ((x : T) → P x → Q x → R x) → IfOk result P → IfOk result Q → IfOk result R
 both_ok (Ok x) P Q R f one other = f x one other

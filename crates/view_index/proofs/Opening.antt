@@ -10,7 +10,8 @@ use Rattle.view_ports.specs.File.{File}
 use Rattle.view_ports.specs.declared.file_name.FileName.{FileName}
 use Rattle.view_ports.specs.declared.file_name.Stem.{Stem}
 use Rattle.view_ports.proofs.DiskRuns.{moves_wider}
-use Rattle.view_ports.proofs.Told.{told_map, told_then}
+use Rattle.view_ports.proofs.Told.{told_after, told_map, told_pair, told_then}
+use Rattle.gate_file.proofs.Published.{open_holds}
 use Rattle.gate_file.specs.declared.gate.GateFile.{GateFile}
 use Rattle.gate_file.specs.declared.root.Root.{Root}
 use Rattle.gate_file.specs.GateFile.{name_of, root_of}
@@ -95,7 +96,7 @@ module _ (stem : Stem) (views : ℕ) where
       }
 
       pub is_loaded : AreFitSlots stem old → IsLoaded stem views old new index
-      is_loaded fit = record { named = ap (λ (g : GateFile). (name_of g).stem) file_is ∙ (opened_open stem gate old new gate_is is).own; picture = held.picture; shows = record { fit = fit; holds = holds_before gate old new gate_is is held.picture held.holds }; at = at_loaded }
+      is_loaded fit = record { picture = held.picture; shows = record { fit = fit; holds = holds_before gate old new gate_is is held.picture held.holds }; at = at_loaded }
 
       -- it is at the picture that the files stand for
       pub at_held : (picture : Option Picture) → HoldsIndex stem views old picture → IsAt index new picture
@@ -136,3 +137,13 @@ module _ (stem : Stem) (views : ℕ) where
       → Tells old new (Moves (IsFileOf stem) (λ image. Stands stem views image picture) (λ files. IfOk result (P files)))
   stands_failed result P old new picture ends failed holds moves =
       opening_stands stem (HoldsPicture views) (picture_of_root views) old new picture ends (λ files. IfOk result (P files)) (λ a b is ended. failed_open result (P b.now) failed) holds moves
+
+  -- once the pair is open the files hold what they held before
+  pub holds_after : (gate : GateFile) (old new : Option (Disk FileName)) (picture : Option Picture) → IfTold old (λ d. gate ≡ opened stem d.now)
+      → Tells old new (λ a b. Moves (IsFileOf stem) (WhileOpening stem a.now) (IsOpened gate a.now) a b) → IfTold old (λ d. HoldsIndex stem views d.now picture) → IfTold new (λ d. HoldsIndex stem views d.now picture)
+  holds_after gate old new picture gate_is moves holds =
+      told_after old new (λ d. (gate ≡ opened stem d.now) × HoldsIndex stem views d.now picture) (λ d. HoldsIndex stem views d.now picture) (λ a b. Moves (IsFileOf stem) (WhileOpening stem a.now) (IsOpened gate a.now) a b)
+      (λ a b known moved.
+      open_holds stem gate b.now (opened_open stem gate a.now b.now known.0 moved.ended) (HoldsPicture views) (picture_of_root views) picture
+      (opened_holds stem gate a.now b.now known.0 moved.ended (HoldsPicture views) (picture_of_root views) picture known.1))
+      (told_pair old (λ d. gate ≡ opened stem d.now) (λ d. HoldsIndex stem views d.now picture) (λ d. (gate ≡ opened stem d.now) × HoldsIndex stem views d.now picture) (λ d is there. (is, there)) gate_is holds) moves

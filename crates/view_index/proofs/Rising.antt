@@ -21,7 +21,8 @@ use Rattle.raw_collation.proofs.Spelled.{ordering_then-Equal}
 use Rattle.raw_collation.proofs.Totals.{rows_cmp_total}
 use Rattle.view_model.specs.Rows.{same_place}
 use Rattle.view_model.proofs.Strict.{all_each, all_passed, distinct_append, distinct_part}
-use Rattle.index_record.specs.Rows.{ComesFirst, PlacesRise, place_cmp}
+use Rattle.index_record.specs.Rows.{AreRows, ComesFirst, PlacesRise, place_cmp}
+use Rattle.view_index.specs.Held.{empty_views}
 use Rattle.view_index.specs.Pending.{IsPending}
 use Rattle.view_index.specs.ViewRows.{next_rows, of_others}
 
@@ -165,3 +166,13 @@ rising_stay (rows ∷ views) rise =
 pub next_rise_all : (these : List ℕ → Bool) (both : List (List Row × List Row)) → AllByRecursion PlacesRise (map (λ b. b.0) both) → AllByRecursion (IsPending these) both → AllByRecursion PlacesRise (map (next_rows these) both)
 next_rise_all these [] rise pending = tt
 next_rise_all these (b ∷ both) rise pending = (next_rise these b rise.0 pending.0, next_rise_all these both rise.1 pending.1)
+
+-- ---- rows that were read, and none
+
+pub rise_of : (views : List (List Row)) → AllByRecursion AreRows views → AllByRecursion PlacesRise views
+rise_of [] all = tt
+rise_of (rows ∷ views) all = ((all.0).rise, rise_of views all.1)
+
+pub empty_rise : (views : ℕ) → AllByRecursion PlacesRise (empty_views views)
+empty_rise zero = tt
+empty_rise (suc views) = (tt, empty_rise views)

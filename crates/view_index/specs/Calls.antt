@@ -1,5 +1,5 @@
 -- What the calls on an index promise that reach its files.
-use Rattle.std.specs.Prelude.{◌≡◌, ◌⊎◌, ◌+◌, ◌<◌, ◌≤◌, ◌^◌, ℕ, map, length, Result, Err, Some, Option, IfErr, OnOk, OnErr}
+use Rattle.std.specs.Prelude.{◌≡◌, ◌⊎◌, ℕ, map, length, Result, Err, Some, Option, IfErr, OnOk, OnErr}
 use Rattle.raw_collation.specs.Sorting.{sorted_rows}
 use Rattle.view_ports.specs.Causes.{HasCauseIf}
 use Rattle.view_ports.specs.Disk.{IfTold, Moves, Tells}
@@ -7,11 +7,12 @@ use Rattle.view_ports.specs.File.{File}
 use Rattle.view_ports.specs.declared.file_name.FileName.{FileName}
 use Rattle.view_ports.specs.declared.file_name.Stem.{Stem}
 use Rattle.view_ports.specs.declared.folder.Folder.{Ghosts as Folders}
+use Rattle.gate_file.specs.declared.fault.GateFault.{GateFault}
 use Rattle.gate_file.specs.declared.fault.GateFault.TheVariants.{DiskFault}
 use Rattle.gate_file.specs.Calls.{too_long, used_up}
-use Rattle.gate_file.specs.GateFile.{commits_of, name_of, root_of, start_of}
+use Rattle.gate_file.specs.GateFile.{name_of, root_of}
 use Rattle.gate_file.specs.Pair.{IsOpenPair, own_bytes}
-use Rattle.gate_file.specs.Publish.{published, IsTooLong, IsUsedUp}
+use Rattle.gate_file.specs.Publish.{published, IsFull, IsTooLong, IsUsedUp}
 use Rattle.index_record.specs.Record.{record_bytes}
 use Rattle.view_model.specs.Picture.{Picture}
 use Rattle.view_index.specs.declared.fault.IndexFault.{IndexFault}
@@ -49,6 +50,11 @@ pub record IsSettled (index : Index) : Type 0 where
   pub next : next_in index ≡ map sorted_rows (picture_of index).rows
   pub pending : ArePending index
 
+-- a fault of the file comes exactly where it has its cause; only want of memory may come in its place
+pub record IsExactly {T : Type 0} (fault : GateFault) (Cause : Type 0) (result : Result T IndexFault) : Type 0 where
+  pub only : result ≡ Err (Store fault) → Cause
+  pub always : Cause → (result ≡ Err (Store fault)) ⊎ (result ≡ Err NoMemory)
+
 module _ {F : Type 0} (f : Folders F) where
   -- a fault of the disk comes only where the folder counted one
   abbrev pub IsCounted : {T : Type 0} → F → F → Result T IndexFault → Type 0
@@ -59,19 +65,20 @@ module _ {F : Type 0} (f : Folders F) where
     pub file : OnOk result (file_of index' ≡ published (file_of index) (next_size seq index) 0)
     pub picture : OnOk result (picture_of index' ≡ next_picture seq index)
     pub settled : OnOk result (IsSettled index')
-    -- a refusal leaves the last picture, and the exchanges
+    -- a refusal leaves the last picture, and the exchanges; want of memory leaves everything, and a full file is left as it was
     pub kept : OnErr result ((picture_of index' ≡ picture_of index) × (next_in index' ≡ next_in index))
-    pub untouched : result ≡ Err NoMemory → (file_of index' ≡ file_of index) × (new ≡ old)
+    pub untouched : result ≡ Err NoMemory → (index' ≡ index) × (new ≡ old)
+    pub full : IsFull (file_of index) (next_size seq index) → (file_of index' ≡ file_of index) × (new ≡ old)
     -- a crash leaves the last picture or the next, and once it is committed the next
     pub stands : (picture : Option Picture) → IfTold (f.disk old) (λ d. IsAt index d.now picture) → Tells (f.disk old) (f.disk new)
         (Moves (IsFileOf (stem_of index))
         (λ image. Stands (stem_of index) (views_of index) image picture ⊎ Stands (stem_of index) (views_of index) image (Some (next_picture seq index)))
         (λ files. OnOk result (IsAt index' files (Some (next_picture seq index)))))
+    -- whatever the exchanges are, files of other names are as they were, and the object is of its files
+    pub others : Tells (f.disk old) (f.disk new) (Moves (IsFileOf (stem_of index)) (λ image. Unit {0}) (λ files. OnOk result (IsOpen index' files)))
     -- the file is full exactly where it would be too long, and where it has all of its commits
-    pub long : result ≡ Err (Store (too_long (file_of index))) → IsTooLong (file_of index) (next_size seq index)
-    pub short : OnOk result (start_of (file_of index) + next_size seq index ≤ 2 ^ 40)
-    pub spent : result ≡ Err (Store (used_up (file_of index))) → IsUsedUp (file_of index) (next_size seq index)
-    pub few : OnOk result (commits_of (file_of index) < 2 ^ 50)
+    pub long : IsExactly (too_long (file_of index)) (IsTooLong (file_of index) (next_size seq index)) result
+    pub spent : IsExactly (used_up (file_of index)) (IsUsedUp (file_of index) (next_size seq index)) result
     pub faults : IfErr result (λ e. (e ≡ Store DiskFault) ⊎ (e ≡ Store (too_long (file_of index))) ⊎ (e ≡ Store (used_up (file_of index))) ⊎ (e ≡ NoMemory))
     pub cause : IsCounted old new result
     pub reads : f.reads new ≡ f.reads old

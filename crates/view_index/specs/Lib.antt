@@ -9,3 +9,4 @@ pub mod Pending
 pub mod Calls
 pub mod Loads
 pub mod Opens
+pub mod Laws

@@ -1,5 +1,6 @@
 -- What opening an index promises.
 use Rattle.std.specs.Prelude.{◌≡◌, ◌⊎◌, ℕ, Result, Err, IfErr, IfOk, Option}
+use Rattle.std.specs.List.{AllByRecursion}
 use Rattle.view_ports.specs.Causes.{RisesBy}
 use Rattle.view_ports.specs.Disk.{IfTold, Moves, Tells}
 use Rattle.view_ports.specs.File.{File}
@@ -10,13 +11,14 @@ use Rattle.gate_file.specs.declared.fault.GateFault.TheVariants.{Damaged, DiskFa
 use Rattle.gate_file.specs.GateFile.{root_of}
 use Rattle.gate_file.specs.Open.{opened, AreFitSlots}
 use Rattle.gate_file.specs.Pair.{own_bytes}
+use Rattle.index_record.specs.Rows.{PlacesRise}
 use Rattle.view_model.specs.Picture.{Picture}
 use Rattle.view_index.specs.declared.fault.IndexFault.{IndexFault}
 use Rattle.view_index.specs.declared.fault.IndexFault.TheVariants.{NoMemory, Store}
 use Rattle.view_index.specs.declared.index.Index.{Index}
 use Rattle.view_index.specs.Calls.{stem_of, IsAt, IsCounted, IsSettled}
 use Rattle.view_index.specs.Held.{up_to, HoldsIndex, HoldsPicture, IsDamagedAt, IsFileOf, Stands}
-use Rattle.view_index.specs.Index.{views_of}
+use Rattle.view_index.specs.Index.{picture_of, views_of}
 
 -- damage that is found is of this kind
 abbrev pub FindsDamage : {T : Type 0} → (FileName → ℕ → Type 0) → Result T IndexFault → Type 0
@@ -26,9 +28,11 @@ FindsDamage IsThere result = (name : FileName) (at : ℕ) → result ≡ Err (St
 abbrev pub IsOpenFault : IndexFault → Type 0
 IsOpenFault fault = (fault ≡ Store DiskFault) ⊎ (fault ≡ NoMemory) ⊎ ((name : FileName) × (at : ℕ) × (fault ≡ Store (Damaged name at)))
 
--- an index of so many views, of which nothing is exchanged
-pub record IsNew (views : ℕ) (index : Index) : Type 0 where
+-- an index of these files and of so many views, whose rows are in order, and of which nothing is exchanged
+pub record IsNew (stem : Stem) (views : ℕ) (index : Index) : Type 0 where
+  pub named : stem_of index ≡ stem
   pub number : views_of index ≡ views
+  pub rise : AllByRecursion PlacesRise (picture_of index).rows
   pub settled : IsSettled index
 
 -- no slot of the files is damaged, and the root that they name holds this picture
@@ -38,14 +42,12 @@ pub record Shows (stem : Stem) (views : ℕ) (files : FileName → File) (pictur
 
 -- the index is at what the files showed
 pub record IsLoaded (stem : Stem) (views : ℕ) (old new : FileName → File) (index : Index) : Type 0 where
-  pub named : stem_of index ≡ stem
   pub picture : Option Picture
   pub shows : Shows stem views old picture
   pub at : IsAt index new picture
 
 -- the index is at what the files showed, as far as this reaches the newest write
 pub record IsFound (stem : Stem) (views newest : ℕ) (old new : FileName → File) (index : Index) : Type 0 where
-  pub named : stem_of index ≡ stem
   pub picture : Option Picture
   pub shows : Shows stem views old picture
   pub at : IsAt index new (up_to newest picture)
@@ -53,10 +55,12 @@ pub record IsFound (stem : Stem) (views newest : ℕ) (old new : FileName → Fi
 -- The index is opened: it is at what the files showed, and without a picture they have no bytes.
 module _ {F : Type 0} (f : Folders F) (stem : Stem) (views : ℕ) (old new : F) where
   pub record Loads (result : Result Index IndexFault) : Type 0 where
-    pub fresh : IfOk result (IsNew views)
+    pub fresh : IfOk result (IsNew stem views)
     pub found : Tells (f.disk old) (f.disk new) (λ a b. IfOk result (IsLoaded stem views a.now b.now))
     pub stands : (picture : Option Picture) → IfTold (f.disk old) (λ d. HoldsIndex stem views d.now picture) → Tells (f.disk old) (f.disk new)
         (Moves (IsFileOf stem) (λ image. Stands stem views image picture) (λ files. IfOk result (λ index. IsAt index files picture)))
+    pub wanting : (picture : Option Picture) → IfTold (f.disk old) (λ d. HoldsIndex stem views d.now picture) → result ≡ Err NoMemory
+        → IfTold (f.disk new) (λ d. HoldsIndex stem views d.now picture)
     pub sound : (picture : Option Picture) → IfTold (f.disk old) (λ d. HoldsIndex stem views d.now picture → FindsDamage (λ name at. ⊥) result)
     pub damaged : IfTold (f.disk old) (λ d. FindsDamage (IsDamagedAt stem views d.now) result)
     pub others : Tells (f.disk old) (f.disk new) (Moves (IsFileOf stem) (λ image. Unit {0}) (λ files. Unit {0}))
@@ -67,12 +71,15 @@ module _ {F : Type 0} (f : Folders F) (stem : Stem) (views : ℕ) (old new : F) 
 module _ {F : Type 0} (f : Folders F) (stem : Stem) (views newest : ℕ) (old new : F) where
   -- the index is opened, and emptied where it is past the newest write
   pub record Opens (result : Result Index IndexFault) : Type 0 where
-    pub fresh : IfOk result (IsNew views)
+    pub fresh : IfOk result (IsNew stem views)
     pub found : Tells (f.disk old) (f.disk new) (λ a b. IfOk result (IsFound stem views newest a.now b.now))
     -- files of which nothing is pending are never damaged, and a crash leaves what they stand for, or nothing of a picture past
     -- the newest write
     pub stands : (picture : Option Picture) → IfTold (f.disk old) (λ d. HoldsIndex stem views d.now picture) → Tells (f.disk old) (f.disk new)
         (Moves (IsFileOf stem) (λ image. Stands stem views image picture ⊎ Stands stem views image (up_to newest picture)) (λ files. IfOk result (λ index. IsAt index files (up_to newest picture))))
+    -- want of memory leaves such files, of one of these pictures, so that they can be opened again
+    pub wanting : (picture : Option Picture) → IfTold (f.disk old) (λ d. HoldsIndex stem views d.now picture) → result ≡ Err NoMemory
+        → IfTold (f.disk new) (λ d. HoldsIndex stem views d.now picture ⊎ HoldsIndex stem views d.now (up_to newest picture))
     pub sound : (picture : Option Picture) → IfTold (f.disk old) (λ d. HoldsIndex stem views d.now picture → FindsDamage (λ name at. ⊥) result)
     pub damaged : IfTold (f.disk old) (λ d. FindsDamage (IsDamagedAt stem views d.now) result)
     -- files of other names are as they were

@@ -5,6 +5,7 @@ mod doc_rows;
 mod fault;
 mod ids;
 mod index;
+mod laws;
 mod load;
 mod new_rows;
 mod view_rows;
@@ -12,3 +13,6 @@ mod view_rows;
 pub use doc_rows::DocRows;
 pub use fault::IndexFault;
 pub use index::Index;
+pub use laws::{
+    empty_files_hold_no_picture, files_of_open_indexes_hold, images_of_open_indexes_stand,
+};

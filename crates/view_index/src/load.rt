@@ -1,7 +1,7 @@
 //! Reading what the file of an index holds.
 
 ghost use Rattle.std.specs.Prelude.{◌≡◌, ℕ, List, None, Ok, true, IfErr, IfOk, IfSome, length};
-ghost use Rattle.std.specs.List.{list_all};
+ghost use Rattle.std.specs.List.{list_all, AllByRecursion};
 ghost use Rattle.view_ports.specs.Disk.{MovesNone};
 ghost use Rattle.gate_file.specs.Calls.{Moved, ReadsUpTo, Told};
 ghost use Rattle.gate_file.specs.GateFile.{root_of};
@@ -9,7 +9,7 @@ ghost use Rattle.gate_file.specs.Pair.{own_bytes};
 ghost use Rattle.gate_file.specs.RootPlace.{IsRootPlace};
 ghost use Rattle.json_terms.specs.declared.term.Row.{Row as RowSeen};
 ghost use Rattle.index_record.specs.Record.{IsOneRecord, IsRecordOf};
-ghost use Rattle.index_record.specs.Rows.{own_views};
+ghost use Rattle.index_record.specs.Rows.{own_views, PlacesRise};
 ghost use Rattle.view_model.specs.Picture.{Picture};
 ghost use Rattle.view_index.specs.Calls.{IsCounted};
 ghost use Rattle.view_index.specs.Held.{empty_views, SpellsPicture};
@@ -38,6 +38,7 @@ pub(crate) fn load_record<F: Folder>(
 ) -> Result<Record, IndexFault>
     ensures rows { IfOk result (λ r. list_all (list_all is_row) (own_views r.views.items) ≡ true) }
     ensures number { IfOk result (λ r. length r.views.items ≡ views) }
+    ensures rise { IfOk result (λ r. AllByRecursion PlacesRise (own_views r.views.items)) }
     ensures held { Told F.Folder folder.old (λ d. IfOk result
         (λ r. HasLoaded views (root_of file.now) (own_bytes file.now d.now) r.seq (own_views r.views.items))) }
     ensures damaged { Told F.Folder folder.old (λ d. FindsDamage

@@ -5,7 +5,7 @@ ghost use Rattle.json_terms.specs.Seen.{json};
 ghost use Rattle.view_ports.specs.Disk.{MovesNone};
 ghost use Rattle.gate_file.specs.Calls.{Moved, ReadsUpTo, Told};
 ghost use Rattle.gate_file.specs.GateFile.{name_of};
-ghost use Rattle.doc_file.specs.Changes.{numbered, AreInOrder, AreWhole, HasDocument, IsChange, IsNext, IsSpoiledAfter, IsStored};
+ghost use Rattle.doc_file.specs.Changes.{numbered, AreInOrder, AreWhole, HasDocument, HasShortId, IsChange, IsNext, IsSpoiledAfter, IsStored};
 ghost use Rattle.doc_file.specs.Docs.{bytes_in, file_of, IsLoaded, IsSpoiled};
 ghost use Rattle.doc_file.specs.History.{changes_after};
 ghost use Rattle.doc_file.specs.Reads.{AtHistory, FindsDamage, FindsNoDamage, IsCounted, IsReadFault};
@@ -103,6 +103,7 @@ impl Docs {
         ensures order { IfOk result (λ changes. AreInOrder seq changes) }
         ensures few { IfOk result (λ changes. length changes ≤ n) }
         ensures bodies { IfOk result (λ changes. All HasDocument changes) }
+        ensures short { IfOk result (λ changes. All HasShortId changes) }
         ensures whole { IfOk result (λ changes. AreWhole self.now seq n changes) }
         ensures each { Told F.Folder folder.old (λ d. IsLoaded self.now d.now →
             IfOk result (λ changes. All (IsChange self.now (bytes_in self.now d.now)) changes)) }

@@ -4,6 +4,7 @@ ghost use Rattle.std.specs.Prelude.{◌≡◌, ◌⊎◌, ℕ, ◌<◌, ◌-◌,
 ghost use Rattle.view_ports.specs.Causes.{one_more};
 ghost use Rattle.view_ports.specs.Disk.{MovesNone};
 ghost use Rattle.view_ports.specs.FolderCalls.{Passes};
+ghost use Rattle.gate_file.specs.GateFile.{name_of, IsOfStem};
 ghost use Rattle.gate_file.specs.Header.{IsDamaged};
 ghost use Rattle.gate_file.specs.Calls.{IsCounted, IsDamageOf, IsOpenFault, IsReadFault, Moved, ReadsUpTo, Told};
 ghost use Rattle.gate_file.specs.Opens.{Empties, HasRoot, IsFoundAs, Opens, Syncs, SyncsPair};
@@ -73,6 +74,7 @@ fn found_with(name: FileName, size: u64, low: Option<Root>, high: Option<Root>) 
 
 /// Syncs a file of a pair, and answers what it is by its slots.
 fn look<F: Folder>(folder: &mut F, name: FileName) -> Result<GateFile, GateFault>
+    ensures named { IfOk result (λ gate. name_of gate ≡ name) }
     ensures found { Told F.Folder folder.old (λ d. IfOk result (IsFoundAs name (d.now name).seen)) }
     ensures damaged { Told F.Folder folder.old
         (λ d. IsDamageOf (λ n at. (n ≡ name) × IsFirstIn (d.now name).seen at) result) }
@@ -96,6 +98,7 @@ struct Pair {
 
 /// Syncs both files of a pair, and answers what they are by their slots.
 fn look_at_both<F: Folder>(folder: &mut F, stem: Stem) -> Result<Pair, GateFault>
+    ensures named { IfOk result (λ pair. IsOfStem stem pair.first × IsOfStem stem pair.second) }
     ensures found { Told F.Folder folder.old
         (λ d. IfOk result (λ pair. IsPair stem d.now pair.first pair.second)) }
     ensures sound { Told F.Folder folder.old (λ d. OnOk result (AreFitSlots stem d.now)) }
@@ -116,6 +119,7 @@ impl GateFile {
     /// At each moment a crash leaves what it might have left before, or, once both are synced, the file
     /// that is taken as it is.
     pub fn open<F: Folder>(folder: &mut F, stem: Stem) -> Result<GateFile, GateFault>
+        ensures named { IfOk result (IsOfStem stem) }
         ensures opened { Told F.Folder folder.old (λ d. IfOk result (λ gate. gate ≡ opened stem d.now)) }
         ensures disk { Moved F.Folder folder.old folder.new (Opens stem result) }
 

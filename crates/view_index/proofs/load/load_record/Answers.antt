@@ -1,6 +1,6 @@
 -- What is read is what the root names.
 use Rattle.std.specs.Prelude.{◌≡◌, List, true, length, IfSome}
-use Rattle.std.specs.List.{list_all}
+use Rattle.std.specs.List.{AllByRecursion, list_all}
 use Rattle.std.specs.declared.alloc.Global.{Global}
 use Rattle.std.specs.Prelude.{Vec}
 use Rattle.std.proofs.Common.{ap, sym, ◌∙◌, subst}
@@ -12,9 +12,10 @@ use Rattle.gate_file.specs.GateFile.{root_of}
 use Rattle.gate_file.specs.Open.{IsPart}
 use Rattle.gate_file.specs.Pair.{own_bytes}
 use Rattle.index_record.specs.Record.{IsOneRecord, IsRecordOf}
-use Rattle.index_record.specs.Rows.{own_views}
+use Rattle.index_record.specs.Rows.{own_views, PlacesRise}
 use Rattle.view_index.specs.Rows.{is_row}
 use Rattle.view_index.proofs.Loaded.{fit_empty, length-empty, loaded_some}
+use Rattle.view_index.proofs.Rising.{empty_rise, rise_of}
 use Rattle.view_index.proofs.load.load_record.Goals as goal
 
 abbrev items_of : Vec Row Global → List Row
@@ -34,6 +35,14 @@ returns-in-Some-2-clause-held g c =
 
 pub returns-clause-rows : goal.returns-clause-rows
 returns-clause-rows g c = ap (list_all (list_all is_row)) c.in_ok-no_rows-in-None.ensures ∙ fit_empty c.args.views
+
+pub returns-in-Some-2-clause-rise : goal.returns-in-Some-2-clause-rise
+returns-in-Some-2-clause-rise g c =
+    let spelled : IsRecordOf c.args.views c.as_slice.result.now c.in-Some-2.record.seq (own_views c.in-Some-2.record.views.items) = subst (λ o. IfSome o (λ r. IsRecordOf c.args.views c.as_slice.result.now r.seq (own_views r.views.items))) c.in-Some-2.is c.in_ok-record-in-Some.ensures.some in
+    rise_of (own_views c.in-Some-2.record.views.items) spelled.content.each
+
+pub returns-clause-rise : goal.returns-clause-rise
+returns-clause-rise g c = subst (AllByRecursion PlacesRise) (sym c.in_ok-no_rows-in-None.ensures) (empty_rise c.args.views)
 
 pub returns-clause-number : goal.returns-clause-number
 returns-clause-number g c = sym (length-map c.in_ok-no_rows-in-None.field-0.items items_of) ∙ ap length c.in_ok-no_rows-in-None.ensures ∙ length-empty c.args.views

@@ -1,11 +1,15 @@
-use Rattle.std.proofs.Common.{◌≡◌, ◌∙◌, ap, subst, length, OnOk}
+use Rattle.std.proofs.Common.{◌≡◌, ◌∙◌, ℕ, ap, refl, subst, length, OnOk, Option, Some, None}
 use Rattle.view_ports.specs.File.{settled, synced}
 use Rattle.view_ports.specs.Disk.{MovesNone}
 use Rattle.view_ports.specs.FolderCalls.{Changes, Passes}
 use Rattle.view_ports.proofs.Told.{told_refl, told_map, told_then, told_back, told_pair}
 use Rattle.view_ports.proofs.DiskRuns.{on_ok, none_refl}
 use Rattle.gate_file.specs.Header.{slot_at, open_root, IsFit}
-use Rattle.gate_file.specs.Open.{found}
+use Rattle.view_ports.specs.declared.file_name.FileName.{FileName}
+use Rattle.gate_file.specs.declared.root.Root.{Root}
+use Rattle.gate_file.specs.GateFile.{name_of}
+use Rattle.gate_file.specs.Header.{newer}
+use Rattle.gate_file.specs.Open.{found, found_newest}
 use Rattle.gate_file.proofs.Stepped.{ended_err}
 use Rattle.gate_file.proofs.Looks.{told_looked, told_none, told_none_then, SeenSame, found-same}
 use Rattle.gate_file.proofs.gate.open.look.Goals as goal
@@ -55,3 +59,11 @@ returns-clause-found g c =
     (λ d. ((c.in_ok-low.low ≡ open_root (slot_at (d.now name).seen 0)) × IsFit 0 (d.now name).seen) × ((c.in_ok-high.high ≡ open_root (slot_at (d.now name).seen 4096)) × IsFit 4096 (d.now name).seen))
     (λ d. (c.found_with.result ≡ found name (d.now name).seen) × IsFit 0 (d.now name).seen × IsFit 4096 (d.now name).seen)
     (λ d is slots. (c.found_with.ensures ∙ found-same name c.in_ok-size.size c.in_ok-low.low c.in_ok-high.high (d.now name).seen is slots.0.0 slots.1.0, slots.0.1, slots.1.1)) size both
+
+-- a file is of its name
+found_name : (name : FileName) (size : ℕ) (low high newest : Option Root) → name_of (found_newest name size low high newest) ≡ name
+found_name name size low high None = refl
+found_name name size low high (Some root) = refl
+
+pub returns-clause-named : goal.returns-clause-named
+returns-clause-named g c = ap name_of c.found_with.ensures ∙ found_name c.args.name c.in_ok-size.size c.in_ok-low.low c.in_ok-high.high (newer c.in_ok-low.low c.in_ok-high.high)

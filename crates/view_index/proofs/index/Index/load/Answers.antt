@@ -1,6 +1,6 @@
 -- The root record is read once the pair is opened, and a read changes nothing.
-use Rattle.std.specs.Prelude.{◌≡◌, ◌<◌, ◌^◌, ℕ, List, length, Option, Some, None, Err, IfOk, refl}
-use Rattle.std.specs.List.{list_all}
+use Rattle.std.specs.Prelude.{◌≡◌, ◌<◌, ◌^◌, ℕ, List, length, map, Option, Some, None, Err, IfOk, refl}
+use Rattle.std.specs.List.{AllByRecursion, list_all}
 use Rattle.std.proofs.Common.{ap, sym, ◌∙◌, subst, inl, inr, rules}
 use Rattle.std.proofs.lemmas.List.{length-map}
 use Rattle.std.specs.Prelude.{Vec}
@@ -19,7 +19,7 @@ use Rattle.gate_file.specs.Open.{opened, AreFitSlots, IsOpened, WhileOpening}
 use Rattle.gate_file.specs.Pair.{own_bytes}
 use Rattle.gate_file.proofs.Opened.{opened_damaged, opened_holds, opening_stands, undamaged}
 use Rattle.gate_file.proofs.Stretches.{told_end, IsOpened-same}
-use Rattle.index_record.specs.Rows.{own_views}
+use Rattle.index_record.specs.Rows.{own_views, PlacesRise}
 use Rattle.view_model.specs.Picture.{Picture}
 use Rattle.view_index.specs.declared.fault.IndexFault.TheVariants.{Store}
 use Rattle.view_index.specs.Calls.{IsAt}
@@ -29,7 +29,7 @@ use Rattle.view_index.specs.ViewRows.{are_fit}
 use Rattle.view_index.specs.Loads.{HasLoaded}
 use Rattle.view_index.specs.Opens.{FindsDamage, IsLoaded}
 use Rattle.view_index.proofs.Carried.{picture_of_root}
-use Rattle.view_index.proofs.Opening.{at_held, finds_none, is_loaded, others_stay, settled_now, stands_failed, then_none}
+use Rattle.view_index.proofs.Opening.{at_held, finds_none, holds_after, is_loaded, others_stay, rows_unexchanged, settled_now, stands_failed, then_none}
 use Rattle.view_index.proofs.Fits.{fit_unexchanged}
 use Rattle.view_index.proofs.index.Index.load.Goals as goal
 
@@ -47,6 +47,7 @@ returns-in_err-file g c =
       fresh = search rules;
       found = finds_none stem views c.from_residual.result (IsLoaded stem views) old new _ c.from_residual.ensures.0 c.open.ensures.disk;
       stands = λ picture holds. stands_failed stem views c.from_residual.result (λ files index. IsAt index files picture) old new picture ends c.from_residual.ensures.0 holds c.open.ensures.disk;
+      wanting = λ picture holds wanted. let no : ⊥ = search rules in absurd no;
       sound = λ picture. told_now old _ _
           (λ d damaged holds n at failed. let was : c.open.result ≡ Err (Damaged n at) = search rules in undamaged stem (HoldsPicture views) d.now picture n at holds (damaged n at was)) c.open.ensures.damaged;
       damaged = told_now old _ _ (λ d damaged n at failed. let was : c.open.result ≡ Err (Damaged n at) = search rules in inl (damaged n at was)) c.open.ensures.damaged;
@@ -78,6 +79,7 @@ returns-in_err-record g c =
       fresh = search rules;
       found = finds_none stem views c.from_residual-in_err-record.result (IsLoaded stem views) old new _ c.from_residual-in_err-record.ensures.0 moved;
       stands = λ picture holds. stands_failed stem views c.from_residual-in_err-record.result (λ files index. IsAt index files picture) old new picture ends c.from_residual-in_err-record.ensures.0 holds moved;
+      wanting = λ picture holds wanted. holds_after stem views file old new picture c.in_ok-file.ensures.opened moved holds;
       sound = λ picture.
           told_pair old (λ d. file ≡ opened stem d.now) (λ d. file ≡ opened stem d.now → HoldsIndex stem views d.now picture → FindsDamage (λ name at. ⊥) c.from_residual-in_err-record.result)
           (λ d. HoldsIndex stem views d.now picture → FindsDamage (λ name at. ⊥) c.from_residual-in_err-record.result)
@@ -121,6 +123,7 @@ returns-in_err-views g c =
       fresh = search rules;
       found = finds_none stem views c.from_residual-in_err-views.result (IsLoaded stem views) old new _ c.from_residual-in_err-views.ensures.0 moved;
       stands = λ picture holds. stands_failed stem views c.from_residual-in_err-views.result (λ files index. IsAt index files picture) old new picture ends c.from_residual-in_err-views.ensures.0 holds moved;
+      wanting = λ picture holds wanted. holds_after stem views file old new picture c.in_ok-file.ensures.opened moved holds;
       sound = λ picture. told_all old _ (λ d holds n at failed. let no : ⊥ = search rules in no);
       damaged = told_all old _ (λ d n at failed. let no : ⊥ = search rules in absurd no);
       others = others_stay stem views old new (λ old image. WhileOpening stem old image) ends moved;
@@ -155,7 +158,7 @@ returns g c =
     c.in_ok-record.ensures.held c.load_record.ensures.disk in
     let both = told_end old new (λ a b. Moves (IsFileOf stem) (WhileOpening stem a.now) (ends a.now) a b) (λ d. HasLoaded views (root_of file) (own_bytes file d.now) c.in_ok-record.record.seq rows) moved held_end in
     record {
-      fresh = record { number = ap length c.in_ok-views.ensures ∙ length-map rows unexchanged ∙ number; settled = settled_now stem views _ rows c.in_ok-views.ensures number file refl c.new.ensures };
+      fresh = record { named = c.in_ok-file.ensures.named; number = ap length c.in_ok-views.ensures ∙ length-map rows unexchanged ∙ number; rise = subst (AllByRecursion PlacesRise) (sym (ap (map (λ b. b.0)) c.in_ok-views.ensures ∙ rows_unexchanged rows)) c.in_ok-record.ensures.rise; settled = settled_now stem views _ rows c.in_ok-views.ensures number file refl c.new.ensures };
       found =
           told_given old new (λ d. AreFitSlots stem d.now × (file ≡ opened stem d.now)) (λ a b. Moves (IsFileOf stem) (WhileOpening stem a.now) (ends a.now) a b × HasLoaded views (root_of file) (own_bytes file b.now) c.in_ok-record.record.seq rows) _
           (λ a b known told. is_loaded stem views _ rows c.in_ok-views.ensures number file refl a.now b.now known.1 told.0.ended told.1 known.0)
@@ -168,6 +171,7 @@ returns g c =
           (told_given old new (λ d. file ≡ opened stem d.now) (λ a b. Moves (IsFileOf stem) (WhileOpening stem a.now) (ends a.now) a b × HasLoaded views (root_of file) (own_bytes file b.now) c.in_ok-record.record.seq rows)
           (λ a b. Moves (IsFileOf stem) (WhileOpening stem a.now) (known a.now) a b)
           (λ a b file_is told. record { moments = told.0.moments; others = told.0.others; ended = (file_is, told.0.ended, told.1) }) c.in_ok-file.ensures.opened both);
+      wanting = λ picture holds wanted. let no : ⊥ = search rules in absurd no;
       sound = λ picture. told_all old _ (λ d holds n at failed. let no : ⊥ = search rules in no);
       damaged = told_all old _ (λ d n at failed. let no : ⊥ = search rules in absurd no);
       others = others_stay stem views old new (λ old image. WhileOpening stem old image) ends moved;

@@ -12,10 +12,11 @@ use Rattle.gate_file.specs.Opens.{Empties}
 use Rattle.view_ports.proofs.Told.{told_after, told_all, told_back, told_both, told_map, told_now, told_pair, told_then}
 use Rattle.gate_file.specs.declared.fault.GateFault.TheVariants.{Damaged}
 use Rattle.gate_file.proofs.Openings.{failed_open}
-use Rattle.view_index.specs.declared.fault.IndexFault.TheVariants.{Store}
+use Rattle.gate_file.proofs.Stretches.{told_end}
+use Rattle.view_index.specs.declared.fault.IndexFault.TheVariants.{NoMemory, Store}
 use Rattle.view_model.specs.Picture.{Picture}
 use Rattle.view_index.specs.declared.index.Index.{Index}
-use Rattle.view_index.specs.Calls.{IsAt}
+use Rattle.view_index.specs.Calls.{stem_of, IsAt}
 use Rattle.view_index.specs.Held.{or_empty, up_to, HoldsIndex, IsFileOf, Stands}
 use Rattle.view_index.specs.Index.{file_of, seq_of, views_of}
 use Rattle.view_index.specs.Opens.{FindsDamage, IsFound, IsLoaded}
@@ -37,6 +38,7 @@ returns-in_err-index g c =
           (λ a b moved. moves_wider (IsFileOf stem) (IsFileOf stem) (λ image. Stands stem views image picture) (λ image. Stands stem views image picture ⊎ Stands stem views image (up_to newest picture))
           _ _ a b (λ n is. is) (λ image framed. inl framed.inside) (λ others ended. failed_open c.from_residual.result (λ index. IsAt index b.now (up_to newest picture)) c.from_residual.ensures.0) moved)
           (c.load.ensures.stands picture holds);
+      wanting = λ picture holds wanted. let was : c.load.result ≡ Err NoMemory = search rules in told_now new _ _ (λ d there. inl there) (c.load.ensures.wanting picture holds was);
       sound = λ picture. told_now old _ _ (λ d never holds n at failed. let was : c.load.result ≡ Err (Store (Damaged n at)) = search rules in never holds n at was) (c.load.ensures.sound picture);
       damaged = told_now old _ _ (λ d damaged n at failed. let was : c.load.result ≡ Err (Store (Damaged n at)) = search rules in damaged n at was) c.load.ensures.damaged;
       others = c.load.ensures.others;
@@ -58,11 +60,12 @@ returns-then-index-newest g c =
     subst (IsAt index files) (sym (up_to_kept (views_of index) newest picture (omega (arith, seq, c.if-index-newest.true)))) at in
     record {
       fresh = c.in_ok-index.ensures.fresh;
-      found = told_map old new (λ a b. IsLoaded stem views a.now b.now index) _ (λ a b loaded. record { named = loaded.named; picture = loaded.picture; shows = loaded.shows; at = kept b.now loaded.picture loaded.at }) c.in_ok-index.ensures.found;
+      found = told_map old new (λ a b. IsLoaded stem views a.now b.now index) _ (λ a b loaded. record { picture = loaded.picture; shows = loaded.shows; at = kept b.now loaded.picture loaded.at }) c.in_ok-index.ensures.found;
       stands = λ picture holds. told_map old new (Moves (IsFileOf stem) (λ image. Stands stem views image picture) (λ files. IsAt index files picture)) _
           (λ a b moved. moves_wider (IsFileOf stem) (IsFileOf stem) (λ image. Stands stem views image picture) (λ image. Stands stem views image picture ⊎ Stands stem views image (up_to newest picture))
           (λ files. IsAt index files picture) (λ files. IsAt index files (up_to newest picture)) a b (λ n is. is) (λ image framed. inl framed.inside) (λ others ended. kept b.now picture ended) moved)
           (c.in_ok-index.ensures.stands picture holds);
+      wanting = λ picture holds wanted. let no : ⊥ = search rules in absurd no;
       sound = λ picture. told_all old _ (λ d holds n at failed. let no : ⊥ = search rules in no);
       damaged = told_all old _ (λ d n at failed. let no : ⊥ = search rules in absurd no);
       others = c.load.ensures.others;
@@ -81,16 +84,18 @@ returns-in_err-clear g c =
     let newest = c.args.newest in
     let index : Index = c.in_ok-index.index in
     let number : views_of index ≡ views = c.in_ok-index.ensures.fresh.number in
+    let named : stem_of index ≡ stem = c.in_ok-index.ensures.fresh.named in
     let past : newest < seq_of index = omega (arith, c.if-index-newest.false) in
     let clears : Tells mid cut (Empties (name_of (file_of index)) c.clear.result) = subst (λ (n : FileName). Tells mid cut (Empties n c.clear.result)) c.name.ensures c.clear.ensures.disk in
-    let others = others_cleared stem views index c.clear.result old mid cut c.load.ensures.others c.in_ok-index.ensures.found clears in
+    let others = others_cleared stem index named c.clear.result old mid cut c.load.ensures.others clears in
     record {
       fresh = search rules;
       found = finds_none stem views c.from_residual-in_err-clear.result (IsFound stem views newest) old cut _ c.from_residual-in_err-clear.ensures.0 others;
       stands = λ picture holds. told_map old cut
           (Moves (IsFileOf stem) (λ image. Stands stem views image picture ⊎ Stands stem views image (up_to newest picture)) (λ files. OnOk c.clear.result (HoldsIndex stem views files None) × (up_to newest picture ≡ None))) _
           (λ a b moved. record { moments = moved.moments; others = moved.others; ended = failed_open c.from_residual-in_err-clear.result (λ index. IsAt index b.now (up_to newest picture)) c.from_residual-in_err-clear.ensures.0 })
-          (stands_cleared stem views newest index number past c.clear.result old mid cut picture (c.in_ok-index.ensures.stands picture holds) c.in_ok-index.ensures.found clears);
+          (stands_cleared stem views newest index named number past c.clear.result old mid cut picture (c.in_ok-index.ensures.stands picture holds) c.in_ok-index.ensures.found clears);
+      wanting = λ picture holds wanted. let no : ⊥ = search rules in absurd no;
       sound = λ picture. told_all old _ (λ d holds n at failed. let no : ⊥ = search rules in no);
       damaged = told_all old _ (λ d n at failed. let no : ⊥ = search rules in absurd no);
       others = others;
@@ -109,21 +114,22 @@ returns g c =
     let newest = c.args.newest in
     let index : Index = c.in_ok-index.index in
     let number : views_of index ≡ views = c.in_ok-index.ensures.fresh.number in
+    let named : stem_of index ≡ stem = c.in_ok-index.ensures.fresh.named in
     let past : newest < seq_of index = omega (arith, c.if-index-newest.false) in
     let clears : Tells mid cut (Empties (name_of (file_of index)) c.clear.result) = subst (λ (n : FileName). Tells mid cut (Empties n c.clear.result)) c.name.ensures c.clear.ensures.disk in
     let new = g.F.Folder.disk c.load-2.new.folder in
     let done : (P : Type 0) → OnOk c.clear.result P → P = λ P ended. on_ok c.clear.result c.in_ok-clear.field-0 P c.in_ok-clear.was ended in
-    let shown : Tells old cut (λ a b. WasPast stem views newest index number past c.clear.result a.now b.now) = was_past stem views newest index number past c.clear.result old mid cut c.in_ok-index.ensures.found clears in
-    let empty : IfTold cut (λ d. HoldsIndex stem views d.now None) = told_after old cut (λ d. Unit {0}) _ (λ a b. WasPast stem views newest index number past c.clear.result a.now b.now) (λ a b is was. done (HoldsIndex stem views b.now None) was.none) (told_all old (λ d. Unit {0}) (λ d. tt)) shown in
+    let shown : Tells old cut (λ a b. WasPast stem views newest index named number past c.clear.result a.now b.now) = was_past stem views newest index named number past c.clear.result old mid cut c.in_ok-index.ensures.found clears in
+    let empty : IfTold cut (λ d. HoldsIndex stem views d.now None) = told_after old cut (λ d. Unit {0}) _ (λ a b. WasPast stem views newest index named number past c.clear.result a.now b.now) (λ a b is was. done (HoldsIndex stem views b.now None) was.none) (told_all old (λ d. Unit {0}) (λ d. tt)) shown in
     let opens : Tells cut new (Moves (IsFileOf stem) (λ image. Stands stem views image None) (λ files. IfOk c.load-2.result (λ index. IsAt index files None))) = c.load-2.ensures.stands None empty in
-    let others = others_cleared stem views index c.clear.result old mid cut c.load.ensures.others c.in_ok-index.ensures.found clears in
+    let others = others_cleared stem index named c.clear.result old mid cut c.load.ensures.others clears in
     let never : IfTold cut (λ d. FindsDamage (λ name at. ⊥) c.load-2.result) = told_pair cut (λ d. HoldsIndex stem views d.now None) (λ d. HoldsIndex stem views d.now None → FindsDamage (λ name at. ⊥) c.load-2.result) _ (λ d holds sound. sound holds) empty (c.load-2.ensures.sound None) in
     record {
       fresh = c.load-2.ensures.fresh;
-      found = told_then old cut new (λ a b. WasPast stem views newest index number past c.clear.result a.now b.now)
+      found = told_then old cut new (λ a b. WasPast stem views newest index named number past c.clear.result a.now b.now)
           (λ a b. IfOk c.load-2.result (IsLoaded stem views a.now b.now) × Moves (IsFileOf stem) (λ image. Stands stem views image None) (λ files. IfOk c.load-2.result (λ index. IsAt index files None)) a b) _
           (λ a b d was opened. both_ok c.load-2.result (IsLoaded stem views b.now d.now) (λ index. IsAt index d.now None) (IsFound stem views newest a.now d.now)
-          (λ index loaded at. record { named = loaded.named; picture = was.picture; shows = was.shows; at = subst (IsAt index d.now) (sym was.gone) at }) opened.0 opened.1.ended)
+          (λ index loaded at. record { picture = was.picture; shows = was.shows; at = subst (IsAt index d.now) (sym was.gone) at }) opened.0 opened.1.ended)
           shown (told_both cut new (λ a b. IfOk c.load-2.result (IsLoaded stem views a.now b.now)) (Moves (IsFileOf stem) (λ image. Stands stem views image None) (λ files. IfOk c.load-2.result (λ index. IsAt index files None))) _ (λ a b one other. (one, other)) c.load-2.ensures.found opens);
       stands = λ picture holds. told_then old cut new
           (Moves (IsFileOf stem) (λ image. Stands stem views image picture ⊎ Stands stem views image (up_to newest picture)) (λ files. OnOk c.clear.result (HoldsIndex stem views files None) × (up_to newest picture ≡ None)))
@@ -135,8 +141,18 @@ returns g c =
           (λ ended image none. inr (subst (λ (p : Option Picture). Stands stem views image p) (sym ended.1) none))
           (λ ended at. subst (λ (p : Option Picture). IfOk c.load-2.result (λ index. IsAt index d.now p)) (sym ended.1) at)
           clearing opened)
-          (stands_cleared stem views newest index number past c.clear.result old mid cut picture (c.in_ok-index.ensures.stands picture holds) c.in_ok-index.ensures.found clears)
+          (stands_cleared stem views newest index named number past c.clear.result old mid cut picture (c.in_ok-index.ensures.stands picture holds) c.in_ok-index.ensures.found clears)
           opens;
+      wanting = λ picture holds wanted.
+          let gone : Tells old cut (λ a b. up_to newest picture ≡ None) = told_map old cut
+          (Moves (IsFileOf stem) (λ image. Stands stem views image picture ⊎ Stands stem views image (up_to newest picture)) (λ files. OnOk c.clear.result (HoldsIndex stem views files None) × (up_to newest picture ≡ None))) _
+          (λ a b moved. moved.ended.1)
+          (stands_cleared stem views newest index named number past c.clear.result old mid cut picture (c.in_ok-index.ensures.stands picture holds) c.in_ok-index.ensures.found clears) in
+          told_after old new (λ d. Unit {0}) _ (λ a b. (up_to newest picture ≡ None) × HoldsIndex stem views b.now None)
+          (λ a b is told. inr (subst (λ (p : Option Picture). HoldsIndex stem views b.now p) (sym told.0) told.1)) (told_all old (λ d. Unit {0}) (λ d. tt))
+          (told_end old new (λ a b. up_to newest picture ≡ None) (λ d. HoldsIndex stem views d.now None)
+          (told_then old cut new (λ a b. up_to newest picture ≡ None) (Moves (IsFileOf stem) (λ image. Stands stem views image None) (λ files. IfOk c.load-2.result (λ index. IsAt index files None))) (λ a b. up_to newest picture ≡ None) (λ a b d none moved. none) gone opens)
+          (c.load-2.ensures.wanting None empty wanted));
       sound = λ picture. told_back old cut _ (λ d. FindsDamage (λ name at. ⊥) c.load-2.result) (Moves (IsFileOf stem) (λ image. Unit {0}) (λ files. Unit {0})) (λ a b moved sound holds. sound) others never;
       damaged = told_back old cut _ (λ d. FindsDamage (λ name at. ⊥) c.load-2.result) (Moves (IsFileOf stem) (λ image. Unit {0}) (λ files. Unit {0})) (λ a b moved sound n at failed. absurd (sound n at failed)) others never;
       others = others_both stem old cut new others c.load-2.ensures.others;
