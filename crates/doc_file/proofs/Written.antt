@@ -30,6 +30,7 @@ module _ {F : Type 0} (f : Folders F) (docs : Docs) (folder : F) (id : List ℕ)
     short = tt;
     spent = λ is. absurd (other (used_up (file_of docs)) (let same : fault ≡ Gate (used_up (file_of docs)) = cc in same));
     few = tt;
+    failed = λ is. absurd (other DiskFault (let same : fault ≡ Gate DiskFault = cc in same));
     cause = record { later = omega arith; failed = λ is. absurd (other DiskFault is) };
     reads = refl;
   }

@@ -3,6 +3,7 @@ use Rattle.std.specs.Prelude.{◌≡◌, ◌⊎◌, ◌+◌, ◌<◌, ◌≤◌,
 use Rattle.json_terms.specs.Json.{Json}
 use Rattle.view_ports.specs.Disk.{IfTold, Moves, Tells}
 use Rattle.view_ports.specs.declared.folder.Folder.{Ghosts as Folders}
+use Rattle.gate_file.specs.declared.fault.GateFault.TheVariants.{DiskFault}
 use Rattle.gate_file.specs.Calls.{too_long, used_up}
 use Rattle.gate_file.specs.GateFile.{commits_of, start_of}
 use Rattle.design_docs.specs.Documents.{id_of}
@@ -45,6 +46,8 @@ module _ {F : Type 0} (f : Folders F) (docs docs' : Docs) (old new : F) where
     pub short : OnOk result (length_with docs id content ≤ 2 ^ 40)
     pub spent : result ≡ Err (Gate (used_up (file_of docs))) → 2 ^ 50 ≤ commits_of (file_of docs)
     pub few : OnOk result (commits_of (file_of docs) < 2 ^ 50)
+    -- and a fault of the disk doesn't come in its place
+    pub failed : result ≡ Err (Gate DiskFault) → (length_with docs id content ≤ 2 ^ 40) × (commits_of (file_of docs) < 2 ^ 50)
     pub cause : IsCounted f old new result
     pub reads : f.reads new ≡ f.reads old
 

@@ -1,15 +1,34 @@
 -- All that takes memory is done before the disk is asked, and then the draft is published.
-use Rattle.std.proofs.Common.{◌≤◌, ◌∷◌, OnOk, option_map, refl, sym, ap, subst, rules}
+use Rattle.std.proofs.Common.{◌≡◌, ◌⊎◌, ◌+◌, ◌≤◌, ◌<◌, ◌^◌, ◌∷◌, ℕ, inl, inr, length, OnOk, Result, Err, option_map, refl, sym, ap, subst, rules}
+use Rattle.std.proofs.lemmas.Bool.{cases_lt}
 use Rattle.json_terms.specs.Seen.{json}
-use Rattle.gate_file.specs.GateFile.{commits_of}
+use Rattle.gate_file.specs.declared.fault.GateFault.{GateFault}
+use Rattle.gate_file.specs.declared.fault.GateFault.TheVariants.{DiskFault}
+use Rattle.gate_file.specs.declared.gate.GateFile.{GateFile}
+use Rattle.gate_file.specs.Calls.{too_long, used_up}
+use Rattle.gate_file.specs.GateFile.{commits_of, start_of}
+use Rattle.gate_file.specs.Publish.{IsTooLong, IsUsedUp}
 use Rattle.gate_file.proofs.Stepped.{ended_err}
-use Rattle.doc_file.specs.Docs.{IsAt}
+use Rattle.doc_file.specs.Docs.{file_of, IsAt}
 use Rattle.doc_file.specs.declared.rev.Rev.{Rev}
 use Rattle.doc_file.specs.Held.{find_last}
 use Rattle.doc_file.specs.Stored.{generation_in, write_of}
 use Rattle.doc_file.proofs.Standing.{generation_room}
 use Rattle.doc_file.proofs.Storing.{counted_now, publishes, room_now, stays_at, told_at, told_open}
 use Rattle.doc_file.proofs.docs.Docs.store.Goals as goal
+
+-- a file whose disk failed was not full
+not_full : {T : Type 0} (gate : GateFile) (size : ℕ) (result : Result T GateFault) → (IsTooLong gate size → result ≡ Err (too_long gate)) → (IsUsedUp gate size → result ≡ Err (used_up gate))
+    → result ≡ Err DiskFault → (start_of gate + size ≤ 2 ^ 40) × (commits_of gate < 2 ^ 50)
+not_full {T} gate size result long spent failed = by_length (cases_lt (2 ^ 40) (start_of gate + size))
+  where
+    by_commits : start_of gate + size ≤ 2 ^ 40 → (commits_of gate < 2 ^ 50) ⊎ (2 ^ 50 ≤ commits_of gate) → (start_of gate + size ≤ 2 ^ 40) × (commits_of gate < 2 ^ 50)
+    by_commits short (inl few) = (short, few)
+    by_commits short (inr many) = let full = spent (many, short) in absurd (let no : ⊥ = cc in no)
+
+    by_length : (2 ^ 40 < start_of gate + size) ⊎ (start_of gate + size ≤ 2 ^ 40) → (start_of gate + size ≤ 2 ^ 40) × (commits_of gate < 2 ^ 50)
+    by_length (inl more) = let full = long more in absurd (let no : ⊥ = cc in no)
+    by_length (inr short) = by_commits short (cases_lt (commits_of gate) (2 ^ 50))
 
 pub make_draft-requires-clause-counted : goal.make_draft-requires-clause-counted
 make_draft-requires-clause-counted g c =
@@ -28,6 +47,7 @@ returns-in_err-rev-clause-stored g c = record {
   short = search rules;
   spent = search rules;
   few = search rules;
+  failed = search rules;
   cause = search rules;
   reads = search rules;
 }
@@ -45,6 +65,11 @@ returns-in_err-publish-clause-stored g c = record {
   short = search rules;
   spent = search rules;
   few = search rules;
+  failed = λ is.
+      let was : c.publish.result ≡ Err DiskFault = search rules in
+      let fits = not_full (file_of c.args.self.now) (length c.as_slice-2.result.now) c.publish.result c.publish.ensures.long.0 c.publish.ensures.spent.0 was in
+      let short = fits.0 in
+      (search rules, fits.1);
   cause = search rules;
   reads = search rules;
 }
@@ -76,6 +101,7 @@ returns-clause-stored g c = record {
   short = search rules;
   spent = search rules;
   few = search rules;
+  failed = search rules;
   cause = search rules;
   reads = search rules;
 }
