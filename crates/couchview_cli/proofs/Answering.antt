@@ -1,12 +1,12 @@
 -- What a step of the engine is to a session.
-use Rattle.std.specs.Prelude.{◌≡◌, ◌≢◌, ◌++◌, ℕ, List, [], ◌∷◌, Ok, Err}
+use Rattle.std.specs.Prelude.{◌≡◌, ◌≢◌, ◌++◌, ℕ, List, [], ◌∷◌, true, Ok, Err}
 use Rattle.std.proofs.Common.{refl, sym, ap, ◌∙◌, subst, inl}
 use Rattle.view_ports.specs.Calls.{Call}
 use Rattle.view_ports.specs.Disk.{IfTold, LeavesOnly, Tells}
 use Rattle.view_ports.specs.Functions.{Functions}
 use Rattle.view_ports.specs.Lines.{ended}
 use Rattle.view_ports.proofs.Moments.{started, weaker}
-use Rattle.view_ports.proofs.Told.{told_given, told_map, told_now, told_still}
+use Rattle.view_ports.proofs.Told.{told_all, told_given, told_map, told_now, told_still}
 use Rattle.view_engine.specs.declared.engine.Engine.{Engine}
 use Rattle.view_engine.specs.declared.halt.StepFault.{StepFault}
 use Rattle.view_engine.specs.declared.halt.StepFault.TheVariants.{Damaged, Full}
@@ -16,7 +16,7 @@ use Rattle.view_engine.specs.Engine.{Appends as StepAppends, IsAt, Leaves}
 use Rattle.view_engine.specs.Moments.{Moment}
 use Rattle.view_engine.specs.Refusals.{refusal_text, request_of}
 use Rattle.view_engine.specs.Steps.{Answers, Does, MayHaveCalled}
-use Rattle.view_engine.specs.Worlds.{IsAtWorld, StandsAround, StandsFor}
+use Rattle.view_engine.specs.Worlds.{HasRoomAt, IsAtWorld, StandsAround, StandsFor}
 use Rattle.view_engine.proofs.Exclusive.{around_either}
 use Rattle.view_engine.proofs.Worlds.{image_at}
 use Rattle.view_engine.specs.Calls.{IsStep, Scene}
@@ -28,6 +28,10 @@ use Rattle.view_ports.specs.declared.servers.Servers.{Ghosts as Servers}
 use Rattle.couchview_cli.specs.Session.{Answered, IsAnswered, IsUnanswered, StandsEither}
 use Rattle.couchview_cli.proofs.Keeping.{answers_no_memory}
 use Rattle.couchview_cli.proofs.Moving.{Told}
+use Rattle.view_engine.specs.Accepted.{is_ok}
+use Rattle.view_engine.proofs.ReplyLines.{refusal_line}
+use Rattle.view_engine.proofs.Rooms.{constant_no_ok, step_room}
+use Rattle.view_engine.proofs.ServerFaults.{appended_fault, constant_no_fault}
 
 module _ (functions : List ℕ → Functions) (honest : List ℕ → Type 0) (languages : List (List ℕ × List ℕ)) (before : Moment) (old new : Told) (may_follow : List Call → Type 0) (faults : ℕ) (engine : Engine) where
   -- a line that was done: each image stands for the world before or after it
@@ -78,10 +82,12 @@ module _ {F C : Type 0} {f : Folders F} {s : Servers C} {old new : Scene F C} {l
     answers = λ before at.
         answered_done s.functions s.honest (languages_of old.engine) before (f.disk old.folder) (f.disk new.folder) (s.may_follow new.servers) (s.faults new.servers) new.engine old.engine line start out empty at.documents
         (step.does before at) (λ none. ap f.disk (step.idle none)) (step_around step before at);
+    room = step_room step empty;
     prints = record {
       none = λ none. step.prints.none none ∙ empty;
-      some = λ some. let printed = step.prints.some some in (printed.0, printed.1 ∙ ap (λ (front : List ℕ). front ++ ended printed.0) empty);
+      some = λ some. let printed = step.prints.some some in (printed.0, printed.1, printed.2 ∙ ap (λ (front : List ℕ). front ++ ended printed.0) empty);
     };
+    blames = λ is. step.blames (appended_fault line start out empty is);
     still = step.disk.read;
     stays = step.stays;
   }
@@ -92,7 +98,9 @@ module _ {F C : Type 0} {f : Folders F} {s : Servers C} {old new : Scene F C} {l
     answers = λ before at.
         answered_spent s.functions s.honest (languages_of old.engine) before (f.disk old.folder) (f.disk new.folder) (s.may_follow new.servers) (s.faults new.servers) new.engine line step.asked
         (step.does before at) (step_unwritten step before at);
-    prints = record { none = λ none. absurd (step.asked none); some = λ some. (refusal_text NoMemory, refl) };
+    room = λ before at. told_all (f.disk old.folder) (λ d. is_ok (ended (refusal_text NoMemory)) ≡ true → HasRoomAt d.now before.world (request_of line)) (λ d ok. absurd (constant_no_ok ok));
+    prints = record { none = λ none. absurd (step.asked none); some = λ some. (refusal_text NoMemory, refusal_line NoMemory, refl) };
+    blames = λ is. absurd (constant_no_fault line is);
     still = step.disk.read;
     stays = step.stays;
   }

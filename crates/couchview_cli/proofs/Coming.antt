@@ -1,33 +1,39 @@
 -- A session goes on by the lines that it answers, and comes to an end.
-use Rattle.std.specs.Prelude.{◌≡◌, ℕ, List, [], ◌∷◌, Option}
+use Rattle.std.specs.Prelude.{◌≡◌, ◌*◌, ℕ, List, [], ◌∷◌, true, Option}
 use Rattle.std.proofs.Common.{refl, sym, ◌∙◌, subst, arith}
 use Rattle.view_ports.specs.declared.folder.Folder.{Ghosts as Folders}
 use Rattle.view_ports.specs.declared.servers.Servers.{Ghosts as Servers}
-use Rattle.view_ports.specs.Disk.{LeavesOnly, MovesNone, Tells}
+use Rattle.view_ports.specs.Disk.{IfTold, LeavesOnly, MovesNone, Tells}
 use Rattle.view_ports.specs.Exchanges.{Exchange, LeadsTo}
-use Rattle.view_ports.specs.Faults.{Rose}
+use Rattle.view_ports.specs.Faults.{Rose, RoseBy}
 use Rattle.view_ports.proofs.Counting.{Rose-earlier}
-use Rattle.view_ports.proofs.Told.{told_now}
+use Rattle.view_ports.proofs.Told.{told_all, told_now, told_pair}
 use Rattle.line_loop.specs.declared.loop_end.LoopEnd.{LoopEnd}
 use Rattle.line_loop.specs.declared.loop_end.LoopEnd.TheVariants as loop_end
 use Rattle.line_loop.specs.declared.responder.Responder.{Ghosts as Responds}
 use Rattle.line_loop.specs.Loops.{Loops, Steps}
-use Rattle.line_loop.proofs.Seeing.{LeadsTo-kept, LeadsTo-seen, Run-seen}
+use Rattle.line_loop.proofs.Seeing.{LeadsTo-kept, LeadsTo-seen}
 use Rattle.view_engine.specs.declared.halt.StepFault.{StepFault}
 use Rattle.view_engine.specs.declared.halt.StepFault.TheVariants.{DiskFault}
 use Rattle.view_engine.specs.declared.engine.Engine.{Engine}
+use Rattle.view_engine.specs.Accepted.{is_ok, EachOk}
+use Rattle.view_engine.specs.World.{World}
+use Rattle.view_engine.specs.Refusals.{request_of}
 use Rattle.view_engine.specs.Calls.{Scene, StandsAt, Stays, scene}
 use Rattle.view_engine.specs.Moments.{Moment}
+use Rattle.view_engine.specs.ServerFaults.{is_server_fault, server_faults}
+use Rattle.view_engine.proofs.ServerFaults.{none_rose, one_more, rose_on}
 use Rattle.view_engine.specs.Steps.{Answers}
-use Rattle.view_engine.specs.Worlds.{at_start, GoesOnFrom, StandsFor, languages as languages_of}
-use Rattle.view_engine.proofs.Worlds.{answers_grow, stays_still, stays_still_then}
+use Rattle.view_engine.specs.Worlds.{at_start, GoesOnFrom, HasRoomAt, StandsFor, languages as languages_of}
+use Rattle.view_engine.proofs.AcceptedWrites.{Answers-accepted}
+use Rattle.view_engine.proofs.Worlds.{answers_grow, holds_at, images_at, stays_still, stays_still_then}
 use Rattle.couchview_cli.specs.declared.session.Session.{Session}
 use Rattle.couchview_cli.specs.Ends.{Comes}
 use Rattle.couchview_cli.specs.Reading.{HasReplied, IsReplied, NoneWrites, Replies, Told}
-use Rattle.couchview_cli.specs.Serving.{width}
-use Rattle.couchview_cli.specs.Session.{HasCome, IsAnswered, IsUnanswered, KeepsPorts, Origin, StepsOf, scene_of}
+use Rattle.couchview_cli.specs.Serving.{width, HadRoom}
+use Rattle.couchview_cli.specs.Session.{HasCome, IsAnswered, IsUnanswered, KeepsPorts, Origin, StandsEither, StepsOf, scene_of}
 use Rattle.couchview_cli.proofs.Keeping.{Answered-of}
-use Rattle.couchview_cli.proofs.Moving.{moved_line, moved_start, told_first}
+use Rattle.couchview_cli.proofs.Moving.{moved_line, moved_start, told_first, went_before, went_nowhere, WentOn}
 
 module _ {F C : Type 0} (f : Folders F) (s : Servers C) (origin : Origin) where
   -- an engine that was opened is at the opening
@@ -35,49 +41,107 @@ module _ {F C : Type 0} (f : Folders F) (s : Servers C) (origin : Origin) where
       → Tells origin.disk (f.disk now.folder) (LeavesOnly (λ image. StandsFor image origin.opening)) → HasCome f s origin now (at_start origin.opening width origin.faults)
   come_opened now languages stands opened = record { languages = languages; stands = stands; moved = moved_start origin (f.disk now.folder) opened }
 
-  -- a line that was answered is a step from the opening
-  pub come_line : (old new : Scene F C) (before : Moment) (e : Exchange) → HasCome f s origin old before → IsAnswered f s old new e.line e.text
-      → (after : Moment) × StepsOf s.functions s.honest origin before e after × HasCome f s origin new after
+  -- what a line that was answered is, as a step from the opening
+  pub record HasGone (old new : Scene F C) (before : Moment) (e : Exchange) : Type 0 where
+    pub after : Moment
+    pub step : StepsOf s.functions s.honest origin before e after
+    pub come : HasCome f s origin new after
+    pub grew : IfTold (f.disk old.folder) (λ d. GoesOnFrom before.world after.world)
+    pub moments : Tells (f.disk old.folder) (f.disk new.folder) (LeavesOnly (StandsEither before.world after.world))
+
+  pub come_line : (old new : Scene F C) (before : Moment) (e : Exchange) → HasCome f s origin old before → IsAnswered f s old new e.line e.text → HasGone old new before e
   come_line old new before e come answered =
       let there = Answered-of origin.languages e.line come.languages (answered.answers before come.stands) in
-      let Step = Answers s.functions s.honest origin.languages before e there.after in (
-        there.after,
-        told_first origin (f.disk old.folder) (f.disk new.folder) before.world come.moved Step there.answers,
-        record {
+      let Step = Answers s.functions s.honest origin.languages before e there.after in
+      let grew =
+      told_now (f.disk old.folder) (λ d. Step) (λ d. GoesOnFrom before.world (there.after).world) (λ d answers. answers_grow s.functions s.honest origin.languages before e there.after answers) there.answers in
+      record {
+        after = there.after;
+        step = told_first origin (f.disk old.folder) (f.disk new.folder) before.world come.moved Step there.answers;
+        come = record {
           languages = answered.stays.languages ∙ come.languages;
           stands = there.stands;
-          moved = moved_line origin (f.disk old.folder) (f.disk new.folder) before.world come.moved (there.after).world
-              (told_now (f.disk old.folder) (λ d. Step) (λ d. GoesOnFrom before.world (there.after).world)
-              (λ d answers. answers_grow s.functions s.honest origin.languages before e there.after answers) there.answers)
-              there.moments;
-        },
-      )
+          moved = moved_line origin (f.disk old.folder) (f.disk new.folder) before.world come.moved (there.after).world grew there.moments;
+        };
+        grew = grew;
+        moments = there.moments;
+      }
+
+  -- what lines that were answered are, one after another
+  pub record HasRun (start last : Scene F C) (before : Moment) (es : List Exchange) : Type 0 where
+    pub after : Moment
+    pub leads : LeadsTo (StepsOf s.functions s.honest origin) before es after
+    pub come : HasCome f s origin last after
+    pub went : WentOn (f.disk start.folder) (f.disk last.folder) before.world after.world
+    pub fits : IfTold origin.disk (λ d. EachOk (HadRoom origin.opening (after.world) origin.disk (f.disk last.folder)) before.world es)
+
+  pub run_none : (now : Scene F C) (before : Moment) → HasCome f s origin now before → HasRun now now before []
+  run_none now before come = record {
+    after = before;
+    leads = refl;
+    come = come;
+    went = went_nowhere (f.disk now.folder) before.world (images_at (f.disk now.folder) (s.may_follow now.servers) (s.faults now.servers) now.engine before come.stands);
+    fits = told_all origin.disk (λ d. Unit {0}) (λ d. tt);
+  }
+
+  pub run_line : (start mid last : Scene F C) (before : Moment) (e : Exchange) (es : List Exchange) → HasCome f s origin start before → IsAnswered f s start mid e.line e.text
+      → (gone : HasGone start mid before e) → HasRun mid last gone.after es → HasRun start last before (e ∷ es)
+  run_line start mid last before e es come answered gone rest =
+      let disk = f.disk start.folder in
+      let went = went_before disk (f.disk mid.folder) (f.disk last.folder) before.world (gone.after).world (rest.after).world gone.grew gone.moments rest.went in
+      let Room = HadRoom origin.opening (rest.after).world origin.disk (f.disk last.folder) in
+      let had : is_ok e.text ≡ true → Room before.world (request_of e.line) = λ ok. record {
+        mid = disk;
+        until = come.moved.moments;
+        holds = holds_at disk (s.may_follow start.servers) (s.faults start.servers) start.engine before come.stands;
+        room = told_now disk (λ d. is_ok e.text ≡ true → HasRoomAt d.now before.world (request_of e.line)) (λ d. HasRoomAt d.now before.world (request_of e.line)) (λ d room. room ok) (answered.room before come.stands);
+        since = went.moments;
+      } in
+      record {
+        after = rest.after;
+        leads = (gone.after, gone.step, rest.leads);
+        come = rest.come;
+        went = went;
+        fits = told_pair origin.disk (λ d. Answers s.functions s.honest origin.languages before e gone.after) (λ d. EachOk Room (gone.after).world es) (λ d. EachOk Room before.world (e ∷ es))
+            (λ d answers each. (had, subst (λ (w : World). EachOk Room w es) (Answers-accepted s.functions s.honest origin.languages before e gone.after answers) each)) gone.step rest.fits;
+      }
 
 module _ {F C : Type 0} (f : Folders F) (s : Servers C) (r : Responds (Session F C) StepFault)
     (answers : (old new : Session F C) (line : List ℕ) → r.answers old line new → KeepsPorts old new × IsAnswered f s (scene_of old) (scene_of new) line (r.text new))
     (stops : (old new : Session F C) (line : List ℕ) (fault : StepFault) → r.stops old line fault new → KeepsPorts old new × IsUnanswered f s (scene_of old) (scene_of new) line fault) where
-  sees : (origin : Origin) (old new : Session F C) (before : Moment) (e : Exchange) → HasCome f s origin (scene_of old) before → Steps r old e new
-      → (after : Moment) × StepsOf s.functions s.honest origin before e after × HasCome f s origin (scene_of new) after
-  sees origin old new before e come step =
-      come_line f s origin (scene_of old) (scene_of new) before e come
-      (subst (λ (text : List ℕ). IsAnswered f s (scene_of old) (scene_of new) e.line text) (sym step.1) (answers old new e.line step.0).1)
+  runs : (origin : Origin) (start last : Session F C) (before : Moment) (es : List Exchange) → HasCome f s origin (scene_of start) before → LeadsTo (Steps r) start es last
+      → HasRun f s origin (scene_of start) (scene_of last) before es
+  runs origin start last before [] come leads =
+      subst (λ (session : Session F C). HasRun f s origin (scene_of start) (scene_of session) before []) (sym leads) (run_none f s origin (scene_of start) before come)
+  runs origin start last before (e ∷ es) come leads =
+      let mid = leads.0 in
+      let step = leads.1 in
+      let answered = subst (λ (text : List ℕ). IsAnswered f s (scene_of start) (scene_of mid) e.line text) (sym step.1) (answers start mid e.line step.0).1 in
+      let gone = come_line f s origin (scene_of start) (scene_of mid) before e come answered in
+      run_line f s origin (scene_of start) (scene_of mid) (scene_of last) before e es come answered gone (runs origin mid last gone.after es gone.come leads.2)
 
   -- what the loop over its lines did, from the origin
   pub comes : (origin : Origin) (start last : Session F C) (left left' held held' : Option (List ℕ)) (end : LoopEnd StepFault) → HasCome f s origin (scene_of start) (at_start origin.opening width origin.faults)
       → Loops r start last left left' held held' end → Comes f s origin (scene_of last) left left' held held' end
   comes origin start last left left' held held' (loop_end.Run end) come loops =
-      let seen =
-      Run-seen (λ (session : Session F C) (moment : Moment). HasCome f s origin (scene_of session) moment) (sees origin) start last (at_start origin.opening width origin.faults) loops.bytes loops.ends.gained end come loops.ends.run in
+      let run = loops.ends.run in
+      let ran = runs origin start last (at_start origin.opening width origin.faults) run.exchanges come run.leads in
       record {
         bytes = loops.bytes;
         reads = loops.reads;
         counts = loops.counts;
-        ends = record { gained = loops.ends.gained; moment = seen.0; run = seen.1; has_come = seen.2; wrote = loops.ends.wrote };
+        ends = record {
+          gained = loops.ends.gained;
+          moment = ran.after;
+          run = record { exchanges = run.exchanges; lines = run.lines; rest = run.rest; cut = run.cut; answered = run.answered; leads = ran.leads; written = run.written };
+          has_come = ran.come;
+          fits = ran.fits;
+          wrote = loops.ends.wrote;
+        };
       }
   comes origin start last left left' held held' (loop_end.Stopped fault) come loops =
       let cut = loops.ends in
-      let seen =
-      LeadsTo-seen (λ (session : Session F C) (moment : Moment). HasCome f s origin (scene_of session) moment) (sees origin) start cut.mid (at_start origin.opening width origin.faults) cut.exchanges come cut.leads in
+      let ran = runs origin start cut.mid (at_start origin.opening width origin.faults) cut.exchanges come cut.leads in
       record {
         bytes = loops.bytes;
         reads = loops.reads;
@@ -89,11 +153,12 @@ module _ {F C : Type 0} (f : Folders F) (s : Servers C) (r : Responds (Session F
           line = cut.line;
           more = cut.more;
           mid = scene_of cut.mid;
-          moment = seen.0;
+          moment = ran.after;
           cut = cut.cut;
           answered = cut.answered;
-          leads = seen.1;
-          has_come = seen.2;
+          leads = ran.leads;
+          has_come = ran.come;
+          fits = ran.fits;
           halts = (stops cut.mid last cut.line fault cut.stops).1;
           wrote = cut.wrote;
         };
@@ -109,9 +174,18 @@ module _ {F C : Type 0} (f : Folders F) (s : Servers C) (r : Responds (Session F
   still start now (e ∷ es) leads none =
       stays_still_then (f.disk start.folder.now) (f.disk (leads.0).folder.now) (f.disk now.folder.now) (((answers start leads.0 e.line leads.1.0).1).still none.0) (still leads.0 now es leads.2 none.1)
 
+  -- the count of the query servers' faults rises by two for each line that is answered `server_fault`
+  twice : (start now : Session F C) (es : List Exchange) → LeadsTo (Steps r) start es now → RoseBy (2 * server_faults es) (s.faults start.servers.now) (s.faults now.servers.now)
+  twice start now [] leads = subst (λ (session : Session F C). RoseBy 0 (s.faults start.servers.now) (s.faults session.servers.now)) (sym leads) (none_rose (s.faults start.servers.now))
+  twice start now (e ∷ es) leads =
+      let mid = leads.0 in
+      let answered = (answers start mid e.line leads.1.0).1 in
+      let blames = subst (λ (text : List ℕ). is_server_fault (record { line = e.line; text = text }) ≡ true → RoseBy 2 (s.faults start.servers.now) (s.faults mid.servers.now)) (sym leads.1.1) answered.blames in
+      one_more e es (s.faults start.servers.now) (s.faults mid.servers.now) (s.faults now.servers.now) answered.stays.server_faults blames (twice mid now es leads.2)
+
   -- what the session replied, whatever the folder holds
   pub has_replied : (start last : Session F C) (left left' held held' : Option (List ℕ)) (end : LoopEnd StepFault) → Loops r start last left left' held held' end
-      → HasReplied left left' held held' (f.disk start.folder.now) (f.disk last.folder.now) end
+      → HasReplied left left' held held' (f.disk start.folder.now) (f.disk last.folder.now) (s.faults start.servers.now) (s.faults last.servers.now) end
   has_replied start last left left' held held' (loop_end.Run end) loops =
       let finishes = loops.ends in
       let run = finishes.run in
@@ -133,6 +207,7 @@ module _ {F C : Type 0} (f : Folders F) (s : Servers C) (r : Responds (Session F
           };
           wrote = finishes.wrote;
           still = still start last run.exchanges run.leads;
+          twice = twice start last run.exchanges run.leads;
         };
       }
   has_replied start last left left' held held' (loop_end.Stopped fault) loops =
@@ -155,6 +230,7 @@ module _ {F C : Type 0} (f : Folders F) (s : Servers C) (r : Responds (Session F
           wrote = cut.wrote;
           found = stopped.found;
           still = λ none silent. stays_still_then (f.disk start.folder.now) (f.disk cut.mid.folder.now) (f.disk last.folder.now) (still start cut.mid cut.exchanges cut.leads none) (stopped.still silent);
+          twice = rose_on (2 * server_faults cut.exchanges) (s.faults start.servers.now) (s.faults cut.mid.servers.now) (s.faults last.servers.now) (twice start cut.mid cut.exchanges cut.leads) stopped.stays.server_faults;
         };
       }
 
@@ -206,6 +282,9 @@ comes_behind {F} {C} f s origin ran engine folder servers same_engine same_folde
     (subst (λ (x : F). Comes f s origin (scene ran.engine.now x servers) left left' held held' end) (sym same_folder)
     (subst (λ (x : C). Comes f s origin (scene ran.engine.now ran.folder.now x) left left' held held' end) (sym same_servers) comes))
 
-pub replied_behind : {F C : Type 0} (f : Folders F) (ran : Session F C) (folder : F) → folder ≡ ran.folder.now → {left left' held held' : Option (List ℕ)} {old : Told} {end : LoopEnd StepFault}
-    → HasReplied left left' held held' old (f.disk ran.folder.now) end → HasReplied left left' held held' old (f.disk folder) end
-replied_behind {F} f ran folder same {left} {left'} {held} {held'} {old} {end} replied = subst (λ (x : F). HasReplied left left' held held' old (f.disk x) end) (sym same) replied
+pub replied_behind : {F C : Type 0} (f : Folders F) (s : Servers C) (ran : Session F C) (folder : F) (servers : C) → folder ≡ ran.folder.now → servers ≡ ran.servers.now
+    → {left left' held held' : Option (List ℕ)} {old : Told} {faults : ℕ} {end : LoopEnd StepFault}
+    → HasReplied left left' held held' old (f.disk ran.folder.now) faults (s.faults ran.servers.now) end → HasReplied left left' held held' old (f.disk folder) faults (s.faults servers) end
+replied_behind {F} {C} f s ran folder servers same same_servers {left} {left'} {held} {held'} {old} {faults} {end} replied =
+    subst (λ (x : F). HasReplied left left' held held' old (f.disk x) faults (s.faults servers) end) (sym same)
+    (subst (λ (x : C). HasReplied left left' held held' old (f.disk ran.folder.now) faults (s.faults x) end) (sym same_servers) replied)

@@ -1,5 +1,5 @@
 -- A line is answered as what is kept of it.
-use Rattle.std.specs.Prelude.{◌≡◌, ◌≢◌, ℕ, Option, List, []}
+use Rattle.std.specs.Prelude.{◌≡◌, ◌≢◌, ℕ, Option, List, [], true}
 use Rattle.std.proofs.Common.{refl, sym, ap, ◌∙◌, subst, inl, inr}
 use Rattle.view_ports.specs.Functions.{Functions}
 use Rattle.view_engine.specs.Moments.{Moment}
@@ -8,18 +8,20 @@ use Rattle.view_engine.specs.Refusals.{request_limit, refusal_text, request_of}
 use Rattle.view_ports.specs.Lines.{ended, kept}
 use Rattle.view_ports.proofs.KeptLines.{kept-cases, kept-nil, kept-none}
 use Rattle.view_engine.specs.Steps.{Answers, MayHaveCalled}
-use Rattle.view_ports.specs.Disk.{LeavesOnly, Tells}
+use Rattle.view_ports.specs.Disk.{IfTold, LeavesOnly, Tells}
 use Rattle.view_ports.specs.declared.file_name.FileName.{FileName}
 use Rattle.view_ports.proofs.Told.{told_now}
 use Rattle.view_engine.specs.declared.halt.StepFault.{StepFault}
 use Rattle.view_engine.specs.declared.halt.StepFault.TheVariants.{Full}
-use Rattle.view_engine.specs.Worlds.{IsFullAt, StandsAround}
+use Rattle.view_engine.specs.Worlds.{HasRoomAt, IsFullAt, StandsAround}
 use Rattle.view_ports.specs.declared.folder.Folder.{Ghosts as Folders}
 use Rattle.view_ports.specs.declared.servers.Servers.{Ghosts as Servers}
+use Rattle.view_engine.specs.Accepted.{is_ok}
 use Rattle.view_engine.specs.Calls.{Scene}
 use Rattle.view_engine.proofs.RequestLimit.{Answers-cut, request_limit-is, request_of-long}
 use Rattle.view_engine.specs.Disks.{ReadsDocuments}
 use Rattle.view_engine.specs.Halts.{Writes}
+use Rattle.view_engine.specs.ServerFaults.{says_server_fault}
 use Rattle.couchview_cli.specs.Reading.{IsFoundOn, IsReplied}
 use Rattle.couchview_cli.specs.Session.{Answered, IsAnswered, IsUnanswered, IsHalted}
 use Rattle.couchview_cli.proofs.Moving.{Told}
@@ -99,7 +101,7 @@ module _ {F C : Type 0} {f : Folders F} {s : Servers C} {old new : Scene F C} (l
   pub answered_whole : (text : List ℕ) → IsAnswered f s old new given text → IsAnswered f s old new line text
   answered_whole text answered =
       let kept_answered : IsAnswered f s old new (kept request_limit line) text = subst (λ (l : List ℕ). IsAnswered f s old new l text) (is_kept line given is) answered in
-      record { answers = λ before at. Answered-kept line (kept_answered.answers before at); prints = replied_kept line text kept_answered.prints; still = still_kept line kept_answered.still; stays = answered.stays }
+      record { answers = λ before at. Answered-kept line (kept_answered.answers before at); room = λ before at. subst (λ request. IfTold (f.disk old.folder) (λ d. is_ok text ≡ true → HasRoomAt d.now before.world request)) (request_kept line) (kept_answered.room before at); prints = replied_kept line text kept_answered.prints; blames = λ fault. kept_answered.blames (ap (λ request. says_server_fault request text) (request_kept line) ∙ fault); still = still_kept line kept_answered.still; stays = answered.stays }
 
   pub unanswered_whole : (fault : StepFault) → IsUnanswered f s old new given fault → IsUnanswered f s old new line fault
   unanswered_whole fault cut =

@@ -1,9 +1,9 @@
 -- A world that goes on, and what a crash leaves meanwhile.
 use Rattle.std.proofs.Common.{ℕ, List, Option, inl, inr}
-use Rattle.view_ports.specs.Disk.{Disk, IfTold, LeavesOnly, Tells}
+use Rattle.view_ports.specs.Disk.{Disk, IfTold, IsImageOf, LeavesOnly, Tells}
 use Rattle.view_ports.specs.declared.file_name.FileName.{FileName}
-use Rattle.view_ports.proofs.Moments.{joined, weaker}
-use Rattle.view_ports.proofs.Told.{told_after, told_all, told_back, told_given, told_map, told_pair, told_then}
+use Rattle.view_ports.proofs.Moments.{joined, started, weaker}
+use Rattle.view_ports.proofs.Told.{told_after, told_all, told_back, told_given, told_map, told_now, told_pair, told_still, told_then}
 use Rattle.view_engine.specs.Refusals.{request_of}
 use Rattle.view_engine.specs.World.{World}
 use Rattle.view_engine.specs.Worlds.{GoesOnFrom, StandsAround, StandsFor}
@@ -76,3 +76,39 @@ module _ (origin : Origin) (old new : Told) (before : World) (moved : HasMoved o
       (told_given old new (λ d. GoesOnFrom origin.opening before) (LeavesOnly (StandsAround before (request_of line))) (LeavesOnly with)
       (λ a b from leaves. weaker (StandsAround before (request_of line)) with a b (λ image stands. around_since origin.opening before line image from stands) leaves)
       grew_there moments)
+
+before_since : (a b c : World) (image : FileName → List ℕ) → GoesOnFrom a b → GoesOnFrom b c → StandsEither a b image → StandsSince a c image
+before_since a b c image first rest (inl stands) = (a, (same_world a, goes_on a b c first rest, stands))
+before_since a b c image first rest (inr stands) = (b, (first, rest, stands))
+
+later_since : (a b c : World) (image : FileName → List ℕ) → GoesOnFrom a b → StandsSince b c image → StandsSince a c image
+later_since a b c image first since = (since.0, (goes_on a b since.0 first (since.1).0, (since.1).1, (since.1).2))
+
+-- how the world went on between two disks
+pub record WentOn (old new : Told) (a b : World) : Type 0 where
+  pub grew : IfTold old (λ d. GoesOnFrom a b)
+  pub moments : Tells old new (LeavesOnly (StandsSince a b))
+
+-- no line was answered
+pub went_nowhere : (disk : Told) (a : World) → IfTold disk (λ d. (image : FileName → List ℕ) → IsImageOf d.now image → StandsFor image a) → WentOn disk disk a a
+went_nowhere disk a images = record {
+  grew = told_all disk (λ d. GoesOnFrom a a) (λ d. same_world a);
+  moments = told_still disk (λ d. (image : FileName → List ℕ) → IsImageOf d.now image → StandsFor image a) (LeavesOnly (StandsSince a a))
+      (λ d stands. started (StandsSince a a) d (λ image is. (a, (same_world a, same_world a, stands image is)))) images;
+}
+
+-- a line was answered, and then others were
+pub went_before : (old mid new : Told) (a b c : World) → IfTold old (λ d. GoesOnFrom a b) → Tells old mid (LeavesOnly (StandsEither a b)) → WentOn mid new b c → WentOn old new a c
+went_before old mid new a b c first either rest =
+    let first_mid = told_after old mid (λ d. GoesOnFrom a b) (λ d. GoesOnFrom a b) (LeavesOnly (StandsEither a b)) (λ x y is leaves. is) first either in
+    let rest_old = told_back old mid (λ d. GoesOnFrom b c) (λ d. GoesOnFrom b c) (LeavesOnly (StandsEither a b)) (λ x y leaves is. is) either rest.grew in
+    let both = told_pair old (λ d. GoesOnFrom a b) (λ d. GoesOnFrom b c) (λ d. GoesOnFrom a b × GoesOnFrom b c) (λ d one other. (one, other)) first rest_old in
+    let since = StandsSince a c in
+    record {
+      grew = told_now old (λ d. GoesOnFrom a b × GoesOnFrom b c) (λ d. GoesOnFrom a c) (λ d two. goes_on a b c two.0 two.1) both;
+      moments = told_then old mid new (LeavesOnly since) (LeavesOnly since) (LeavesOnly since) (λ x y z early late. joined since x y z early late)
+          (told_given old mid (λ d. GoesOnFrom a b × GoesOnFrom b c) (LeavesOnly (StandsEither a b)) (LeavesOnly since)
+          (λ x y two leaves. weaker (StandsEither a b) since x y (λ image stands. before_since a b c image two.0 two.1 stands) leaves) both either)
+          (told_given mid new (λ d. GoesOnFrom a b) (LeavesOnly (StandsSince b c)) (LeavesOnly since)
+          (λ x y on leaves. weaker (StandsSince b c) since x y (λ image stands. later_since a b c image on stands) leaves) first_mid rest.moments);
+    }

@@ -13,7 +13,7 @@ use Rattle.couchview_cli.specs.Serving.{Outside}
 
 module _ (before after : Outside) (status : ℕ) (opened : Told) (moved : Tells before.disk opened IsMovedByOpening) where
   -- the session came to the end of a run
-  pub reads_on : (end : RunEnd) → status ≡ status_of end → HasReplied before.left after.left before.held after.held opened after.disk (loop_end.Run end) → AnswersLines before after status
+  pub reads_on : (end : RunEnd) → status ≡ status_of end → HasReplied before.left after.left before.held after.held opened after.disk before.faults after.faults (loop_end.Run end) → AnswersLines before after status
   reads_on end is replied =
       inl (record {
         bytes = replied.bytes;
@@ -27,7 +27,7 @@ module _ (before after : Outside) (status : ℕ) (opened : Told) (moved : Tells 
       })
 
   -- it was stopped in a line, and then the last line was written
-  pub is_cut_off : (held : Option (List ℕ)) (fault : StepFault) → HasReplied before.left after.left before.held held opened after.disk (loop_end.Stopped fault) → Closes held after.held [] fault status
+  pub is_cut_off : (held : Option (List ℕ)) (fault : StepFault) → HasReplied before.left after.left before.held held opened after.disk before.faults after.faults (loop_end.Stopped fault) → Closes held after.held [] fault status
       → AnswersLines before after status
   is_cut_off held fault replied closes =
       inr (inl (record {

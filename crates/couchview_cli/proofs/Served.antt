@@ -80,6 +80,7 @@ module _ (languages : List (List ℕ × List ℕ)) (opening : World) where
           writes = ended.wrote;
           runs = ended.run;
           keeps = leads_accepted s.functions s.honest languages before.disk (at_start opening width before.faults) ended.run.exchanges ended.moment ended.run.leads;
+          fits = ended.fits;
           moments = ended.has_come.moved.moments;
           images = images_at (f.disk now.folder) (s.may_follow now.servers) (s.faults now.servers) now.engine ended.moment stands;
           holds = holds_at (f.disk now.folder) (s.may_follow now.servers) (s.faults now.servers) now.engine ended.moment stands;
@@ -121,6 +122,7 @@ module _ (languages : List (List ℕ × List ℕ)) (opening : World) where
           mid = old;
           until = come.moved.moments;
           holds = holds_at old (s.may_follow off.mid.servers) (s.faults off.mid.servers) off.mid.engine off.moment come.stands;
+          fits = off.fits;
           full = halted.full;
           since = halted.moments;
           moments = moved_halted begun old new world come.moved off.line halted.moments;

@@ -14,7 +14,7 @@ use Rattle.view_engine.specs.declared.halt.StepFault.{StepFault}
 use Rattle.view_engine.specs.Calls.{Scene}
 use Rattle.view_engine.specs.Moments.{Moment}
 use Rattle.view_engine.specs.Worlds.{at_start}
-use Rattle.couchview_cli.specs.Serving.{width}
+use Rattle.couchview_cli.specs.Serving.{HaveRoom, width}
 use Rattle.couchview_cli.specs.Session.{HasCome, IsUnanswered, Origin, StepsOf}
 
 module _ {F C : Type 0} (f : Folders F) (s : Servers C) (origin : Origin) (IsOver : Type 0) (held now : Option (List ℕ)) (bytes : List ℕ) (after : Scene F C) where
@@ -24,6 +24,7 @@ module _ {F C : Type 0} (f : Folders F) (s : Servers C) (origin : Origin) (IsOve
     pub moment : Moment
     pub run : Run (StepsOf s.functions s.honest origin) IsOver (at_start origin.opening width origin.faults) bytes gained end moment
     pub has_come : HasCome f s origin after moment
+    pub fits : HaveRoom origin.opening moment.world origin.disk (f.disk after.folder) run.exchanges
     pub wrote : Appends held now gained
 
   -- a session that read these bytes was cut short in the line in hand; the lines before it are answered
@@ -39,6 +40,7 @@ module _ {F C : Type 0} (f : Folders F) (s : Servers C) (origin : Origin) (IsOve
     pub answered : AreLines IsOver lines rest (lines_of exchanges ++ line ∷ more)
     pub leads : LeadsTo (StepsOf s.functions s.honest origin) (at_start origin.opening width origin.faults) exchanges moment
     pub has_come : HasCome f s origin mid moment
+    pub fits : HaveRoom origin.opening moment.world origin.disk (f.disk mid.folder) exchanges
     pub halts : IsUnanswered f s mid after line fault
     pub wrote : Appends held now (text_of exchanges)
 

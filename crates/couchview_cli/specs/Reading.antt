@@ -1,11 +1,12 @@
 -- What serving does with lines, whatever the folder holds.
-use Rattle.std.specs.Prelude.{◌≡◌, ◌≢◌, ◌⊎◌, ◌≤◌, ℕ, List, [], ◌∷◌, ◌++◌, Option, length}
+use Rattle.std.specs.Prelude.{◌≡◌, ◌≢◌, ◌⊎◌, ◌≤◌, ◌*◌, ℕ, List, [], ◌∷◌, ◌++◌, Option, length}
 use Rattle.std.specs.Io.KnownBytes.{Appends, Consumes, IsAtEnd}
 use Rattle.std.specs.List.{AllByRecursion}
 use Rattle.view_ports.specs.declared.run_end.RunEnd.{RunEnd}
 use Rattle.view_ports.specs.declared.file_name.FileName.{FileName}
 use Rattle.view_ports.specs.Disk.{Disk, IfTold, MovesNone, Tells}
 use Rattle.view_ports.specs.Exchanges.{Exchange, LeadsTo, lines_of, text_of}
+use Rattle.view_ports.specs.Faults.{RoseBy}
 use Rattle.view_ports.specs.Lines.{IsCut, ended}
 use Rattle.view_ports.specs.Runs.{AreLines, HasRead, Run, input_limit, status_of}
 use Rattle.line_loop.specs.declared.loop_end.LoopEnd.{LoopEnd}
@@ -13,18 +14,20 @@ use Rattle.line_loop.specs.declared.loop_end.LoopEnd.TheVariants as loop_end
 use Rattle.line_loop.specs.Loops.{HasReadBy}
 use Rattle.view_engine.specs.declared.halt.StepFault.{StepFault}
 use Rattle.view_engine.specs.declared.halt.StepFault.TheVariants.{Damaged, Full, NoMemory}
+use Rattle.view_engine.specs.Calls.{IsReplyLine}
 use Rattle.view_engine.specs.Disks.{ReadsDocuments}
 use Rattle.view_engine.specs.Halts.{Writes}
 use Rattle.view_engine.specs.Openings.{IsMovedByOpening}
 use Rattle.view_engine.specs.Refusals.{request_of}
+use Rattle.view_engine.specs.ServerFaults.{server_faults}
 use Rattle.view_engine.specs.Worlds.{HasBodyDamage, HasDamage}
 use Rattle.couchview_cli.specs.Closing.{Closes}
 use Rattle.couchview_cli.specs.Serving.{Outside}
 
--- a line is answered with a reply line, and an empty one with nothing
+-- a line is answered with one reply line, which isn't empty, and an empty one with nothing
 pub record IsReplied (line text : List ℕ) : Type 0 where
   pub none : line ≡ [] → text ≡ []
-  pub some : line ≢ [] → (reply : List ℕ) × (text ≡ ended reply)
+  pub some : line ≢ [] → (reply : List ℕ) × IsReplyLine reply × (text ≡ ended reply)
 
 -- a step of a run of which only that is told
 abbrev pub Replies : Unit {0} → Exchange → Unit {0} → Type 0
@@ -45,14 +48,15 @@ NoneWrites exchanges = AllByRecursion (λ e. Writes (request_of e.line) → ⊥)
 abbrev pub Told : Type 0
 Told = Option (Disk FileName)
 
-module _ (IsOver : Type 0) (held now : Option (List ℕ)) (bytes : List ℕ) (old new : Told) where
+module _ (IsOver : Type 0) (held now : Option (List ℕ)) (bytes : List ℕ) (old new : Told) (faults faults' : ℕ) where
   -- The lines of these bytes were answered, as a run that came to this end answers them. Where none of them writes a document no
-  -- file changed.
+  -- file changed. The count of the query servers' faults rose by two for each line that was answered `server_fault`.
   pub record AreReplied (end : RunEnd) : Type 0 where
     pub gained : List ℕ
     pub run : Run Replies IsOver tt bytes gained end tt
     pub wrote : Appends held now gained
     pub still : NoneWrites run.exchanges → Tells old new MovesNone
+    pub twice : RoseBy (2 * server_faults run.exchanges) faults faults'
 
   -- the first lines of them were answered, and the one behind them was not, for this fault
   pub record AreRepliedUpTo (fault : StepFault) : Type 0 where
@@ -67,17 +71,19 @@ module _ (IsOver : Type 0) (held now : Option (List ℕ)) (bytes : List ℕ) (ol
     pub wrote : Appends held now (text_of exchanges)
     pub found : IsFoundOn new line fault
     pub still : NoneWrites exchanges → (Writes (request_of line) → ⊥) → Tells old new MovesNone
+    pub twice : RoseBy (2 * server_faults exchanges) faults faults'
 
   abbrev pub AreRepliedBy : LoopEnd StepFault → Type 0
   AreRepliedBy (loop_end.Run end) = AreReplied end
   AreRepliedBy (loop_end.Stopped fault) = AreRepliedUpTo fault
 
--- a session read the bytes that the source lost, answered their lines, and came to this end, from the one disk to the other
-pub record HasReplied (left left' held held' : Option (List ℕ)) (old new : Told) (end : LoopEnd StepFault) : Type 0 where
+-- a session read the bytes that the source lost, answered their lines, and came to this end, from the one disk to the other, and
+-- from the one count of the query servers' faults to the other
+pub record HasReplied (left left' held held' : Option (List ℕ)) (old new : Told) (faults faults' : ℕ) (end : LoopEnd StepFault) : Type 0 where
   pub bytes : List ℕ
   pub reads : Consumes left left' bytes
   pub counts : HasReadBy end (length bytes)
-  pub ends : AreRepliedBy (IsAtEnd left') held held' bytes old new end
+  pub ends : AreRepliedBy (IsAtEnd left') held held' bytes old new faults faults' end
 
 -- ---- the whole run, from the disk behind the opening of the folder on, which changed files only as it may
 
@@ -90,7 +96,7 @@ pub record ReadsOn (before after : Outside) (status : ℕ) : Type 0 where
   pub counts : HasRead end (length bytes)
   pub opened : Told
   pub moved : Tells before.disk opened IsMovedByOpening
-  pub replies : AreReplied (IsAtEnd after.left) before.held after.held bytes opened after.disk end
+  pub replies : AreReplied (IsAtEnd after.left) before.held after.held bytes opened after.disk before.faults after.faults end
 
 -- it was cut short in a line, and behind the replies to those before it stands the last line, which names the fault, unless the sink failed
 pub record IsCutOff (before after : Outside) (status : ℕ) : Type 0 where
@@ -101,7 +107,7 @@ pub record IsCutOff (before after : Outside) (status : ℕ) : Type 0 where
   pub counts : length bytes ≤ input_limit
   pub opened : Told
   pub moved : Tells before.disk opened IsMovedByOpening
-  pub replies : AreRepliedUpTo (IsAtEnd after.left) before.held held bytes opened after.disk fault
+  pub replies : AreRepliedUpTo (IsAtEnd after.left) before.held held bytes opened after.disk before.faults after.faults fault
   pub closes : Closes held after.held [] fault status
 
 -- the folder wasn't opened, and nothing was read: no file changed but as opening changes it, what is named as damaged is, and no file is full

@@ -1,5 +1,5 @@
 -- What serving does, in terms of what the ports tell.
-use Rattle.std.specs.Prelude.{◌≡◌, ◌≢◌, ◌<◌, ◌≤◌, ◌⊎◌, ℕ, List, [], ◌∷◌, ◌++◌, Option, Some, None, length}
+use Rattle.std.specs.Prelude.{◌≡◌, ◌≢◌, ◌<◌, ◌≤◌, ◌⊎◌, ℕ, List, [], ◌∷◌, ◌++◌, Option, Some, None, length, Result}
 use Rattle.std.specs.Io.KnownBytes.{Consumes, Appends, IsAtEnd}
 use Rattle.view_ports.specs.declared.run_end.RunEnd.{RunEnd}
 use Rattle.view_ports.specs.declared.file_name.FileName.{FileName}
@@ -17,12 +17,14 @@ use Rattle.view_ports.specs.Lines.{IsCut}
 use Rattle.view_ports.specs.Runs.{AreLines, Run, HasRead, status_of, input_limit}
 use Rattle.view_engine.specs.declared.halt.StepFault.{StepFault}
 use Rattle.view_engine.specs.declared.halt.StepFault.TheVariants.{Damaged, DiskFault, Full, NoMemory}
+use Rattle.view_engine.specs.declared.refusal.Refusal.{Refusal}
+use Rattle.view_engine.specs.declared.request.Request.{Request}
 use Rattle.view_engine.specs.World.{World}
 use Rattle.view_engine.specs.Moments.{Moment}
-use Rattle.view_engine.specs.Worlds.{at_start, GoesOnFrom, Holds, IsFullAt, StandsAfter, StandsAround, StandsFor}
+use Rattle.view_engine.specs.Worlds.{at_start, GoesOnFrom, HasRoomAt, Holds, IsFullAt, StandsAfter, StandsAround, StandsFor}
 use Rattle.view_engine.specs.Refusals.{request_of}
 use Rattle.view_engine.specs.Steps.{Answers}
-use Rattle.view_engine.specs.Accepted.{accepted}
+use Rattle.view_engine.specs.Accepted.{accepted, EachOk}
 use Rattle.couchview_cli.specs.Closing.{Closes}
 
 -- what the ports tell at one moment: the bytes that the source has left, those that the sink holds, the disk, and how many
@@ -58,6 +60,19 @@ StandsSince opening world image = (first : World) × (GoesOnFrom opening first �
 abbrev pub StandsSinceWith : World → World → List ℕ → (FileName → List ℕ) → Type 0
 StandsSinceWith opening world line image = StandsSince opening world image ⊎ StandsAfter world (request_of line) image
 
+-- Before a line in a run the disk was `mid`: nothing was pending there, its files held the world, and what the line's request
+-- writes passes neither limit of the documents' file among them.
+pub record HadRoom (opening last : World) (old new : Option (Disk FileName)) (world : World) (request : Result Request Refusal) : Type 0 where
+  pub mid : Option (Disk FileName)
+  pub until : Tells old mid (LeavesOnly (StandsSince opening world))
+  pub holds : IfTold mid (λ d. Holds d.now world)
+  pub room : IfTold mid (λ d. HasRoomAt d.now world request)
+  pub since : Tells mid new (LeavesOnly (StandsSince world last))
+
+-- from the one disk to the other, each line that was answered `ok` had room for what it wrote
+abbrev pub HaveRoom : World → World → Option (Disk FileName) → Option (Disk FileName) → List Exchange → Type 0
+HaveRoom opening last old new exchanges = IfTold old (λ d. EachOk (HadRoom opening last old new) opening exchanges)
+
 -- a step of a run, where the disk is told
 abbrev pub Steps : (List ℕ → Functions) → (List ℕ → Type 0) → List (List ℕ × List ℕ) → Option (Disk FileName) → Moment → Exchange → Moment → Type 0
 Steps functions honest languages disk before exchange after = IfTold disk (λ d. Answers functions honest languages before exchange after)
@@ -78,6 +93,7 @@ module _ (functions : List ℕ → Functions) (honest : List ℕ → Type 0) (la
     pub writes : Appends before.held after.held gained
     pub runs : Run (Steps functions honest languages before.disk) (IsAtEnd after.left) (at_start opening width before.faults) bytes gained end moment
     pub keeps : IfTold before.disk (λ d. moment.world ≡ accepted opening runs.exchanges)
+    pub fits : HaveRoom opening moment.world before.disk after.disk runs.exchanges
     pub moments : Tells before.disk after.disk (LeavesOnly (StandsSince opening moment.world))
     pub images : IfTold after.disk (λ d. (image : FileName → List ℕ) → IsImageOf d.now image → StandsFor image moment.world)
     pub holds : IfTold after.disk (λ d. Holds d.now moment.world)
@@ -110,6 +126,7 @@ module _ (functions : List ℕ → Functions) (honest : List ℕ → Type 0) (la
     pub mid : Option (Disk FileName)
     pub until : Tells before.disk mid (LeavesOnly (StandsSince opening moment.world))
     pub holds : IfTold mid (λ d. Holds d.now moment.world)
+    pub fits : HaveRoom opening moment.world before.disk mid exchanges
     pub full : IfTold mid (λ d. (name : FileName) (length : Option ℕ) → fault ≡ Full name length → IsFullAt d.now moment.world (request_of line) name length)
     pub since : Tells mid after.disk (LeavesOnly (StandsAround moment.world (request_of line)))
     pub moments : Tells before.disk after.disk (LeavesOnly (StandsSinceWith opening moment.world line))

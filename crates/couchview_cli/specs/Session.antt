@@ -1,23 +1,25 @@
 -- What a session, which is an engine between its ports, does with a line, and how far it has come since the opening.
-use Rattle.std.specs.Prelude.{◌≡◌, ◌⊎◌, ℕ, List, Option, if◌then◌else◌}
+use Rattle.std.specs.Prelude.{◌≡◌, ◌⊎◌, ℕ, List, true, Option, if◌then◌else◌}
 use Rattle.view_ports.specs.declared.file_name.FileName.{FileName}
 use Rattle.view_ports.specs.declared.folder.Folder.{Ghosts as Folders}
 use Rattle.view_ports.specs.declared.servers.Servers.{Ghosts as Servers}
 use Rattle.view_ports.specs.Disk.{Disk, IfTold, LeavesOnly, MovesNone, Tells}
 use Rattle.view_ports.specs.Exchanges.{Exchange}
-use Rattle.view_ports.specs.Faults.{Rose}
+use Rattle.view_ports.specs.Faults.{Rose, RoseBy}
 use Rattle.view_ports.specs.Functions.{Functions}
 use Rattle.view_engine.specs.declared.halt.StepFault.{StepFault}
 use Rattle.view_engine.specs.declared.halt.StepFault.TheVariants.{Damaged, DiskFault, Full}
 use Rattle.view_ports.specs.Lines.{ended}
 use Rattle.view_engine.specs.declared.refusal.Refusal.TheVariants as refusal
+use Rattle.view_engine.specs.Accepted.{is_ok}
 use Rattle.view_engine.specs.Calls.{KeepsChild, Scene, StandsAt, Stays, scene}
 use Rattle.view_engine.specs.Halts.{Writes}
 use Rattle.view_engine.specs.Refusals.{refusal_text, request_of}
 use Rattle.view_engine.specs.Moments.{Moment}
+use Rattle.view_engine.specs.ServerFaults.{is_server_fault}
 use Rattle.view_engine.specs.Steps.{Answers}
 use Rattle.view_engine.specs.World.{World}
-use Rattle.view_engine.specs.Worlds.{at_start, GoesOnFrom, IsFullAt, StandsAround, StandsFor, languages as languages_of}
+use Rattle.view_engine.specs.Worlds.{at_start, GoesOnFrom, HasRoomAt, IsFullAt, StandsAround, StandsFor, languages as languages_of}
 use Rattle.couchview_cli.specs.declared.session.Session.{Session}
 use Rattle.couchview_cli.specs.Reading.{IsFoundOn, IsReplied}
 use Rattle.couchview_cli.specs.Serving.{StandsSince, Steps, width}
@@ -61,7 +63,9 @@ module _ {F C : Type 0} (f : Folders F) (s : Servers C) where
   pub record IsAnswered (old new : Scene F C) (line text : List ℕ) : Type 0 where
     pub answers : (before : Moment) → StandsAt f s old before
         → Answered s.functions s.honest (languages_of old.engine) (f.disk old.folder) (f.disk new.folder) before line text (StandsAt f s new)
+    pub room : (before : Moment) → StandsAt f s old before → IfTold (f.disk old.folder) (λ d. is_ok text ≡ true → HasRoomAt d.now before.world (request_of line))
     pub prints : IsReplied line text
+    pub blames : is_server_fault (record { line = line; text = text }) ≡ true → RoseBy 2 (s.faults old.servers) (s.faults new.servers)
     pub still : (Writes (request_of line) → ⊥) → Tells (f.disk old.folder) (f.disk new.folder) MovesNone
     pub stays : Stays f s old new
 

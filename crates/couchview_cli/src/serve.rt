@@ -89,7 +89,8 @@ fn run<S: Source, K: Sink, F: Folder, C: Servers>(
         → Comes F.Folder C.Servers origin (scene engine.new folder.new servers.new)
         (S.left source.old) (S.left source.new) (K.held sink.old) (K.held sink.new) result }
     ensures replies { HasReplied (S.left source.old) (S.left source.new)
-        (K.held sink.old) (K.held sink.new) (F.disk folder.old) (F.disk folder.new) result }
+        (K.held sink.old) (K.held sink.new) (F.disk folder.old) (F.disk folder.new)
+        (C.faults servers.old) (C.faults servers.new) result }
     ensures wide { width_of engine.new ≡ width_of engine.old }
     ensures ended { HasEnded result → IsAtEnd (S.left source.new) }
     ensures disk_failed { result ≡ LoopEnd.Stopped StepFault.DiskFault

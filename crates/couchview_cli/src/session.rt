@@ -36,7 +36,8 @@ impl<F: Folder, C: Servers> Session<'_, F, C> {
             → Comes F.Folder C.Servers origin (scene_of self.new) (S.left source.old)
             (S.left source.new) (K.held sink.old) (K.held sink.new) result }
         ensures replies { HasReplied (S.left source.old) (S.left source.new) (K.held sink.old)
-            (K.held sink.new) (F.disk self.old.folder.now) (F.disk self.new.folder.now) result }
+            (K.held sink.new) (F.disk self.old.folder.now) (F.disk self.new.folder.now)
+            (C.faults self.old.servers.now) (C.faults self.new.servers.now) result }
         ensures ports { KeepsPorts self.old self.new }
         ensures stays { Stays F.Folder C.Servers (scene_of self.old) (scene_of self.new) }
         ensures ended { HasEnded result → IsAtEnd (S.left source.new) }

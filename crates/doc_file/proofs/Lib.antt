@@ -29,3 +29,4 @@ pub mod LastWrites
 pub mod MappedOrder
 mod MappedLater
 pub mod CanBeStored
+pub mod RevisionLines

@@ -48,18 +48,18 @@ hex_below (suc n) e k h =
       | inr other ↦ hex_below n p.1 k (omega arith)
     ]
 
-abbrev IsByte : ℕ → Type 0
+abbrev pub IsByte : ℕ → Type 0
 IsByte b = b < 256
 
 IsByte-byte_at : (i n : ℕ) → IsByte (byte_at i n)
 IsByte-byte_at zero n = omega arith
 IsByte-byte_at (suc i) n = omega arith
 
-are_bytes : (k n : ℕ) → AllByRecursion IsByte (bytes_high_first k n)
+pub are_bytes : (k n : ℕ) → AllByRecursion IsByte (bytes_high_first k n)
 are_bytes zero n = tt
 are_bytes (suc k) n = (IsByte-byte_at k n, are_bytes k n)
 
-are_digits : (xs : List ℕ) → AllByRecursion IsByte xs → AllByRecursion IsHexDigit (encode_lower xs)
+pub are_digits : (xs : List ℕ) → AllByRecursion IsByte xs → AllByRecursion IsHexDigit (encode_lower xs)
 unfolding encode_with
 are_digits [] all = tt
 are_digits (x ∷ xs) all = (hex_below 16 refl (x / 16) (omega (arith, all.0)), (hex_below 16 refl (x % 16) (omega arith), are_digits xs all.1))

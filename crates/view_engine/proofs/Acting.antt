@@ -1,6 +1,6 @@
 -- A request on the documents alone, as the engine performs it.
 use Rattle.std.specs.Prelude.{OnOk}
-use Rattle.std.proofs.Common.{◌≡◌, ℕ, List, inl, inr, Result, Ok, Err, refl, sym, ap, subst, arith}
+use Rattle.std.proofs.Common.{◌≡◌, ◌≢◌, ℕ, List, inl, inr, Result, Ok, Err, refl, sym, ap, subst, arith}
 use Rattle.view_ports.specs.Functions.{Functions}
 use Rattle.view_ports.specs.Lines.{ended}
 use Rattle.view_ports.specs.declared.folder.Folder.{Ghosts as Folders}
@@ -13,9 +13,10 @@ use Rattle.view_engine.specs.declared.halt.Halt.{Halt}
 use Rattle.view_engine.specs.declared.halt.Halt.TheVariants.{Refused, Stopped}
 use Rattle.view_engine.specs.declared.halt.StepFault.TheVariants.{DiskFault, Damaged, Full, NoMemory}
 use Rattle.view_engine.specs.declared.refusal.Refusal.{Refusal}
+use Rattle.view_engine.specs.declared.refusal.Refusal.TheVariants.{ServerFault}
 use Rattle.view_engine.specs.declared.request.Request.{Request}
 use Rattle.view_engine.specs.declared.request.Request.TheVariants.{Put, Delete, Get, Info}
-use Rattle.view_engine.specs.Calls.{scene, ActsHere, AppendsLine, DoesBy, DoesHere, DoesHereBy, IsRefusedHere, Performed, Scene}
+use Rattle.view_engine.specs.Calls.{scene, ActsHere, AppendsReplyTo, DoesBy, DoesHere, DoesHereBy, IsRefusedHere, Performed, Scene}
 use Rattle.view_engine.specs.Disks.{AreOpen}
 use Rattle.view_engine.specs.Moments.{Moment, with_world}
 use Rattle.view_engine.specs.Refusals.{refusal_text}
@@ -23,6 +24,7 @@ use Rattle.view_engine.specs.Steps.{DoesRequest, DoesRequestText, IsRefusedAs, M
 use Rattle.view_engine.specs.World.{World}
 use Rattle.view_engine.proofs.OnDisk.{disk_still}
 use Rattle.view_engine.proofs.Performing.{none_called}
+use Rattle.view_engine.proofs.ServerFaults.{err_unblamed}
 
 module _ (functions : List ℕ → Functions) (honest : List ℕ → Type 0) (languages : List (List ℕ × List ℕ)) where
   performs_here : (request : Request) (before : Moment) (reply : List ℕ) (after : World) → DoesHere before.world request reply after
@@ -83,8 +85,8 @@ module _ {F C : Type 0} (f : Folders F) (s : Servers C) (docs docs' : Docs) (poo
   does_here request (Err (Stopped (Full name length))) stopped = λ before child. child
 
   -- and where it is done its reply line was appended
-  prints_here : (request : Request) (result : Result (Unit {0}) Halt) → DoesHereBy f docs docs' old new request out out' result → OnOk result (AppendsLine out out')
-  prints_here request (Ok value) done = (done.reply, done.appended)
+  prints_here : (request : Request) (result : Result (Unit {0}) Halt) → DoesHereBy f docs docs' old new request out out' result → OnOk result (AppendsReplyTo (Ok request) out out')
+  prints_here request (Ok value) done = record { reply = done.reply; line = done.line; appended = done.appended; unlike = done.unlike }
   prints_here request (Err halt) done = tt
 
 -- what a request function promises of the documents is what the engine promises of the request
@@ -96,6 +98,7 @@ acted {f = f} {s = s} {docs = docs} {docs' = docs'} {pool = pool} {old = old} {n
       does = does_here f s docs docs' pool old new servers out out' made result acts.does;
       prints = prints_here f s docs docs' pool old new servers out out' made result acts.does;
       silent = acts.silent;
+      blames = λ is. absurd (acts.unblamed is);
       fits = acts.fits;
       disk = acts.disk;
       why = acts.why;
@@ -113,6 +116,7 @@ module _ {F C : Type 0} {f : Folders F} {s : Servers C} {now : Scene F C} {reque
     };
     prints = tt;
     silent = refl;
+    blames = λ never. absurd cc;
     fits = tt;
     disk = disk_still is_open;
     why = tt;
@@ -120,9 +124,9 @@ module _ {F C : Type 0} {f : Folders F} {s : Servers C} {now : Scene F C} {reque
   }
 
   -- nothing was called, and the request is refused
-  pub refused_at_once : {refusal : Refusal} → ((before : Moment) → DoesRequest s.functions s.honest (languages_of now.engine.pool) before request (refusal_text refusal) before)
+  pub refused_at_once : {refusal : Refusal} → refusal ≢ ServerFault → ((before : Moment) → DoesRequest s.functions s.honest (languages_of now.engine.pool) before request (refusal_text refusal) before)
       → AreOpen f now.engine.docs now.folder → Performed f s now now request out out (Err (Refused refusal))
-  refused_at_once {refusal} does is_open = record {
+  refused_at_once {refusal} other does is_open = record {
     does = λ before at. record {
       after = before;
       is_at = at;
@@ -132,6 +136,7 @@ module _ {F C : Type 0} {f : Folders F} {s : Servers C} {now : Scene F C} {reque
     };
     prints = tt;
     silent = refl;
+    blames = λ never. absurd (err_unblamed (Refused refusal) (λ same. other (let is_fault : refusal ≡ ServerFault = cc in is_fault)) never);
     fits = tt;
     disk = disk_still is_open;
     why = tt;

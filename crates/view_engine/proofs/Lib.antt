@@ -29,3 +29,6 @@ pub mod OnDisk
 pub mod Acting
 pub mod Stored
 pub mod Reading
+pub mod ServerFaults
+pub mod Rooms
+pub mod ReplyLines

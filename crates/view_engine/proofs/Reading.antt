@@ -1,6 +1,6 @@
 -- A request that only reads the documents.
 use Rattle.std.specs.Result.{IsErrAnd}
-use Rattle.std.proofs.Common.{◌≡◌, ◌≤◌, ◌⊎◌, ◌++◌, ℕ, List, true, false, Option, inl, inr, Result, Ok, Err, refl, sym, ap, ◌∙◌, subst}
+use Rattle.std.proofs.Common.{◌≡◌, ◌≢◌, ◌≤◌, ◌⊎◌, ◌++◌, ℕ, List, true, false, Option, inl, inr, Result, Ok, Err, refl, sym, ap, ◌∙◌, subst}
 use Rattle.std.proofs.lemmas.Result.{err_from_is_err_and}
 use Rattle.view_ports.specs.Causes.{HasCauseIf}
 use Rattle.view_ports.specs.Disk.{IfTold, MovesNone, Tells}
@@ -20,14 +20,16 @@ use Rattle.view_engine.specs.declared.halt.Halt.{Halt}
 use Rattle.view_engine.specs.declared.halt.Halt.TheVariants.{Refused, Stopped}
 use Rattle.view_engine.specs.declared.halt.StepFault.TheVariants.{DiskFault, Damaged, Full, NoMemory}
 use Rattle.view_engine.specs.declared.refusal.Refusal.{Refusal}
+use Rattle.view_engine.specs.declared.refusal.Refusal.TheVariants.{ServerFault}
 use Rattle.view_engine.specs.declared.request.Request.{Request}
-use Rattle.view_engine.specs.Calls.{ActsHere, DoesHere, DoesHereBy, IsRefusedHere}
+use Rattle.view_engine.specs.Calls.{ActsHere, DoesHere, DoesHereBy, IsRefusedHere, IsReplyLine, IsUnlikeFault}
 use Rattle.view_engine.specs.Disks.{AreOpen, IfStopped, IsReadReason, Reads, ReadsDocuments}
 use Rattle.view_engine.specs.Halts.{halted_as, FitsFor, IsDamage}
 use Rattle.view_engine.specs.World.{World}
 use Rattle.view_engine.proofs.HaltedAs.{after_damage, not_deleted, spoiled_damage}
 use Rattle.view_engine.proofs.Keeping.{at_none}
 use Rattle.view_engine.proofs.OnDisk.{disk_read, read_halted, read_reason}
+use Rattle.view_engine.proofs.ServerFaults.{err_unblamed}
 
 -- the definition is met in each world that the documents are at
 abbrev pub IsMetIn : {F : Type 0} → Folders F → Docs → F → (World → Type 0) → Type 0
@@ -51,11 +53,13 @@ halted_so f docs old new request out out' (Stopped (Damaged name at)) none refus
 halted_so f docs old new request out out' (Stopped (Full name length)) none refused = tt
 
 module _ {F : Type 0} {f : Folders F} {docs : Docs} {old new : F} {request : Request} {out out' : List ℕ} (is_open : AreOpen f docs old) (none : Tells (f.disk old) (f.disk new) MovesNone) (later : f.faults old ≤ f.faults new) where
-  pub read_done : FitsFor docs (Ok request) → (reply : List ℕ) → out' ≡ out ++ ended reply → IsMetIn f docs old (λ world. DoesHere world request reply world) → ActsHere f docs docs old new request out out' (Ok tt)
-  read_done fits reply appended does = record {
+  pub read_done : FitsFor docs (Ok request) → (reply : List ℕ) → IsReplyLine reply → IsUnlikeFault (Ok request) reply → out' ≡ out ++ ended reply → IsMetIn f docs old (λ world. DoesHere world request reply world) → ActsHere f docs docs old new request out out' (Ok tt)
+  read_done fits reply line unlike appended does = record {
     does = record {
       reply = reply;
+      line = line;
       appended = appended;
+      unlike = unlike;
       does = λ world at. record {
         after = world;
         is_at = at_none docs (f.disk old) (f.disk new) none world.history at;
@@ -64,17 +68,19 @@ module _ {F : Type 0} {f : Folders F} {docs : Docs} {old new : F} {request : Req
       };
     };
     silent = tt;
+    unblamed = λ never. cc;
     fits = fits;
     disk = disk_read none is_open;
     why = tt;
     later = later;
   }
 
-  pub read_stopped : {halt : Halt} → ReadsDocuments (Ok request) → out' ≡ out → ((refusal : Refusal) → halt ≡ Refused refusal → IsMetIn f docs old (λ world. IsRefusedHere world request refusal))
+  pub read_stopped : {halt : Halt} → halt ≢ Refused ServerFault → ReadsDocuments (Ok request) → out' ≡ out → ((refusal : Refusal) → halt ≡ Refused refusal → IsMetIn f docs old (λ world. IsRefusedHere world request refusal))
       → IfStopped (IsReadReason f docs old new) halt → ActsHere f docs docs old new request out out' (Err halt)
-  read_stopped {halt} is_read silent refused why = record {
+  read_stopped {halt} other is_read silent refused why = record {
     does = halted_so f docs old new request out out' halt none refused;
     silent = silent;
+    unblamed = err_unblamed halt other;
     fits = tt;
     disk = disk_read none is_open;
     why = read_halted f docs old new (Ok request) halt is_read why;
@@ -86,7 +92,7 @@ module _ {F : Type 0} {f : Folders F} {docs : Docs} {old new : F} {request : Req
       let err = err_from_is_err_and result is in
       let spent : result ≡ Err (Stopped NoMemory) = err.1 ∙ ap Err err.2 in
       subst (λ (r : Result (Unit {0}) Halt). ActsHere f docs docs old new request out out' r) (sym spent)
-      (read_stopped is_read silent (λ refusal is. absurd (let never : ⊥ = cc in never)) tt)
+      (read_stopped (λ is. cc) is_read silent (λ refusal is. absurd (let never : ⊥ = cc in never)) tt)
 
 -- ---- faults of the documents' calls that only read
 

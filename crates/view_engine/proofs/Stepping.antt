@@ -32,6 +32,8 @@ use Rattle.view_engine.specs.Worlds.{HasBodyDamage, IsFullAt, StandsAround, Stan
 use Rattle.view_engine.proofs.Acting.{refused_at_once, spent_at_once}
 use Rattle.view_engine.proofs.Exclusive.{no_write_kept}
 use Rattle.view_engine.proofs.OnDisk.{disk_ends, disk_still}
+use Rattle.view_engine.proofs.ReplyLines.{refusal_line}
+use Rattle.view_engine.proofs.ServerFaults.{nothing_appended, reply_no_fault, told_is_fault}
 use Rattle.view_engine.proofs.Unmoved.{files_same}
 
 does_text : (functions : List ℕ → Functions) (honest : List ℕ → Type 0) (languages : List (List ℕ × List ℕ)) (before : Moment) (line text : List ℕ) (after : Moment) → line ≢ []
@@ -59,6 +61,7 @@ module _ {F C : Type 0} {f : Folders F} {s : Servers C} where
     };
     prints = record { none = λ none. refl; some = λ some. absurd (some refl) };
     silent = tt;
+    blames = λ appends. absurd (nothing_appended (request_of []) out appends);
     fits = λ some. absurd (some refl);
     asked = tt;
     idle = λ none. refl;
@@ -82,8 +85,9 @@ module _ {F C : Type 0} {f : Folders F} {s : Servers C} where
                 (λ d does. does_text s.functions s.honest (languages_of old.engine.pool) before line done.text done.after some does) done.allowed;
             appended = done.appended;
           };
-      prints = record { none = λ none. absurd (some none); some = λ filled. performed.prints };
+      prints = record { none = λ none. absurd (some none); some = λ filled. let printed = performed.prints in (printed.reply, printed.line, printed.appended) };
       silent = tt;
+      blames = λ appends. absurd (reply_no_fault (request_of line) out out' performed.prints appends);
       fits = λ filled before at. told_all (f.disk old.folder) (λ d. (write : Write) → IsWrite before.world (request_of line) write → FitsFor old.engine.docs (request_of line)) (λ d write is. performed.fits);
       asked = tt;
       idle = λ none. absurd (some none);
@@ -107,8 +111,9 @@ module _ {F C : Type 0} {f : Folders F} {s : Servers C} where
                 (λ d both. does_text s.functions s.honest (languages_of old.engine.pool) before line (ended (refusal_text refusal)) left.after some (refusal_text refusal, both.0, refl)) left.allowed;
             appended = is.0 ∙ ap (λ (o : List ℕ). o ++ ended (refusal_text refusal)) performed.silent;
           };
-      prints = record { none = λ none. absurd (some none); some = λ filled. (refusal_text refusal, is.0 ∙ ap (λ (o : List ℕ). o ++ ended (refusal_text refusal)) performed.silent) };
+      prints = record { none = λ none. absurd (some none); some = λ filled. (refusal_text refusal, refusal_line refusal, is.0 ∙ ap (λ (o : List ℕ). o ++ ended (refusal_text refusal)) performed.silent) };
       silent = tt;
+      blames = λ appends. performed.blames (ap (λ (r : Refusal). Err (Refused r)) (told_is_fault refusal (request_of line) out out' (is.0 ∙ ap (λ (o : List ℕ). o ++ ended (refusal_text refusal)) performed.silent) appends));
       fits = λ filled before at.
           let left = performed.does before at in
           told_now (f.disk old.folder) (λ d. DoesRequest s.functions s.honest (languages_of old.engine.pool) before (request_of line) (refusal_text refusal) left.after
@@ -134,6 +139,7 @@ module _ {F C : Type 0} {f : Folders F} {s : Servers C} where
               };
           prints = tt;
           silent = is.1 ∙ performed.silent;
+          blames = tt;
           fits = tt;
           asked = some;
           idle = λ none. absurd (some none);
@@ -146,6 +152,7 @@ module _ {F C : Type 0} {f : Folders F} {s : Servers C} where
           does = steps_by f s old new line out mid out' fault performed.does;
           prints = tt;
           silent = is.1 ∙ performed.silent;
+          blames = tt;
           fits = tt;
           asked = some;
           idle = λ none. absurd (some none);
@@ -155,11 +162,11 @@ module _ {F C : Type 0} {f : Folders F} {s : Servers C} where
         })
 
   -- a line that is no request
-  pub unread : {now : Scene F C} {request : Result Request Refusal} {out : List ℕ} (refused : Refusal) → (refused ≢ refusal.NoMemory → request ≡ Err refused) → AreOpen f now.engine.docs now.folder
+  pub unread : {now : Scene F C} {request : Result Request Refusal} {out : List ℕ} (refused : Refusal) → request ≢ Err refusal.ServerFault → (refused ≢ refusal.NoMemory → request ≡ Err refused) → AreOpen f now.engine.docs now.folder
       → Performed f s now now request out out (Err (halted_by refused))
-  unread refusal.NoMemory is is_open = spent_at_once is_open
-  unread {now = now} {request = request} other is is_open =
-      refused_at_once (λ before. subst (λ (r : Result Request Refusal). DoesRequest s.functions s.honest (languages_of now.engine.pool) before r (refusal_text other) before)
+  unread refusal.NoMemory unblamed is is_open = spent_at_once is_open
+  unread {now = now} {request = request} other unblamed is is_open =
+      refused_at_once (λ same. unblamed (is (λ spent. let never : refusal.NoMemory ≡ refusal.ServerFault = sym spent ∙ same in cc) ∙ ap Err same)) (λ before. subst (λ (r : Result Request Refusal). DoesRequest s.functions s.honest (languages_of now.engine.pool) before r (refusal_text other) before)
       (sym (is (λ same. let never : ⊥ = cc in never))) (refl, refl)) is_open
 
 -- the same request

@@ -2,7 +2,7 @@
 use Rattle.std.specs.Prelude.{OnOk}
 use Rattle.std.specs.Result.{IsErrAnd}
 use Rattle.std.proofs.lemmas.Result.{err_from_is_err_and}
-use Rattle.std.proofs.Common.{◌≡◌, ◌⊎◌, ◌++◌, ℕ, List, ◌∷◌, inl, inr, Result, Ok, Err, Option, Some, None, refl, sym, ap, ◌∙◌, subst, arith}
+use Rattle.std.proofs.Common.{◌≡◌, ◌≢◌, ◌⊎◌, ◌++◌, ℕ, List, ◌∷◌, inl, inr, Result, Ok, Err, Option, Some, None, refl, sym, ap, ◌∙◌, subst, arith}
 use Rattle.json_terms.specs.Json.{Json}
 use Rattle.view_ports.specs.Disk.{IfTold}
 use Rattle.view_ports.specs.File.{File}
@@ -26,8 +26,9 @@ use Rattle.view_engine.specs.declared.halt.Halt.{Halt}
 use Rattle.view_engine.specs.declared.halt.Halt.TheVariants.{Refused, Stopped}
 use Rattle.view_engine.specs.declared.halt.StepFault.TheVariants.{DiskFault, Damaged, Full, NoMemory}
 use Rattle.view_engine.specs.declared.refusal.Refusal.{Refusal}
+use Rattle.view_engine.specs.declared.refusal.Refusal.TheVariants.{ServerFault}
 use Rattle.view_engine.specs.declared.request.Request.{Request}
-use Rattle.view_engine.specs.Calls.{ActsHere, DoesHere, DoesHereBy, IsRefusedHere, LeavesWorld}
+use Rattle.view_engine.specs.Calls.{ActsHere, DoesHere, DoesHereBy, IsRefusedHere, IsReplyLine, IsUnlikeFault, LeavesWorld}
 use Rattle.view_engine.specs.Disks.{AreOpen, IfStopped, IsReason, KeepsDisk, OverWorld}
 use Rattle.view_engine.specs.Halts.{halted_as, Fits, FitsFor, GoesOn, IsFull, IsFullFor, LeavesFiles, Writes as WritesOne}
 use Rattle.view_engine.specs.Steps.{IsWrite}
@@ -36,6 +37,7 @@ use Rattle.view_engine.proofs.Around.{moves_around}
 use Rattle.view_engine.proofs.OnDisk.{disk_same, disk_still}
 use Rattle.view_engine.proofs.OwnFiles.{own_moved}
 use Rattle.view_engine.proofs.SameDocs.{IsAt-same}
+use Rattle.view_engine.proofs.ServerFaults.{err_unblamed, halted_unblamed}
 use Rattle.view_engine.proofs.Still.{still_written}
 
 -- memory ran out before anything was called
@@ -47,6 +49,7 @@ spent_here {f = f} {docs = docs} {old = old} {request = request} {out = out} {ou
     subst (λ (r : Result (Unit {0}) Halt). ActsHere f docs docs old old request out out' r) (sym spent) (record {
       does = λ world at. record { after = world; is_at = at; allowed = told_all (f.disk old) (λ d. world ≡ world) (λ d. refl) };
       silent = silent;
+      unblamed = λ never. cc;
       fits = tt;
       disk = disk_still is_open;
       why = tt;
@@ -55,14 +58,15 @@ spent_here {f = f} {docs = docs} {old = old} {request = request} {out = out} {ou
 
 module _ {F : Type 0} {f : Folders F} {docs : Docs} {old : F} {request : Request} {out : List ℕ} where
   -- it is refused before anything was called
-  pub refused_here_at_once : {refusal : Refusal} → AreOpen f docs old → ((world : World) → IsRefusedHere world request refusal) → ActsHere f docs docs old old request out out (Err (Refused refusal))
-  refused_here_at_once {refusal} is_open is = record {
+  pub refused_here_at_once : {refusal : Refusal} → refusal ≢ ServerFault → AreOpen f docs old → ((world : World) → IsRefusedHere world request refusal) → ActsHere f docs docs old old request out out (Err (Refused refusal))
+  refused_here_at_once {refusal} other is_open is = record {
     does = λ world at. record {
       after = world;
       is_at = at;
       allowed = told_all (f.disk old) (λ d. (world ≡ world) × IsRefusedHere world request refusal) (λ d. (refl, is world));
     };
     silent = refl;
+    unblamed = err_unblamed (Refused refusal) (λ same. other (let is_fault : refusal ≡ ServerFault = cc in is_fault));
     fits = tt;
     disk = disk_still is_open;
     why = tt;
@@ -112,11 +116,13 @@ module _ {F : Type 0} (f : Folders F) (docs docs' : Docs) (old new : F) (request
     }
 
     -- an accepted write
-    pub stored_done : (rev : Rev) → (Fits docs id content → FitsFor docs (Ok request)) → out' ≡ out ++ ended reply → Side (Ok rev) → ActsHere f docs docs' old new request out out' (Ok tt)
-    stored_done rev fits appended stored = record {
+    pub stored_done : (rev : Rev) → (Fits docs id content → FitsFor docs (Ok request)) → IsReplyLine reply → IsUnlikeFault (Ok request) reply → out' ≡ out ++ ended reply → Side (Ok rev) → ActsHere f docs docs' old new request out out' (Ok tt)
+    stored_done rev fits line unlike appended stored = record {
       does = record {
         reply = reply;
+        line = line;
         appended = appended;
+        unlike = unlike;
         does = λ world at. record {
           after = written world (write_of world.history id content);
           is_at = told_after (f.disk old) (f.disk new) (λ d. AreAt docs d.now world.history) (λ d. AreAt docs' d.now (write_of world.history id content ∷ world.history)) _ (λ a b is moves. moves.ended) at (stored.stored.stands world.history at);
@@ -125,6 +131,7 @@ module _ {F : Type 0} (f : Folders F) (docs docs' : Docs) (old new : F) (request
         };
       };
       silent = tt;
+      unblamed = λ never. cc;
       fits = fits (record { short = stored.stored.short; few = stored.stored.few });
       disk = disk_moved (Ok rev) stored.accepted (λ never. never) (λ goes. stored.stored.is_open) stored;
       why = tt;
@@ -190,6 +197,7 @@ module _ {F : Type 0} (f : Folders F) (docs docs' : Docs) (old new : F) (request
           does = halted_here (halted_as fault) (λ refusal is. absurd (no_going_on fault so (goes_on (halted_as fault) (Refused refusal) is tt)))
               (λ is. absurd (no_going_on fault so (goes_on (halted_as fault) (Stopped NoMemory) is tt)));
           silent = silent;
+          unblamed = err_unblamed (halted_as fault) (halted_unblamed fault);
           fits = tt;
           disk = disk_moved (Err fault) (stored.reached so) (no_files_left fault so) (λ goes. absurd (no_going_on fault so goes)) stored;
           why = why_halted fault stored;
@@ -209,6 +217,7 @@ module _ {F : Type 0} (f : Folders F) (docs docs' : Docs) (old new : F) (request
                 allowed = told_all (f.disk old) (λ d. world ≡ world) (λ d. refl);
               });
           silent = silent;
+          unblamed = err_unblamed (halted_as fault) (halted_unblamed fault);
           fits = tt;
           disk = disk_same same is_open;
           why = why_halted fault stored;
@@ -222,7 +231,7 @@ module _ {F : Type 0} {f : Folders F} {docs docs' : Docs} {old new : F} {request
     (reply : List ℕ)
     (does : (files : FileName → File) (world : World) → AreAt docs files world.history → Accepted → DoesHere world request reply (written world (write_of world.history id content)))
     (writes : (files : FileName → File) (world : World) → AreAt docs files world.history → Accepted → IsWrite world (Ok request) (write_of world.history id content)) (is_write : WritesOne (Ok request)) where
-  pub wrote_here : {rev : Rev} → (Fits docs id content → FitsFor docs (Ok request)) → out' ≡ out ++ ended reply → Writes f docs docs' old new id content Accepted IsRefused (Ok rev) → ActsHere f docs docs' old new request out out' (Ok tt)
+  pub wrote_here : {rev : Rev} → (Fits docs id content → FitsFor docs (Ok request)) → IsReplyLine reply → IsUnlikeFault (Ok request) reply → out' ≡ out ++ ended reply → Writes f docs docs' old new id content Accepted IsRefused (Ok rev) → ActsHere f docs docs' old new request out out' (Ok tt)
   wrote_here {rev} = stored_done f docs docs' old new request out out' id content Accepted IsRefused reply does writes is_write rev
 
   pub unwritten_here : {fault : DocFault} → ((g : GateFault) → IsRefused (doc.Gate g) → ⊥)

@@ -5,6 +5,7 @@ use Rattle.std.proofs.lemmas.Result.{IfErr-weaker}
 use Rattle.view_ports.specs.declared.folder.Folder.{Ghosts as Folders}
 use Rattle.view_ports.specs.declared.servers.Servers.{Ghosts as Servers}
 use Rattle.view_ports.proofs.Told.{told_now}
+use Rattle.view_ports.specs.Faults.{RoseBy}
 use Rattle.child_pool.specs.declared.pool.Pool.{Pool}
 use Rattle.child_pool.specs.PoolCalls.{StaysAsMade}
 use Rattle.child_pool.specs.Pools.{languages_of}
@@ -16,8 +17,9 @@ use Rattle.view_engine.specs.declared.halt.Halt.TheVariants.{Refused, Stopped}
 use Rattle.view_engine.specs.declared.halt.StepFault.{StepFault}
 use Rattle.view_engine.specs.declared.halt.StepFault.TheVariants.{DiskFault, Damaged, Full, NoMemory}
 use Rattle.view_engine.specs.declared.refusal.Refusal.{Refusal}
+use Rattle.view_engine.specs.declared.refusal.Refusal.TheVariants.{ServerFault}
 use Rattle.view_engine.specs.declared.request.Request.{Request}
-use Rattle.view_engine.specs.Calls.{AppendsLine, AppendsText, DoesBy, KeepsChild, LeavesMoment, Performed, Scene, StandsAt, scene}
+use Rattle.view_engine.specs.Calls.{AppendsReplyTo, AppendsText, DoesBy, KeepsChild, LeavesMoment, Performed, Scene, StandsAt, scene}
 use Rattle.view_engine.specs.Disks.{AreOpen, IfStopped, IsReadReason, IsReason, Reads, ReadsDocuments}
 use Rattle.view_engine.specs.Halts.{FitsFor, GoesOn}
 use Rattle.view_engine.specs.Moments.{Moment}
@@ -25,6 +27,7 @@ use Rattle.view_engine.specs.Refusals.{refusal_text}
 use Rattle.view_engine.specs.Steps.{DoesRequest, DoesRequestText, MayHaveCalled}
 use Rattle.view_engine.specs.ViewPlan.{met_by}
 use Rattle.view_engine.proofs.OnDisk.{disk_read, read_halted}
+use Rattle.view_engine.proofs.ServerFaults.{spent_unblamed}
 
 -- a pool's fault is no fault of the engine
 pub met_no_fault : (id : List ℕ) (met : PoolFault) (f : StepFault) → met_by id met ≡ Stopped f → f ≢ NoMemory → ⊥
@@ -90,15 +93,16 @@ module _ {F C : Type 0} (f : Folders F) (s : Servers C) (old new : Scene F C) (r
 -- a request that only reads the documents
 module _ {F C T : Type 0} {f : Folders F} {s : Servers C} {docs : Docs} {pool pool' : Pool} {folder folder' : F} {servers servers' : C} {request : Result Request Refusal} {out out' : List ℕ}
     (is_open : AreOpen f docs folder) where
-  pub viewed_halted : {halt : Halt} → ReadsDocuments request → Reads f {T = T} docs folder folder' (Err halt) → out' ≡ out
+  pub viewed_halted : {halt : Halt} → (halt ≡ Refused ServerFault → RoseBy 2 (s.faults servers) (s.faults servers')) → ReadsDocuments request → Reads f {T = T} docs folder folder' (Err halt) → out' ≡ out
       → LeavesHalted f s (scene (record { docs = docs; pool = pool }) folder servers) (scene (record { docs = docs; pool = pool' }) folder' servers') request halt
       → LeavesChild f s (scene (record { docs = docs; pool = pool }) folder servers) (scene (record { docs = docs; pool = pool' }) folder' servers') request halt
       → StaysAsMade pool pool' → s.faults servers ≤ s.faults servers'
       → Performed f s (scene (record { docs = docs; pool = pool }) folder servers) (scene (record { docs = docs; pool = pool' }) folder' servers') request out out' (Err halt)
-  viewed_halted {halt} is_read reads silent leaves child keeps later = record {
+  viewed_halted {halt} blames is_read reads silent leaves child keeps later = record {
     does = does_halted f s _ _ request out out' halt leaves child;
     prints = tt;
     silent = silent;
+    blames = λ is. blames (let same : halt ≡ Refused ServerFault = cc in same);
     fits = tt;
     disk = disk_read reads.disk is_open;
     why = read_halted f docs folder folder' request halt is_read reads.why;
@@ -106,7 +110,7 @@ module _ {F C T : Type 0} {f : Folders F} {s : Servers C} {docs : Docs} {pool po
   }
 
   -- and whose reply was appended, or memory ran out
-  pub viewed : {read : Result T Halt} {result : Result (Unit {0}) Halt} → Reads f docs folder folder' read → OnOk result (AppendsLine out out') → OnOk result (FitsFor docs request) → OnErr result (out' ≡ out) → IfErr result (λ halt. halt ≡ Stopped NoMemory)
+  pub viewed : {read : Result T Halt} {result : Result (Unit {0}) Halt} → Reads f docs folder folder' read → OnOk result (AppendsReplyTo request out out') → OnOk result (FitsFor docs request) → OnErr result (out' ≡ out) → IfErr result (λ halt. halt ≡ Stopped NoMemory)
       → OnOk result (AppendsReply f s (scene (record { docs = docs; pool = pool }) folder servers) (scene (record { docs = docs; pool = pool' }) folder' servers') request out out')
       → IfErr result (LeavesHalted f s (scene (record { docs = docs; pool = pool }) folder servers) (scene (record { docs = docs; pool = pool' }) folder' servers') request)
       → StaysAsMade pool pool' → s.faults servers ≤ s.faults servers'
@@ -116,6 +120,7 @@ module _ {F C T : Type 0} {f : Folders F} {s : Servers C} {docs : Docs} {pool po
         (IfErr-weaker result (λ halt. halt ≡ Stopped NoMemory) _ (λ halt spent fault is other. absurd (other (let so : fault ≡ NoMemory = cc in so))) memory);
     prints = prints;
     silent = silent;
+    blames = λ is. absurd (spent_unblamed result memory is);
     fits = fits;
     disk = disk_read reads.disk is_open;
     why = IfErr-weaker result (λ halt. halt ≡ Stopped NoMemory) _ (λ halt spent. subst (IfStopped (IsReason f docs folder folder' request)) (sym spent) tt) memory;

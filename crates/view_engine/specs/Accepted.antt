@@ -1,5 +1,5 @@
 -- The writes that a client was told of: those whose lines were answered `ok`.
-use Rattle.std.specs.Prelude.{ℕ, List, [], ◌∷◌, Bool, nat_eq, Result, Ok, codes, if◌then◌else◌}
+use Rattle.std.specs.Prelude.{◌≡◌, ℕ, List, [], ◌∷◌, Bool, true, nat_eq, Result, Ok, codes, if◌then◌else◌}
 use Rattle.std.specs.List.{starts_with}
 use Rattle.json_terms.specs.Json.{object, members_of}
 use Rattle.view_ports.specs.Exchanges.{Exchange}
@@ -27,3 +27,8 @@ after_exchange world exchange = if is_ok exchange.text then after_request world 
 abbrev pub accepted : World → List Exchange → World
 accepted world [] = world
 accepted world (exchange ∷ exchanges) = accepted (after_exchange world exchange) exchanges
+
+-- it holds of each request that was answered `ok`, and of the world before it
+abbrev pub EachOk : (World → Result Request Refusal → Type 0) → World → List Exchange → Type 0
+EachOk P world [] = Unit {0}
+EachOk P world (exchange ∷ exchanges) = (is_ok exchange.text ≡ true → P world (request_of exchange.line)) × EachOk P (after_exchange world exchange) exchanges

@@ -1,8 +1,9 @@
 -- What a request promises, whole: over the documents alone, over the engine, and as the step of a line.
-use Rattle.std.specs.Prelude.{◌≡◌, ◌≢◌, ◌≤◌, ◌++◌, ℕ, List, [], Result, Ok, Err, IfErr, OnErr, OnOk, Some}
+use Rattle.std.specs.Prelude.{◌≡◌, ◌≢◌, ◌≤◌, ◌++◌, ℕ, List, [], false, Result, Ok, Err, IfErr, OnErr, OnOk, Some}
 use Rattle.json_terms.specs.Json.{object, members_of}
 use Rattle.view_ports.specs.Disk.{IfTold}
-use Rattle.view_ports.specs.Lines.{ended}
+use Rattle.view_ports.specs.Faults.{RoseBy}
+use Rattle.view_ports.specs.Lines.{ended, IsLine}
 use Rattle.view_ports.specs.declared.folder.Folder.{Ghosts as Folders}
 use Rattle.view_ports.specs.declared.servers.Servers.{Ghosts as Servers}
 use Rattle.child_pool.specs.Pools.{languages_of, width_of}
@@ -15,6 +16,7 @@ use Rattle.view_engine.specs.declared.halt.Halt.TheVariants.{Refused, Stopped}
 use Rattle.view_engine.specs.declared.halt.StepFault.{StepFault}
 use Rattle.view_engine.specs.declared.halt.StepFault.TheVariants.{NoMemory}
 use Rattle.view_engine.specs.declared.refusal.Refusal.{Refusal}
+use Rattle.view_engine.specs.declared.refusal.Refusal.TheVariants.{ServerFault}
 use Rattle.view_engine.specs.declared.request.Request.{Request}
 use Rattle.view_engine.specs.declared.request.Request.TheVariants.{Put, Delete, Get, Info}
 use Rattle.view_engine.specs.Delete.{DoesDelete, IsDeleteRefused}
@@ -25,19 +27,36 @@ use Rattle.view_engine.specs.Halts.{FitsFor, HasGoneOn, HasLeftFiles}
 use Rattle.view_engine.specs.Moments.{Moment}
 use Rattle.view_engine.specs.Put.{DoesPut, IsPutRefused}
 use Rattle.view_engine.specs.Refusals.{request_of, refusal_text}
+use Rattle.view_engine.specs.ServerFaults.{AppendsServerFault, is_get}
 use Rattle.view_engine.specs.Steps.{Does, DoesRequest, DoesRequestText, IsWrite, MayHaveCalled}
 use Rattle.view_engine.specs.World.{World}
 
 -- ---- what is appended
 
+-- a reply is one line, which isn't empty
+pub record IsReplyLine (reply : List ℕ) : Type 0 where
+  pub some : reply ≢ []
+  pub plain : IsLine reply
+
 -- a reply line
 abbrev pub AppendsLine : List ℕ → List ℕ → Type 0
-AppendsLine out out' = (reply : List ℕ) × (out' ≡ out ++ ended reply)
+AppendsLine out out' = (reply : List ℕ) × IsReplyLine reply × (out' ≡ out ++ ended reply)
 
 -- a reply line to each line that isn't empty, and nothing to an empty one
 pub record AnswersLine (line out out' : List ℕ) : Type 0 where
   pub none : line ≡ [] → out' ≡ out
   pub some : line ≢ [] → AppendsLine out out'
+
+-- the reply of a request that is done isn't `server_fault`, unless it is the text of a document
+abbrev pub IsUnlikeFault : Result Request Refusal → List ℕ → Type 0
+IsUnlikeFault request reply = is_get request ≡ false → reply ≢ refusal_text ServerFault
+
+-- the reply line of a request that is done
+pub record AppendsReplyTo (request : Result Request Refusal) (out out' : List ℕ) : Type 0 where
+  pub reply : List ℕ
+  pub line : IsReplyLine reply
+  pub appended : out' ≡ out ++ ended reply
+  pub unlike : IsUnlikeFault request reply
 
 -- ---- a request on the documents alone
 
@@ -67,7 +86,9 @@ module _ {F : Type 0} (f : Folders F) where
     -- it was done, and its reply line appended
     pub record IsDoneHere : Type 0 where
       pub reply : List ℕ
+      pub line : IsReplyLine reply
       pub appended : out' ≡ out ++ ended reply
+      pub unlike : IsUnlikeFault (Ok request) reply
       pub does : OverWorld f docs old (λ world. LeavesWorld docs' old new (DoesHere world request reply))
 
     -- what it does, by how it ends
@@ -80,6 +101,7 @@ module _ {F : Type 0} (f : Folders F) where
     pub record ActsHere (result : Result (Unit {0}) Halt) : Type 0 where
       pub does : DoesHereBy result
       pub silent : OnErr result (out' ≡ out)
+      pub unblamed : result ≢ Err (Refused ServerFault)
       -- what is written passes no limit of the file
       pub fits : OnOk result (FitsFor docs (Ok request))
       pub disk : KeepsDisk f docs docs' old new (Ok request) (HasGivenUp result) (MayGoOn result)
@@ -137,8 +159,10 @@ module _ {F C : Type 0} (f : Folders F) (s : Servers C) where
     pub record Performed (request : Result Request Refusal) (out out' : List ℕ) (result : Result (Unit {0}) Halt) : Type 0 where
       pub does : DoesBy request out out' result
       -- where it is done a reply line is appended, and else nothing
-      pub prints : OnOk result (AppendsLine out out')
+      pub prints : OnOk result (AppendsReplyTo request out out')
       pub silent : OnErr result (out' ≡ out)
+      -- it is refused as a fault of the query servers only where their count rose by two
+      pub blames : result ≡ Err (Refused ServerFault) → RoseBy 2 (s.faults old.servers) (s.faults new.servers)
       -- what is written passes no limit of the file
       pub fits : OnOk result (FitsFor old.engine.docs request)
       pub disk : KeepsDisk f old.engine.docs new.engine.docs old.folder new.folder request (HasGivenUp result) (MayGoOn result)
@@ -163,6 +187,8 @@ module _ {F C : Type 0} (f : Folders F) (s : Servers C) where
       pub does : StepsBy line out out' result
       pub prints : OnOk result (AnswersLine line out out')
       pub silent : OnErr result (out' ≡ out)
+      -- where the reply line is `server_fault` the count of the query servers' faults rose by two, whatever the folder holds
+      pub blames : OnOk result (AppendsServerFault (request_of line) out out' → RoseBy 2 (s.faults old.servers) (s.faults new.servers))
       pub fits : OnOk result (line ≢ [] → FitsWhereAccepted (request_of line))
       -- an empty line asks for nothing
       pub asked : OnErr result (line ≢ [])

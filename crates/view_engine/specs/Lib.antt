@@ -20,6 +20,7 @@ pub mod Worlds
 pub mod Engine
 pub mod Disks
 pub mod Openings
+pub mod ServerFaults
 pub mod Calls
 pub mod Accepted
 pub mod Laws

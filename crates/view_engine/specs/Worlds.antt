@@ -11,7 +11,7 @@ use Rattle.doc_file.specs.History.{Write}
 use Rattle.view_engine.specs.declared.engine.Engine.{Engine}
 use Rattle.view_engine.specs.declared.refusal.Refusal.{Refusal}
 use Rattle.view_engine.specs.declared.request.Request.{Request}
-use Rattle.view_engine.specs.Halts.{IsDamage, IsFullFor}
+use Rattle.view_engine.specs.Halts.{FitsFor, IsDamage, IsFullFor}
 use Rattle.view_engine.specs.Moments.{Moment}
 use Rattle.view_engine.specs.Steps.{IsWrite}
 use Rattle.view_engine.specs.World.{World, written}
@@ -52,6 +52,12 @@ pub record IsFullAt (files : FileName → File) (world : World) (request : Resul
   pub full : IsFullFor docs request name length
   pub write : Write
   pub accepted : IsWrite world request write
+
+-- The files hold this world, and what the request writes passes neither limit of the documents' file among them.
+pub record HasRoomAt (files : FileName → File) (world : World) (request : Result Request Refusal) : Type 0 where
+  pub docs : Docs
+  pub at : AreAt docs files world.history
+  pub fits : FitsFor docs request
 
 -- what is damaged at this place of a file as an engine is opened over these files
 abbrev pub HasDamage : (FileName → File) → FileName → ℕ → Type 0

@@ -1,12 +1,14 @@
 //! The replies that print what was asked for. Where memory runs out, part of one may be written.
 
 ghost use Rattle.std.specs.Prelude.{OnOk};
+ghost use Rattle.view_ports.specs.Lines.{IsLine};
 ghost use Rattle.view_engine.specs.Answer as print;
+ghost use Rattle.view_engine.specs.Calls.{IsReplyLine};
 ghost use Rattle.view_engine.specs.Written.{Adds, KeepsBefore};
 
 use crate::reply::Reply;
 use doc_file::Info;
-use json_terms::{NoMemory, Row};
+use json_terms::{NoMemory, Row, text_is_line};
 use std::alloc::Global;
 
 /// Writes the reply to an accepted write.
@@ -26,6 +28,7 @@ pub fn write_accepted(alloc: Global, id: &str, rev: &str, reply: &mut Reply) -> 
 pub fn write_info(info: Info, reply: &mut Reply) -> Result<(), NoMemory>
     ensures ok { OnOk result (Adds reply.old reply.new (print.info_text info)) }
     ensures before { KeepsBefore reply.old reply.new }
+    ensures line { OnOk result (IsReplyLine (print.info_text info)) }
 {
     reply.put(b"{\"doc_count\":")?;
     reply.put_number(info.doc_count)?;
@@ -41,6 +44,7 @@ pub fn write_info(info: Info, reply: &mut Reply) -> Result<(), NoMemory>
 pub fn write_answer(alloc: Global, rows: &[Row], reply: &mut Reply) -> Result<(), NoMemory>
     ensures ok { OnOk result (Adds reply.old reply.new (print.answer rows.now)) }
     ensures before { KeepsBefore reply.old reply.new }
+    ensures line { OnOk result (IsReplyLine (print.answer rows.now)) }
 {
     reply.put(b"{\"total_rows\":")?;
     reply.put_number(rows.len() as u64)?;
@@ -53,6 +57,7 @@ pub fn write_answer(alloc: Global, rows: &[Row], reply: &mut Reply) -> Result<()
 fn write_rows(alloc: Global, rows: &[Row], reply: &mut Reply) -> Result<(), NoMemory>
     ensures ok { OnOk result (Adds reply.old reply.new (print.rows_text rows.now)) }
     ensures before { KeepsBefore reply.old reply.new }
+    ensures line { OnOk result (IsLine (print.rows_text rows.now)) }
 {
     let Some((first, others)) = rows.split_first() else {
         return Ok(());
@@ -65,6 +70,7 @@ fn write_rows(alloc: Global, rows: &[Row], reply: &mut Reply) -> Result<(), NoMe
 fn write_more_rows(alloc: Global, rows: &[Row], reply: &mut Reply) -> Result<(), NoMemory>
     ensures ok { OnOk result (Adds reply.old reply.new (print.more_rows rows.now)) }
     ensures before { KeepsBefore reply.old reply.new }
+    ensures line { OnOk result (IsLine (print.more_rows rows.now)) }
 {
     for row in rows {
         reply.put(b",")?;
@@ -76,7 +82,10 @@ fn write_more_rows(alloc: Global, rows: &[Row], reply: &mut Reply) -> Result<(),
 fn write_row(alloc: Global, row: &Row, reply: &mut Reply) -> Result<(), NoMemory>
     ensures ok { OnOk result (Adds reply.old reply.new (print.row_text row.now)) }
     ensures before { KeepsBefore reply.old reply.new }
+    ensures line { OnOk result (IsLine (print.row_text row.now)) }
 {
+    text_is_line(&row.key);
+    text_is_line(&row.value);
     reply.put(b"{\"id\":")?;
     reply.put_string(alloc, row.id.as_str())?;
     reply.put(b",\"key\":")?;

@@ -9,7 +9,7 @@ ghost use Rattle.view_ports.specs.declared.file_name.FileName.{FileName};
 ghost use Rattle.doc_file.specs.Docs.{info_of, IsAt};
 ghost use Rattle.doc_file.specs.History.{Write};
 ghost use Rattle.view_engine.specs.Answer.{info_text};
-ghost use Rattle.view_engine.specs.Calls.{ActsHere};
+ghost use Rattle.view_engine.specs.Calls.{ActsHere, IsReplyLine};
 ghost use Rattle.view_engine.specs.Disks.{AreOpen};
 ghost use Rattle.view_engine.specs.Get.{DoesInfo};
 
@@ -54,6 +54,7 @@ pub(crate) fn info(alloc: Global, docs: &Docs, out: &mut Vec<u8>) -> Result<(), 
     ensures done { (files : FileName → File) (history : List Write) → IsAt docs.now files history
         → DoesInfo (record { history = history }) (info_text (info_of docs.now)) }
     ensures silent { OnErr result (out.new.items ≡ out.old.items) }
+    ensures line { OnOk result (IsReplyLine (info_text (info_of docs.now))) }
 {
     let mut reply = Reply::behind(alloc, out);
     let written = write_info(docs.info(), &mut reply);

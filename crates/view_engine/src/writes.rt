@@ -7,7 +7,7 @@ ghost use Rattle.design_docs.specs.Documents.{id_of as id_in};
 ghost use Rattle.view_ports.specs.Lines.{ended};
 ghost use Rattle.doc_file.specs.Docs.{IsSame};
 ghost use Rattle.doc_file.specs.Incoming.{deletes as deletes_json};
-ghost use Rattle.view_engine.specs.Calls.{ActsHere};
+ghost use Rattle.view_engine.specs.Calls.{ActsHere, IsReplyLine};
 ghost use Rattle.view_engine.specs.Disks.{AreOpen};
 ghost use Rattle.view_engine.specs.Halts.{GoesOn};
 ghost use Rattle.view_engine.specs.Put as spec;
@@ -99,6 +99,7 @@ fn append_accepted(alloc: Global, docs: &Docs, id: &str, out: &mut Vec<u8>) -> R
         (accepted_reply docs.now id.now)) }
     ensures silent { OnErr result (out.new.items ≡ out.old.items) }
     ensures history { OnOk result (SaysRevision docs.now id.now) }
+    ensures line { OnOk result (IsReplyLine (accepted_reply docs.now id.now)) }
 {
     let rev = docs.next_rev(id).text(alloc)?;
     let mut reply = Reply::behind(alloc, out);

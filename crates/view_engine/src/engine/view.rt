@@ -9,7 +9,7 @@ ghost use Rattle.design_docs.specs.Design.{IsDesignOf};
 ghost use Rattle.design_docs.specs.Faults.{HasDesign};
 ghost use Rattle.design_docs.specs.Laws.{entry_of as named};
 ghost use Rattle.view_engine.specs.Answer.{answer};
-ghost use Rattle.view_engine.specs.Calls.{scene, Performed};
+ghost use Rattle.view_engine.specs.Calls.{scene, IsReplyLine, Performed};
 ghost use Rattle.view_engine.specs.Disks.{AreOpen, Reads};
 ghost use Rattle.view_model.specs.Rows.{emitted_at, emitted_rows};
 ghost use Rattle.view_engine.specs.View as spec;
@@ -84,6 +84,7 @@ impl Engine {
         ensures within { IfOk result (λ plan. plan.place < length plan.design.views) }
         ensures known { IfOk result (HasPath self.now) }
         ensures refused { RefusesView F.Folder self.now folder.old name.now result }
+        ensures unblamed { IfErr result (λ halt. halt ≢ Halt.Refused Refusal.ServerFault) }
         ensures reads { Reads F.Folder self.now.docs folder.old folder.new result }
     {
         let id = design_id(alloc, name.design.as_str())?;
@@ -151,6 +152,8 @@ fn append_rows(
     out: &mut Vec<u8>,
 ) -> Result<(), Halt>
     ensures ok { OnOk result (out.new.items ≡ out.old.items ++ ended
+        (answer (sorted_rows (emitted_rows ids.now (emitted_at place lists.now))))) }
+    ensures line { OnOk result (IsReplyLine
         (answer (sorted_rows (emitted_rows ids.now (emitted_at place lists.now))))) }
     ensures silent { OnErr result (out.new.items ≡ out.old.items) }
     ensures memory { IfErr result (λ halt. halt ≡ Halt.Stopped StepFault.NoMemory) }

@@ -7,4 +7,4 @@ pub returns-clause-comes : goal.returns-clause-comes
 returns-clause-comes g c = λ origin at. comes_behind g.F.Folder g.C.Servers origin c.run.new.self _ _ _ (search rules) (search rules) (search rules) (c.run.ensures.comes origin at)
 
 pub returns-clause-replies : goal.returns-clause-replies
-returns-clause-replies g c = replied_behind g.F.Folder c.run.new.self _ (search rules) c.run.ensures.replies
+returns-clause-replies g c = replied_behind g.F.Folder g.C.Servers c.run.new.self _ _ (search rules) (search rules) c.run.ensures.replies

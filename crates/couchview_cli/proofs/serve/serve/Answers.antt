@@ -103,12 +103,12 @@ returns-in-Run-clause-lines g c =
     let ran = c.run-end.new in
     let ports = outside g.S.Source g.K.Sink g.F.Folder g.C.Servers in
     reads_on (ports c.args.source.now c.args.sink.now c.args.folder.now c.args.servers.now) (ports ran.source ran.sink ran.folder c.finish.new.servers) c.status.result (g.F.Folder.disk c.open.new.folder) c.open.ensures.moved c.in-Run.end c.status.ensures
-    (subst (λ (e : LoopEnd StepFault). HasReplied (g.S.Source.left c.args.source.now) (g.S.Source.left ran.source) (g.K.Sink.held c.args.sink.now) (g.K.Sink.held ran.sink) (g.F.Folder.disk c.open.new.folder) (g.F.Folder.disk ran.folder) e) c.in-Run.is c.run-end.ensures.replies)
+    (subst (λ (e : LoopEnd StepFault). HasReplied (g.S.Source.left c.args.source.now) (g.S.Source.left ran.source) (g.K.Sink.held c.args.sink.now) (g.K.Sink.held ran.sink) (g.F.Folder.disk c.open.new.folder) (g.F.Folder.disk ran.folder) (g.C.Servers.faults c.args.servers.now) (g.C.Servers.faults c.finish.new.servers) e) c.in-Run.is (rw c.finish.ensures.faults c.run-end.ensures.replies))
 
 pub returns-clause-lines : goal.returns-clause-lines
 returns-clause-lines g c =
     let ran = c.run-end.new in
     let ports = outside g.S.Source g.K.Sink g.F.Folder g.C.Servers in
     is_cut_off (ports c.args.source.now c.args.sink.now c.args.folder.now c.args.servers.now) (ports ran.source c.close-in-Stopped.new.sink ran.folder c.finish.new.servers) c.close-in-Stopped.result (g.F.Folder.disk c.open.new.folder) c.open.ensures.moved (g.K.Sink.held ran.sink) c.in-Stopped.fault
-    (subst (λ (e : LoopEnd StepFault). HasReplied (g.S.Source.left c.args.source.now) (g.S.Source.left ran.source) (g.K.Sink.held c.args.sink.now) (g.K.Sink.held ran.sink) (g.F.Folder.disk c.open.new.folder) (g.F.Folder.disk ran.folder) e) c.in-Stopped.is c.run-end.ensures.replies)
+    (subst (λ (e : LoopEnd StepFault). HasReplied (g.S.Source.left c.args.source.now) (g.S.Source.left ran.source) (g.K.Sink.held c.args.sink.now) (g.K.Sink.held ran.sink) (g.F.Folder.disk c.open.new.folder) (g.F.Folder.disk ran.folder) (g.C.Servers.faults c.args.servers.now) (g.C.Servers.faults c.finish.new.servers) e) c.in-Stopped.is (rw c.finish.ensures.faults c.run-end.ensures.replies))
     c.close-in-Stopped.ensures.closes

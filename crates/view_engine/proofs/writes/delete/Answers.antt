@@ -6,10 +6,11 @@ use Rattle.view_ports.specs.Lines.{ended}
 use Rattle.doc_file.specs.Accepted.{state_in}
 use Rattle.doc_file.specs.Docs.{last_of}
 use Rattle.view_engine.specs.declared.request.Request.TheVariants.{Delete}
-use Rattle.view_engine.specs.Calls.{ActsHere}
+use Rattle.view_engine.specs.Calls.{ActsHere, IsReplyLine}
 use Rattle.view_engine.specs.Halts.{halted_as}
 use Rattle.view_engine.specs.Replies.{accepted_reply}
 use Rattle.doc_file.proofs.NotOfFile.{delete_not_of_file}
+use Rattle.view_engine.proofs.ServerFaults.{unlike_accepted}
 use Rattle.view_engine.proofs.Stored.{spent_here, unwritten_here, wrote_here}
 use Rattle.view_engine.proofs.Writing.{delete_does, delete_is_write, delete_refused, reply_to}
 use Rattle.view_engine.proofs.writes.delete.Goals as goal
@@ -29,7 +30,7 @@ returns-in-Ok-clause-acts g c =
     let appended : c.append_accepted.new.out.items ≡ c.args.out.now.items ++ ended (accepted_reply docs id) = search rules in
     both (λ i rev. ActsHere g.F.Folder docs c.delete.new.self c.args.folder.now c.delete.new.folder (Delete i rev) c.args.out.now.items c.append_accepted.new.out.items (Ok tt)) c.as_str-2.ensures c.text_of.ensures
     (wrote_here (accepted_reply docs id) (λ files world at accepted. delete_does docs files world at id given accepted (reply_to docs files world at c.as_str.result.now id (c.as_str.ensures ∙ sym c.as_str-2.ensures) (c.in_ok-append_accepted.ensures.history files world.history at)))
-    (λ files world at accepted. delete_is_write docs files world at id given accepted (reply_to docs files world at c.as_str.result.now id (c.as_str.ensures ∙ sym c.as_str-2.ensures) (c.in_ok-append_accepted.ensures.history files world.history at))) tt (λ fits. fits) appended c.in-Ok.ensures)
+    (λ files world at accepted. delete_is_write docs files world at id given accepted (reply_to docs files world at c.as_str.result.now id (c.as_str.ensures ∙ sym c.as_str-2.ensures) (c.in_ok-append_accepted.ensures.history files world.history at))) tt (λ fits. fits) (subst (λ (i : List ℕ). IsReplyLine (accepted_reply docs i)) (c.as_str.ensures ∙ sym c.as_str-2.ensures) c.in_ok-append_accepted.ensures.line) (λ other. unlike_accepted docs id) appended c.in-Ok.ensures)
 
 pub returns-clause-acts : goal.returns-clause-acts
 returns-clause-acts g c =

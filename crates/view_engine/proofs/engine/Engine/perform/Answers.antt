@@ -13,6 +13,7 @@ use Rattle.view_engine.specs.Steps.{IsRefusedAs}
 use Rattle.view_engine.proofs.Acting.{acted, refused_at_once}
 use Rattle.view_engine.proofs.Performing.{unbuilt}
 use Rattle.view_engine.proofs.Reading.{read_done}
+use Rattle.view_engine.proofs.ServerFaults.{unlike_info}
 use Rattle.view_engine.proofs.Stored.{spent_here}
 use Rattle.view_engine.proofs.engine.Engine.perform.Goals as goal
 
@@ -28,7 +29,7 @@ returns-in-Get g c = acted (c.in-Get.is ∙ ap Get (sym c.as_str.ensures)) c.get
 pub returns-in-Ok : goal.returns-in-Ok
 returns-in-Ok g c =
     let disk = g.F.Folder.disk c.args.folder.now in
-    acted c.in-Info.is (read_done c.requires.open (told_refl disk MovesNone none_refl) (omega arith) tt (info_text (info_of c.args.self.now.docs)) c.in-Ok.ensures.ok
+    acted c.in-Info.is (read_done c.requires.open (told_refl disk MovesNone none_refl) (omega arith) tt (info_text (info_of c.args.self.now.docs)) c.in-Ok.ensures.line (λ other. unlike_info (info_of c.args.self.now.docs)) c.in-Ok.ensures.ok
     (λ world. told_all disk _ (λ d at. (c.info.ensures.done d.now world.history at, refl))))
 
 pub returns-in-Info : goal.returns-in-Info
@@ -36,7 +37,7 @@ returns-in-Info g c = acted c.in-Info.is (spent_here c.requires.open c.in-Err.en
 
 pub returns-in-View : goal.returns-in-View
 returns-in-View g c =
-    refused_at_once (λ before. inr (
+    refused_at_once (λ is. cc) (λ before. inr (
       NotBuiltYet,
       subst (λ (r : Request). IsRefusedAs g.C.Servers.functions g.C.Servers.honest (languages_of c.args.self.now.pool) before.world r NotBuiltYet)
           (sym (c.in-View.is ∙ ap (ViewRequest c.in-View.view) c.in-Some.is)) refl,
@@ -46,7 +47,7 @@ returns-in-View g c =
 pub returns : goal.returns
 returns g c =
     let other = c.in_default in
-    refused_at_once (λ before. inr (
+    refused_at_once (λ is. cc) (λ before. inr (
       NotBuiltYet,
       unbuilt g.C.Servers.functions g.C.Servers.honest (languages_of c.args.self.now.pool) before.world c.args.request other.not-Put other.not-Delete other.not-Get other.not-Info (λ view. other.not-View view None),
       (refl, refl),

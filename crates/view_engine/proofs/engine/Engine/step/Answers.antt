@@ -3,6 +3,7 @@ use Rattle.std.proofs.Common.{◌≢◌, ◌∙◌, List, ℕ, [], length, Ok, s
 use Rattle.std.proofs.lemmas.Bool.{eqb-true, eqb-false}
 use Rattle.std.proofs.lemmas.List.{nil_from_length}
 use Rattle.view_engine.specs.Calls.{scene, IsStep}
+use Rattle.view_engine.proofs.ServerFaults.{request_unblamed}
 use Rattle.view_engine.proofs.Stepping.{for_request, step_done, step_nothing, step_told, unread}
 use Rattle.view_engine.proofs.engine.Engine.step.Goals as goal
 
@@ -25,4 +26,4 @@ returns-in-Err-perform g c =
 pub returns-in-Err : goal.returns-in-Err
 returns-in-Err g c =
     let some : c.args.line.now ≢ [] = λ none. eqb-false _ _ (sym c.is_empty.ensures ∙ c.if-is_empty.false) (ap length none) in
-    step_told some c.from.result c.tell-in-Err.result (rw c.from.ensures (unread c.in-Err.refusal c.in-Err.ensures.err c.requires.open)) c.tell-in-Err.ensures
+    step_told some c.from.result c.tell-in-Err.result (rw c.from.ensures (unread c.in-Err.refusal (request_unblamed c.args.line.now) c.in-Err.ensures.err c.requires.open)) c.tell-in-Err.ensures

@@ -14,6 +14,9 @@ use Rattle.view_engine.specs.Answer.{answer}
 use Rattle.view_model.specs.Rows.{emitted_at, emitted_rows}
 use Rattle.view_engine.proofs.Keeping.{at_none}
 use Rattle.view_engine.proofs.OnDisk.{reads_then}
+use Rattle.view_engine.specs.declared.refusal.Refusal.TheVariants.{ServerFault}
+use Rattle.view_engine.proofs.ReplyLines.{on_ok_both}
+use Rattle.view_engine.proofs.ServerFaults.{met_server_fault, unlike_answer}
 use Rattle.view_engine.proofs.Unasked.{told_refused, unasked, IsRefusedThere}
 use Rattle.view_engine.proofs.Viewed.{done, known_at, ran_out, refused}
 use Rattle.view_engine.proofs.Viewing.{met_no_fault, reads_met, viewed, viewed_halted}
@@ -23,7 +26,7 @@ no_ok : {T E : Type 0} (value : T) (error : E) → Err error ≡ Ok value → �
 no_ok value error is = cc
 
 pub returns-in-Err : goal.returns-in-Err
-returns-in-Err g c = viewed_halted c.requires.open tt c.in-Err.ensures.reads refl (λ goes_on before at.
+returns-in-Err g c = viewed_halted c.requires.open (λ is. absurd (c.in-Err.ensures.unblamed is)) tt c.in-Err.ensures.reads refl (λ goes_on before at.
     let x = g.F.Folder.disk c.args.folder.now in
     let docs = c.args.self.now.docs in
     let history = before.world.history in
@@ -35,7 +38,7 @@ returns-in-Err g c = viewed_halted c.requires.open tt c.in-Err.ensures.reads ref
     (λ fault is other before child. child) (record { languages = refl; width = refl }) (omega arith)
 
 pub returns-in-Err-load_mapped : goal.returns-in-Err-load_mapped
-returns-in-Err-load_mapped g c = viewed_halted c.requires.open tt (reads_then c.in-Ok.ensures.reads c.in-Err-load_mapped.ensures.reads) refl (λ goes_on before at.
+returns-in-Err-load_mapped g c = viewed_halted c.requires.open (λ is. absurd (c.in-Err-load_mapped.ensures.refused ServerFault is)) tt (reads_then c.in-Ok.ensures.reads c.in-Err-load_mapped.ensures.reads) refl (λ goes_on before at.
     let x = g.F.Folder.disk c.args.folder.now in
     let z = g.F.Folder.disk c.load_mapped.new.folder in
     let languages = languages_of c.args.self.now.pool in
@@ -48,7 +51,12 @@ returns-in-Err-load_mapped g c = viewed_halted c.requires.open tt (reads_then c.
 
 pub returns-in-Ok-map_all : goal.returns-in-Ok-map_all
 returns-in-Ok-map_all g c = viewed c.requires.open (reads_then c.in-Ok.ensures.reads c.in-Ok-load_mapped.ensures.reads)
-    (on_ok_weaker c.append_rows.result (λ appended. (answer (sorted_rows (emitted_rows c.as_slice-in-Ok-map_all.result.now (emitted_at c.in-Ok.plan.place c.as_slice-in-Ok-map_all-2.result.now))), appended)) c.append_rows.ensures.ok) (on_ok_weaker c.append_rows.result (λ appended. tt) c.append_rows.ensures.ok) c.append_rows.ensures.silent c.append_rows.ensures.memory (
+    (on_ok_weaker c.append_rows.result (λ printed. record {
+      reply = answer (sorted_rows (emitted_rows c.as_slice-in-Ok-map_all.result.now (emitted_at c.in-Ok.plan.place c.as_slice-in-Ok-map_all-2.result.now)));
+      line = printed.1;
+      appended = printed.0;
+      unlike = λ other. unlike_answer (sorted_rows (emitted_rows c.as_slice-in-Ok-map_all.result.now (emitted_at c.in-Ok.plan.place c.as_slice-in-Ok-map_all-2.result.now)));
+    }) (on_ok_both c.append_rows.result _ _ c.append_rows.ensures.ok c.append_rows.ensures.line)) (on_ok_weaker c.append_rows.result (λ appended. tt) c.append_rows.ensures.ok) c.append_rows.ensures.silent c.append_rows.ensures.memory (
     let x = g.F.Folder.disk c.args.folder.now in
     let y = g.F.Folder.disk c.plan.new.folder in
     let z = g.F.Folder.disk c.load_mapped.new.folder in
@@ -93,7 +101,8 @@ returns-in-Ok-map_all g c = viewed c.requires.open (reads_then c.in-Ok.ensures.r
     c.map_all.ensures.ends.keeps c.map_all.ensures.ends.later
 
 pub returns : goal.returns
-returns g c = viewed_halted {T = Unit {0}} c.requires.open tt
+returns g c = viewed_halted {T = Unit {0}} c.requires.open
+    (λ is. c.in-Err-map_all.ensures.ends.twice (ap Err (met_server_fault c.in-Ok.plan.id c.in-Err-map_all.fault (sym c.halt_of.ensures ∙ is)))) tt
     (reads_met c.in-Ok.plan.id c.in-Err-map_all.fault c.halt_of.ensures (reads_then c.in-Ok.ensures.reads c.in-Ok-load_mapped.ensures.reads)) refl (λ goes_on before at.
     let x = g.F.Folder.disk c.args.folder.now in
     let y = g.F.Folder.disk c.plan.new.folder in
