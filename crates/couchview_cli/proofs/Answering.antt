@@ -114,7 +114,7 @@ module _ {F C : Type 0} {f : Folders F} {s : Servers C} {old new : Scene F C} {l
       full = step_full step before at;
       left = step_stopped step before at other;
     };
-    cause = λ is. subst (IsReason f _ old.folder new.folder (request_of line)) is step.why;
+    cause = λ is. (subst (IsReason f _ old.folder new.folder (request_of line)) is step.why).0;
     found = record { halts = other; reads = step_reads step; damaged = step_damaged is_open step; writes = step_writes step };
     still = step.disk.read;
     stays = step.stays;

@@ -1,5 +1,5 @@
 -- What a call keeps of the disk that writes nothing, and the causes of the faults of a call that only reads.
-use Rattle.std.proofs.Common.{◌≡◌, ◌≤◌, ℕ, Result, Option, refl, sym, subst, arith}
+use Rattle.std.proofs.Common.{◌≡◌, ◌≤◌, ℕ, Result, Ok, Option, refl, sym, subst, arith}
 use Rattle.std.proofs.lemmas.Result.{IfErr-weaker}
 use Rattle.view_ports.specs.Disk.{MovesNone, Tells}
 use Rattle.view_ports.specs.Faults.{Rose}
@@ -19,8 +19,9 @@ use Rattle.view_engine.specs.declared.halt.StepFault.{StepFault}
 use Rattle.view_engine.specs.declared.halt.StepFault.TheVariants.{DiskFault, Damaged, Full, NoMemory}
 use Rattle.view_engine.specs.declared.refusal.Refusal.{Refusal}
 use Rattle.view_engine.specs.declared.request.Request.{Request}
+use Rattle.view_engine.specs.declared.request.Request.TheVariants.{Get, View}
 use Rattle.view_engine.specs.Disks.{AreOpen, IfStopped, IsReadReason, IsReason, KeepsDisk, Reads, ReadsDocuments}
-use Rattle.view_engine.specs.Halts.{halted_as, IsDamage}
+use Rattle.view_engine.specs.Halts.{halted_as, FitsFor, IsDamage}
 use Rattle.view_engine.proofs.Keeping.{moments_none, moments_still, open_none, stands_none, stands_still}
 use Rattle.view_engine.proofs.OwnFiles.{own_none, own_still}
 use Rattle.view_engine.proofs.SameDocs.{IsOpen-same}
@@ -82,9 +83,15 @@ module _ {F : Type 0} {f : Folders F} {docs : Docs} {request : Result Request Re
 
 -- ---- causes
 
+-- a request that reads documents writes none
+reads_fit : (docs : Docs) (request : Result Request Refusal) → ReadsDocuments request → FitsFor docs request
+reads_fit docs (Ok (Get id)) reads = tt
+reads_fit docs (Ok (View name limits)) reads = tt
+reads_fit docs other reads = absurd reads
+
 module _ {F : Type 0} (f : Folders F) (docs : Docs) where
   reason_of_read : (old new : F) (request : Result Request Refusal) (fault : StepFault) → ReadsDocuments request → IsReadReason f docs old new fault → IsReason f docs old new request fault
-  reason_of_read old new request DiskFault reads is = is
+  reason_of_read old new request DiskFault reads is = (is, reads_fit docs request reads)
   reason_of_read old new request (Damaged name at) reads is = (reads, is)
   reason_of_read old new request (Full name length) reads is = absurd is
   reason_of_read old new request NoMemory reads is = tt

@@ -141,7 +141,7 @@ module _ {F : Type 0} (f : Folders F) (docs docs' : Docs) (old new : F) (request
     module _ (not_of_file : (fault : GateFault) → IsRefused (doc.Gate fault) → ⊥)
         (refused : (files : FileName → File) (world : World) → AreAt docs files world.history → (fault : DocFault) → IsRefused fault ⊎ IsFileFault (file_of docs) fault ⊎ (fault ≡ doc.NoMemory)
         → (refusal : Refusal) → halted_as fault ≡ Refused refusal → IsRefusedHere world request refusal)
-        (full : (name : FileName) (length : Option ℕ) → IsFull docs id content name length → IsFullFor docs (Ok request) name length) where
+        (full : (name : FileName) (length : Option ℕ) → IsFull docs id content name length → IsFullFor docs (Ok request) name length) (fits : Fits docs id content → FitsFor docs (Ok request)) where
       of_file : (fault : DocFault) (g : GateFault) → fault ≡ doc.Gate g → IsRefused fault ⊎ IsFileFault (file_of docs) fault ⊎ (fault ≡ doc.NoMemory) → IsFileFault (file_of docs) fault
       of_file fault g is (inl refused_so) = absurd (not_of_file g (subst IsRefused is refused_so))
       of_file fault g is (inr (inl so)) = so
@@ -153,7 +153,7 @@ module _ {F : Type 0} (f : Folders F) (docs docs' : Docs) (old new : F) (request
       no_damage name at (inr (inr is)) = cc
 
       why_halted : (fault : DocFault) → Side (Err fault) → IfStopped (IsReason f docs old new (Ok request)) (halted_as fault)
-      why_halted (doc.Gate gate.DiskFault) stored = stored.stored.cause.failed refl
+      why_halted (doc.Gate gate.DiskFault) stored = let room = stored.stored.failed refl in (stored.stored.cause.failed refl, fits (record { short = room.0; few = room.1 }))
       why_halted (doc.Gate (gate.Damaged name at)) stored = absurd (no_damage name at (of_file (doc.Gate (gate.Damaged name at)) (gate.Damaged name at) refl stored.refused))
       why_halted (doc.Gate (gate.Full name length)) stored =
           let so = of_file (doc.Gate (gate.Full name length)) (gate.Full name length) refl stored.refused in (
@@ -237,6 +237,6 @@ module _ {F : Type 0} {f : Folders F} {docs docs' : Docs} {old new : F} {request
   pub unwritten_here : {fault : DocFault} → ((g : GateFault) → IsRefused (doc.Gate g) → ⊥)
       → ((files : FileName → File) (world : World) → AreAt docs files world.history → (e : DocFault) → IsRefused e ⊎ IsFileFault (file_of docs) e ⊎ (e ≡ doc.NoMemory)
       → (refusal : Refusal) → halted_as e ≡ Refused refusal → IsRefusedHere world request refusal)
-      → ((name : FileName) (length : Option ℕ) → IsFull docs id content name length → IsFullFor docs (Ok request) name length)
+      → ((name : FileName) (length : Option ℕ) → IsFull docs id content name length → IsFullFor docs (Ok request) name length) → (Fits docs id content → FitsFor docs (Ok request))
       → out' ≡ out → AreOpen f docs old → Writes f docs docs' old new id content Accepted IsRefused (Err fault) → ActsHere f docs docs' old new request out out' (Err (halted_as fault))
-  unwritten_here {fault} not_of_file refused full = stored_halted f docs docs' old new request out out' id content Accepted IsRefused reply does writes is_write not_of_file refused full fault
+  unwritten_here {fault} not_of_file refused full fits = stored_halted f docs docs' old new request out out' id content Accepted IsRefused reply does writes is_write not_of_file refused full fits fault

@@ -14,7 +14,7 @@ use Rattle.view_engine.specs.declared.refusal.Refusal.{Refusal}
 use Rattle.view_engine.specs.declared.request.Request.{Request}
 use Rattle.view_engine.specs.declared.request.Request.TheVariants.{Get, View}
 use Rattle.view_engine.specs.Worlds.{StandsAround, StandsFor}
-use Rattle.view_engine.specs.Halts.{GoesOn, IsDamage, IsFullFor, IsStill, LeavesFiles, MovesDocuments, WouldWrite, Writes}
+use Rattle.view_engine.specs.Halts.{FitsFor, GoesOn, IsDamage, IsFullFor, IsStill, LeavesFiles, MovesDocuments, WouldWrite, Writes}
 use Rattle.view_engine.specs.World.{World}
 
 -- ---- how a request ends
@@ -78,10 +78,10 @@ module _ {F : Type 0} (f : Folders F) where
   IsReadReason docs old new NoMemory = Unit {0}
 
   -- the same of a request, which meets a damaged place only where it reads documents, and a full file only by a write
-  -- that is accepted and passes the file's limits
+  -- that is accepted and passes the file's limits, where no fault of the disk comes in its place
   abbrev pub IsReason : Docs → F → F → Result Request Refusal → StepFault → Type 0
   IsReason docs old new request (Full name length) = IsFullFor docs request name length × WouldWrite docs (f.disk old) request
-  IsReason docs old new request DiskFault = IsReadReason docs old new DiskFault
+  IsReason docs old new request DiskFault = IsReadReason docs old new DiskFault × FitsFor docs request
   IsReason docs old new request (Damaged name at) = ReadsDocuments request × IsReadReason docs old new (Damaged name at)
   IsReason docs old new request NoMemory = Unit {0}
 

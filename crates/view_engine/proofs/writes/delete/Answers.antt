@@ -42,4 +42,4 @@ returns-clause-acts g c =
     c.as_str-2.ensures c.text_of.ensures (unwritten_here (accepted_reply docs id) (λ files world at accepted. delete_does docs files world at id given accepted (reply_to docs files world at c.as_str.result.now id (c.as_str.ensures ∙ sym c.as_str-2.ensures) (c.in_ok-append_accepted.ensures.history files world.history at)))
     (λ files world at accepted. delete_is_write docs files world at id given accepted (reply_to docs files world at c.as_str.result.now id (c.as_str.ensures ∙ sym c.as_str-2.ensures) (c.in_ok-append_accepted.ensures.history files world.history at))) tt
     (delete_not_of_file (state_in (last_of docs id)) given)
-    (λ files world at fault is refusal met. delete_refused docs files world at docs.file id given fault refusal is met) (λ name length full. full) silent c.requires.open c.in-Err.ensures))
+    (λ files world at fault is refusal met. delete_refused docs files world at docs.file id given fault refusal is met) (λ name length full. full) (λ fits. fits) silent c.requires.open c.in-Err.ensures))

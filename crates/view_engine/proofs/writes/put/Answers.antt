@@ -41,4 +41,4 @@ returns-in-Err-clause-acts g c =
     rw c.from.ensures (unwritten_here (accepted_reply docs (id_of json)) (λ files world at accepted. put_does docs files world at json built accepted (reply_to docs files world at c.id_of.result.now (id_of json) c.id_of.ensures (c.in_ok-append_accepted.ensures.history files world.history at)))
     (λ files world at accepted. put_is_write docs files world at c.args.document built accepted (reply_to docs files world at c.id_of.result.now (id_of json) c.id_of.ensures (c.in_ok-append_accepted.ensures.history files world.history at))) tt
     (put_not_of_file (state_in (last_of docs (id_of json))) json)
-    (λ files world at fault is refusal met. put_refused docs files world at docs.file json fault refusal built is met) (λ name length full. full) silent c.requires.open c.in-Err.ensures)
+    (λ files world at fault is refusal met. put_refused docs files world at docs.file json fault refusal built is met) (λ name length full. full) (λ fits. fits) silent c.requires.open c.in-Err.ensures)
