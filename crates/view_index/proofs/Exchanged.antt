@@ -117,7 +117,7 @@ module _ (changes : List DocRows) (these now : List ℕ → Bool) (touched : (id
       ∙ filter_agree (λ (row : Row). not (these row.id) && not (is_among (ids_of changes) row.id)) (λ (row : Row). not (now row.id))
       (λ row. and_not (these row.id) (is_among (ids_of changes) row.id) ∙ ap not (sym (touched row.id))) rows
 
-  exchanged_view : (view : ℕ) (both : List Row × List Row) → next_rows now (with_new changes view (without (is_among (ids_of changes)) both)) ≡ replaced changes view (next_rows these both)
+  pub exchanged_view : (view : ℕ) (both : List Row × List Row) → next_rows now (with_new changes view (without (is_among (ids_of changes)) both)) ≡ replaced changes view (next_rows these both)
   exchanged_view view both =
       let test : Row → Bool = λ row. not (is_among (ids_of changes) row.id) in
       let kept : List Row = of_others these both.0 in

@@ -12,3 +12,4 @@ pub mod Committing
 pub mod Loaded
 pub mod Opening
 pub mod Emptying
+pub mod Updating

@@ -4,6 +4,7 @@ pub mod Ids
 pub mod Rows
 pub mod ViewRows
 pub mod Replaced
+pub mod Changed
 pub mod Index
 pub mod Pending
 pub mod Calls

@@ -15,4 +15,5 @@ pub use fault::IndexFault;
 pub use index::Index;
 pub use laws::{
     empty_files_hold_no_picture, files_of_open_indexes_hold, images_of_open_indexes_stand,
+    replacements_are_updates, replacements_go_in_batches,
 };
