@@ -1,5 +1,5 @@
 -- An index that lies open stays so.
-use Rattle.std.specs.Prelude.{◌≡◌, ℕ, List, map, length, Option, Some, None, Result, Ok, Err, OnOk}
+use Rattle.std.specs.Prelude.{◌≡◌, ℕ, List, length, Option, Some, None, Result, Ok, Err, OnOk}
 use Rattle.std.proofs.Common.{ap, sym, subst, ◌∙◌}
 use Rattle.std.proofs.lemmas.List.{length-map}
 use Rattle.json_terms.specs.declared.term.Row.{Row}
@@ -14,8 +14,8 @@ use Rattle.gate_file.specs.Pair.{own_bytes, IsOpenPair}
 use Rattle.view_model.specs.Picture.{Picture}
 use Rattle.view_index.specs.declared.fault.IndexFault.{IndexFault}
 use Rattle.view_index.specs.declared.index.Index.{Index}
-use Rattle.view_index.specs.Calls.{next_picture, stem_of, Commits, IsAt}
-use Rattle.view_index.specs.Held.{or_empty, HoldsPicture, IsFileOf}
+use Rattle.view_index.specs.Calls.{next_picture, Commits, IsAt}
+use Rattle.view_index.specs.Held.{or_empty, HoldsPicture}
 use Rattle.view_index.specs.Index.{both_in, file_of, is_touched, picture_of, views_of, IsSame}
 use Rattle.view_index.specs.Pending.{ArePending}
 use Rattle.view_index.specs.ViewRows.{next_rows}

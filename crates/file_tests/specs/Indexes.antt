@@ -1,15 +1,11 @@
 -- What the tests of indexes know of an index that lies open.
-use Rattle.std.specs.Prelude.{◌≡◌, ℕ, List, Bool, Option, true}
-use Rattle.std.specs.List.{list_all}
-use Rattle.json_terms.specs.Json.{Json}
+use Rattle.std.specs.Prelude.{◌≡◌, Option}
 use Rattle.view_ports.specs.Disk.{Disk, IfTold}
 use Rattle.view_ports.specs.declared.file_name.FileName.{FileName}
 use Rattle.view_model.specs.Picture.{Picture}
-use Rattle.view_index.specs.declared.doc_rows.DocRows.{DocRows}
 use Rattle.view_index.specs.declared.index.Index.{Index}
 use Rattle.view_index.specs.Calls.{IsAt}
 use Rattle.view_index.specs.Index.{views_of}
-use Rattle.view_index.specs.Replaced.{is_change}
 
 -- it is of two views, and at what its files hold
 pub record IsHeld (index : Index) (disk : Option (Disk FileName)) : Type 0 where

@@ -4,8 +4,10 @@ use crate::indexes::{Doc, Turn};
 
 pub const SIG: [u8; 32] = *b"0123456789abcdef0123456789abcdef";
 
+pub const OTHER: [u8; 32] = *b"f123456789abcdef0123456789abcde0";
+
 /// Documents without rows, of which no script has any.
-pub const NONE: [Doc; 2] = [("y", &[], &[]), ("z", &[], &[])];
+const NONE: [Doc; 2] = [("y", &[], &[]), ("z", &[], &[])];
 
 /// Rows in both views, in one, and in none; an id in both exchanges of a turn, of which the later counts; an id that gets fewer
 /// rows, and one that gets more; an id whose rows go, before the commit too; equal keys; a turn without rows; the greatest and

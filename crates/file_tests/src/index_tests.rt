@@ -1,11 +1,13 @@
 //! Indexes after scripts of exchanges and commits, and what a stop or a failed call within one leaves.
 
-use crate::index_scripts::{NONE, SIG, TURNS};
+use crate::index_scripts::{SIG, TURNS};
 use crate::indexes::{
-    commit, exchange, open_two, play, play_all, shown_by, shows, shows_all, shows_at, take_back,
+    Shown, always_leaves_one_of, comes_back, opens_as_one_of, play_all, shown_by, shows_all,
 };
 use crash_disk::MemoryFolder;
 use gate_file::GateFault;
+use json_terms::NoMemory;
+use std::alloc::Global;
 use std::test::Fail;
 use view_index::IndexFault;
 
@@ -28,57 +30,45 @@ fn commits_show_the_rows_of_the_model(rt: HostRuntime) -> Result<(), Fail> {
 #[test]
 fn what_is_rolled_back_is_not_committed(rt: HostRuntime) -> Result<(), Fail> {
     let alloc = rt.alloc();
-    let shown = shown_by(alloc, &TURNS[..1])?;
     let mut folder = MemoryFolder::new(alloc, Vec::new(alloc), false)?;
-    let mut index = open_two(alloc, &mut folder, SIG, 0)?;
-    play(alloc, &mut folder, &mut index, &TURNS[0])?;
-    exchange(alloc, &mut folder, &mut index, &TURNS[1].0)?;
-    exchange(alloc, &mut folder, &mut index, &TURNS[1].1)?;
-    take_back(&mut index);
-    let Some(last) = shown.last() else {
+    let shown = shown_by(alloc, &TURNS[..1])?;
+    let Some(one) = shown.last() else {
         return Err(Fail::from("no turn"));
     };
-    assert!(rt; shows(&index, last));
-    commit(alloc, &mut folder, &mut index, 9)?;
-    assert!(rt; shows_at(&index, last, 9));
-    commit(alloc, &mut folder, &mut index, 10)?;
-    assert!(rt; shows_at(&index, last, 10));
-    exchange(alloc, &mut folder, &mut index, &NONE)?;
-    let index = open_two(alloc, &mut folder, SIG, 10)?;
-    assert!(rt; shows_at(&index, last, 10));
+    assert!(rt; comes_back(alloc, &mut folder, SIG, &TURNS, one)?);
     Ok(())
 }
 
-/// Whether the index shows what the model does before the turn that was under way in this call, or after it.
-fn may_be_left(index_shows: &[bool], calls: &[u64], call: u64) -> bool {
+/// What the model shows before the turn that was under way in this call, and after it.
+fn under_way<'a>(shown: &'a [Shown], calls: &[u64], call: u64) -> &'a [Shown] {
     let begun = calls.iter().filter(|noted| **noted <= call).count();
-    let first = begun.saturating_sub(1);
-    index_shows.iter().skip(first).take(2).any(|is| *is)
+    let first = begun.saturating_sub(1).min(shown.len());
+    let rest = &shown[first..];
+    &rest[..rest.len().min(2)]
 }
 
 /// How many choices of what a stop leaves are tried in each call: nothing that wasn't synced, all of it, 255 in each place that was
 /// written, and mixtures of lengths and ranges.
-const CHOICES: u64 = 39;
+const CHOICES: u64 = 30;
+
+fn play_in(alloc: Global, whole: &mut MemoryFolder) -> Result<Vec<u64>, IndexFault> {
+    play_all(alloc, whole, SIG, &TURNS[..3])
+}
+
+fn shown_in(alloc: Global) -> Result<Vec<Shown>, NoMemory> {
+    shown_by(alloc, &TURNS[..3])
+}
 
 #[test]
 fn a_stop_leaves_the_last_commit_or_the_next(rt: HostRuntime) -> Result<(), Fail> {
     let alloc = rt.alloc();
-    let shown = shown_by(alloc, &TURNS)?;
+    let shown = shown_in(alloc)?;
     let mut whole = MemoryFolder::new(alloc, Vec::new(alloc), true)?;
-    let calls = play_all(alloc, &mut whole, SIG, &TURNS)?;
+    let calls = play_in(alloc, &mut whole)?;
     for call in 0..whole.calls_noted() {
-        for choice in 0..CHOICES {
-            let mut image = whole.image_at(alloc, call, choice)?;
-            let index = open_two(alloc, &mut image, SIG, u64::MAX)?;
-            let mut found = Vec::new(alloc);
-            for one in &shown {
-                found.push(shows(&index, one))?;
-            }
-            assert!(rt;
-                may_be_left(&found, &calls, call),
-                "call {call}, choice {choice}"
-            );
-        }
+        let may_be_left = under_way(&shown, &calls, call);
+        let is_left = always_leaves_one_of(alloc, &whole, call, CHOICES, SIG, may_be_left)?;
+        assert!(rt; is_left, "call {call}");
     }
     Ok(())
 }
@@ -102,8 +92,7 @@ fn a_failed_call_leaves_a_commit(rt: HostRuntime) -> Result<(), Fail> {
             assert!(rt; call > 40);
             break;
         }
-        let index = open_two(alloc, &mut folder, SIG, u64::MAX)?;
-        let is_one = shown.iter().any(|one| shows(&index, one));
+        let is_one = opens_as_one_of(alloc, &mut folder, SIG, &shown)?;
         assert!(rt; is_disk_fault(&ended) && is_one, "call {call}");
     }
     Ok(())

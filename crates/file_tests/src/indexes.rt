@@ -1,17 +1,16 @@
 //! Indexes of two views: what is exchanged in them, what a short model of them shows, and the calls on them.
 
-ghost use Rattle.std.specs.Prelude.{◌≡◌, Option, bytes_eq, IfOk, OnOk, true};
+ghost use Rattle.std.specs.Prelude.{◌≡◌, ◌<◌, Option, bytes_eq, IfOk, OnOk, true};
 ghost use Rattle.std.specs.List.{list_all, IsDistinct};
 ghost use Rattle.view_ports.specs.Disk.{Disk};
 ghost use Rattle.view_ports.specs.declared.file_name.FileName.{FileName as NameSeen};
-ghost use Rattle.crash_disk.specs.State.{told};
+ghost use Rattle.crash_disk.specs.State.{calls_told, told};
 ghost use Rattle.view_index.specs.Index.{views_of};
 ghost use Rattle.view_index.specs.Replaced.{ids_of, is_change, is_emission};
-ghost use Rattle.view_index.specs.Rows.{is_id};
 ghost use Rattle.file_tests.specs.Indexes.{IsHeld};
 
 use crash_disk::MemoryFolder;
-use json_terms::{Chars, Emissions, NoMemory, Row, RowLists, Term, write_text};
+use json_terms::{Chars, Emissions, NoMemory, Row, RowLists, Term};
 use query_protocol::is_within_bounds;
 use std::alloc::Global;
 use view_index::{DocRows, Index, IndexFault};
@@ -143,20 +142,11 @@ fn emissions_of(alloc: Global, rows: Pairs) -> Result<Emissions, IndexFault>
     Ok(emissions)
 }
 
-// Whether a document may have the id.
-fn is_short(alloc: Global, id: &str) -> Result<bool, NoMemory>
-    ensures { IfOk result (λ is. is ≡ is_id id.now) }
-{
-    let mut text = Vec::new(alloc);
-    write_text(alloc, id, &mut text)?;
-    Ok(text.len() <= 524_288)
-}
-
 fn change_of(alloc: Global, id: &str, first: Pairs, second: Pairs) -> Result<DocRows, IndexFault>
     ensures change { IfOk result (λ change. is_change 2 change ≡ true) }
     ensures id { IfOk result (λ change. change.id ≡ id.now) }
 {
-    if !is_short(alloc, id)? {
+    if id.len() >= 1 << 32 {
         return Err(IndexFault::NoMemory);
     }
     let mut rows = RowLists::new(alloc);
@@ -291,4 +281,125 @@ pub fn shows_all(
         }
     }
     Ok(true)
+}
+
+fn shows_one_of(index: &Index, shown: &[Shown]) -> bool
+    requires { views_of index.now ≡ 2 }
+{
+    for one in shown {
+        if shows(index, one) {
+            return true;
+        }
+    }
+    false
+}
+
+/// Whether the index that is opened shows one of these.
+pub fn opens_as_one_of(
+    alloc: Global,
+    folder: &mut MemoryFolder,
+    sig: [u8; 32],
+    shown: &[Shown],
+) -> Result<bool, IndexFault> {
+    let index = open_two(alloc, folder, sig, u64::MAX)?;
+    Ok(shows_one_of(&index, shown))
+}
+
+/// Whether the index that is opened shows the rows of the model at this sequence.
+pub fn opens_as(
+    alloc: Global,
+    folder: &mut MemoryFolder,
+    sig: [u8; 32],
+    newest: u64,
+    shown: Option<&Shown>,
+    seq: u64,
+) -> Result<bool, IndexFault> {
+    let index = open_two(alloc, folder, sig, newest)?;
+    match shown {
+        Some(shown) => Ok(shows_at(&index, shown, seq)),
+        None => Ok(false),
+    }
+}
+
+// Whether the index that a stop within the call leaves shows one of these.
+fn leaves_one_of(
+    alloc: Global,
+    whole: &MemoryFolder,
+    call: u64,
+    choice: u64,
+    sig: [u8; 32],
+    shown: &[Shown],
+) -> Result<bool, IndexFault>
+    requires { call < calls_told (told whole.now) }
+{
+    let mut image = whole.image_at(alloc, call, choice)?;
+    opens_as_one_of(alloc, &mut image, sig, shown)
+}
+
+/// Whether the index that a stop within the call leaves shows one of these, in the first so many choices of what it leaves.
+pub fn always_leaves_one_of(
+    alloc: Global,
+    whole: &MemoryFolder,
+    call: u64,
+    choices: u64,
+    sig: [u8; 32],
+    shown: &[Shown],
+) -> Result<bool, IndexFault>
+    requires { call < calls_told (told whole.now) }
+{
+    for choice in 0..choices {
+        if !leaves_one_of(alloc, whole, call, choice, sig, shown)? {
+            return Ok(false);
+        }
+    }
+    Ok(true)
+}
+
+// Plays a turn, rolls the exchanges of a second one back, and commits at this sequence. Whether the index shows the first turn
+// before the commit and after it.
+fn rolls_back(
+    alloc: Global,
+    folder: &mut MemoryFolder,
+    sig: [u8; 32],
+    turns: &[Turn; 8],
+    shown: &Shown,
+    seq: u64,
+) -> Result<bool, IndexFault> {
+    let mut index = open_two(alloc, folder, sig, 0)?;
+    play(alloc, folder, &mut index, &turns[0])?;
+    exchange(alloc, folder, &mut index, &turns[1].0)?;
+    exchange(alloc, folder, &mut index, &turns[1].1)?;
+    take_back(&mut index);
+    let before = shows(&index, shown);
+    commit(alloc, folder, &mut index, seq)?;
+    Ok(before && shows_at(&index, shown, seq))
+}
+
+// Commits without an exchange at this sequence, and then exchanges without a commit. Whether the index shows the same rows.
+fn keeps_rows(
+    alloc: Global,
+    folder: &mut MemoryFolder,
+    sig: [u8; 32],
+    docs: &[Doc; 2],
+    shown: &Shown,
+    seq: u64,
+) -> Result<bool, IndexFault> {
+    let mut index = open_two(alloc, folder, sig, seq)?;
+    commit(alloc, folder, &mut index, seq)?;
+    exchange(alloc, folder, &mut index, docs)?;
+    Ok(shows_at(&index, shown, seq))
+}
+
+/// Plays the first turn, rolls the exchanges of the second back, and commits twice more. Whether the index shows the first turn all
+/// along, and when it is opened again.
+pub fn comes_back(
+    alloc: Global,
+    folder: &mut MemoryFolder,
+    sig: [u8; 32],
+    turns: &[Turn; 8],
+    shown: &Shown,
+) -> Result<bool, IndexFault> {
+    let is_back = rolls_back(alloc, folder, sig, turns, shown, 9)?;
+    let is_kept = keeps_rows(alloc, folder, sig, &turns[1].0, shown, 10)?;
+    Ok(is_back && is_kept && opens_as(alloc, folder, sig, 10, Some(shown), 10)?)
 }

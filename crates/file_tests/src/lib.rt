@@ -12,6 +12,8 @@ mod gate_file_tests;
 #[cfg(test)]
 mod incoming_tests;
 #[cfg(test)]
+mod index_file_tests;
+#[cfg(test)]
 mod index_scripts;
 #[cfg(test)]
 mod index_tests;
