@@ -11,7 +11,7 @@ use Rattle.child_pool.specs.declared.pool_fault.PoolFault.{PoolFault}
 use Rattle.child_pool.specs.declared.pool_fault.PoolFault.TheVariants.{NoMemory}
 use Rattle.child_pool.specs.Histories.{Went}
 use Rattle.child_pool.specs.Jobs.{Job}
-use Rattle.child_pool.specs.Mapping.{AreHonestRows, AreParts, HasMapped}
+use Rattle.child_pool.specs.Mapping.{AreBounded, AreBoundedRows, AreHonestRows, AreParts, HasMapped}
 use Rattle.child_pool.specs.Pools.{AreRowsOf, HasMappedEach}
 use Rattle.child_pool.specs.Refused.{Refused}
 use Rattle.child_pool.specs.Sessions.{HasTold, IsThere}
@@ -54,6 +54,15 @@ honest_lists functions honest path sources (document ∷ documents) (rows ∷ li
     let others = honest_lists functions honest path sources documents lists is few stored.1 all.1 in
     λ i. first i ∷ others i
 
+-- one document's rows more
+pub bounded_more : (sources count : ℕ) (lists : List (List (List (Json × Json)))) (rows : List (List (Json × Json))) → AreBounded sources count lists → AreBoundedRows sources rows → AreBounded sources (count + 1) (lists ++ rows ∷ [])
+bounded_more sources count lists rows are more = record {
+  each = length-append lists (rows ∷ []) ∙ ap (λ n. n + 1) are.each;
+  all = all_more (λ (r : List (List (Json × Json))). length r ≡ sources) lists rows are.all more.each;
+  parts = all_more AreParts lists rows are.parts more.parts;
+  few = all_more AreFew lists rows are.few more.few;
+}
+
 module _ (functions : List ℕ → Functions) (honest : List ℕ → Type 0) (job : Job) where
   -- ---- rows
 
@@ -65,9 +74,9 @@ module _ (functions : List ℕ → Functions) (honest : List ℕ → Type 0) (jo
       → AreRowsOf functions honest job.path job.sources (documents ++ document ∷ []) (lists ++ rows ∷ [])
   rows_more documents document lists rows P added now are h = record {
     each = length-append lists (rows ∷ []) ∙ ap (λ n. n + 1) are.each ∙ sym (length-append documents (document ∷ []));
-    parts = all_more AreParts lists rows are.parts h.parts;
-    few = all_more AreFew lists rows are.few h.few;
-    all = all_more (λ (r : List (List (Json × Json))). length r ≡ length job.sources) lists rows are.all h.each;
+    parts = all_more AreParts lists rows are.parts h.bounded.parts;
+    few = all_more AreFew lists rows are.few h.bounded.few;
+    all = all_more (λ (r : List (List (Json × Json))). length r ≡ length job.sources) lists rows are.all h.bounded.each;
     right = zip_more (AreHonestRows functions honest job.path job.sources) documents document lists rows are.right h.right;
   }
 

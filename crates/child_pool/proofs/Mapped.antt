@@ -1,5 +1,5 @@
 -- A document was asked for: what follows.
-use Rattle.std.proofs.Common.{◌≡◌, ◌≤◌, ◌+◌, ℕ, List, [], ◌∷◌, ◌++◌, length, Bool, true, false, Option, Some, None, is_some, Result, Ok, Err, refl, sym, ap, ◌∙◌, subst, inl, inr, arith}
+use Rattle.std.proofs.Common.{◌≡◌, ◌≤◌, ◌+◌, ℕ, List, [], ◌∷◌, ◌++◌, length, Bool, true, false, Option, Some, None, is_some, Result, Ok, Err, refl, sym, ap, ◌∙◌, subst, inl, inr}
 use Rattle.std.proofs.lemmas.List.{length-map}
 use Rattle.json_terms.specs.Json.{Json, number, is_false, is_null, is_true, array, depth, list_of_members, members_of, object, string}
 use Rattle.json_terms.specs.Kinds.{members_in}
@@ -15,8 +15,7 @@ use Rattle.query_protocol.specs.CommandLines.{command_line, document_of, IsDocum
 use Rattle.query_protocol.specs.declared.reply.Kind.TheVariants as kind
 use Rattle.query_protocol.specs.declared.reply.Reply.{Reply}
 use Rattle.query_protocol.specs.declared.reply.Reply.TheVariants as reply
-use Rattle.query_protocol.specs.Replies.{AreFew, HasFewRows, reply_of}
-use Rattle.query_protocol.proofs.RowCounts.{few_rows}
+use Rattle.query_protocol.specs.Replies.{reply_of}
 use Rattle.child_pool.specs.declared.pool_fault.PoolFault.{PoolFault}
 use Rattle.child_pool.specs.declared.pool_fault.PoolFault.TheVariants.{ServerFault}
 use Rattle.child_pool.specs.Jobs.{Job}
@@ -27,7 +26,7 @@ use Rattle.child_pool.specs.Refused.{TryRefused}
 use Rattle.child_pool.specs.Stages.{AfterStages, anew}
 use Rattle.child_pool.specs.Tries.{HasFailedIn, IsTriedAgain, Prompt}
 use Rattle.child_pool.specs.Causes.{kind_of}
-use Rattle.child_pool.specs.Mapping.{AfterAnswer, AfterMap, AreHonestRows, AreParts, HasMapped}
+use Rattle.child_pool.specs.Mapping.{AfterAnswer, AfterMap, AreBoundedRows, AreHonestRows, HasMapped}
 use Rattle.child_pool.specs.Outcomes.{AfterPrompt, Replied}
 use Rattle.child_pool.specs.Pools.{rows_said}
 use Rattle.child_pool.specs.Talk.{AreTurns, Due, asks}
@@ -35,7 +34,7 @@ use Rattle.child_pool.proofs.Going.{Went-map, Went-then}
 use Rattle.child_pool.proofs.Prepared.{all_told}
 use Rattle.child_pool.proofs.Attempts.{again, failed_again, refused_again, refused_once, try_refused_then}
 use Rattle.child_pool.proofs.Cutting.{cut_prompt, cut_wider, failed_later, failed_prompt, failed_wider, turns_then}
-use Rattle.child_pool.proofs.RowReplies.{rows_reply, proper_reply}
+use Rattle.child_pool.proofs.RowReplies.{bounded_rows, rows_reply, proper_reply}
 use Rattle.child_pool.proofs.Stagings.{no_log_said}
 use Rattle.child_pool.proofs.Telling.{honest_line}
 
@@ -84,13 +83,6 @@ proper_document d h =
     let same = object_of_document d h in
     subst (λ (t : Json). depth t ≤ document_depth) (sym same) h.shallow
 
-few_said : (said : Reply) → HasFewRows said → AreFew (rows_said said)
-few_said (reply.Rows rows) few = few
-few_said reply.Log few = omega arith
-few_said reply.Yes few = omega arith
-few_said (reply.Value value) few = omega arith
-few_said reply.Compile few = omega arith
-
 spelled_rows : (functions : Functions) (sources : List (List ℕ)) (logs : ℕ) (document : List (List ℕ × Json)) (line : List ℕ) → is_log line ≡ false → IsHonestLine functions sources logs (MapDoc document) line → Spells line (lists_term (rows_of functions sources document))
 spelled_rows functions sources logs document line no_log h = elim h [
   | inl log ↦ absurd cc
@@ -127,18 +119,8 @@ module _ (functions : List ℕ → Functions) (honest : List ℕ → Type 0) whe
         let same : said ≡ reply.Rows lists = cc in
         ap rows_said same
 
-    pub rows_counted : length (rows_said said) ≡ length sources
-    rows_counted =
-        let found = rows_reply (length sources) r.line said (no_log_said functions honest path line slot sources said added now r) reads in
-        ap (λ (saying : Reply). length (rows_said saying)) found.1 ∙ found.2
-
-    pub parts_counted : AreParts (rows_said said)
-    parts_counted =
-        let found = rows_reply (length sources) r.line said (no_log_said functions honest path line slot sources said added now r) reads in
-        subst (λ (saying : Reply). AreParts (rows_said saying)) (sym found.1) found.3
-
-    pub few_counted : AreFew (rows_said said)
-    few_counted = few_said said (few_rows (kind.Rows (length sources)) r.line said reads)
+    pub rows_bounded : AreBoundedRows (length sources) (rows_said said)
+    rows_bounded = bounded_rows (length sources) r.line said (no_log_said functions honest path line slot sources said added now r) reads
 
     pub mapped_turns : line ≡ command_line (MapDoc document) → AreTurns (asks slot (MapDoc document) (length sources)) (course added)
     mapped_turns spelled =
@@ -163,9 +145,7 @@ module _ (functions : List ℕ → Functions) (honest : List ℕ → Type 0) whe
           };
           tried = mapped_turns job.path job.sources line document slot said w.added w.now w.holds is spelled;
           right = honest_rows job.path job.sources line document slot said w.added w.now w.holds is;
-          each = rows_counted job.path job.sources line document slot said w.added w.now w.holds is;
-          parts = parts_counted job.path job.sources line document slot said w.added w.now w.holds is;
-          few = few_counted job.path job.sources line document slot said w.added w.now w.holds is;
+          bounded = rows_bounded job.path job.sources line document slot said w.added w.now w.holds is;
         })
 
     -- a first attempt that gave rows, or was refused
@@ -173,7 +153,7 @@ module _ (functions : List ℕ → Functions) (honest : List ℕ → Type 0) whe
         → Went follow job slot calls (AfterAnswer functions honest job slot document prompt.once result calls) → Went follow job slot calls (AfterMap functions honest job slot document prompt rose last calls)
     first_rows document prompt rose result (Ok rows) e mine other w =
         let v : Went follow job slot calls (AfterAnswer functions honest job slot document prompt.once (Ok (Some rows)) calls) = subst (λ (r : Result (Option RowLists) PoolFault). Went follow job slot calls (AfterAnswer functions honest job slot document prompt.once r calls)) e w in
-        Went-map v (AfterMap functions honest job slot document prompt rose (Ok rows) calls) (record { told = v.holds.told; tried = inl v.holds.tried; right = v.holds.right; each = v.holds.each; parts = v.holds.parts; few = v.holds.few })
+        Went-map v (AfterMap functions honest job slot document prompt rose (Ok rows) calls) (record { told = v.holds.told; tried = inl v.holds.tried; right = v.holds.right; bounded = v.holds.bounded })
     first_rows document prompt rose result (Err f) e mine other w =
         let v : Went follow job slot calls (AfterAnswer functions honest job slot document prompt.once (Err f) calls) = subst (λ (r : Result (Option RowLists) PoolFault). Went follow job slot calls (AfterAnswer functions honest job slot document prompt.once r calls)) e w in
         Went-map v (AfterMap functions honest job slot document prompt rose (Err f) calls) (refused_once functions honest job slot prompt rose f calls v.added mine (λ is. other (e ∙ ap Err is)) v.holds)
@@ -212,14 +192,12 @@ module _ (functions : List ℕ → Functions) (honest : List ℕ → Type 0) whe
         → Went third job slot calls (AfterMap functions honest job slot document (document_prompt slot job.sources document) rose last calls)
     once_more (Ok (Some rows)) last e other v =
         let x = Went-then u v (λ added now. HasMapped functions honest job slot document (λ calls. AreTurns (again_in slot job document) (course calls)) rows added now)
-        (record { told = v.holds.told; tried = turns_then (fresh_in slot job) (once_in slot job document) u.added v.added u.holds.1 v.holds.tried; right = v.holds.right; each = v.holds.each; parts = v.holds.parts; few = v.holds.few }) in
+        (record { told = v.holds.told; tried = turns_then (fresh_in slot job) (once_in slot job document) u.added v.added u.holds.1 v.holds.tried; right = v.holds.right; bounded = v.holds.bounded }) in
         subst (MapsTo third job slot document rose calls) e (Went-then w x (AfterMap functions honest job slot document (prompt_in slot job document) rose (Ok rows) calls) (record {
           told = x.holds.told;
           tried = inr (counted, again functions honest job (prompt_in slot job document) (λ calls. AreTurns (again_in slot job document) (course calls)) w x w.holds x.holds.tried);
           right = x.holds.right;
-          each = x.holds.each;
-          parts = x.holds.parts;
-          few = x.holds.few;
+          bounded = x.holds.bounded;
         }))
     once_more (Ok None) last e other v =
         let x = Went-then u v (λ added now. HasFailedIn (again_in slot job document) added) (failed_later (fresh_in slot job) (once_in slot job document) u.added v.added u.holds.1 v.holds) in

@@ -1,5 +1,5 @@
 -- The rows of a reply, and of an honest answer.
-use Rattle.std.proofs.Common.{◌≡◌, ◌≢◌, ℕ, List, [], ◌∷◌, length, map, Bool, true, false, ◌&&◌, cond, nat_eq, nat_le, Option, Some, None, Result, Ok, Err, option_map, option_and_then, refl, ap, ◌∙◌, subst, inl, inr, eq-eqb}
+use Rattle.std.proofs.Common.{◌≡◌, ◌≢◌, ℕ, List, [], ◌∷◌, length, map, Bool, true, false, ◌&&◌, cond, nat_eq, nat_le, Option, Some, None, Result, Ok, Err, option_map, option_and_then, IfOk, refl, sym, ap, ◌∙◌, subst, inl, inr, eq-eqb, arith}
 use Rattle.std.specs.List.{AllByRecursion}
 use Rattle.std.proofs.lemmas.Bool.{and_parts, eqb-true, le-leb, leb-true}
 use Rattle.json_terms.specs.Json.{Json, Items, no_items, item, items_of, depth}
@@ -7,16 +7,23 @@ use Rattle.json_terms.specs.Kinds.{items_in, two_in}
 use Rattle.json_terms.specs.Reading.{reading}
 use Rattle.json_terms.specs.Text.{text_of}
 use Rattle.json_terms.specs.declared.fault.TermFault.{TermFault}
-use Rattle.view_ports.specs.Calls.{is_log_term, is_short}
+use Rattle.view_ports.specs.Calls.{is_log, is_log_term, is_short}
 use Rattle.view_ports.specs.Functions.{AreProper, IsRowWithinBounds, IsWithinBounds, lists_term, rows_term, pair_term, part_limit, part_depth, line_limit}
 use Rattle.view_ports.specs.Honest.{Spells}
 use Rattle.view_ports.proofs.Fields.{lists_are_no_log}
+use Rattle.query_protocol.specs.declared.reply.Kind.{Kind}
 use Rattle.query_protocol.specs.declared.reply.Kind.TheVariants as kind
 use Rattle.query_protocol.specs.declared.reply.Reply.{Reply}
 use Rattle.query_protocol.specs.declared.reply.Reply.TheVariants as reply
-use Rattle.query_protocol.specs.Replies.{reply_of, reply_read, reply_in, answer_in, counted, is_within_bounds, lists_in, lists_of_items, row_in, row_within, rows_in, rows_of_items}
-use Rattle.child_pool.specs.Mapping.{AreParts, IsPart}
-use Rattle.child_pool.proofs.Replies.{chosen}
+use Rattle.query_protocol.specs.Replies.{AreFew, HasFewRows, reply_of, reply_read, reply_in, answer_in, counted, is_within_bounds, lists_in, lists_of_items, row_in, row_within, rows_in, rows_of_items}
+use Rattle.query_protocol.proofs.RowCounts.{few_rows}
+use Rattle.child_pool.specs.declared.heard.Heard.{Heard}
+use Rattle.child_pool.specs.declared.heard.Heard.TheVariants.{Failed, Log, Answer}
+use Rattle.child_pool.specs.declared.pool_fault.PoolFault.{PoolFault}
+use Rattle.child_pool.specs.Hearing.{HasBoundedAnswer, HasBoundedRows, IsHeard}
+use Rattle.child_pool.specs.Mapping.{AreBoundedRows, AreParts, IsPart}
+use Rattle.child_pool.specs.Pools.{rows_said}
+use Rattle.child_pool.proofs.Replies.{chosen, reply_is_log}
 
 -- ---- what a reply with rows can be
 
@@ -89,6 +96,35 @@ rows_read count short (Ok t) said other e = elim (chosen (is_log_term t) (Some r
 
 pub rows_reply : (count : ℕ) (line : List ℕ) (said : Reply) → said ≢ reply.Log → reply_of (kind.Rows count) line ≡ Some said → AreCounted count said
 rows_reply count line said other e = rows_read count (is_short line) (reading line) said other e
+
+few_said : (said : Reply) → HasFewRows said → AreFew (rows_said said)
+few_said (reply.Rows rows) few = few
+few_said reply.Log few = omega arith
+few_said reply.Yes few = omega arith
+few_said (reply.Value value) few = omega arith
+few_said reply.Compile few = omega arith
+
+pub bounded_rows : (count : ℕ) (line : List ℕ) (said : Reply) → said ≢ reply.Log → reply_of (kind.Rows count) line ≡ Some said → AreBoundedRows count (rows_said said)
+bounded_rows count line said other e =
+    let found = rows_reply count line said other e in
+    record {
+      each = ap (λ (saying : Reply). length (rows_said saying)) found.1 ∙ found.2;
+      parts = subst (λ (saying : Reply). AreParts (rows_said saying)) (sym found.1) found.3;
+      few = few_said said (few_rows (kind.Rows count) line said e);
+    }
+
+-- an answer has bounded rows, where its prompt asks for rows
+answer_bounded : (asked : Kind) (line : List ℕ) (said : Reply) → is_log line ≡ false → reply_of asked line ≡ Some said → HasBoundedRows asked said
+answer_bounded kind.Reset line said no_log e = tt
+answer_bounded kind.Source line said no_log e = tt
+answer_bounded (kind.Rows count) line said no_log e = bounded_rows count line said (λ same. let log = reply_is_log (kind.Rows count) line (e ∙ ap Some same) in cc) e
+answer_bounded kind.Value line said no_log e = tt
+
+pub heard_bounded : (asked : Kind) (logs : ℕ) (line : List ℕ) (result : Result Heard PoolFault) → IsHeard asked logs line result → IfOk result (HasBoundedAnswer asked)
+heard_bounded asked logs line (Ok Failed) heard = tt
+heard_bounded asked logs line (Ok Log) heard = tt
+heard_bounded asked logs line (Ok (Answer said)) heard = answer_bounded asked line said heard.0 heard.1
+heard_bounded asked logs line (Err fault) heard = tt
 
 -- ---- proper rows are read
 

@@ -29,6 +29,19 @@ pub record IsPart (t : Json) : Type 0 where
 abbrev pub AreParts : List (List (Json × Json)) → Type 0
 AreParts rows = AllByRecursion (AllByRecursion (λ row. IsPart row.0 × IsPart row.1)) rows
 
+-- the rows of a document on any path: a list for each source, none too long or too deep and not too many
+pub record AreBoundedRows (sources : ℕ) (rows : List (List (Json × Json))) : Type 0 where
+  pub each : length rows ≡ sources
+  pub parts : AreParts rows
+  pub few : AreFew rows
+
+-- on any path, whatever the servers tell: for each document a list of rows for each source, none too long or too deep and not too many
+pub record AreBounded (sources documents : ℕ) (lists : List (List (List (Json × Json)))) : Type 0 where
+  pub each : length lists ≡ documents
+  pub all : AllByRecursion (λ rows. length rows ≡ sources) lists
+  pub parts : AllByRecursion AreParts lists
+  pub few : AllByRecursion AreFew lists
+
 module _ (functions : List ℕ → Functions) (honest : List ℕ → Type 0) where
   -- on an honest path these are the rows of the path's map functions, where the document can be stored
   abbrev pub AreHonestRows : List ℕ → List (List ℕ) → List (List ℕ × Json) → List (List (Json × Json)) → Type 0
@@ -40,9 +53,7 @@ module _ (functions : List ℕ → Functions) (honest : List ℕ → Type 0) whe
     pub told : HasTold functions honest job.path job.sources slot now
     pub tried : P added
     pub right : AreHonestRows job.path job.sources document rows
-    pub each : length rows ≡ length job.sources
-    pub parts : AreParts rows
-    pub few : AreFew rows
+    pub bounded : AreBoundedRows (length job.sources) rows
 
   abbrev pub AfterMap : Job → ℕ → List (List ℕ × Json) → Prompt → Type 0 → Result RowLists PoolFault → List Call → List Call → List Call → Type 0
   AfterMap job slot document prompt rose (Ok rows) before added now = HasMapped job slot document (IsAnswered rose prompt) rows added now

@@ -48,4 +48,11 @@ impl DocRowLists {
     {
         self.items.as_slice()
     }
+
+    /// The rows of each document as a vector, without taking memory.
+    pub fn into_vec(self) -> Vec<RowLists>
+        ensures { result.items ≡ self }
+    {
+        self.items
+    }
 }

@@ -1,10 +1,10 @@
 //! Mapping a document through a child whose session is ready.
 
-ghost use Rattle.std.specs.Prelude.{◌≡◌, ◌<◌, ◌^◌, None, length, IfOk};
+ghost use Rattle.std.specs.Prelude.{◌≡◌, ◌<◌, ◌^◌, None, length, IfOk, IfSome};
 ghost use Rattle.view_ports.specs.Commands.{command};
 ghost use Rattle.query_protocol.specs.CommandLines.{command_line, IsWhole};
 ghost use Rattle.child_pool.specs.Ends.{EndsOnce, EndsTwice};
-ghost use Rattle.child_pool.specs.Mapping.{AsksRows, MapsOne};
+ghost use Rattle.child_pool.specs.Mapping.{AreBoundedRows, AsksRows, MapsOne};
 ghost use Rattle.child_pool.specs.Pools.{rows_said};
 
 use crate::document::Document;
@@ -54,6 +54,7 @@ fn ask_rows<C: Servers>(
     requires few { length sources.now < 2 ^ 32 }
     ensures went { AsksRows C.Servers servers.old servers.new slot sources.now document.now result }
     ensures ends { EndsOnce C.Servers servers.old servers.new None result }
+    ensures bounded { IfOk result (λ rows. IfSome rows (AreBoundedRows (length sources.now))) }
 {
     let line = match document_line(alloc, document) {
         Ok(line) => line,
@@ -86,6 +87,7 @@ pub fn map_one<C: Servers>(
     ensures went { MapsOne C.Servers servers.old servers.new
         slot path.now sources.now document.now result }
     ensures ends { EndsTwice C.Servers servers.old servers.new result }
+    ensures bounded { IfOk result (AreBoundedRows (length sources.now)) }
 {
     match ask_rows(alloc, servers, slot, sources, document) {
         Ok(Some(rows)) => return Ok(rows),

@@ -1,9 +1,9 @@
 //! One prompt: a line is sent, and its answer is received behind log lines.
 
-ghost use Rattle.std.specs.Prelude.{◌≡◌, ◌<◌, ◌≤◌, Ok, None, false};
+ghost use Rattle.std.specs.Prelude.{◌≡◌, ◌<◌, ◌≤◌, IfOk, IfSome, Ok, None, false};
 ghost use Rattle.query_protocol.specs.CommandLines.{IsWhole};
 ghost use Rattle.child_pool.specs.Ends.{EndsOnce};
-ghost use Rattle.child_pool.specs.Hearing.{IsHeard, IsKept, IsShown};
+ghost use Rattle.child_pool.specs.Hearing.{HasBoundedAnswer, HasBoundedRows, IsHeard, IsKept, IsShown};
 ghost use Rattle.child_pool.specs.PromptCalls.{Asks, Hears, HearsReply, Sends};
 
 use crate::heard::Heard;
@@ -29,6 +29,7 @@ fn receive_line<C: Servers>(
     ensures went { Hears C.Servers servers.old servers.new slot kind logs result }
     ensures ends { EndsOnce C.Servers servers.old servers.new Heard.Failed result }
     ensures few { result ≡ Ok Heard.Log → logs < 1000 }
+    ensures bounded { IfOk result (HasBoundedAnswer kind) }
 {
     let line = match servers.receive(alloc, slot) {
         Ok(line) => line,
@@ -48,6 +49,7 @@ fn receive_reply<C: Servers>(
     requires { slot < SLOT_COUNT }
     ensures went { HearsReply C.Servers servers.old servers.new slot kind result }
     ensures ends { EndsOnce C.Servers servers.old servers.new None result }
+    ensures bounded { IfOk result (λ reply. IfSome reply (HasBoundedRows kind)) }
 {
     for logs in 0..LOG_LIMIT {
         match receive_line(alloc, servers, slot, kind, logs) {
@@ -100,6 +102,7 @@ pub fn ask<C: Servers>(
     requires whole { IsWhole line.now }
     ensures went { Asks C.Servers servers.old servers.new slot line.now kind result }
     ensures ends { EndsOnce C.Servers servers.old servers.new None result }
+    ensures bounded { IfOk result (λ reply. IfSome reply (HasBoundedRows kind)) }
 {
     match send_prompt(alloc, servers, slot, line) {
         Ok(true) => receive_reply(alloc, servers, slot, kind),

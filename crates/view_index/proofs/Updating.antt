@@ -55,7 +55,7 @@ module _ (count : ℕ) where
   ids_more id true changes lists ids rest = ap (λ l. id ∷ l) (rest (drop 1 lists))
   ids_more id false changes lists ids rest = ap (λ l. id ∷ l) (rest lists)
 
-  ids_written : (changes : List (ℕ × Write)) (lists : Lists) → ids_of (changed_rows count changes lists) ≡ map (λ change. (change.1).id) changes
+  pub ids_written : (changes : List (ℕ × Write)) (lists : Lists) → ids_of (changed_rows count changes lists) ≡ map (λ change. (change.1).id) changes
   ids_written [] lists = refl
   ids_written (c ∷ changes) lists = ids_more (c.1).id (is_some (mapped_by c.1)) changes lists (map (λ change. (change.1).id) changes) (ids_written changes)
 

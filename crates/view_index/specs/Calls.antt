@@ -65,6 +65,7 @@ module _ {F : Type 0} (f : Folders F) where
     pub file : OnOk result (file_of index' ≡ published (file_of index) (next_size seq index) 0)
     pub picture : OnOk result (picture_of index' ≡ next_picture seq index)
     pub settled : OnOk result (IsSettled index')
+    pub name : name_of (file_of index') ≡ name_of (file_of index)
     -- a refusal leaves the last picture, and the exchanges; want of memory leaves everything, and a full file is left as it was
     pub kept : OnErr result ((picture_of index' ≡ picture_of index) × (next_in index' ≡ next_in index))
     pub untouched : result ≡ Err NoMemory → (index' ≡ index) × (new ≡ old)

@@ -1,6 +1,7 @@
 // The calls of the pool: children are made ready, map documents, and are stopped.
 ghost use Rattle.std.specs.Prelude.{◌≡◌, ◌≢◌, ◌≤◌, ◌<◌, ◌^◌, ◌⊎◌, [], IfErr, IfOk, OnOk, None, Some, length, min};
 ghost use Rattle.design_docs.specs.Design.{map_sources};
+ghost use Rattle.child_pool.specs.Mapping.{AreBounded};
 ghost use Rattle.child_pool.specs.PoolCalls.{Ends, MapsNothing, StaysAsMade, Maps, MapsAll, MapsBatch, Prepares, Readies, RefusesIdly, RefusesStopping, RefusesUnknown, StopsAll, path_for};
 ghost use Rattle.child_pool.specs.Pools.{IsKeptOf};
 
@@ -69,6 +70,7 @@ impl Pool {
         ensures unknown { RefusesStopping C.Servers servers.old servers.new
             self.old self.new design.now result }
         ensures remembers { OnOk result (self.new ≡ self.old) }
+        ensures bounded { IfOk result (AreBounded (length design.now.views) (length documents.now)) }
     {
         match self.try_map(alloc, servers, design, documents) {
             Ok(lists) => Ok(lists),
@@ -97,6 +99,7 @@ impl Pool {
             self.old self.new design.now result }
         ensures idle { documents.now ≡ [] →
             MapsNothing servers.old servers.new self.old self.new result }
+        ensures bounded { IfOk result (AreBounded (length design.now.views) (length documents.now)) }
     {
         if documents.is_empty() {
             return Ok(DocRowLists::new(alloc));
@@ -174,6 +177,7 @@ impl Pool {
             self.now design.now documents.now result }
         ensures ends { Ends C.Servers servers.old servers.new self.now self.now design.now result }
         ensures unknown { RefusesIdly servers.old servers.new self.now self.now design.now result }
+        ensures bounded { IfOk result (AreBounded (length design.now.views) (length documents.now)) }
     {
         match self.plan_of(alloc, design) {
             Ok(plan) => map_each(

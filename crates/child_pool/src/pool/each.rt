@@ -1,6 +1,7 @@
 //! Documents, one after another.
-ghost use Rattle.std.specs.Prelude.{◌<◌, ◌^◌, length};
+ghost use Rattle.std.specs.Prelude.{◌<◌, ◌^◌, IfOk, length};
 ghost use Rattle.child_pool.specs.Ends.{EndsTwice};
+ghost use Rattle.child_pool.specs.Mapping.{AreBounded};
 ghost use Rattle.child_pool.specs.PoolCalls.{MapsEach};
 
 use crate::doc_rows::DocRowLists;
@@ -26,6 +27,7 @@ pub(super) fn map_each<C: Servers>(
     ensures went { MapsEach C.Servers servers.old servers.new
         path.now sources.now documents.now result }
     ensures ends { EndsTwice C.Servers servers.old servers.new result }
+    ensures bounded { IfOk result (AreBounded (length sources.now) (length documents.now)) }
 {
     let mut lists = DocRowLists::new(alloc);
     for document in documents {

@@ -2,7 +2,7 @@
 
 ghost use Rattle.std.specs.Prelude.{◌≡◌, ◌↔◌, ◌+◌, ◌<◌, ◌≤◌, ◌^◌, Err, length, IfErr, OnOk, OnErr, IsTrue};
 ghost use Rattle.gate_file.specs.Calls.{too_long, used_up, IsCounted, IsWriteFault, KeepsIn, Moved, Told};
-ghost use Rattle.gate_file.specs.GateFile.{commits_of, start_of};
+ghost use Rattle.gate_file.specs.GateFile.{commits_of, name_of, start_of};
 ghost use Rattle.gate_file.specs.Publish.{published, IsFull, IsTooLong, IsUsedUp, Publishes};
 
 use super::GateFile;
@@ -36,6 +36,7 @@ impl GateFile {
         ensures done { OnOk result (self.new ≡ published self.old (length bytes.now) skipped) }
         ensures few { OnOk result (commits_of self.old < 2 ^ 50) }
         ensures commits { OnErr result (commits_of self.new ≡ commits_of self.old) }
+        ensures name { name_of self.new ≡ name_of self.old }
         ensures disk { Moved F.Folder folder.old folder.new (Publishes self.old bytes.now skipped result) }
 
         // It fails exactly where the file would be too long, where it has all of its commits, and where

@@ -9,6 +9,7 @@ use Rattle.view_ports.proofs.DiskRuns.{on_ok}
 use Rattle.gate_file.specs.Calls.{too_long, used_up}
 use Rattle.gate_file.specs.declared.fault.GateFault.{GateFault}
 use Rattle.gate_file.specs.declared.gate.GateFile.{GateFile}
+use Rattle.gate_file.specs.GateFile.{name_of}
 use Rattle.gate_file.specs.Publish.{published, IsFull, IsTooLong, IsUsedUp}
 use Rattle.gate_file.proofs.Stepped.{ended_err}
 use Rattle.index_record.specs.Record.{record_bytes, IsRecordOf}
@@ -26,6 +27,7 @@ returns-in_err-bytes g c = record {
   file = search rules;
   picture = search rules;
   settled = search rules;
+  name = search rules;
   kept = search rules;
   untouched = search rules;
   stands = λ picture at. stays_at c.args.self.now (g.F.Folder.disk c.args.folder.now) picture (next_picture c.args.seq c.args.self.now) (λ files. OnOk c.from_residual.result (IsAt c.args.self.now files (Some (next_picture c.args.seq c.args.self.now))))
@@ -50,6 +52,7 @@ returns-in_err-publish g c =
       file = search rules;
       picture = search rules;
       settled = search rules;
+      name = c.publish.ensures.name;
       kept = search rules;
       untouched = search rules;
       stands = λ picture at. publishes index seq c.as_slice.result.now bytes_are spelled (g.F.Folder.disk c.args.folder.now) (g.F.Folder.disk c.publish.new.folder) picture c.publish.result _
@@ -100,6 +103,7 @@ returns g c =
             (next_rolled_back (is_touched c.settle.new.self) c.settle.ensures.touched (map (settled (is_touched index)) (both_in index)));
         pending = pending;
       };
+      name = ap name_of c.settle.ensures.same.file ∙ c.publish.ensures.name;
       kept = search rules;
       untouched = search rules;
       stands = λ picture at. publishes index seq c.as_slice.result.now bytes_are spelled (g.F.Folder.disk c.args.folder.now) (g.F.Folder.disk c.publish.new.folder) picture c.publish.result _

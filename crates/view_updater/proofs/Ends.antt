@@ -1,0 +1,299 @@
+-- How an update ends: what the folder and the index are at, and what was asked.
+use Rattle.std.specs.Prelude.{◌≡◌, ◌⊎◌, ◌≤◌, ℕ, List, map, length, Result, Ok, Err, OnOk, Option, Some}
+use Rattle.std.proofs.Common.{refl, sym, ap, ◌∙◌, subst, inl, inr}
+use Rattle.raw_collation.specs.Sorting.{sorted_rows}
+use Rattle.view_ports.specs.Calls.{Call}
+use Rattle.view_ports.specs.Disk.{IfTold, Moves, MovesNone, Tells}
+use Rattle.view_ports.specs.File.{File}
+use Rattle.view_ports.specs.Functions.{source_limit}
+use Rattle.view_ports.specs.declared.file_name.FileName.{FileName}
+use Rattle.view_ports.specs.declared.file_name.Stem.{Stem}
+use Rattle.view_ports.specs.declared.folder.Folder.{Ghosts as Folders}
+use Rattle.view_ports.specs.declared.servers.Servers.{Ghosts as Servers}
+use Rattle.view_ports.proofs.DiskRuns.{moves_none, moves_then, none_same, none_wider}
+use Rattle.view_ports.proofs.Told.{told_after, told_given, told_map, told_now, told_pair, told_still, told_then}
+use Rattle.design_docs.specs.declared.design.Design.{Design}
+use Rattle.doc_file.specs.declared.docs.Docs.{Docs}
+use Rattle.doc_file.specs.Docs.{IsAt as AreAt}
+use Rattle.doc_file.specs.History.{AreStored, Write, changes_after}
+use Rattle.child_pool.specs.declared.doc_rows.DocRowLists.{DocRowLists}
+use Rattle.child_pool.specs.declared.pool_fault.PoolFault.{PoolFault}
+use Rattle.child_pool.specs.declared.pool_fault.PoolFault.TheVariants as pool
+use Rattle.child_pool.specs.PoolCalls.{path_for, MapsAll}
+use Rattle.child_pool.specs.Pools.{HasItsChildren}
+use Rattle.view_model.specs.Picture.{Picture}
+use Rattle.view_model.specs.Update.{IsUpdated}
+use Rattle.gate_file.specs.declared.fault.GateFault.{GateFault}
+use Rattle.view_index.specs.declared.fault.IndexFault.{IndexFault}
+use Rattle.view_index.specs.declared.fault.IndexFault.TheVariants as fault_of
+use Rattle.view_index.specs.declared.index.Index.{Index}
+use Rattle.view_index.specs.Calls.{next_picture, stem_of, Commits, IsAt, IsOpen}
+use Rattle.view_index.specs.Changed.{changed_rows}
+use Rattle.view_index.specs.Held.{or_empty, IsFileOf, Stands}
+use Rattle.view_index.specs.Index.{file_of, next_in, picture_of, seq_of, views_of}
+use Rattle.view_index.specs.Pending.{ArePending}
+use Rattle.view_index.specs.Replaced.{replaced_views}
+use Rattle.view_index.proofs.Committing.{last_sorted}
+use Rattle.view_updater.specs.declared.fault.UpdateFault.{UpdateFault}
+use Rattle.view_updater.specs.declared.fault.UpdateFault.TheVariants.{Docs as OfDocuments, Index as OfIndex, NoMemory}
+use Rattle.view_updater.specs.Exchanges.{HasExchanged, TakesIn}
+use Rattle.view_updater.specs.Faults.{by_index, by_pool}
+use Rattle.view_updater.specs.Updates.{documents_since, side, EndsAt, HasAsked, IsIdle, IsMetAs, IsNext, IsReached, Side, StandsAround}
+use Rattle.view_updater.proofs.Carrying.{at_still, open_still, same_stem, same_views, stands_now, views_by_picture}
+use Rattle.view_updater.proofs.Nexts.{nothing_updated, rows_updated}
+
+-- what didn't go well promises nothing of where it did
+pub never_ok : (result : Result (Unit {0}) UpdateFault) (P : Type 0) → OnOk result ⊥ → OnOk result P
+never_ok (Ok done) P none = absurd none
+never_ok (Err fault) P none = tt
+
+module _ {F C : Type 0} (f : Folders F) (s : Servers C) (docs : Docs) (design : Design) (old : Side F C) (number : views_of old.index ≡ length design.views) where
+  -- ---- nothing was written since
+
+  module _ (history : List Write) (picture : Option Picture) (files : FileName → File) (at : IsAt old.index files picture) where
+    shaped : length (picture_of old.index).rows ≡ length design.views
+    shaped = views_by_picture old.index ∙ number
+
+    pub idle_next : (new : Side F C) → seq_of old.index ≡ length history → IsNext f s docs design old new history picture (or_empty (views_of old.index) picture)
+    idle_next new newest path calls follows known has =
+        subst (λ (p : Picture). IsUpdated (s.functions path) (s.honest path × (length design.views ≤ source_limit)) design.views history p p) at.last
+        (nothing_updated (s.functions path) (s.honest path × (length design.views ≤ source_limit)) design.views history (picture_of old.index) shaped newest (last_sorted old.index files picture at))
+
+  -- the files and the index are as they were
+  pub idle_stands : seq_of old.index ≡ docs.seq → (history : List Write) (picture : Option Picture) → IfTold (f.disk old.folder) (λ d. IsReached docs old.index history picture d.now)
+      → Tells (f.disk old.folder) (f.disk old.folder) (Moves (IsFileOf (stem_of old.index)) (StandsAround f s docs design old old history picture) (EndsAt f s docs design old old history picture (Ok tt)))
+  idle_stands newest history picture reached =
+      told_still (f.disk old.folder) (λ d. IsReached docs old.index history picture d.now) (Moves (IsFileOf (stem_of old.index)) (StandsAround f s docs design old old history picture) (EndsAt f s docs design old old history picture (Ok tt)))
+      (λ d is. moves_none (IsFileOf (stem_of old.index)) (StandsAround f s docs design old old history picture) (EndsAt f s docs design old old history picture (Ok tt)) d
+      (λ image left. inl (stands_now old.index d.now picture is.at image left))
+      (picture, is.at, idle_next history picture d.now is.at old (newest ∙ is.documents.count))) reached
+
+  -- ---- it was refused, and the folder was only read
+
+  module _ (new : Side F C) (moves : Tells (f.disk old.folder) (f.disk new.folder) MovesNone) where
+    pub refused_stands : (fault : UpdateFault) → file_of new.index ≡ file_of old.index → picture_of new.index ≡ picture_of old.index → ArePending new.index
+        → (history : List Write) (picture : Option Picture) → IfTold (f.disk old.folder) (λ d. IsReached docs old.index history picture d.now)
+        → Tells (f.disk old.folder) (f.disk new.folder) (Moves (IsFileOf (stem_of old.index)) (StandsAround f s docs design old new history picture) (EndsAt f s docs design old new history picture (Err fault)))
+    refused_stands fault file rows pending history picture reached =
+        told_given (f.disk old.folder) (f.disk new.folder) (λ d. IsReached docs old.index history picture d.now) MovesNone
+        (Moves (IsFileOf (stem_of old.index)) (StandsAround f s docs design old new history picture) (EndsAt f s docs design old new history picture (Err fault)))
+        (λ a b is none. none_wider (IsFileOf (stem_of old.index)) (StandsAround f s docs design old new history picture) (EndsAt f s docs design old new history picture (Err fault)) a b
+        (λ image left. inl (stands_now old.index a.now picture is.at image left))
+        (λ same other. at_still old.index new.index a.now b.now file same picture rows pending is.at) none) reached moves
+
+    pub refused_others : (result : Result (Unit {0}) UpdateFault) → OnOk result ⊥ → Tells (f.disk old.folder) (f.disk new.folder) (Moves (IsFileOf (stem_of old.index)) (λ image. Unit {0}) (λ files. OnOk result (IsOpen new.index files)))
+    refused_others result failed =
+        told_map (f.disk old.folder) (f.disk new.folder) MovesNone (Moves (IsFileOf (stem_of old.index)) (λ image. Unit {0}) (λ files. OnOk result (IsOpen new.index files)))
+        (λ a b none. none_wider (IsFileOf (stem_of old.index)) (λ image. Unit {0}) (λ files. OnOk result (IsOpen new.index files)) a b (λ image left. tt) (λ same. never_ok result (IsOpen new.index b.now) failed) none) moves
+
+-- ---- faults of the commit
+
+pub index_of_no_documents : (fault : IndexFault) (gate : GateFault) → by_index fault ≡ OfDocuments gate → ⊥
+index_of_no_documents fault_of.NoMemory gate is = cc
+index_of_no_documents (fault_of.Store fault) gate is = cc
+index_of_no_documents (fault_of.Summer fault) gate is = cc
+
+pub index_stored : (fault : IndexFault) (gate : GateFault) → by_index fault ≡ OfIndex (fault_of.Store gate) → fault ≡ fault_of.Store gate
+index_stored fault_of.NoMemory gate is = cc
+index_stored (fault_of.Store fault) gate is = cc
+index_stored (fault_of.Summer fault) gate is = cc
+
+-- the update went well
+abbrev pub well : Result (Unit {0}) UpdateFault
+well = Ok tt
+
+abbrev pub refused : UpdateFault → Result (Unit {0}) UpdateFault
+refused fault = Err fault
+
+pub well_met : (fault : PoolFault) → well ≡ Err (by_pool fault) → ⊥
+well_met fault is = cc
+
+-- a fault of the index is none of the pool, but for want of memory
+unlike : (fault : IndexFault) (pool_fault : PoolFault) → by_index fault ≡ by_pool pool_fault → refused (by_index fault) ≡ Err NoMemory
+unlike fault_of.NoMemory pool_fault is = refl
+unlike (fault_of.Store fault) pool.NoMemory is = cc
+unlike (fault_of.Store fault) pool.ServerFault is = cc
+unlike (fault_of.Store fault) (pool.BadReply line) is = cc
+unlike (fault_of.Store fault) pool.Compile is = cc
+unlike (fault_of.Store fault) pool.UnknownLanguage is = cc
+unlike (fault_of.Summer fault) pool.NoMemory is = cc
+unlike (fault_of.Summer fault) pool.ServerFault is = cc
+unlike (fault_of.Summer fault) (pool.BadReply line) is = cc
+unlike (fault_of.Summer fault) pool.Compile is = cc
+unlike (fault_of.Summer fault) pool.UnknownLanguage is = cc
+
+-- a refused commit is met by no fault of the pool
+pub commit_met : (fault : IndexFault) (mapped : Result DocRowLists PoolFault) → IsMetAs mapped well → IsMetAs mapped (Err (by_index fault))
+commit_met fault (Err pool_fault) met = absurd (well_met pool_fault met)
+commit_met fault (Ok lists) met = λ pool_fault is. unlike fault pool_fault (let same : by_index fault ≡ by_pool pool_fault = cc in same)
+
+-- ---- the exchange was made, and then the commit
+
+-- the index as of its last commit
+pub record IsBack (index rolled : Index) : Type 0 where
+  pub file : file_of rolled ≡ file_of index
+  pub rows : picture_of rolled ≡ picture_of index
+  pub next : next_in rolled ≡ map sorted_rows (picture_of rolled).rows
+  pub pending : ArePending rolled
+
+module _ {F C : Type 0} (f : Folders F) (s : Servers C) (docs : Docs) (design : Design) (old mid : Side F C) (number : views_of old.index ≡ length design.views) (rolled : Index) (back : IsBack old.index rolled) where
+  abbrev from : Side F C
+  from = side old.folder old.servers old.pool rolled
+
+  seq_back : seq_of rolled ≡ seq_of old.index
+  seq_back = ap (λ (p : Picture). p.seq) back.rows
+
+  -- what was asked
+  module _ (folder : F) (index : Index) where
+    abbrev left : Side F C
+    left = side folder mid.servers mid.pool index
+
+    abbrev Exchanged : Result (Unit {0}) UpdateFault → List Write → Type 0
+    Exchanged result history = (IsIdle f s docs design from mid × OnOk result ⊥) ⊎ HasExchanged f s docs design from mid history result
+
+    abbrev Asked : Result (Unit {0}) UpdateFault → List Write → Type 0
+    Asked result history = (IsIdle f s docs design old left × OnOk result (seq_of old.index ≡ length history)) ⊎ HasAsked f s docs design old left history result
+
+    pub asked : (before result : Result (Unit {0}) UpdateFault) → ((mapped : Result DocRowLists PoolFault) → IsMetAs mapped before → IsMetAs mapped result) → (OnOk before ⊥ → OnOk result ⊥)
+        → (history : List Write) → IfTold (f.disk old.folder) (λ d. AreAt docs d.now history → Exchanged before history) → IfTold (f.disk old.folder) (λ d. AreAt docs d.now history → Asked result history)
+    asked before result met failed history =
+        told_now (f.disk old.folder) (λ d. AreAt docs d.now history → Exchanged before history) (λ d. AreAt docs d.now history → Asked result history) (λ d asks here. elim (asks here) [
+          | inl idle ↦ inl (idle.0, never_ok result (seq_of old.index ≡ length history) (failed idle.1))
+          | inr has ↦ inr (
+            has.mapped,
+            met has.mapped has.met,
+            subst (λ (n : ℕ). MapsAll s old.servers mid.servers old.pool design (documents_since n history) mid.pool has.mapped) seq_back has.maps,
+          )
+        ])
+
+  -- ---- the picture that is committed
+
+  module _ (history : List Write) (picture : Option Picture) (files : FileName → File) (at : IsAt old.index files picture) (stored : AreStored history) (newest : ℕ) (newest_is : newest ≡ length history) where
+    rolled_at : IsAt rolled files picture
+    rolled_at = at_still old.index rolled files files back.file (λ name. refl) picture back.rows back.pending at
+
+    number_back : views_of rolled ≡ length design.views
+    number_back = same_views old.index rolled back.rows ∙ number
+
+    rows_back : next_in rolled ≡ (picture_of rolled).rows
+    rows_back = back.next ∙ last_sorted rolled files picture rolled_at
+
+    module _ (path : List ℕ) (calls : List Call) (follows : s.may_follow old.servers calls) (known : path_for old.pool design ≡ Some path) (has : HasItsChildren old.pool calls) where
+      next_by : (mapped : Result DocRowLists PoolFault) → IsMetAs mapped well → MapsAll s old.servers mid.servers old.pool design (documents_since (seq_of rolled) history) mid.pool mapped
+          → TakesIn f s docs design from mid history mapped well
+          → IsUpdated (s.functions path) (s.honest path × (length design.views ≤ source_limit)) design.views history (picture_of rolled) (next_picture newest mid.index)
+      next_by (Err fault) met maps takes = absurd (well_met fault met)
+      next_by (Ok lists) met maps takes =
+          rows_updated s.functions s.honest path design.views history (picture_of rolled) (next_picture newest mid.index) lists (views_by_picture rolled ∙ number_back) stored
+          (maps path calls follows known has).holds.1.1.rows newest_is
+          (takes.0 ∙ (λ i. replaced_views (changed_rows (number_back i) (changes_after (seq_of rolled) history) lists) (rows_back i)))
+
+    next_is : (new : Side F C) → HasExchanged f s docs design from mid history well → IsNext f s docs design old new history picture (next_picture newest mid.index)
+    next_is new has path calls follows known children =
+        subst (λ (p : Picture). IsUpdated (s.functions path) (s.honest path × (length design.views ≤ source_limit)) design.views history p (next_picture newest mid.index)) (back.rows ∙ at.last)
+        (next_by path calls follows known children has.mapped has.met has.maps has.takes)
+
+  pending_now : (history : List Write) → HasExchanged f s docs design from mid history well → ArePending mid.index
+  pending_now history has = by_mapped has.mapped has.met has.takes
+    where
+      by_mapped : (mapped : Result DocRowLists PoolFault) → IsMetAs mapped well → TakesIn f s docs design from mid history mapped well → ArePending mid.index
+      by_mapped (Err fault) met takes = absurd (well_met fault met)
+      by_mapped (Ok lists) met takes = takes.1 back.pending
+
+  -- ---- the disk
+
+  module _ (file : file_of mid.index ≡ file_of rolled) (rows : picture_of mid.index ≡ picture_of rolled) (moves : Tells (f.disk old.folder) (f.disk mid.folder) MovesNone) where
+    stem_then : stem_of mid.index ≡ stem_of old.index
+    stem_then = same_stem old.index mid.index (file ∙ back.file)
+
+    views_then : views_of mid.index ≡ views_of old.index
+    views_then = same_views old.index mid.index (rows ∙ back.rows)
+
+    -- it may be committed
+    pub open_then : IfTold (f.disk old.folder) (λ d. IsOpen old.index d.now) → IfTold (f.disk mid.folder) (λ d. IsOpen mid.index d.now)
+    open_then is_open =
+        told_after (f.disk old.folder) (f.disk mid.folder) (λ d. IsOpen old.index d.now) (λ d. IsOpen mid.index d.now) MovesNone
+        (λ a b is none. open_still old.index mid.index a.now b.now (file ∙ back.file) (none_same a b none) is) is_open moves
+
+    module _ (index : Index) (folder : F) (newest : ℕ) (committed : Result (Unit {0}) IndexFault) (commits : Commits f mid.index index mid.folder folder newest committed) where
+      -- other files stay
+      pub others_then : (now : Index) (result : Result (Unit {0}) UpdateFault) → ((files : FileName → File) → OnOk committed (IsOpen index files) → OnOk result (IsOpen now files))
+          → Tells (f.disk old.folder) (f.disk folder) (Moves (IsFileOf (stem_of old.index)) (λ image. Unit {0}) (λ files. OnOk result (IsOpen now files)))
+      others_then now result ends =
+          told_then (f.disk old.folder) (f.disk mid.folder) (f.disk folder) MovesNone (Moves (IsFileOf (stem_of old.index)) (λ image. Unit {0}) (λ files. OnOk committed (IsOpen index files)))
+          (Moves (IsFileOf (stem_of old.index)) (λ image. Unit {0}) (λ files. OnOk result (IsOpen now files)))
+          (λ a b c none moved. moves_then (IsFileOf (stem_of old.index)) (λ image. Unit {0}) (λ image. Unit {0}) (λ image. Unit {0}) (λ files. Unit {0}) (λ files. OnOk committed (IsOpen index files)) (λ files. OnOk result (IsOpen now files)) a b c
+          (λ image is. tt) (λ e image is. tt) (λ e ended. ends c.now ended)
+          (none_wider (IsFileOf (stem_of old.index)) (λ image. Unit {0}) (λ files. Unit {0}) a b (λ image is. tt) (λ same. tt) none) moved) moves
+          (subst (λ (stem : Stem). Tells (f.disk mid.folder) (f.disk folder) (Moves (IsFileOf stem) (λ image. Unit {0}) (λ files. OnOk committed (IsOpen index files)))) stem_then commits.others)
+
+      module _ (newest_is : newest ≡ docs.seq) (asks : (history : List Write) → IfTold (f.disk old.folder) (λ d. AreAt docs d.now history
+          → (IsIdle f s docs design from mid × OnOk well ⊥) ⊎ HasExchanged f s docs design from mid history well)) where
+        module _ (history : List Write) (picture : Option Picture) where
+          abbrev Known : (FileName → File) → Type 0
+          Known files = IsReached docs old.index history picture files × HasExchanged f s docs design from mid history well
+
+          abbrev next : Picture
+          next = next_picture newest mid.index
+
+          abbrev Left : (FileName → List ℕ) → Type 0
+          Left image = Stands (stem_of old.index) (views_of old.index) image picture ⊎ Stands (stem_of old.index) (views_of old.index) image (Some next)
+
+          chosen : (IsIdle f s docs design from mid × OnOk well ⊥) ⊎ HasExchanged f s docs design from mid history well → HasExchanged f s docs design from mid history well
+          chosen (inl idle) = absurd idle.1
+          chosen (inr has) = has
+
+          is_known : IfTold (f.disk old.folder) (λ d. IsReached docs old.index history picture d.now) → IfTold (f.disk old.folder) (λ d. Known d.now)
+          is_known reached =
+              told_pair (f.disk old.folder) (λ d. IsReached docs old.index history picture d.now)
+              (λ d. AreAt docs d.now history → (IsIdle f s docs design from mid × OnOk well ⊥) ⊎ HasExchanged f s docs design from mid history well) (λ d. Known d.now)
+              (λ d is told. (is, chosen (told is.documents))) reached (asks history)
+
+          pub known_next : (new : Side F C) (files : FileName → File) → Known files → IsNext f s docs design old new history picture next
+          known_next new files known = next_is history picture files known.0.at known.0.documents.stored newest (newest_is ∙ known.0.documents.count) new known.1
+
+          mid_at : IfTold (f.disk old.folder) (λ d. Known d.now) → IfTold (f.disk mid.folder) (λ d. IsAt mid.index d.now picture)
+          mid_at known =
+              told_after (f.disk old.folder) (f.disk mid.folder) (λ d. Known d.now) (λ d. IsAt mid.index d.now picture) MovesNone
+              (λ a b is none. at_still old.index mid.index a.now b.now (file ∙ back.file) (none_same a b none) picture (rows ∙ back.rows) (pending_now history is.1) is.0.at) known moves
+
+          of_old : Tells (f.disk mid.folder) (f.disk folder) (Moves (IsFileOf (stem_of mid.index))
+              (λ image. Stands (stem_of mid.index) (views_of mid.index) image picture ⊎ Stands (stem_of mid.index) (views_of mid.index) image (Some next)) (λ files. OnOk committed (IsAt index files (Some next))))
+              → Tells (f.disk mid.folder) (f.disk folder) (Moves (IsFileOf (stem_of old.index)) Left (λ files. OnOk committed (IsAt index files (Some next))))
+          of_old told =
+              subst (λ (stem : Stem). Tells (f.disk mid.folder) (f.disk folder) (Moves (IsFileOf stem)
+              (λ image. Stands stem (views_of old.index) image picture ⊎ Stands stem (views_of old.index) image (Some next)) (λ files. OnOk committed (IsAt index files (Some next))))) stem_then
+              (subst (λ (n : ℕ). Tells (f.disk mid.folder) (f.disk folder) (Moves (IsFileOf (stem_of mid.index))
+              (λ image. Stands (stem_of mid.index) n image picture ⊎ Stands (stem_of mid.index) n image (Some next)) (λ files. OnOk committed (IsAt index files (Some next))))) views_then told)
+
+          pub committed_stands : (new : Side F C) (ends : (FileName → File) → Type 0) → ((was files : FileName → File) → Known was → OnOk committed (IsAt index files (Some next)) → ends files)
+              → IfTold (f.disk old.folder) (λ d. IsReached docs old.index history picture d.now)
+              → Tells (f.disk old.folder) (f.disk folder) (Moves (IsFileOf (stem_of old.index)) (StandsAround f s docs design old new history picture) ends)
+          committed_stands new ends endings reached =
+              let known : IfTold (f.disk old.folder) (λ d. Known d.now) = is_known reached in
+              told_then (f.disk old.folder) (f.disk mid.folder) (f.disk folder) (λ a b. Known a.now × MovesNone a b) (Moves (IsFileOf (stem_of old.index)) Left (λ files. OnOk committed (IsAt index files (Some next))))
+              (Moves (IsFileOf (stem_of old.index)) (StandsAround f s docs design old new history picture) ends)
+              (λ a b c first moved. moves_then (IsFileOf (stem_of old.index)) (λ image. Stands (stem_of old.index) (views_of old.index) image picture) Left (StandsAround f s docs design old new history picture)
+              (λ files. Unit {0}) (λ files. OnOk committed (IsAt index files (Some next))) ends a b c
+              (λ image is. inl is)
+              (λ e image is. around new a.now first.0 image is)
+              (λ e ended. endings a.now c.now first.0 ended)
+              (none_wider (IsFileOf (stem_of old.index)) (λ image. Stands (stem_of old.index) (views_of old.index) image picture) (λ files. Unit {0}) a b (λ image is. stands_now old.index a.now picture first.0.0.at image is) (λ same. tt) first.1) moved)
+              (told_given (f.disk old.folder) (f.disk mid.folder) (λ d. Known d.now) MovesNone (λ a b. Known a.now × MovesNone a b) (λ a b is none. (is, none)) known moves)
+              (of_old (commits.stands picture (mid_at known)))
+            where
+              around : (new : Side F C) (was : FileName → File) → Known was → (image : FileName → List ℕ) → Left image → StandsAround f s docs design old new history picture image
+              around new was is image (inl stands) = inl stands
+              around new was is image (inr stands) = inr (next, known_next new was is, stands)
+
+        -- the commit was refused: for want of memory nothing was done
+        pub commit_refused : (now : Index) → file_of now ≡ file_of index → picture_of now ≡ picture_of old.index → ArePending now → (fault : IndexFault) → committed ≡ Err fault → (history : List Write) (picture : Option Picture)
+            → IfTold (f.disk old.folder) (λ d. IsReached docs old.index history picture d.now)
+            → Tells (f.disk old.folder) (f.disk folder) (Moves (IsFileOf (stem_of old.index)) (StandsAround f s docs design old (left folder now) history picture) (EndsAt f s docs design old (left folder now) history picture (Err (by_index fault))))
+        commit_refused now file_now rows_now pending fault_of.NoMemory is history picture reached =
+            let still : (index ≡ mid.index) × (folder ≡ mid.folder) = commits.untouched is in
+            refused_stands f s docs design old number (left folder now) (subst (λ (now : F). Tells (f.disk old.folder) (f.disk now) MovesNone) (sym still.1) moves) NoMemory (file_now ∙ ap file_of still.0 ∙ file ∙ back.file) rows_now pending history picture reached
+        commit_refused now file_now rows_now pending (fault_of.Store fault) is history picture reached =
+            committed_stands history picture (left folder now) (EndsAt f s docs design old (left folder now) history picture (Err (by_index (fault_of.Store fault)))) (λ was files known ended other. absurd (other tt)) reached
+        commit_refused now file_now rows_now pending (fault_of.Summer fault) is history picture reached =
+            committed_stands history picture (left folder now) (EndsAt f s docs design old (left folder now) history picture (Err (by_index (fault_of.Summer fault)))) (λ was files known ended other. absurd (other tt)) reached

@@ -1,0 +1,111 @@
+-- Calls that only read the folder, and their faults.
+use Rattle.std.specs.Prelude.{◌≡◌, ◌≢◌, ℕ, List, Result, Ok, Err, IsErr, IsErrAnd}
+use Rattle.std.proofs.Common.{ap, sym, ◌∙◌, subst}
+use Rattle.std.proofs.lemmas.Result.{err_from_is_err_and}
+use Rattle.view_ports.specs.Causes.{HasCauseIf}
+use Rattle.view_ports.specs.Disk.{IfTold, MovesNone, Tells}
+use Rattle.view_ports.specs.declared.file_name.FileName.{FileName}
+use Rattle.view_ports.specs.declared.folder.Folder.{Ghosts as Folders}
+use Rattle.view_ports.proofs.Told.{told_all, told_now}
+use Rattle.gate_file.specs.declared.fault.GateFault.{GateFault}
+use Rattle.gate_file.specs.declared.fault.GateFault.TheVariants.{DiskFault, Damaged}
+use Rattle.doc_file.specs.declared.docs.Docs.{Docs}
+use Rattle.doc_file.specs.declared.fault.DocFault.{DocFault}
+use Rattle.doc_file.specs.declared.fault.DocFault.TheVariants as doc
+use Rattle.doc_file.specs.Docs.{IsAt as AreAt}
+use Rattle.doc_file.specs.History.{Write}
+use Rattle.child_pool.specs.declared.pool_fault.PoolFault.{PoolFault}
+use Rattle.child_pool.specs.declared.pool_fault.PoolFault.TheVariants as pool
+use Rattle.view_updater.specs.declared.fault.UpdateFault.{UpdateFault}
+use Rattle.view_updater.specs.declared.fault.UpdateFault.TheVariants.{Docs as OfDocuments}
+use Rattle.view_updater.specs.Exchanges.{IsOfIndex, OnlyReads}
+use Rattle.view_updater.specs.Faults.{by_documents, by_pool}
+
+-- a refusal by this fault
+pub failed_as : {T E : Type 0} (result : Result T E) (fault : E) → IsErr result × IsErrAnd result (λ e. e ≡ fault) → result ≡ Err fault
+failed_as result fault is = let err = err_from_is_err_and result is.1 in err.1 ∙ ap Err err.2
+
+-- ---- faults of the documents
+
+of_documents : (fault : DocFault) (gate : GateFault) → by_documents fault ≡ OfDocuments gate → fault ≡ doc.Gate gate
+of_documents (doc.Gate fault) gate is = cc
+of_documents other gate is = cc
+
+of_no_index : (fault : DocFault) → IsOfIndex (by_documents fault) → ⊥
+of_no_index (doc.Gate fault) is = is
+of_no_index other is = is
+
+abbrev documents_failed : (T : Type 0) → DocFault → Result T DocFault
+documents_failed T fault = Err fault
+
+abbrev failed : (T : Type 0) → UpdateFault → Result T UpdateFault
+failed T fault = Err fault
+
+abbrev pub done_as : (T : Type 0) → T → Result T UpdateFault
+done_as T value = Ok value
+
+module _ {F : Type 0} (f : Folders F) (docs : Docs) (old new : F) where
+  -- the documents couldn't be read
+  pub read_failed : {S T : Type 0} (fault : DocFault) (result : Result T UpdateFault) → result ≡ Err (by_documents fault) → Tells (f.disk old) (f.disk new) MovesNone
+      → HasCauseIf (λ e. e ≡ doc.Gate DiskFault) (f.faults old) (f.faults new) (documents_failed S fault)
+      → ((history : List Write) → IfTold (f.disk old) (λ d. AreAt docs d.now history → (name : FileName) (at : ℕ) → documents_failed S fault ≡ Err (doc.Gate (Damaged name at)) → ⊥))
+      → OnlyReads f docs old new result
+  read_failed {S = S} {T = T} fault result is disk cause sound = subst (OnlyReads f docs old new) (sym is) (record {
+    disk = disk;
+    faults = of_no_index fault;
+    cause = λ told. cause.failed (of_documents fault DiskFault told);
+    sound = λ history. told_now (f.disk old) (λ d. AreAt docs d.now history → (name : FileName) (at : ℕ) → documents_failed S fault ≡ Err (doc.Gate (Damaged name at)) → ⊥)
+        (λ d. AreAt docs d.now history → (name : FileName) (at : ℕ) → failed T (by_documents fault) ≢ Err (OfDocuments (Damaged name at)))
+        (λ d never here name at told. never here name at (ap (documents_failed S) (of_documents fault (Damaged name at) (let same : by_documents fault ≡ OfDocuments (Damaged name at) = cc in same)))) (sound history);
+    later = cause.later;
+  })
+
+  -- the same of another call's result
+  pub same_failed : {S T : Type 0} (fault : UpdateFault) (result : Result T UpdateFault) → result ≡ Err fault → OnlyReads f docs old new (failed S fault) → OnlyReads f docs old new result
+  same_failed {S = S} {T = T} fault result is reads = subst (OnlyReads f docs old new) (sym is) (record {
+    disk = reads.disk;
+    faults = reads.faults;
+    cause = reads.cause;
+    sound = λ history. told_now (f.disk old) (λ d. AreAt docs d.now history → (name : FileName) (at : ℕ) → failed S fault ≢ Err (OfDocuments (Damaged name at)))
+        (λ d. AreAt docs d.now history → (name : FileName) (at : ℕ) → failed T fault ≢ Err (OfDocuments (Damaged name at)))
+        (λ d never here name at told. never here name at (ap (failed S) (let same : fault ≡ OfDocuments (Damaged name at) = cc in same))) (reads.sound history);
+    later = reads.later;
+  })
+
+  -- they were read, and then something else failed
+  pub read_then : {S T : Type 0} (value : S) (fault : UpdateFault) (result : Result T UpdateFault) → result ≡ Err fault → (IsOfIndex fault → ⊥) → ((gate : GateFault) → fault ≡ OfDocuments gate → ⊥)
+      → OnlyReads f docs old new (done_as S value) → OnlyReads f docs old new result
+  read_then {S = S} {T = T} value fault result is other never reads = subst (OnlyReads f docs old new) (sym is) (record {
+    disk = reads.disk;
+    faults = other;
+    cause = λ told. absurd (never DiskFault told);
+    sound = λ history. told_all (f.disk old) (λ d. AreAt docs d.now history → (name : FileName) (at : ℕ) → failed T fault ≢ Err (OfDocuments (Damaged name at)))
+        (λ d here name at told. never (Damaged name at) (let same : fault ≡ OfDocuments (Damaged name at) = cc in same));
+    later = reads.later;
+  })
+
+  -- or nothing did
+  pub read_well : {S T : Type 0} (value : S) (done : T) → OnlyReads f docs old new (done_as S value) → OnlyReads f docs old new (done_as T done)
+  read_well {S = S} {T = T} value done reads = record {
+    disk = reads.disk;
+    faults = tt;
+    cause = tt;
+    sound = λ history. told_all (f.disk old) (λ d. AreAt docs d.now history → (name : FileName) (at : ℕ) → done_as T done ≢ Err (OfDocuments (Damaged name at))) (λ d here name at told. cc);
+    later = reads.later;
+  }
+
+-- ---- faults of the pool
+
+pub pool_of_no_index : (fault : PoolFault) → IsOfIndex (by_pool fault) → ⊥
+pool_of_no_index pool.NoMemory is = is
+pool_of_no_index pool.ServerFault is = is
+pool_of_no_index (pool.BadReply line) is = is
+pool_of_no_index pool.Compile is = is
+pool_of_no_index pool.UnknownLanguage is = is
+
+pub pool_of_no_documents : (fault : PoolFault) (gate : GateFault) → by_pool fault ≡ OfDocuments gate → ⊥
+pool_of_no_documents pool.NoMemory gate is = cc
+pool_of_no_documents pool.ServerFault gate is = cc
+pool_of_no_documents (pool.BadReply line) gate is = cc
+pool_of_no_documents pool.Compile gate is = cc
+pool_of_no_documents pool.UnknownLanguage gate is = cc

@@ -1,0 +1,143 @@
+-- The exchange, and the commit over it.
+use Rattle.std.specs.Prelude.{◌≡◌, ◌≢◌, ◌≤◌, ℕ, length, Result, Ok, Err, Some}
+use Rattle.std.proofs.Common.{refl, sym, ap, ◌∙◌, subst, inl, inr, arith}
+use Rattle.std.proofs.lemmas.List.{length-map}
+use Rattle.view_ports.specs.Faults.{Rose}
+use Rattle.view_ports.proofs.DiskRuns.{moves_none}
+use Rattle.view_ports.proofs.Told.{told_all, told_still}
+use Rattle.view_ports.specs.declared.file_name.FileName.{FileName}
+use Rattle.gate_file.specs.declared.fault.GateFault.TheVariants.{DiskFault, Damaged}
+use Rattle.doc_file.specs.Docs.{seq_of as documents_seq, IsAt as AreAt}
+use Rattle.doc_file.specs.declared.docs.Info.{Info}
+use Rattle.view_model.specs.Picture.{Picture}
+use Rattle.view_index.specs.Calls.{next_picture, stem_of, IsOpen}
+use Rattle.view_index.specs.Held.{IsFileOf}
+use Rattle.view_index.specs.declared.fault.IndexFault.{IndexFault}
+use Rattle.view_index.specs.Index.{both_in, is_touched, seq_of}
+use Rattle.view_index.specs.ViewRows.{next_rows}
+use Rattle.view_updater.specs.declared.fault.UpdateFault.{UpdateFault}
+use Rattle.view_updater.specs.declared.fault.UpdateFault.TheVariants.{Docs as OfDocuments}
+use Rattle.view_updater.specs.Exchanges.{IsOfIndex}
+use Rattle.view_updater.specs.Faults.{by_index}
+use Rattle.view_updater.specs.Updates.{side, EndsAt, Updates}
+use Rattle.view_updater.proofs.Carrying.{same_stem, same_views, views_by_picture}
+use Rattle.view_updater.proofs.Ends.{asked, commit_met, commit_refused, committed_stands, idle_stands, index_of_no_documents, index_stored, known_next, others_then, refused, refused_others, refused_stands, well, IsBack}
+use Rattle.view_updater.proofs.updating.update.Goals as goal
+
+-- the commit went well
+abbrev well_index : Result (Unit {0}) IndexFault
+well_index = Ok tt
+
+-- a fault that was counted later was counted
+rose_later : (a b c : ℕ) → a ≤ b → Rose b c → Rose a c
+rose_later a b c later rose = omega arith
+
+pub returns-then-seq-newest : goal.returns-then-seq-newest
+returns-then-seq-newest g c =
+    let old = side c.args.folder.now c.args.servers.now c.args.pool.now c.args.index.now in
+    let docs = c.args.docs.now in
+    let disk = g.F.Folder.disk c.args.folder.now in
+    let stem = stem_of c.args.index.now in
+    let newest : seq_of c.args.index.now ≡ documents_seq docs = sym c.seq.ensures ∙ c.if-seq-newest.true ∙ ap (λ (info : Info). info.update_seq) c.info-newest.ensures.kept in
+    record {
+      stands = idle_stands g.F.Folder g.C.Servers docs c.args.design.now old c.requires.number newest;
+      asks = λ history. told_all disk (λ d. AreAt docs d.now history → _) (λ d here. inl ((refl, refl), newest ∙ here.count));
+      others = told_still disk (λ d. IsOpen c.args.index.now d.now) _
+          (λ d is. moves_none (IsFileOf stem) (λ image. Unit {0}) (λ files. IsOpen c.args.index.now files) d (λ image left. tt) is) c.requires.index;
+      same = (refl, refl);
+      settled = tt;
+      cause = tt;
+      sound = λ history. told_all disk (λ d. AreAt docs d.now history → (name : FileName) (at : ℕ) → well ≢ Err (OfDocuments (Damaged name at))) (λ d here name at is. cc);
+      later = (omega arith, omega arith);
+    }
+
+pub returns-in-Err : goal.returns-in-Err
+returns-in-Err g c =
+    let index = c.args.index.now in
+    let rolled = c.roll_back.new.self in
+    let last = c.roll_back-in-Err.new.self in
+    let old = side c.args.folder.now c.args.servers.now c.args.pool.now index in
+    let mid = side c.exchange.new.folder c.exchange.new.servers c.exchange.new.pool c.exchange.new.index in
+    let new = side c.exchange.new.folder c.exchange.new.servers c.exchange.new.pool last in
+    let docs = c.args.docs.now in
+    let design = c.args.design.now in
+    let fault = c.in-Err.fault in
+    let back : IsBack index rolled = record { file = c.roll_back.ensures.same.file; rows = c.roll_back.ensures.picture; next = c.roll_back.ensures.next; pending = c.roll_back.ensures.pending } in
+    let file = c.roll_back-in-Err.ensures.same.file ∙ c.in-Err.ensures.same.file ∙ back.file in
+    let rows = c.roll_back-in-Err.ensures.picture ∙ c.in-Err.ensures.picture ∙ back.rows in
+    record {
+      stands = refused_stands g.F.Folder g.C.Servers docs design old c.requires.number new c.in-Err.ensures.reads.disk fault file rows c.roll_back-in-Err.ensures.pending;
+      asks = λ history. asked g.F.Folder g.C.Servers docs design old mid c.requires.number rolled back c.exchange.new.folder last (refused fault) (refused fault) (λ mapped met. met) (λ none. none) history (c.in-Err.ensures.asks history);
+      others = refused_others g.F.Folder g.C.Servers docs design old c.requires.number new c.in-Err.ensures.reads.disk (refused fault) tt;
+      same = (same_stem index last file, same_views index last rows);
+      settled = (record { next = c.roll_back-in-Err.ensures.next; pending = c.roll_back-in-Err.ensures.pending }, rows);
+      cause = λ told. elim told [ inl is ↦ c.in-Err.ensures.reads.cause is | inr is ↦ absurd (c.in-Err.ensures.reads.faults (subst IsOfIndex (sym is) tt)) ];
+      sound = c.in-Err.ensures.reads.sound;
+      later = (c.in-Err.ensures.reads.later, c.in-Err.ensures.later);
+    }
+
+pub returns-in-Err-commit : goal.returns-in-Err-commit
+returns-in-Err-commit g c =
+    let index = c.args.index.now in
+    let rolled = c.roll_back.new.self in
+    let committed = c.commit.new.self in
+    let last = c.roll_back-in-Err-commit.new.self in
+    let old = side c.args.folder.now c.args.servers.now c.args.pool.now index in
+    let mid = side c.exchange.new.folder c.exchange.new.servers c.exchange.new.pool c.exchange.new.index in
+    let new = side c.commit.new.folder c.exchange.new.servers c.exchange.new.pool last in
+    let docs = c.args.docs.now in
+    let design = c.args.design.now in
+    let fault = c.in-Err-commit.fault in
+    let newest = c.info-newest.result.update_seq in
+    let newest_is : newest ≡ documents_seq docs = ap (λ (info : Info). info.update_seq) c.info-newest.ensures.kept in
+    let back : IsBack index rolled = record { file = c.roll_back.ensures.same.file; rows = c.roll_back.ensures.picture; next = c.roll_back.ensures.next; pending = c.roll_back.ensures.pending } in
+    let ex = c.in_default.ensures in
+    let commits = c.in-Err-commit.ensures in
+    let rows = c.roll_back-in-Err-commit.ensures.picture ∙ commits.kept.0 ∙ ex.picture ∙ back.rows in
+    let stem = same_stem committed last c.roll_back-in-Err-commit.ensures.same.file ∙ ap (λ (name : FileName). name.stem) commits.name ∙ same_stem index c.exchange.new.index (ex.same.file ∙ back.file) in
+    subst (λ (e : UpdateFault). Updates g.F.Folder g.C.Servers docs design old new (refused e)) (sym c.from.ensures) (record {
+      stands = commit_refused g.F.Folder g.C.Servers docs design old mid c.requires.number rolled back ex.same.file ex.picture ex.reads.disk committed c.commit.new.folder newest (Err fault) commits newest_is ex.asks
+          last c.roll_back-in-Err-commit.ensures.same.file rows c.roll_back-in-Err-commit.ensures.pending fault refl;
+      asks = λ history. asked g.F.Folder g.C.Servers docs design old mid c.requires.number rolled back c.commit.new.folder last well (refused (by_index fault)) (commit_met fault) (λ none. absurd none) history (ex.asks history);
+      others = others_then g.F.Folder g.C.Servers docs design old mid c.requires.number rolled back ex.same.file ex.picture ex.reads.disk committed c.commit.new.folder newest (Err fault) commits last (refused (by_index fault)) (λ files ended. tt);
+      same = (stem, same_views index last rows);
+      settled = (record { next = c.roll_back-in-Err-commit.ensures.next; pending = c.roll_back-in-Err-commit.ensures.pending }, rows);
+      cause = λ told. elim told [ inl is ↦ absurd (index_of_no_documents fault DiskFault is) | inr is ↦ rose_later (g.F.Folder.faults c.args.folder.now) (g.F.Folder.faults c.exchange.new.folder) (g.F.Folder.faults c.commit.new.folder) ex.reads.later (commits.cause.failed (index_stored fault DiskFault is)) ];
+      sound = λ history. told_all (g.F.Folder.disk c.args.folder.now) (λ d. AreAt docs d.now history → (name : FileName) (at : ℕ) → refused (by_index fault) ≢ Err (OfDocuments (Damaged name at)))
+          (λ d here name at is. index_of_no_documents fault (Damaged name at) (let same : by_index fault ≡ OfDocuments (Damaged name at) = cc in same));
+      later = (omega (arith, ex.reads.later, commits.cause.later), ex.later);
+    })
+
+pub returns : goal.returns
+returns g c =
+    let index = c.args.index.now in
+    let rolled = c.roll_back.new.self in
+    let committed = c.commit.new.self in
+    let old = side c.args.folder.now c.args.servers.now c.args.pool.now index in
+    let mid = side c.exchange.new.folder c.exchange.new.servers c.exchange.new.pool c.exchange.new.index in
+    let new = side c.commit.new.folder c.exchange.new.servers c.exchange.new.pool committed in
+    let docs = c.args.docs.now in
+    let design = c.args.design.now in
+    let newest = c.info-newest.result.update_seq in
+    let newest_is : newest ≡ documents_seq docs = ap (λ (info : Info). info.update_seq) c.info-newest.ensures.kept in
+    let back : IsBack index rolled = record { file = c.roll_back.ensures.same.file; rows = c.roll_back.ensures.picture; next = c.roll_back.ensures.next; pending = c.roll_back.ensures.pending } in
+    let ex = c.in_default.ensures in
+    let commits = c.in_default-commit.ensures in
+    let stem = ap (λ (name : FileName). name.stem) commits.name ∙ same_stem index c.exchange.new.index (ex.same.file ∙ back.file) in
+    let views = sym (views_by_picture committed) ∙ ap (λ (p : Picture). length p.rows) commits.picture ∙ length-map (both_in c.exchange.new.index) (next_rows (is_touched c.exchange.new.index)) ∙ same_views index c.exchange.new.index (ex.picture ∙ back.rows) in
+    record {
+      stands = λ history picture. committed_stands g.F.Folder g.C.Servers docs design old mid c.requires.number rolled back ex.same.file ex.picture ex.reads.disk committed c.commit.new.folder newest well_index commits newest_is ex.asks
+          history picture new (EndsAt g.F.Folder g.C.Servers docs design old new history picture well)
+          (λ was files known ended. (
+            Some (next_picture newest c.exchange.new.index),
+            ended,
+            known_next g.F.Folder g.C.Servers docs design old mid c.requires.number rolled back ex.same.file ex.picture ex.reads.disk committed c.commit.new.folder newest well_index commits newest_is ex.asks history picture new was known,
+          ));
+      asks = λ history. asked g.F.Folder g.C.Servers docs design old mid c.requires.number rolled back c.commit.new.folder committed well well (λ mapped met. met) (λ none. none) history (ex.asks history);
+      others = others_then g.F.Folder g.C.Servers docs design old mid c.requires.number rolled back ex.same.file ex.picture ex.reads.disk committed c.commit.new.folder newest well_index commits committed well (λ files ended. ended);
+      same = (stem, views);
+      settled = tt;
+      cause = tt;
+      sound = λ history. told_all (g.F.Folder.disk c.args.folder.now) (λ d. AreAt docs d.now history → (name : FileName) (at : ℕ) → well ≢ Err (OfDocuments (Damaged name at))) (λ d here name at is. cc);
+      later = (omega (arith, ex.reads.later, commits.cause.later), ex.later);
+    }

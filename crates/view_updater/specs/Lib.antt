@@ -1,0 +1,4 @@
+pub mod Faults
+pub mod Changed
+pub mod Updates
+pub mod Exchanges

@@ -1,0 +1,9 @@
+//! Bringing an index up to date: the documents that were written since its sequence are mapped, and their rows exchanged.
+#![tactic(auto)]
+
+mod changed;
+mod fault;
+mod updating;
+
+pub use fault::UpdateFault;
+pub use updating::update;
