@@ -7,7 +7,7 @@ use std::alloc::Global;
 use std::os::unix::fs::symlink;
 use std::test::Fail;
 use std::{fs, io};
-use view_ports::{FileName, Folder, FolderFault, Stem};
+use view_ports::{FileName, Folder, FolderFault, PortFault, Stem};
 
 const FULL: &str = "aaaaaaaaaaaaaaaaaaaaaaaaaaaaaaaa.1";
 
@@ -223,5 +223,83 @@ fn no_write_makes_a_file_longer(rt: HostRuntime) -> Result<(), Fail> {
         bytes(&mut folder, rt.alloc(), name)?.as_slice(),
         b"\0\0".as_slice()
     );
+    Ok(())
+}
+
+/// How many files one folder is used with, and how many of them may be open at a time.
+const MANY: u64 = 300;
+
+const OPEN_LIMIT: usize = 64;
+
+/// The place in a file behind a slot's header.
+const BEHIND: u64 = 65;
+
+/// The file of the signature that this number is in 32 digits.
+fn numbered(number: u64) -> FileName {
+    let mut digits = [b'0'; 32];
+    let mut rest = number;
+    for digit in digits.iter_mut().rev() {
+        *digit += (rest % 10) as u8;
+        rest /= 10;
+    }
+    FileName {
+        stem: Stem::View(digits),
+        side: false,
+    }
+}
+
+/// How many files this process has open.
+fn open_count(rt: &HostRuntime) -> io::Result<usize> {
+    let mut count = 0_usize;
+    for entry in fs::read_dir(rt, "/proc/self/fd")? {
+        let _entry = entry?;
+        count = count.saturating_add(1);
+    }
+    Ok(count)
+}
+
+/// Makes the file of each number, which holds the number, and begins as no file does that a run leaves. Then writes the front
+/// of each, in another order.
+fn write_many(folder: &mut RealFolder) -> Result<(), PortFault> {
+    for number in 0..MANY {
+        let name = numbered(number);
+        folder.grow(name, BEHIND + 8)?;
+        folder.write_at(name, 0, b"x")?;
+        folder.write_at(name, BEHIND, &number.to_le_bytes())?;
+    }
+    for step in 0..MANY {
+        let name = numbered(step * 7 % MANY);
+        folder.write_at(name, 0, COMMITTED)?;
+        if step % 3 == 0 {
+            folder.sync(name)?;
+        }
+    }
+    Ok(())
+}
+
+/// Whether the file of each number holds it.
+fn all_hold(folder: &mut RealFolder) -> Result<bool, PortFault> {
+    for step in 0..MANY {
+        let number = step * 11 % MANY;
+        let mut held = [0; 8];
+        let count = folder.read_at(numbered(number), BEHIND, &mut held)?;
+        if count != 8 || held != number.to_le_bytes() {
+            return Ok(false);
+        }
+    }
+    Ok(true)
+}
+
+// Beside the files the folder itself is open.
+#[test]
+fn many_files_are_used_with_few_open(rt: HostRuntime) -> Result<(), Fail> {
+    let mut folder = enter(rt, "many")?;
+    let most = open_count(&rt)?.saturating_add(OPEN_LIMIT + 1);
+    write_many(&mut folder)?;
+    assert!(rt; all_hold(&mut folder)? && open_count(&rt)? == most);
+    drop(folder);
+    let mut later = folder_here(rt);
+    assert!(rt; all_hold(&mut later)? && open_count(&rt)? == most);
+    assert_eq!(rt; later.names(rt.alloc())?.len() as u64, MANY);
     Ok(())
 }

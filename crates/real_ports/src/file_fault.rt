@@ -10,6 +10,8 @@ pub enum FileFault {
     System(io::Error),
     #[error("{0}")]
     NotOpened(io::Error),
+    #[error("another file can't be synced, which is to be closed before: {0}")]
+    NotClosed(io::Error),
     #[error("another program has it")]
     InUse,
     #[error("it is a directory")]
@@ -35,6 +37,7 @@ impl FileFault {
     pub fn undone(self, task: &'static str) -> &'static str {
         match self {
             FileFault::NotOpened(_)
+            | FileFault::NotClosed(_)
             | FileFault::InUse
             | FileFault::Directory
             | FileFault::NotPlain

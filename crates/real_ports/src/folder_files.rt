@@ -6,33 +6,38 @@ use crate::diagnostics::Diagnostics;
 use crate::file_fault::FileFault;
 use crate::file_names::read_file_name;
 use crate::folder_lock::lock_folder;
+use crate::known_file::KnownFile;
 use crate::open_file::OpenFile;
 use std::alloc::Global;
 use std::fs::{self, DirEntry, File};
 use std::io::{self, ErrorKind};
 use view_ports::FileName;
 
-/// The files of the folder in which the program was started. The folder is locked at the first call, and a file stays open
-/// once it was used.
+/// How many files are open at most, beside the folder.
+const OPEN_LIMIT: usize = 64;
+
+/// The files of the folder in which the program was started. The folder is locked at the first call, and a file that was used
+/// stays open until another one is to be opened and too many are.
 #[derive(Drop)]
 pub struct FolderFiles {
     rt: HostRuntime,
     diagnostics: Diagnostics,
     // The folder, with the lock on it. None before the first call.
     folder: Option<File>,
-    open: Vec<OpenFile>,
+    // The files that were opened or made. The one that was used last stands last.
+    known: Vec<KnownFile>,
     // A sync failed. What the disk has is unknown from then on, also where a later sync succeeds.
     is_lost: bool,
 }
 
 impl FolderFiles {
-    /// The files, none of which is open.
+    /// The files, of which none is open.
     pub fn new(rt: HostRuntime, diagnostics: Diagnostics) -> FolderFiles {
         FolderFiles {
             rt,
             diagnostics,
             folder: None,
-            open: Vec::new(rt.alloc()),
+            known: Vec::new(rt.alloc()),
             is_lost: false,
         }
     }
@@ -82,19 +87,20 @@ impl FolderFiles {
 
     /// Makes sure of the file as it is, also where it isn't there. Where the system fails to, every later call fails.
     pub fn sync(&mut self, name: FileName) -> Result<(), FileFault> {
-        let open = self.place(name)?;
-        let synced = self.sync_found(open);
+        let is_there = self.find(name)?.is_some();
+        let synced = self.sync_found(is_there);
         self.is_lost = synced.is_err();
         synced
     }
 
-    fn sync_found(&mut self, open: Option<usize>) -> Result<(), FileFault> {
+    // Makes sure of the file that was found, or of the folder where it isn't there.
+    fn sync_found(&mut self, is_there: bool) -> Result<(), FileFault> {
         let Some(folder) = &self.folder else {
             return Err(FileFault::Lost);
         };
-        match open.and_then(|at| self.open.get_mut(at)) {
-            Some(file) => file.sync(folder),
-            None => Ok(folder.sync_all()?),
+        match self.known.last_mut() {
+            Some(file) if is_there => file.sync(&self.rt, folder),
+            _ => Ok(folder.sync_all()?),
         }
     }
 
@@ -114,33 +120,62 @@ impl FolderFiles {
 
     // The file, which is opened if it isn't open. `None` where it isn't there.
     fn find(&mut self, name: FileName) -> Result<Option<&mut OpenFile>, FileFault> {
-        match self.place(name)? {
-            Some(at) => Ok(self.open.get_mut(at)),
-            None => Ok(None),
+        let is_there = self.bring(name)?;
+        match self.known.last_mut() {
+            Some(file) if is_there => Ok(Some(file.opened(&self.rt)?)),
+            _ => Ok(None),
         }
     }
 
-    // The same, by its place among the open files.
-    fn place(&mut self, name: FileName) -> Result<Option<usize>, FileFault> {
+    // Puts the file behind the other known ones, with room to open it if it is closed. `false` where it isn't there.
+    fn bring(&mut self, name: FileName) -> Result<bool, FileFault> {
         self.check()?;
-        let open = self.open.iter().position(|file| file.has_name(name));
-        if open.is_some() {
-            return Ok(open);
+        let Some(at) = self.known.iter().rposition(|file| file.has_name(name)) else {
+            return self.open_new(name);
+        };
+        self.known[at..].rotate_left(1);
+        if self.known.last().is_some_and(|file| !file.is_open()) {
+            self.make_room()?;
         }
+        Ok(true)
+    }
+
+    // Opens a file that isn't known.
+    fn open_new(&mut self, name: FileName) -> Result<bool, FileFault> {
+        self.make_room()?;
         match OpenFile::open(&self.rt, name)? {
+            Some(file) => self.add(name, file).map(|_| true),
+            None => Ok(false),
+        }
+    }
+
+    fn add(&mut self, name: FileName, file: OpenFile) -> Result<(), FileFault> {
+        let known = KnownFile::new(name, file);
+        self.known.push(known).map_err(|_| FileFault::NoMemory)
+    }
+
+    // Closes the file that was not used for the longest time, where no more may be open. Where it can't be synced before,
+    // every later call fails.
+    fn make_room(&mut self) -> Result<(), FileFault> {
+        let open = self.known.iter().filter(|file| file.is_open()).count();
+        if open < OPEN_LIMIT {
+            return Ok(());
+        }
+        match self.known.iter_mut().find(|file| file.is_open()) {
             Some(file) => {
-                self.open.push(file).map_err(|_| FileFault::NoMemory)?;
-                Ok(self.open.len().checked_sub(1))
+                let closed = file.close();
+                self.is_lost = closed.is_err();
+                closed
             }
-            None => Ok(None),
+            None => Ok(()),
         }
     }
 
     // Makes the file, of so many zero bytes.
     fn make(&mut self, name: FileName, length: u64) -> Result<(), FileFault> {
-        let file = OpenFile::make(&self.rt, name)?;
+        let mut file = OpenFile::make(&self.rt, name)?;
         let grown = file.grow(length);
-        self.open.push(file).map_err(|_| FileFault::NoMemory)?;
+        self.add(name, file)?;
         grown
     }
 

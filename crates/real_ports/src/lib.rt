@@ -12,6 +12,7 @@ mod file_names;
 mod file_start;
 mod folder_files;
 mod folder_lock;
+mod known_file;
 mod open_file;
 mod piped_child;
 mod put;

@@ -21,10 +21,9 @@ const STANDARD_ERROR: i32 = 2;
 /// An open file. Child processes don't get it.
 #[derive(Drop)]
 pub struct OpenFile {
-    name: FileName,
     file: File,
-    // The folder was synced since the file was opened or made here.
-    is_listed: bool,
+    // What was written to it outlasts a stop, also what earlier runs wrote.
+    is_synced: bool,
 }
 
 impl OpenFile {
@@ -41,16 +40,27 @@ impl OpenFile {
             Err(error) if error.kind() == ErrorKind::NotFound => return Ok(None),
             Err(error) => return Err(FileFault::NotOpened(error)),
         }
-        let file = OpenOptions::new()
-            .read(true)
-            .write(true)
-            .open(rt, path)
-            .map_err(FileFault::NotOpened)?;
+        let file = open_there(rt, path)?;
         forget_read_bytes(&file)?;
         if !is_of_database(&file)? {
             return Err(FileFault::Foreign);
         }
-        Ok(Some(OpenFile::over(name, file)?))
+        Ok(Some(OpenFile {
+            file: above_streams(file)?,
+            is_synced: false,
+        }))
+    }
+
+    /// Opens a file again that was opened or made in this run, and closed. It isn't looked at anew: what was written to it
+    /// since needn't be as a run leaves a file. Nor is what the system keeps of it forgotten: no sync has failed in this run.
+    pub fn open_again(rt: &HostRuntime, name: FileName) -> Result<OpenFile, FileFault> {
+        let mut room = [0; FILE_TEXT_LIMIT];
+        let path = path_of(&name, &mut room)?;
+        let file = open_there(rt, path)?;
+        Ok(OpenFile {
+            file: above_streams(file)?,
+            is_synced: true,
+        })
     }
 
     /// Makes the file, which has no bytes then. It fails where the name is taken.
@@ -63,20 +73,10 @@ impl OpenFile {
             .create_new(true)
             .open(rt, path)
             .map_err(FileFault::NotOpened)?;
-        Ok(OpenFile::over(name, file)?)
-    }
-
-    fn over(name: FileName, file: File) -> io::Result<OpenFile> {
         Ok(OpenFile {
-            name,
             file: above_streams(file)?,
-            is_listed: false,
+            is_synced: false,
         })
-    }
-
-    /// Whether this is the file of the name.
-    pub fn has_name(&self, name: FileName) -> bool {
-        self.name == name
     }
 
     /// The length in bytes.
@@ -115,15 +115,17 @@ impl OpenFile {
     }
 
     /// Writes the bytes of `from` over those from the place `at` on. It fails where the file doesn't have these places.
-    pub fn write_at(&self, at: u64, from: &[u8]) -> Result<(), FileFault> {
+    pub fn write_at(&mut self, at: u64, from: &[u8]) -> Result<(), FileFault> {
         if at.saturating_add(from.len() as u64) > self.len()? {
             return Err(FileFault::PastEnd);
         }
+        self.is_synced = false;
         Ok(self.file.write_all_at(from, at)?)
     }
 
     /// Adds so many zero bytes at the end.
-    pub fn grow(&self, by: u64) -> Result<(), FileFault> {
+    pub fn grow(&mut self, by: u64) -> Result<(), FileFault> {
+        self.is_synced = false;
         match self.len()?.checked_add(by) {
             Some(length) => Ok(self.file.set_len(length)?),
             None => Err(io::Error::from(ErrorKind::FileTooLarge).into()),
@@ -131,20 +133,35 @@ impl OpenFile {
     }
 
     /// Takes all bytes away.
-    pub fn cut_to_zero(&self) -> Result<(), FileFault> {
+    pub fn cut_to_zero(&mut self) -> Result<(), FileFault> {
+        self.is_synced = false;
         Ok(self.file.set_len(0)?)
     }
 
-    /// Makes sure of the bytes and the length, and at the first time of the file's entry in the folder too, since the
-    /// program that made it may have been stopped before it did.
-    pub fn sync(&mut self, folder: &File) -> Result<(), FileFault> {
+    /// Makes sure of the bytes and the length.
+    pub fn sync(&mut self) -> Result<(), FileFault> {
         self.file.sync_data()?;
-        if !self.is_listed {
-            folder.sync_all()?;
-            self.is_listed = true;
-        }
+        self.is_synced = true;
         Ok(())
     }
+
+    /// Makes sure of what isn't synced yet, so that the file may be dropped. The library's `File` tells nothing of a close that
+    /// fails. And once a file is closed the system may forget that it could not write what was written to it, so that no later
+    /// sync would tell.
+    pub fn prepare_to_close(&mut self) -> Result<(), FileFault> {
+        if self.is_synced {
+            return Ok(());
+        }
+        self.file.sync_data().map_err(FileFault::NotClosed)
+    }
+}
+
+fn open_there(rt: &HostRuntime, path: &str) -> Result<File, FileFault> {
+    OpenOptions::new()
+        .read(true)
+        .write(true)
+        .open(rt, path)
+        .map_err(FileFault::NotOpened)
 }
 
 /// The file, under a number that is no standard stream's. Where such a stream was closed, the file may have got its number,

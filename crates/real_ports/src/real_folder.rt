@@ -15,7 +15,8 @@ use view_ports::{FileName, Folder, FolderFault, PortFault};
 ///
 /// Each call that fails counts one fault, and says on standard error of which file and why. A call fails where the system
 /// fails, another program has the folder, a file finds no memory to be opened, no file may have the name, or what has it is
-/// no plain file, one with another name too or one of no database; a `write_at` also past the end of the file. Once a `sync` has failed every later
+/// no plain file, one with another name too or one of no database; a `write_at` also past the end of the file. At most 64
+/// files are open, and one that is closed for another is synced before. Once a `sync` or such a closing has failed every later
 /// call fails, since nothing is known of the disk from then on.
 #[derive(Drop)]
 pub struct RealFolder {
