@@ -236,10 +236,10 @@ const BEHIND: u64 = 65;
 
 /// The file of the signature that this number is in 32 digits.
 fn numbered(number: u64) -> FileName {
-    let mut digits = [b'0'; 32];
+    let mut digits = [0; 32];
     let mut rest = number;
     for digit in digits.iter_mut().rev() {
-        *digit += (rest % 10) as u8;
+        *digit = b'0' + (rest % 10) as u8;
         rest /= 10;
     }
     FileName {
