@@ -22,7 +22,7 @@ use Rattle.doc_file.specs.declared.rev.Rev.{Rev}
 use Rattle.doc_file.specs.Counts.{are_counted, has_room}
 use Rattle.doc_file.specs.Docs.{bytes_in, entries_of, file_of, seq_of, IsAt, IsDocsFile, IsLoaded, IsOpen}
 use Rattle.doc_file.specs.Drafts.{IsDraft}
-use Rattle.doc_file.specs.Held.{HoldsRoot, HoldsWrites, IsBodyOf, SpellsRoot, Stands, find_last}
+use Rattle.doc_file.specs.Held.{HoldsRoot, HoldsWrites, IsBodyOf, SpellsRoot, Stands, commits_in, find_last}
 use Rattle.doc_file.specs.History.{IsStoredAs, Write}
 use Rattle.doc_file.specs.Record.{AreEntries, record_bytes}
 use Rattle.doc_file.specs.Stored.{body_of, entry_of, generation_in, last_of, revised, with_last, write_of, IsStorable}
@@ -163,6 +163,7 @@ module _ (docs : Docs) (id : List ℕ) (content : Option Json) (draft : Draft) (
       published_now : IsOpen docs a.now → IsOpen now b.now
       published_now is_open = record {
         pair = subst (λ (g : GateFile). IsOpenPair DocsStem g b.now) (sym file_now) (published_open DocsStem (file_of docs) bytes skipped a.now is_open.pair b.now others done);
+        commits = ap commits_of file_now ∙ ap (λ (g : GateFile). commits_in (root_of g)) (sym file_now);
         loaded = loaded_now is_open;
       }
 

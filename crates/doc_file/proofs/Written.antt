@@ -59,19 +59,19 @@ unwritten {f = f} {docs = docs} {folder = folder} {id = id} {content = content} 
 
 -- an accepted write, stored or not
 module _ {F : Type 0} (f : Folders F) (docs docs' : Docs) (old new : F) (id : List ℕ) (content : Option Json) (Accepted : Type 0) (IsRefused : DocFault → Type 0) (accepted : Accepted) where
-  stored_so : (result : Result Rev DocFault) → IfErr result (λ e. e ≡ NoMemory → IsUntouched docs docs' old new) → IfErr result (λ e. IsFileFault (file_of docs) e ⊎ (e ≡ NoMemory))
+  stored_so : (result : Result Rev DocFault) → IfErr result (λ e. (e ≡ Gate DiskFault) ⊎ IsUntouched docs docs' old new) → IfErr result (λ e. IsFileFault (file_of docs) e ⊎ (e ≡ NoMemory))
       → Stores f docs docs' old new id content result → Writes f docs docs' old new id content Accepted IsRefused result
   stored_so (Ok rev) kept faults stored = record { accepted = accepted; refused = tt; kept = tt; reached = tt; stored = stored }
   stored_so (Err fault) kept faults stored = record {
     accepted = tt;
     refused = inr faults;
-    kept = ⊎_elim (λ so. inl so) (λ spent. inr (kept spent)) faults;
+    kept = kept;
     reached = λ of_file. accepted;
     stored = stored;
   }
 
 pub written : {F : Type 0} {f : Folders F} {docs docs' : Docs} {old new : F} {id : List ℕ} {content : Option Json} {Accepted : Type 0} {IsRefused : DocFault → Type 0} {result : Result Rev DocFault}
-    → Accepted → IfErr result (λ e. e ≡ NoMemory → IsUntouched docs docs' old new) → IfErr result (λ e. IsFileFault (file_of docs) e ⊎ (e ≡ NoMemory))
+    → Accepted → IfErr result (λ e. (e ≡ Gate DiskFault) ⊎ IsUntouched docs docs' old new) → IfErr result (λ e. IsFileFault (file_of docs) e ⊎ (e ≡ NoMemory))
     → Stores f docs docs' old new id content result → Writes f docs docs' old new id content Accepted IsRefused result
 written {f = f} {docs = docs} {docs' = docs'} {old = old} {new = new} {id = id} {content = content} {Accepted = Accepted} {IsRefused = IsRefused} {result = result} accepted =
     stored_so f docs docs' old new id content Accepted IsRefused accepted result

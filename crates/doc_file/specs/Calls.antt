@@ -41,10 +41,10 @@ module _ {F : Type 0} (f : Folders F) (docs docs' : Docs) (old new : F) where
     pub stands : (history : List Write) → IfTold (f.disk old) (λ d. IsAt docs d.now history) → Tells (f.disk old) (f.disk new)
         (Moves IsDocsFile (λ image. Stands image history ⊎ Stands image (write_of history id content ∷ history))
         (λ files. OnOk result (IsAt docs' files (write_of history id content ∷ history))))
-    -- the file is full exactly where it would be too long, and where it has all of its commits
+    -- the file is full exactly where it would be too long, and else where it has all of its commits
     pub long : result ≡ Err (Gate (too_long (file_of docs))) → 2 ^ 40 < length_with docs id content
     pub short : OnOk result (length_with docs id content ≤ 2 ^ 40)
-    pub spent : result ≡ Err (Gate (used_up (file_of docs))) → 2 ^ 50 ≤ commits_of (file_of docs)
+    pub spent : result ≡ Err (Gate (used_up (file_of docs))) → (2 ^ 50 ≤ commits_of (file_of docs)) × (length_with docs id content ≤ 2 ^ 40)
     pub few : OnOk result (commits_of (file_of docs) < 2 ^ 50)
     -- and a fault of the disk doesn't come in its place
     pub failed : result ≡ Err (Gate DiskFault) → (length_with docs id content ≤ 2 ^ 40) × (commits_of (file_of docs) < 2 ^ 50)
@@ -55,8 +55,8 @@ module _ {F : Type 0} (f : Folders F) (docs docs' : Docs) (old new : F) where
   pub record Writes (id : List ℕ) (content : Option Json) (Accepted : Type 0) (IsRefused : DocFault → Type 0) (result : Result Rev DocFault) : Type 0 where
     pub accepted : OnOk result Accepted
     pub refused : IfErr result (λ e. IsRefused e ⊎ IsFileFault (file_of docs) e ⊎ (e ≡ NoMemory))
-    -- a refusal and want of memory leave all as it was, and a fault of the file comes only of an accepted write
-    pub kept : IfErr result (λ e. IsFileFault (file_of docs) e ⊎ IsUntouched docs docs' old new)
+    -- all but a fault of the disk leaves all as it was, and a fault of the file comes only of an accepted write
+    pub kept : IfErr result (λ e. (e ≡ Gate DiskFault) ⊎ IsUntouched docs docs' old new)
     pub reached : IfErr result (λ e. IsFileFault (file_of docs) e → Accepted)
     pub stored : Stores id content result
 

@@ -2,7 +2,7 @@
 use Rattle.std.specs.Prelude.{◌≡◌, ℕ, List, Bool, false, not, count_by, is_none, length, Option, Some, None}
 use Rattle.json_terms.specs.Json.{Json}
 use Rattle.gate_file.specs.declared.gate.GateFile.{GateFile}
-use Rattle.gate_file.specs.GateFile.{name_of}
+use Rattle.gate_file.specs.GateFile.{commits_of, name_of, root_of}
 use Rattle.gate_file.specs.Pair.{IsOpenPair, PairHolds, own_bytes}
 use Rattle.gate_file.specs.RootPlace.{IsPairDamage}
 use Rattle.view_ports.specs.declared.file_name.FileName.{FileName}
@@ -12,7 +12,7 @@ use Rattle.doc_file.specs.declared.docs.Docs.{Docs}
 use Rattle.doc_file.specs.declared.docs.Info.{Info}
 use Rattle.doc_file.specs.declared.entry.LastWrite.{LastWrite}
 use Rattle.doc_file.specs.declared.entry.Entry.{Entry}
-use Rattle.doc_file.specs.Held.{HasBody, HoldsIn, HoldsWrites, KeepsEach, SpellsRoot, find_last}
+use Rattle.doc_file.specs.Held.{HasBody, HoldsIn, HoldsWrites, KeepsEach, SpellsRoot, commits_in, find_last}
 use Rattle.doc_file.specs.History.{AreStored, Write, last_writes, live, update_seq}
 
 abbrev pub file_of : Docs → GateFile
@@ -42,9 +42,11 @@ IsLoaded docs files = HoldsIn (file_of docs) files (seq_of docs) (entries_of doc
 abbrev pub IsDocsFile : FileName → Type 0
 IsDocsFile name = name.stem ≡ DocsStem
 
--- what the object keeps is what the folder holds: its pair is open, and the root record is loaded
+-- what the object keeps is what the folder holds: its pair is open, as many commits were made as its root says, and none where
+-- it has no root, and the root record is loaded
 pub record IsOpen (docs : Docs) (files : FileName → File) : Type 0 where
   pub pair : IsOpenPair DocsStem (file_of docs) files
+  pub commits : commits_of (file_of docs) ≡ commits_in (root_of (file_of docs))
   pub loaded : IsLoaded docs files
 
 -- the object and the folder are at the end of this history, whose documents can be stored

@@ -1,5 +1,5 @@
 -- Documents that are kept as they were stand where they stood.
-use Rattle.std.proofs.Common.{List, sym, subst, ◌∙◌}
+use Rattle.std.proofs.Common.{List, sym, ap, subst, ◌∙◌}
 use Rattle.view_ports.specs.File.{File}
 use Rattle.view_ports.specs.declared.file_name.FileName.{FileName}
 use Rattle.gate_file.specs.declared.gate.GateFile.{GateFile}
@@ -9,7 +9,7 @@ use Rattle.gate_file.specs.Pair.{IsOpenPair}
 use Rattle.doc_file.specs.declared.docs.Docs.{Docs}
 use Rattle.doc_file.specs.declared.entry.Entry.{Entry}
 use Rattle.doc_file.specs.Docs.{bytes_in, entries_of, file_of, seq_of, IsAt, IsLoaded, IsOpen, IsSame}
-use Rattle.doc_file.specs.Held.{HoldsRoot, KeepsEach}
+use Rattle.doc_file.specs.Held.{HoldsRoot, KeepsEach, commits_in}
 use Rattle.doc_file.specs.History.{Write}
 
 module _ (old new : Docs) (files : FileName → File) (same : IsSame old new) where
@@ -22,6 +22,7 @@ module _ (old new : Docs) (files : FileName → File) (same : IsSame old new) wh
   pub IsOpen-same : IsOpen old files → IsOpen new files
   IsOpen-same is_open = record {
     pair = subst (λ (g : GateFile). IsOpenPair DocsStem g files) (sym same.file) is_open.pair;
+    commits = ap commits_of same.file ∙ is_open.commits ∙ ap (λ (g : GateFile). commits_in (root_of g)) (sym same.file);
     loaded = loaded is_open;
   }
 

@@ -1,5 +1,5 @@
 -- What a request promises, whole: over the documents alone, over the engine, and as the step of a line.
-use Rattle.std.specs.Prelude.{◌≡◌, ◌≢◌, ◌≤◌, ◌++◌, ℕ, List, [], false, Result, Ok, Err, IfErr, OnErr, OnOk, Some}
+use Rattle.std.specs.Prelude.{◌≡◌, ◌≢◌, ◌≤◌, ◌++◌, ℕ, List, [], true, false, Result, Ok, Err, IfErr, OnErr, OnOk, Some}
 use Rattle.json_terms.specs.Json.{object, members_of}
 use Rattle.view_ports.specs.Disk.{IfTold}
 use Rattle.view_ports.specs.Faults.{RoseBy}
@@ -9,7 +9,6 @@ use Rattle.view_ports.specs.declared.servers.Servers.{Ghosts as Servers}
 use Rattle.child_pool.specs.Pools.{languages_of, width_of}
 use Rattle.doc_file.specs.declared.docs.Docs.{Docs}
 use Rattle.doc_file.specs.Docs.{IsAt as AreAt}
-use Rattle.doc_file.specs.History.{Write}
 use Rattle.view_engine.specs.declared.engine.Engine.{Engine}
 use Rattle.view_engine.specs.declared.halt.Halt.{Halt}
 use Rattle.view_engine.specs.declared.halt.Halt.TheVariants.{Refused, Stopped}
@@ -19,6 +18,7 @@ use Rattle.view_engine.specs.declared.refusal.Refusal.{Refusal}
 use Rattle.view_engine.specs.declared.refusal.Refusal.TheVariants.{ServerFault}
 use Rattle.view_engine.specs.declared.request.Request.{Request}
 use Rattle.view_engine.specs.declared.request.Request.TheVariants.{Put, Delete, Get, Info}
+use Rattle.view_engine.specs.Accepted.{is_ok}
 use Rattle.view_engine.specs.Delete.{DoesDelete, IsDeleteRefused}
 use Rattle.view_engine.specs.Disks.{HasGivenUp, IfStopped, IsReason, KeepsDisk, MayGoOn, OverWorld}
 use Rattle.view_engine.specs.Engine.{Appends, HasChild, IsAt, Leaves}
@@ -28,7 +28,7 @@ use Rattle.view_engine.specs.Moments.{Moment}
 use Rattle.view_engine.specs.Put.{DoesPut, IsPutRefused}
 use Rattle.view_engine.specs.Refusals.{request_of, refusal_text}
 use Rattle.view_engine.specs.ServerFaults.{AppendsServerFault, is_get}
-use Rattle.view_engine.specs.Steps.{Does, DoesRequest, DoesRequestText, IsWrite, MayHaveCalled}
+use Rattle.view_engine.specs.Steps.{Does, DoesRequest, DoesRequestText, MayHaveCalled}
 use Rattle.view_engine.specs.World.{World}
 
 -- ---- what is appended
@@ -41,6 +41,10 @@ pub record IsReplyLine (reply : List ℕ) : Type 0 where
 -- a reply line
 abbrev pub AppendsLine : List ℕ → List ℕ → Type 0
 AppendsLine out out' = (reply : List ℕ) × IsReplyLine reply × (out' ≡ out ++ ended reply)
+
+-- what is appended says `ok` of a write
+abbrev pub AppendsOk : List ℕ → List ℕ → Type 0
+AppendsOk out out' = (text : List ℕ) × (out' ≡ out ++ text) × (is_ok text ≡ true)
 
 -- a reply line to each line that isn't empty, and nothing to an empty one
 pub record AnswersLine (line out out' : List ℕ) : Type 0 where
@@ -177,11 +181,6 @@ module _ {F C : Type 0} (f : Folders F) (s : Servers C) where
         → LeavesMoment (MayHaveCalled (languages_of old.engine.pool) before (request_of line))
     StepsBy line out out' (Err fault) = (before : Moment) → KeepsChild old before → KeepsChild new before
 
-    -- the request would pass no limit of the file, where it is a write that is accepted
-    abbrev pub FitsWhereAccepted : Result Request Refusal → Type 0
-    FitsWhereAccepted request = (before : Moment) → StandsAt old before
-        → IfTold (f.disk old.folder) (λ d. (write : Write) → IsWrite before.world request write → FitsFor old.engine.docs request)
-
     -- a line, answered or not
     pub record IsStep (line out out' : List ℕ) (result : Result (Unit {0}) StepFault) : Type 0 where
       pub does : StepsBy line out out' result
@@ -189,7 +188,10 @@ module _ {F C : Type 0} (f : Folders F) (s : Servers C) where
       pub silent : OnErr result (out' ≡ out)
       -- where the reply line is `server_fault` the count of the query servers' faults rose by two, whatever the folder holds
       pub blames : OnOk result (AppendsServerFault (request_of line) out out' → RoseBy 2 (s.faults old.servers) (s.faults new.servers))
-      pub fits : OnOk result (line ≢ [] → FitsWhereAccepted (request_of line))
+      -- and where it is `ok`, what the request wrote passed no limit of the file
+      pub fits : OnOk result (AppendsOk out out' → FitsFor old.engine.docs (request_of line))
+      -- a line that is no request is refused as that
+      pub refused : OnOk result (line ≢ [] → IfErr (request_of line) (λ refusal. out' ≡ out ++ ended (refusal_text refusal)))
       -- an empty line asks for nothing
       pub asked : OnErr result (line ≢ [])
       pub idle : line ≡ [] → new.folder ≡ old.folder

@@ -19,7 +19,7 @@ use Rattle.view_engine.specs.World.{World}
 
 -- ---- how a request ends
 
--- it was refused, or memory ran out, or a body is damaged
+-- it was refused, or ended by a fault that isn't one of the disk
 abbrev pub HasGivenUp : {T : Type 0} → Result T Halt → Type 0
 HasGivenUp (Ok done) = ⊥
 HasGivenUp (Err halt) = LeavesFiles halt

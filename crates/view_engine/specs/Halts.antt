@@ -1,18 +1,18 @@
 -- What a refusal or a fault of the documents is to a request, and what faults leave.
-use Rattle.std.specs.Prelude.{◌≡◌, ℕ, false, ◌+◌, ◌^◌, ◌<◌, ◌≤◌, List, Option, Some, None, Result, Ok, Err}
+use Rattle.std.specs.Prelude.{◌≡◌, ℕ, false, ◌^◌, ◌<◌, ◌≤◌, List, Option, Some, None, Result, Ok, Err}
 use Rattle.json_terms.specs.Json.{Json, object, members_of}
 use Rattle.design_docs.specs.Documents.{id_of}
 use Rattle.view_ports.specs.Disk.{Disk, IfTold, Moves, MovesNone, Tells}
 use Rattle.view_ports.specs.File.{File}
 use Rattle.view_ports.specs.declared.file_name.FileName.{FileName}
 use Rattle.gate_file.specs.declared.fault.GateFault.TheVariants as gate
-use Rattle.gate_file.specs.GateFile.{commits_of, length_of, name_of, start_of}
+use Rattle.gate_file.specs.GateFile.{commits_of, length_of, name_of}
 use Rattle.doc_file.specs.declared.docs.Docs.{Docs}
 use Rattle.doc_file.specs.declared.fault.DocFault.{DocFault}
 use Rattle.doc_file.specs.declared.fault.DocFault.TheVariants as doc
-use Rattle.doc_file.specs.Docs.{bytes_in, entries_of, file_of, is_deleted, last_of, seq_of, IsAt, IsDocsFile, IsSpoiled}
+use Rattle.doc_file.specs.Calls.{length_with}
+use Rattle.doc_file.specs.Docs.{bytes_in, file_of, is_deleted, last_of, IsAt, IsDocsFile, IsSpoiled}
 use Rattle.doc_file.specs.History.{Write}
-use Rattle.doc_file.specs.Stored.{size_of}
 use Rattle.doc_file.specs.Writes.{content_of}
 use Rattle.view_engine.specs.declared.halt.Halt.{Halt}
 use Rattle.view_engine.specs.declared.halt.Halt.TheVariants.{Refused, Stopped}
@@ -51,13 +51,13 @@ abbrev pub fault_of : Halt → StepFault
 fault_of (Stopped fault) = fault
 fault_of (Refused refusal) = NoMemory
 
--- it leaves the files as they were
+-- it leaves the files as they were: all but a fault of the disk does
 abbrev pub LeavesFiles : Halt → Type 0
 LeavesFiles (Refused refusal) = Unit {0}
 LeavesFiles (Stopped NoMemory) = Unit {0}
 LeavesFiles (Stopped DiskFault) = ⊥
 LeavesFiles (Stopped (Damaged name offset)) = Unit {0}
-LeavesFiles (Stopped (Full name length)) = ⊥
+LeavesFiles (Stopped (Full name length)) = Unit {0}
 
 -- the same of a step
 abbrev pub HasLeftFiles : Result (Unit {0}) StepFault → Type 0
@@ -84,11 +84,12 @@ pub record IsDamage (docs : Docs) (files : FileName → File) (name : FileName) 
   pub live : is_deleted (last_of docs id) ≡ false
   pub spoiled : IsSpoiled id (bytes_in docs files) (last_of docs id) at
 
--- the next write of an id with this content would make the file of the documents too long, or is one commit too many
+-- the next write of an id with this content would make the file of the documents too long, or else is one commit too many
 abbrev pub IsFull : Docs → List ℕ → Option Json → FileName → Option ℕ → Type 0
-IsFull docs id content name None = (name ≡ name_of (file_of docs)) × (2 ^ 50 ≤ commits_of (file_of docs))
-IsFull docs id content name (Some length) = (name ≡ name_of (file_of docs)) × (length ≡ length_of (file_of docs))
-    × (2 ^ 40 < start_of (file_of docs) + size_of (start_of (file_of docs)) (seq_of docs) (entries_of docs) id content)
+IsFull docs id content name None =
+    (name ≡ name_of (file_of docs)) × (2 ^ 50 ≤ commits_of (file_of docs)) × (length_with docs id content ≤ 2 ^ 40)
+IsFull docs id content name (Some length) =
+    (name ≡ name_of (file_of docs)) × (length ≡ length_of (file_of docs)) × (2 ^ 40 < length_with docs id content)
 
 -- what a request would write
 abbrev pub IsFullFor : Docs → Result Request Refusal → FileName → Option ℕ → Type 0
@@ -98,7 +99,7 @@ IsFullFor docs other name length = ⊥
 
 -- the next write of an id with this content passes neither limit of the documents' file
 pub record Fits (docs : Docs) (id : List ℕ) (content : Option Json) : Type 0 where
-  pub short : start_of (file_of docs) + size_of (start_of (file_of docs)) (seq_of docs) (entries_of docs) id content ≤ 2 ^ 40
+  pub short : length_with docs id content ≤ 2 ^ 40
   pub few : commits_of (file_of docs) < 2 ^ 50
 
 -- the same of what a request would write

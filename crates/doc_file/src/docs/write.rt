@@ -19,6 +19,7 @@ use crate::fault::DocFault;
 use crate::incoming::{Incoming, read_incoming};
 use crate::last_writes::find_last;
 use crate::rev::{Rev, is_given};
+use gate_file::GateFault;
 use json_terms::{Chars, Term};
 use std::alloc::Global;
 use view_ports::Folder;
@@ -41,7 +42,7 @@ impl Docs {
     /// deleted and has no design); and then by the last write of its id: a deletion as `Missing` or `Deleted`, and both as a
     /// `Conflict`.
     ///
-    /// Each refusal but `Gate` leaves all as it was. At each moment a crash leaves the documents before the write or after
+    /// Each refusal but a fault of the disk leaves all as it was. At each moment a crash leaves the documents before the write or after
     /// it, and once the revision is answered those after it. After `Gate` the object is not to be used again.
     pub fn put<F: Folder>(
         &mut self,
@@ -112,9 +113,9 @@ impl Docs {
         ensures stored { Stores F.Folder self.old self.new folder.old folder.new
             id (option_map json content) result }
 
-        // Want of memory leaves all as it was. Else the file is full, or the disk failed.
+        // Want of memory and a full file leave all as it was. Else the disk failed.
         ensures kept { IfErr result
-            (λ e. e ≡ DocFault.NoMemory → IsUntouched self.old self.new folder.old folder.new) }
+            (λ e. (e ≡ DocFault.Gate GateFault.DiskFault) ⊎ IsUntouched self.old self.new folder.old folder.new) }
         ensures faults { IfErr result (λ e. IsFileFault (file_of self.old) e ⊎ (e ≡ DocFault.NoMemory)) }
     {
         let start = self.file.start();

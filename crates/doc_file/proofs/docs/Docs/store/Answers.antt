@@ -1,13 +1,13 @@
 -- All that takes memory is done before the disk is asked, and then the draft is published.
-use Rattle.std.proofs.Common.{◌≡◌, ◌⊎◌, ◌+◌, ◌≤◌, ◌<◌, ◌^◌, ◌∷◌, ℕ, inl, inr, length, OnOk, Result, Err, option_map, refl, sym, ap, subst, rules}
+use Rattle.std.proofs.Common.{◌≡◌, ◌⊎◌, ◌+◌, ◌≤◌, ◌<◌, ◌^◌, ◌∷◌, ℕ, inl, inr, length, OnOk, IfErr, Result, Err, option_map, refl, sym, ap, ◌∙◌, subst, rules}
 use Rattle.std.proofs.lemmas.Bool.{cases_lt}
 use Rattle.json_terms.specs.Seen.{json}
 use Rattle.gate_file.specs.declared.fault.GateFault.{GateFault}
 use Rattle.gate_file.specs.declared.fault.GateFault.TheVariants.{DiskFault}
 use Rattle.gate_file.specs.declared.gate.GateFile.{GateFile}
-use Rattle.gate_file.specs.Calls.{too_long, used_up}
+use Rattle.gate_file.specs.Calls.{too_long, used_up, IsWriteFault}
 use Rattle.gate_file.specs.GateFile.{commits_of, start_of}
-use Rattle.gate_file.specs.Publish.{IsTooLong, IsUsedUp}
+use Rattle.gate_file.specs.Publish.{IsFull, IsTooLong, IsUsedUp}
 use Rattle.gate_file.proofs.Stepped.{ended_err}
 use Rattle.doc_file.specs.Docs.{file_of, IsAt}
 use Rattle.doc_file.specs.declared.rev.Rev.{Rev}
@@ -51,6 +51,17 @@ returns-in_err-rev-clause-stored g c = record {
   cause = search rules;
   reads = search rules;
 }
+
+-- all but a fault of the disk leaves the object and the folder as they were
+kept_whole : {F T : Type 0} (gate gate' : GateFile) (size : ℕ) (old new : F) (result : Result T GateFault) (fault : GateFault) → result ≡ Err fault → IfErr result (IsWriteFault gate)
+    → (result ≡ Err (too_long gate) → IsTooLong gate size) → (result ≡ Err (used_up gate) → IsUsedUp gate size) → (IsFull gate size → gate' ≡ gate) → (IsFull gate size → new ≡ old)
+    → (fault ≡ DiskFault) ⊎ ((gate' ≡ gate) × (new ≡ old))
+kept_whole {T = T} gate gate' size old new result fault is faults long spent same untouched = by_fault (subst (λ (r : Result T GateFault). IfErr r (IsWriteFault gate)) is faults)
+  where
+    by_fault : IsWriteFault gate fault → (fault ≡ DiskFault) ⊎ ((gate' ≡ gate) × (new ≡ old))
+    by_fault (inl failed) = inl failed
+    by_fault (inr (inl full)) = let more = long (is ∙ ap Err full) in inr (same (inl more), untouched (inl more))
+    by_fault (inr (inr full)) = let many = spent (is ∙ ap Err full) in inr (same (inr many), untouched (inr many))
 
 pub returns-in_err-publish-clause-stored : goal.returns-in_err-publish-clause-stored
 returns-in_err-publish-clause-stored g c = record {
