@@ -1,6 +1,7 @@
 -- What a step of the engine is to a session.
-use Rattle.std.specs.Prelude.{◌≡◌, ◌≢◌, ◌++◌, ℕ, List, [], ◌∷◌, true, Ok, Err}
-use Rattle.std.proofs.Common.{refl, sym, ap, ◌∙◌, subst, inl}
+use Rattle.std.specs.Prelude.{◌≡◌, ◌≢◌, ◌⊎◌, ◌++◌, ℕ, List, [], ◌∷◌, true, IfErr, Result, Ok, Err}
+use Rattle.std.proofs.Common.{refl, sym, ap, ◌∙◌, subst, inl, inr}
+use Rattle.std.proofs.lemmas.Result.{IfErr-weaker}
 use Rattle.view_ports.specs.Calls.{Call}
 use Rattle.view_ports.specs.Disk.{IfTold, LeavesOnly, Tells}
 use Rattle.view_ports.specs.Functions.{Functions}
@@ -11,7 +12,9 @@ use Rattle.view_engine.specs.declared.engine.Engine.{Engine}
 use Rattle.view_engine.specs.declared.halt.StepFault.{StepFault}
 use Rattle.view_engine.specs.declared.halt.StepFault.TheVariants.{Damaged, Full}
 use Rattle.view_engine.specs.declared.halt.StepFault.TheVariants as halt
+use Rattle.view_engine.specs.declared.refusal.Refusal.{Refusal}
 use Rattle.view_engine.specs.declared.refusal.Refusal.TheVariants.{NoMemory}
+use Rattle.view_engine.specs.declared.request.Request.{Request}
 use Rattle.view_engine.specs.Engine.{Appends as StepAppends, IsAt, Leaves}
 use Rattle.view_engine.specs.Moments.{Moment}
 use Rattle.view_engine.specs.Refusals.{refusal_text, request_of}
@@ -22,7 +25,7 @@ use Rattle.view_engine.proofs.Worlds.{image_at}
 use Rattle.view_engine.specs.Calls.{IsStep, Scene}
 use Rattle.view_engine.specs.Disks.{AreOpen, IsReason}
 use Rattle.view_engine.specs.Worlds.{languages as languages_of}
-use Rattle.view_engine.proofs.Stepping.{step_around, step_damaged, step_full, step_reads, step_writes, step_sound, step_stopped, step_unwritten}
+use Rattle.view_engine.proofs.Stepping.{step_around, step_damaged, step_full, step_full_in, step_reads, step_writes, step_sound, step_stopped, step_unwritten}
 use Rattle.view_ports.specs.declared.folder.Folder.{Ghosts as Folders}
 use Rattle.view_ports.specs.declared.servers.Servers.{Ghosts as Servers}
 use Rattle.couchview_cli.specs.Session.{Answered, IsAnswered, IsUnanswered, StandsEither}
@@ -75,6 +78,12 @@ module _ (functions : List ℕ → Functions) (honest : List ℕ → Type 0) (la
     stands = left.is_at;
   }
 
+-- a line that is no request is answered with the constant where memory ran out
+spent_refused : (request : Result Request Refusal)
+    → IfErr request (λ refusal. (ended (refusal_text NoMemory) ≡ ended (refusal_text refusal)) ⊎ (ended (refusal_text NoMemory) ≡ ended (refusal_text NoMemory)))
+spent_refused (Ok request) = tt
+spent_refused (Err refusal) = inr refl
+
 module _ {F C : Type 0} {f : Folders F} {s : Servers C} {old new : Scene F C} {line start out : List ℕ} where
   -- a step of the engine that is done is an answer
   pub answered_by : start ≡ [] → IsStep f s old new line start out (Ok tt) → IsAnswered f s old new line out
@@ -86,6 +95,8 @@ module _ {F C : Type 0} {f : Folders F} {s : Servers C} {old new : Scene F C} {l
     prints = record {
       none = λ none. step.prints.none none ∙ empty;
       some = λ some. let printed = step.prints.some some in (printed.0, printed.1, printed.2 ∙ ap (λ (front : List ℕ). front ++ ended printed.0) empty);
+      refused = λ some. IfErr-weaker (request_of line) (λ refusal. out ≡ start ++ ended (refusal_text refusal)) _
+          (λ refusal told. inl (told ∙ ap (λ (front : List ℕ). front ++ ended (refusal_text refusal)) empty)) (step.refused some);
     };
     blames = λ is. step.blames (appended_fault line start out empty is);
     still = step.disk.read;
@@ -99,7 +110,7 @@ module _ {F C : Type 0} {f : Folders F} {s : Servers C} {old new : Scene F C} {l
         answered_spent s.functions s.honest (languages_of old.engine) before (f.disk old.folder) (f.disk new.folder) (s.may_follow new.servers) (s.faults new.servers) new.engine line step.asked
         (step.does before at) (step_unwritten step before at);
     room = λ before at. told_all (f.disk old.folder) (λ d. is_ok (ended (refusal_text NoMemory)) ≡ true → HasRoomAt d.now before.world (request_of line)) (λ d ok. absurd (constant_no_ok ok));
-    prints = record { none = λ none. absurd (step.asked none); some = λ some. (refusal_text NoMemory, refusal_line NoMemory, refl) };
+    prints = record { none = λ none. absurd (step.asked none); some = λ some. (refusal_text NoMemory, refusal_line NoMemory, refl); refused = λ some. spent_refused (request_of line) };
     blames = λ is. absurd (constant_no_fault line is);
     still = step.disk.read;
     stays = step.stays;
@@ -115,7 +126,7 @@ module _ {F C : Type 0} {f : Folders F} {s : Servers C} {old new : Scene F C} {l
       left = step_stopped step before at other;
     };
     cause = λ is. (subst (IsReason f _ old.folder new.folder (request_of line)) is step.why).0;
-    found = record { halts = other; reads = step_reads step; damaged = step_damaged is_open step; writes = step_writes step };
+    found = record { halts = other; reads = step_reads step; damaged = step_damaged is_open step; writes = step_writes step; full = step_full_in is_open step };
     still = step.disk.read;
     stays = step.stays;
   }

@@ -1,5 +1,5 @@
 -- A line is answered as what is kept of it.
-use Rattle.std.specs.Prelude.{◌≡◌, ◌≢◌, ℕ, Option, List, [], true}
+use Rattle.std.specs.Prelude.{◌≡◌, ◌≢◌, ◌⊎◌, ℕ, Option, List, [], true, IfErr}
 use Rattle.std.proofs.Common.{refl, sym, ap, ◌∙◌, subst, inl, inr}
 use Rattle.view_ports.specs.Functions.{Functions}
 use Rattle.view_engine.specs.Moments.{Moment}
@@ -13,7 +13,7 @@ use Rattle.view_ports.specs.declared.file_name.FileName.{FileName}
 use Rattle.view_ports.proofs.Told.{told_now}
 use Rattle.view_engine.specs.declared.halt.StepFault.{StepFault}
 use Rattle.view_engine.specs.declared.halt.StepFault.TheVariants.{Full}
-use Rattle.view_engine.specs.Worlds.{HasRoomAt, IsFullAt, StandsAround}
+use Rattle.view_engine.specs.Worlds.{HasRoomAt, IsFullAt, IsFullIn, StandsAround}
 use Rattle.view_ports.specs.declared.folder.Folder.{Ghosts as Folders}
 use Rattle.view_ports.specs.declared.servers.Servers.{Ghosts as Servers}
 use Rattle.view_engine.specs.Accepted.{is_ok}
@@ -79,6 +79,8 @@ replied_kept : (line text : List ℕ) → IsReplied (kept request_limit line) te
 replied_kept line text replied = record {
   none = λ none. replied.none (ap (kept request_limit) none ∙ kept-nil request_limit);
   some = λ some. replied.some (λ none. some (kept-none request_limit line none));
+  refused = λ some. subst (λ request. IfErr request (λ refusal. (text ≡ ended (refusal_text refusal)) ⊎ (text ≡ ended (refusal_text NoMemory)))) (request_kept line)
+      (replied.refused (λ none. some (kept-none request_limit line none)));
 }
 
 -- a line writes a document where what is kept of it does, and is not answered as that is not
@@ -86,11 +88,13 @@ still_kept : {P : Type 0} (line : List ℕ) → ((Writes (request_of (kept reque
 still_kept {P} line still = subst (λ request. (Writes request → ⊥) → P) (request_kept line) still
 
 found_kept : {disk : Told} {fault : StepFault} (line : List ℕ) → IsFoundOn disk (kept request_limit line) fault → IsFoundOn disk line fault
-found_kept line found = record {
+found_kept {disk = disk} line found = record {
   halts = found.halts;
   reads = λ name at is. subst ReadsDocuments (request_kept line) (found.reads name at is);
   damaged = found.damaged;
   writes = λ name length is. subst Writes (request_kept line) (found.writes name length is);
+  full = λ name length is. told_now disk (λ d. IsFullIn d.now (request_of (kept request_limit line)) name length) (λ d. IsFullIn d.now (request_of line) name length)
+      (λ d full. subst (λ request. IsFullIn d.now request name length) (request_kept line) full) (found.full name length is);
 }
 
 -- what a responder is given of a line is what is kept of it

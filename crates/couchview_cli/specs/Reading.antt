@@ -1,5 +1,5 @@
 -- What serving does with lines, whatever the folder holds.
-use Rattle.std.specs.Prelude.{◌≡◌, ◌≢◌, ◌⊎◌, ◌≤◌, ◌*◌, ℕ, List, [], ◌∷◌, ◌++◌, Option, length}
+use Rattle.std.specs.Prelude.{◌≡◌, ◌≢◌, ◌⊎◌, ◌≤◌, ◌*◌, ℕ, List, [], ◌∷◌, ◌++◌, Option, IfErr, length}
 use Rattle.std.specs.Io.KnownBytes.{Appends, Consumes, IsAtEnd}
 use Rattle.std.specs.List.{AllByRecursion}
 use Rattle.view_ports.specs.declared.run_end.RunEnd.{RunEnd}
@@ -18,16 +18,19 @@ use Rattle.view_engine.specs.Calls.{IsReplyLine}
 use Rattle.view_engine.specs.Disks.{ReadsDocuments}
 use Rattle.view_engine.specs.Halts.{Writes}
 use Rattle.view_engine.specs.Openings.{IsMovedByOpening}
-use Rattle.view_engine.specs.Refusals.{request_of}
+use Rattle.view_engine.specs.declared.refusal.Refusal.TheVariants.{NoMemory as OutOfMemory}
+use Rattle.view_engine.specs.Refusals.{refusal_text, request_of}
 use Rattle.view_engine.specs.ServerFaults.{server_faults}
-use Rattle.view_engine.specs.Worlds.{HasBodyDamage, HasDamage}
+use Rattle.view_engine.specs.Worlds.{HasBodyDamage, HasDamage, IsFullIn}
 use Rattle.couchview_cli.specs.Closing.{Closes}
 use Rattle.couchview_cli.specs.Serving.{Outside}
 
--- a line is answered with one reply line, which isn't empty, and an empty one with nothing
+-- a line is answered with one reply line, which isn't empty, and an empty one with nothing; a line that is no request is refused
+-- as that, unless memory runs out
 pub record IsReplied (line text : List ℕ) : Type 0 where
   pub none : line ≡ [] → text ≡ []
   pub some : line ≢ [] → (reply : List ℕ) × IsReplyLine reply × (text ≡ ended reply)
+  pub refused : line ≢ [] → IfErr (request_of line) (λ refusal. (text ≡ ended (refusal_text refusal)) ⊎ (text ≡ ended (refusal_text OutOfMemory)))
 
 -- a step of a run of which only that is told
 abbrev pub Replies : Unit {0} → Exchange → Unit {0} → Type 0
@@ -40,6 +43,7 @@ pub record IsFoundOn (disk : Option (Disk FileName)) (line : List ℕ) (fault : 
   pub reads : (name : FileName) (at : ℕ) → fault ≡ Damaged name at → ReadsDocuments (request_of line)
   pub damaged : (name : FileName) (at : ℕ) → fault ≡ Damaged name at → IfTold disk (λ d. HasBodyDamage d.now name at)
   pub writes : (name : FileName) (length : Option ℕ) → fault ≡ Full name length → Writes (request_of line)
+  pub full : (name : FileName) (length : Option ℕ) → fault ≡ Full name length → IfTold disk (λ d. IsFullIn d.now (request_of line) name length)
 
 -- none of these lines is a request that writes a document
 abbrev pub NoneWrites : List Exchange → Type 0

@@ -16,7 +16,7 @@ use Rattle.view_engine.specs.declared.refusal.Refusal.{Refusal}
 use Rattle.view_engine.specs.declared.refusal.Refusal.TheVariants.{ServerFault}
 use Rattle.view_engine.specs.declared.request.Request.{Request}
 use Rattle.view_engine.specs.declared.request.Request.TheVariants.{Put, Delete, Get, Info}
-use Rattle.view_engine.specs.Calls.{scene, ActsHere, AppendsReplyTo, DoesBy, DoesHere, DoesHereBy, IsRefusedHere, Performed, Scene}
+use Rattle.view_engine.specs.Calls.{scene, ActsHere, AppendsReplyTo, DoesBy, DoesHere, DoesHereBy, IsRefusedHere, Performed, RefusesUnread, Scene}
 use Rattle.view_engine.specs.Disks.{AreOpen}
 use Rattle.view_engine.specs.Moments.{Moment, with_world}
 use Rattle.view_engine.specs.Refusals.{refusal_text}
@@ -98,12 +98,18 @@ acted {f = f} {s = s} {docs = docs} {docs' = docs'} {pool = pool} {old = old} {n
       does = does_here f s docs docs' pool old new servers out out' made result acts.does;
       prints = prints_here f s docs docs' pool old new servers out out' made result acts.does;
       silent = acts.silent;
+      refused = tt;
       blames = λ is. absurd (acts.unblamed is);
       fits = acts.fits;
       disk = acts.disk;
       why = acts.why;
       stays = record { languages = refl; width = refl; disk_faults = acts.later; server_faults = omega arith };
     })
+
+-- where memory ran out
+spent_unread : (request : Result Request Refusal) → RefusesUnread request (Err (Stopped NoMemory))
+spent_unread (Ok request) = tt
+spent_unread (Err refusal) = inr refl
 
 module _ {F C : Type 0} {f : Folders F} {s : Servers C} {now : Scene F C} {request : Result Request Refusal} {out : List ℕ} where
   -- nothing was called, and memory ran out
@@ -116,6 +122,7 @@ module _ {F C : Type 0} {f : Folders F} {s : Servers C} {now : Scene F C} {reque
     };
     prints = tt;
     silent = refl;
+    refused = spent_unread request;
     blames = λ never. absurd cc;
     fits = tt;
     disk = disk_still is_open;
@@ -124,9 +131,9 @@ module _ {F C : Type 0} {f : Folders F} {s : Servers C} {now : Scene F C} {reque
   }
 
   -- nothing was called, and the request is refused
-  pub refused_at_once : {refusal : Refusal} → refusal ≢ ServerFault → ((before : Moment) → DoesRequest s.functions s.honest (languages_of now.engine.pool) before request (refusal_text refusal) before)
+  pub refused_at_once : {refusal : Refusal} → RefusesUnread request (Err (Refused refusal)) → refusal ≢ ServerFault → ((before : Moment) → DoesRequest s.functions s.honest (languages_of now.engine.pool) before request (refusal_text refusal) before)
       → AreOpen f now.engine.docs now.folder → Performed f s now now request out out (Err (Refused refusal))
-  refused_at_once {refusal} other does is_open = record {
+  refused_at_once {refusal} unread other does is_open = record {
     does = λ before at. record {
       after = before;
       is_at = at;
@@ -136,6 +143,7 @@ module _ {F C : Type 0} {f : Folders F} {s : Servers C} {now : Scene F C} {reque
     };
     prints = tt;
     silent = refl;
+    refused = unread;
     blames = λ never. absurd (err_unblamed (Refused refusal) (λ same. other (let is_fault : refusal ≡ ServerFault = cc in is_fault)) never);
     fits = tt;
     disk = disk_still is_open;

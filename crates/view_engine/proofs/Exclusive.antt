@@ -20,9 +20,8 @@ use Rattle.view_engine.specs.Laws.{IsNotRefusedAndDone, IsRefusedOnce}
 use Rattle.view_engine.specs.Moments.{Moment}
 use Rattle.view_engine.specs.Put.{DoesPut, IsPutRefused}
 use Rattle.view_engine.specs.Refusals.{refused_as, request_of}
-use Rattle.view_engine.specs.Steps.{Does, DoesRequest, IsWrite, MayHaveCalled}
+use Rattle.view_engine.specs.Steps.{Does, DoesRequest, IsWrite}
 use Rattle.view_engine.specs.World.{World, written}
-use Rattle.view_engine.proofs.AcceptedWrites.{kept_world}
 
 unfit_not : (document : Json) (fault : DocFault) → IsUnfit document fault → IsWritable document → ⊥
 unfit_not document doc.BadId unfit fit = unfit fit.id
@@ -127,10 +126,6 @@ live_not_refused (Some write) document refusal live refused = by_document write.
     by_document None live refused = cc
     by_document (Some other) live refused = cc
 
--- a history isn't the one with a write more
-unlike_written : (history : List Write) (write : Write) → history ≡ write ∷ history → ⊥
-unlike_written history write is = let size : length history ≡ suc (length history) = ap length is in omega (arith, size)
-
 module _ (functions : List ℕ → Functions) (honest : List ℕ → Type 0) (languages : List (List ℕ × List ℕ)) where
   pub is_refused_once : IsRefusedOnce functions honest languages
   is_refused_once world (Put document) first second a b = put_refused_once world (object (members_of document)) first second a b
@@ -163,12 +158,6 @@ module _ (functions : List ℕ → Functions) (honest : List ℕ → Type 0) (la
   request_writes before (Ok (Delete id given)) reply after write (inr refused) is =
       absurd (delete_clash _ given (refused.1).0 (refused.1).1 ((is.1).1).accepted)
   request_writes before other reply after write does is = absurd is
-
-  -- a write that is accepted isn't one of a request that left the world as it was
-  pub no_write_kept : (before : Moment) (request : Result Request Refusal) (reply : List ℕ) (after : Moment) (write : Write) → DoesRequest functions honest languages before request reply after
-      → MayHaveCalled languages before request after → IsWrite before.world request write → ⊥
-  no_write_kept before request reply after write does called is =
-      unlike_written before.world.history write (ap (λ (w : World). w.history) (sym (kept_world functions honest languages before request after called) ∙ request_writes before request reply after write does is))
 
   -- an image that stands for the history before a line, or with its write, stands for the world before or after it
   pub around_either : (before : Moment) (byte : ℕ) (bytes text : List ℕ) (after : Moment) (image : FileName → List ℕ) → Does functions honest languages before (byte ∷ bytes) text after

@@ -1,30 +1,19 @@
 -- A write that was answered `ok` passes no limit of the documents' file.
-use Rattle.std.proofs.Common.{◌≡◌, ◌≢◌, ◌∙◌, ◌++◌, ℕ, List, [], ◌∷◌, true, inl, inr, Result, Ok, Option, Some, None, refl, sym, ap}
+use Rattle.std.proofs.Common.{◌≡◌, ◌∙◌, ◌++◌, ℕ, List, [], true, Ok, sym, ap, append-nil}
 use Rattle.std.proofs.lemmas.Bool.{false≢true}
-use Rattle.view_ports.specs.Disk.{Disk, IfTold}
-use Rattle.view_ports.specs.declared.file_name.FileName.{FileName}
-use Rattle.view_ports.specs.Functions.{Functions}
+use Rattle.std.proofs.lemmas.List.{append_cancel_left}
+use Rattle.view_ports.specs.Disk.{IfTold}
 use Rattle.view_ports.specs.Lines.{ended}
 use Rattle.view_ports.specs.declared.folder.Folder.{Ghosts as Folders}
 use Rattle.view_ports.specs.declared.servers.Servers.{Ghosts as Servers}
-use Rattle.view_ports.proofs.Told.{told_pair}
-use Rattle.child_pool.specs.Pools.{languages_of}
-use Rattle.json_terms.specs.Json.{members_of, object}
-use Rattle.doc_file.specs.declared.docs.Docs.{Docs}
+use Rattle.view_ports.proofs.Told.{told_now}
 use Rattle.doc_file.specs.Docs.{IsAt as AreAt}
-use Rattle.doc_file.specs.History.{Write}
 use Rattle.view_engine.specs.declared.refusal.Refusal.{Refusal}
 use Rattle.view_engine.specs.declared.refusal.Refusal.TheVariants.{NoMemory}
-use Rattle.view_engine.specs.declared.request.Request.{Request}
-use Rattle.view_engine.specs.declared.request.Request.TheVariants.{Delete, Put}
 use Rattle.view_engine.specs.Accepted.{is_ok}
-use Rattle.view_engine.specs.Calls.{IsStep, Scene, StandsAt}
-use Rattle.view_engine.specs.Delete.{delete_write}
-use Rattle.view_engine.specs.Halts.{FitsFor}
+use Rattle.view_engine.specs.Calls.{AppendsOk, IsStep, Scene, StandsAt}
 use Rattle.view_engine.specs.Moments.{Moment}
-use Rattle.view_engine.specs.Put.{put_write}
 use Rattle.view_engine.specs.Refusals.{refusal_text, request_of}
-use Rattle.view_engine.specs.Steps.{Does, DoesRequest, IsWrite}
 use Rattle.view_engine.specs.Worlds.{HasRoomAt}
 
 -- a refusal isn't `ok`

@@ -1,5 +1,6 @@
 -- A step is the performing of its line's request, told as its halt is told.
-use Rattle.std.proofs.Common.{◌≡◌, ◌≢◌, ◌∙◌, ◌++◌, ℕ, List, [], ◌∷◌, Option, None, Some, Result, Ok, Err, refl, sym, ap, subst, append-nil, arith}
+use Rattle.std.specs.Prelude.{IfErr}
+use Rattle.std.proofs.Common.{◌≡◌, ◌≢◌, ◌∙◌, ◌++◌, ℕ, List, [], ◌∷◌, Option, None, Some, Result, Ok, Err, inl, inr, refl, sym, ap, subst, append-nil, arith}
 use Rattle.view_ports.specs.Disk.{Disk, IfTold, LeavesOnly, MovesNone, Tells}
 use Rattle.view_ports.specs.File.{File}
 use Rattle.view_ports.specs.Functions.{Functions}
@@ -20,19 +21,19 @@ use Rattle.view_engine.specs.declared.refusal.Refusal.{Refusal}
 use Rattle.view_engine.specs.declared.refusal.Refusal.TheVariants as refusal
 use Rattle.view_engine.specs.declared.request.Request.{Request}
 use Rattle.view_engine.specs.declared.request.Request.TheVariants.{Delete, Put}
-use Rattle.view_engine.specs.Calls.{DoesBy, KeepsChild, IsStep, IsToldAs, Performed, Scene, StandsAt, StepsBy}
+use Rattle.view_engine.specs.Calls.{DoesBy, KeepsChild, IsStep, IsToldAs, Performed, RefusesUnread, Scene, StandsAt, StepsBy}
 use Rattle.view_engine.specs.Disks.{AreOpen, IsReason, ReadsDocuments}
-use Rattle.doc_file.specs.History.{Write}
-use Rattle.view_engine.specs.Halts.{halted_by, FitsFor, IsDamage, IsFullFor, LeavesFiles, WouldWrite, Writes}
+use Rattle.view_engine.specs.Halts.{halted_by, IsDamage, IsFullFor, LeavesFiles, WouldWrite, Writes}
 use Rattle.view_engine.specs.Moments.{Moment}
 use Rattle.view_engine.specs.Refusals.{request_of, refusal_text}
-use Rattle.view_engine.specs.Steps.{Does, DoesRequest, DoesRequestText, IsWrite, MayHaveCalled}
+use Rattle.view_engine.specs.Steps.{Does, DoesRequest, DoesRequestText, MayHaveCalled}
 use Rattle.view_engine.specs.World.{World}
-use Rattle.view_engine.specs.Worlds.{HasBodyDamage, IsFullAt, StandsAround, StandsFor}
+use Rattle.view_engine.specs.Worlds.{HasBodyDamage, IsFullAt, IsFullIn, StandsAround, StandsFor}
 use Rattle.view_engine.proofs.Acting.{refused_at_once, spent_at_once}
-use Rattle.view_engine.proofs.Exclusive.{no_write_kept}
+use Rattle.view_engine.proofs.Keeping.{open_none}
 use Rattle.view_engine.proofs.OnDisk.{disk_ends, disk_still}
 use Rattle.view_engine.proofs.ReplyLines.{refusal_line}
+use Rattle.view_engine.proofs.Rooms.{nothing_no_ok, refused_no_ok}
 use Rattle.view_engine.proofs.ServerFaults.{nothing_appended, reply_no_fault, told_is_fault}
 use Rattle.view_engine.proofs.Unmoved.{files_same}
 
@@ -48,6 +49,23 @@ steps_by f s old new line out mid out' (Damaged name at) does = does
 steps_by f s old new line out mid out' (Full name length) does = does
 steps_by f s old new line out mid out' NoMemory does = does
 
+-- a request that was done was one
+done_read : (out out' : List ℕ) (request : Result Request Refusal) → RefusesUnread request (Ok tt) → IfErr request (λ refusal. out' ≡ out ++ ended (refusal_text refusal))
+done_read out out' (Ok request) unread = tt
+done_read out out' (Err refusal) (inl is) = absurd (let never : ⊥ = cc in never)
+done_read out out' (Err refusal) (inr is) = absurd (let never : ⊥ = cc in never)
+
+-- and what is told of a line that is none is its refusal
+told_unread : (out out' : List ℕ) (request : Result Request Refusal) (told : Refusal) → RefusesUnread request (Err (Refused told)) → out' ≡ out ++ ended (refusal_text told)
+    → IfErr request (λ refusal. out' ≡ out ++ ended (refusal_text refusal))
+told_unread out out' (Ok request) told unread appended = tt
+told_unread out out' (Err refusal) told (inl is) appended = let same : told ≡ refusal = cc in subst (λ (r : Refusal). out' ≡ out ++ ended (refusal_text r)) same appended
+told_unread out out' (Err refusal) told (inr is) appended = absurd (let never : ⊥ = cc in never)
+
+read_as : (request : Result Request Refusal) (refused : Refusal) → request ≡ Err refused → RefusesUnread request (Err (Refused refused))
+read_as (Ok request) refused is = tt
+read_as (Err refusal) refused is = inl (let same : refusal ≡ refused = cc in ap (λ (r : Refusal). Err (Refused r)) (sym same))
+
 module _ {F C : Type 0} {f : Folders F} {s : Servers C} where
   -- an empty line
   pub step_nothing : {now : Scene F C} {out : List ℕ} → AreOpen f now.engine.docs now.folder → IsStep f s now now [] out out (Ok tt)
@@ -62,7 +80,8 @@ module _ {F C : Type 0} {f : Folders F} {s : Servers C} where
     prints = record { none = λ none. refl; some = λ some. absurd (some refl) };
     silent = tt;
     blames = λ appends. absurd (nothing_appended (request_of []) out appends);
-    fits = λ some. absurd (some refl);
+    fits = λ appends. absurd (nothing_no_ok out appends);
+    refused = λ some. absurd (some refl);
     asked = tt;
     idle = λ none. refl;
     disk = disk_still is_open;
@@ -88,7 +107,8 @@ module _ {F C : Type 0} {f : Folders F} {s : Servers C} where
       prints = record { none = λ none. absurd (some none); some = λ filled. let printed = performed.prints in (printed.reply, printed.line, printed.appended) };
       silent = tt;
       blames = λ appends. absurd (reply_no_fault (request_of line) out out' performed.prints appends);
-      fits = λ filled before at. told_all (f.disk old.folder) (λ d. (write : Write) → IsWrite before.world (request_of line) write → FitsFor old.engine.docs (request_of line)) (λ d write is. performed.fits);
+      fits = λ appends. performed.fits;
+      refused = λ filled. done_read out out' (request_of line) performed.refused;
       asked = tt;
       idle = λ none. absurd (some none);
       disk = disk_ends (λ never. never) (λ goes. tt) performed.disk;
@@ -114,12 +134,8 @@ module _ {F C : Type 0} {f : Folders F} {s : Servers C} where
       prints = record { none = λ none. absurd (some none); some = λ filled. (refusal_text refusal, refusal_line refusal, is.0 ∙ ap (λ (o : List ℕ). o ++ ended (refusal_text refusal)) performed.silent) };
       silent = tt;
       blames = λ appends. performed.blames (ap (λ (r : Refusal). Err (Refused r)) (told_is_fault refusal (request_of line) out out' (is.0 ∙ ap (λ (o : List ℕ). o ++ ended (refusal_text refusal)) performed.silent) appends));
-      fits = λ filled before at.
-          let left = performed.does before at in
-          told_now (f.disk old.folder) (λ d. DoesRequest s.functions s.honest (languages_of old.engine.pool) before (request_of line) (refusal_text refusal) left.after
-          × MayHaveCalled (languages_of old.engine.pool) before (request_of line) left.after)
-          (λ d. (write : Write) → IsWrite before.world (request_of line) write → FitsFor old.engine.docs (request_of line))
-          (λ d both write is. absurd (no_write_kept s.functions s.honest (languages_of old.engine.pool) before (request_of line) (refusal_text refusal) left.after write both.0 both.1 is)) left.allowed;
+      fits = λ appends. absurd (refused_no_ok refusal out out' (is.0 ∙ ap (λ (o : List ℕ). o ++ ended (refusal_text refusal)) performed.silent) appends);
+      refused = λ filled. told_unread out out' (request_of line) refusal performed.refused (is.0 ∙ ap (λ (o : List ℕ). o ++ ended (refusal_text refusal)) performed.silent);
       asked = tt;
       idle = λ none. absurd (some none);
       disk = disk_ends (λ never. absurd never) (λ goes. tt) performed.disk;
@@ -141,6 +157,7 @@ module _ {F C : Type 0} {f : Folders F} {s : Servers C} where
           silent = is.1 ∙ performed.silent;
           blames = tt;
           fits = tt;
+          refused = tt;
           asked = some;
           idle = λ none. absurd (some none);
           disk = disk_ends (λ given. tt) (λ goes. tt) performed.disk;
@@ -154,6 +171,7 @@ module _ {F C : Type 0} {f : Folders F} {s : Servers C} where
           silent = is.1 ∙ performed.silent;
           blames = tt;
           fits = tt;
+          refused = tt;
           asked = some;
           idle = λ none. absurd (some none);
           disk = disk_ends (λ left. left) (λ goes. goes) performed.disk;
@@ -166,7 +184,7 @@ module _ {F C : Type 0} {f : Folders F} {s : Servers C} where
       → Performed f s now now request out out (Err (halted_by refused))
   unread refusal.NoMemory unblamed is is_open = spent_at_once is_open
   unread {now = now} {request = request} other unblamed is is_open =
-      refused_at_once (λ same. unblamed (is (λ spent. let never : refusal.NoMemory ≡ refusal.ServerFault = sym spent ∙ same in cc) ∙ ap Err same)) (λ before. subst (λ (r : Result Request Refusal). DoesRequest s.functions s.honest (languages_of now.engine.pool) before r (refusal_text other) before)
+      refused_at_once (read_as request other (is (λ same. let never : ⊥ = cc in never))) (λ same. unblamed (is (λ spent. let never : refusal.NoMemory ≡ refusal.ServerFault = sym spent ∙ same in cc) ∙ ap Err same)) (λ before. subst (λ (r : Result Request Refusal). DoesRequest s.functions s.honest (languages_of now.engine.pool) before r (refusal_text other) before)
       (sym (is (λ same. let never : ⊥ = cc in never))) (refl, refl)) is_open
 
 -- the same request
@@ -244,6 +262,19 @@ step_damaged {f = f} {old = old} {new = new} {line = line} {fault = fault} is_op
     let why = subst (IsReason f old.engine.docs old.folder new.folder (request_of line)) is step.why in
     let still : LeavesFiles (Stopped fault) = subst (λ (e : StepFault). LeavesFiles (Stopped e)) (sym is) tt in
     damage_named (f.disk old.folder) (f.disk new.folder) old.engine.docs name at is_open why.1.0 (step.disk.unmoved still)
+
+-- a full file is one of an engine that is open over these files, which are as they were
+full_named : (old new : Option (Disk FileName)) (docs : Docs) (request : Result Request Refusal) (name : FileName) (length : Option ℕ) → IsFullFor docs request name length → IfTold old (λ d. IsOpen docs d.now) → Tells old new MovesNone
+    → IfTold new (λ d. IsFullIn d.now request name length)
+full_named old new docs request name length full is_open moves =
+    told_now new (λ d. IsOpen docs d.now) (λ d. IsFullIn d.now request name length) (λ d opened. record { docs = docs; is_open = opened; full = full }) (open_none docs old new moves is_open)
+
+pub step_full_in : {F C : Type 0} {f : Folders F} {s : Servers C} {old new : Scene F C} {line out out' : List ℕ} {fault : StepFault} → AreOpen f old.engine.docs old.folder → IsStep f s old new line out out' (Err fault)
+    → (name : FileName) (length : Option ℕ) → fault ≡ Full name length → IfTold (f.disk new.folder) (λ d. IsFullIn d.now (request_of line) name length)
+step_full_in {f = f} {old = old} {new = new} {line = line} {fault = fault} is_open step name length is =
+    let why = subst (IsReason f old.engine.docs old.folder new.folder (request_of line)) is step.why in
+    let still : LeavesFiles (Stopped fault) = subst (λ (e : StepFault). LeavesFiles (Stopped e)) (sym is) tt in
+    full_named (f.disk old.folder) (f.disk new.folder) old.engine.docs (request_of line) name length why.0 is_open (step.disk.unmoved still)
 
 full_writes : (docs : Docs) (request : Result Request Refusal) (name : FileName) (length : Option ℕ) → IsFullFor docs request name length → Writes request
 full_writes docs (Ok (Put document)) name length full = tt

@@ -92,7 +92,7 @@ module _ {F : Type 0} (f : Folders F) (docs docs' : Docs) (old new : F) (request
   full_of id content fault Accepted IsRefused name None is (inr (inl full)) stored = absurd (let never : ⊥ = cc in never)
   full_of id content fault Accepted IsRefused name (Some length) is (inr (inl full)) stored =
       (let same : name ≡ name_of (file_of docs) = cc in same, let same : length ≡ length_of (file_of docs) = cc in same, stored.stored.long (ap Err full))
-  full_of id content fault Accepted IsRefused name None is (inr (inr full)) stored = (let same : name ≡ name_of (file_of docs) = cc in same, stored.stored.spent (ap Err full))
+  full_of id content fault Accepted IsRefused name None is (inr (inr full)) stored = (let same : name ≡ name_of (file_of docs) = cc in same, (stored.stored.spent (ap Err full)).0, (stored.stored.spent (ap Err full)).1)
   full_of id content fault Accepted IsRefused name (Some length) is (inr (inr full)) stored = absurd (let never : ⊥ = cc in never)
 
   module _ (id : List ℕ) (content : Option Json) (Accepted : Type 0) (IsRefused : DocFault → Type 0) (reply : List ℕ)
@@ -173,15 +173,11 @@ module _ {F : Type 0} (f : Folders F) (docs docs' : Docs) (old new : F) (request
       why_halted doc.Missing stored = tt
       why_halted doc.Deleted stored = tt
 
-      no_going_on : (fault : DocFault) → IsFileFault (file_of docs) fault → GoesOn (halted_as fault) → ⊥
-      no_going_on fault (inl is) goes = subst (λ (e : DocFault). GoesOn (halted_as e)) is goes
-      no_going_on fault (inr (inl is)) goes = subst (λ (e : DocFault). GoesOn (halted_as e)) is goes
-      no_going_on fault (inr (inr is)) goes = subst (λ (e : DocFault). GoesOn (halted_as e)) is goes
+      no_going_on : (fault : DocFault) → fault ≡ doc.Gate gate.DiskFault → GoesOn (halted_as fault) → ⊥
+      no_going_on fault is goes = subst (λ (e : DocFault). GoesOn (halted_as e)) is goes
 
-      no_files_left : (fault : DocFault) → IsFileFault (file_of docs) fault → LeavesFiles (halted_as fault) → ⊥
-      no_files_left fault (inl is) leaves = subst (λ (e : DocFault). LeavesFiles (halted_as e)) is leaves
-      no_files_left fault (inr (inl is)) leaves = subst (λ (e : DocFault). LeavesFiles (halted_as e)) is leaves
-      no_files_left fault (inr (inr is)) leaves = subst (λ (e : DocFault). LeavesFiles (halted_as e)) is leaves
+      no_files_left : (fault : DocFault) → fault ≡ doc.Gate gate.DiskFault → LeavesFiles (halted_as fault) → ⊥
+      no_files_left fault is leaves = subst (λ (e : DocFault). LeavesFiles (halted_as e)) is leaves
 
       goes_on : (halt going : Halt) → halt ≡ going → GoesOn going → GoesOn halt
       goes_on halt going is = subst GoesOn (sym is)
@@ -199,7 +195,7 @@ module _ {F : Type 0} (f : Folders F) (docs docs' : Docs) (old new : F) (request
           silent = silent;
           unblamed = err_unblamed (halted_as fault) (halted_unblamed fault);
           fits = tt;
-          disk = disk_moved (Err fault) (stored.reached so) (no_files_left fault so) (λ goes. absurd (no_going_on fault so goes)) stored;
+          disk = disk_moved (Err fault) (stored.reached (inl so)) (no_files_left fault so) (λ goes. absurd (no_going_on fault so goes)) stored;
           why = why_halted fault stored;
           later = stored.stored.cause.later;
         }

@@ -19,7 +19,7 @@ use Rattle.view_engine.specs.declared.halt.StepFault.TheVariants.{DiskFault, Dam
 use Rattle.view_engine.specs.declared.refusal.Refusal.{Refusal}
 use Rattle.view_engine.specs.declared.refusal.Refusal.TheVariants.{ServerFault}
 use Rattle.view_engine.specs.declared.request.Request.{Request}
-use Rattle.view_engine.specs.Calls.{AppendsReplyTo, AppendsText, DoesBy, KeepsChild, LeavesMoment, Performed, Scene, StandsAt, scene}
+use Rattle.view_engine.specs.Calls.{AppendsReplyTo, AppendsText, DoesBy, KeepsChild, LeavesMoment, Performed, RefusesUnread, Scene, StandsAt, scene}
 use Rattle.view_engine.specs.Disks.{AreOpen, IfStopped, IsReadReason, IsReason, Reads, ReadsDocuments}
 use Rattle.view_engine.specs.Halts.{FitsFor, GoesOn}
 use Rattle.view_engine.specs.Moments.{Moment}
@@ -90,6 +90,11 @@ module _ {F C : Type 0} (f : Folders F) (s : Servers C) (old new : Scene F C) (r
   does_by out out' (Ok done) appends leaves child = appends
   does_by out out' (Err halt) appends leaves child = does_halted out out' halt leaves child
 
+-- what reads documents is a request
+read_request_unread : (request : Result Request Refusal) (result : Result (Unit {0}) Halt) → ReadsDocuments request → RefusesUnread request result
+read_request_unread (Ok request) result reads = tt
+read_request_unread (Err refusal) result reads = absurd reads
+
 -- a request that only reads the documents
 module _ {F C T : Type 0} {f : Folders F} {s : Servers C} {docs : Docs} {pool pool' : Pool} {folder folder' : F} {servers servers' : C} {request : Result Request Refusal} {out out' : List ℕ}
     (is_open : AreOpen f docs folder) where
@@ -102,6 +107,7 @@ module _ {F C T : Type 0} {f : Folders F} {s : Servers C} {docs : Docs} {pool po
     does = does_halted f s _ _ request out out' halt leaves child;
     prints = tt;
     silent = silent;
+    refused = read_request_unread request _ is_read;
     blames = λ is. blames (let same : halt ≡ Refused ServerFault = cc in same);
     fits = tt;
     disk = disk_read reads.disk is_open;
@@ -110,16 +116,17 @@ module _ {F C T : Type 0} {f : Folders F} {s : Servers C} {docs : Docs} {pool po
   }
 
   -- and whose reply was appended, or memory ran out
-  pub viewed : {read : Result T Halt} {result : Result (Unit {0}) Halt} → Reads f docs folder folder' read → OnOk result (AppendsReplyTo request out out') → OnOk result (FitsFor docs request) → OnErr result (out' ≡ out) → IfErr result (λ halt. halt ≡ Stopped NoMemory)
+  pub viewed : {read : Result T Halt} {result : Result (Unit {0}) Halt} → ReadsDocuments request → Reads f docs folder folder' read → OnOk result (AppendsReplyTo request out out') → OnOk result (FitsFor docs request) → OnErr result (out' ≡ out) → IfErr result (λ halt. halt ≡ Stopped NoMemory)
       → OnOk result (AppendsReply f s (scene (record { docs = docs; pool = pool }) folder servers) (scene (record { docs = docs; pool = pool' }) folder' servers') request out out')
       → IfErr result (LeavesHalted f s (scene (record { docs = docs; pool = pool }) folder servers) (scene (record { docs = docs; pool = pool' }) folder' servers') request)
       → StaysAsMade pool pool' → s.faults servers ≤ s.faults servers'
       → Performed f s (scene (record { docs = docs; pool = pool }) folder servers) (scene (record { docs = docs; pool = pool' }) folder' servers') request out out' result
-  viewed {result = result} reads prints fits silent memory appends leaves keeps later = record {
+  viewed {result = result} is_read reads prints fits silent memory appends leaves keeps later = record {
     does = does_by f s _ _ request out out' result appends leaves
         (IfErr-weaker result (λ halt. halt ≡ Stopped NoMemory) _ (λ halt spent fault is other. absurd (other (let so : fault ≡ NoMemory = cc in so))) memory);
     prints = prints;
     silent = silent;
+    refused = read_request_unread request result is_read;
     blames = λ is. absurd (spent_unblamed result memory is);
     fits = fits;
     disk = disk_read reads.disk is_open;

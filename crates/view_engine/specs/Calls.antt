@@ -1,5 +1,5 @@
 -- What a request promises, whole: over the documents alone, over the engine, and as the step of a line.
-use Rattle.std.specs.Prelude.{◌≡◌, ◌≢◌, ◌≤◌, ◌++◌, ℕ, List, [], true, false, Result, Ok, Err, IfErr, OnErr, OnOk, Some}
+use Rattle.std.specs.Prelude.{◌≡◌, ◌≢◌, ◌⊎◌, ◌≤◌, ◌++◌, ℕ, List, [], true, false, Result, Ok, Err, IfErr, OnErr, OnOk, Some}
 use Rattle.json_terms.specs.Json.{object, members_of}
 use Rattle.view_ports.specs.Disk.{IfTold}
 use Rattle.view_ports.specs.Faults.{RoseBy}
@@ -114,6 +114,10 @@ module _ {F : Type 0} (f : Folders F) where
 
 -- ---- a request on the engine
 
+-- a line that is no request is refused as that, unless memory runs out
+abbrev pub RefusesUnread : Result Request Refusal → Result (Unit {0}) Halt → Type 0
+RefusesUnread request result = IfErr request (λ refusal. (result ≡ Err (Refused refusal)) ⊎ (result ≡ Err (Stopped NoMemory)))
+
 -- an engine between its ports
 pub record Scene (F C : Type 0) : Type 0 where
   pub engine : Engine
@@ -165,6 +169,7 @@ module _ {F C : Type 0} (f : Folders F) (s : Servers C) where
       -- where it is done a reply line is appended, and else nothing
       pub prints : OnOk result (AppendsReplyTo request out out')
       pub silent : OnErr result (out' ≡ out)
+      pub refused : RefusesUnread request result
       -- it is refused as a fault of the query servers only where their count rose by two
       pub blames : result ≡ Err (Refused ServerFault) → RoseBy 2 (s.faults old.servers) (s.faults new.servers)
       -- what is written passes no limit of the file

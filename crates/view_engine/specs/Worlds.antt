@@ -53,6 +53,13 @@ pub record IsFullAt (files : FileName → File) (world : World) (request : Resul
   pub write : Write
   pub accepted : IsWrite world request write
 
+-- An engine is open over the files, and what the request writes would make the documents' file among them too long, or is one
+-- commit too many.
+pub record IsFullIn (files : FileName → File) (request : Result Request Refusal) (name : FileName) (length : Option ℕ) : Type 0 where
+  pub docs : Docs
+  pub is_open : AreOpen docs files
+  pub full : IsFullFor docs request name length
+
 -- The files hold this world, and what the request writes passes neither limit of the documents' file among them.
 pub record HasRoomAt (files : FileName → File) (world : World) (request : Result Request Refusal) : Type 0 where
   pub docs : Docs

@@ -37,7 +37,7 @@ returns-in-Info g c = acted c.in-Info.is (spent_here c.requires.open c.in-Err.en
 
 pub returns-in-View : goal.returns-in-View
 returns-in-View g c =
-    refused_at_once (λ is. cc) (λ before. inr (
+    refused_at_once tt (λ is. cc) (λ before. inr (
       NotBuiltYet,
       subst (λ (r : Request). IsRefusedAs g.C.Servers.functions g.C.Servers.honest (languages_of c.args.self.now.pool) before.world r NotBuiltYet)
           (sym (c.in-View.is ∙ ap (ViewRequest c.in-View.view) c.in-Some.is)) refl,
@@ -47,7 +47,7 @@ returns-in-View g c =
 pub returns : goal.returns
 returns g c =
     let other = c.in_default in
-    refused_at_once (λ is. cc) (λ before. inr (
+    refused_at_once tt (λ is. cc) (λ before. inr (
       NotBuiltYet,
       unbuilt g.C.Servers.functions g.C.Servers.honest (languages_of c.args.self.now.pool) before.world c.args.request other.not-Put other.not-Delete other.not-Get other.not-Info (λ view. other.not-View view None),
       (refl, refl),

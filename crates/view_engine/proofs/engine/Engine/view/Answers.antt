@@ -50,7 +50,7 @@ returns-in-Err-load_mapped g c = viewed_halted c.requires.open (λ is. absurd (c
     (λ fault is other before child. child) (record { languages = refl; width = refl }) (omega arith)
 
 pub returns-in-Ok-map_all : goal.returns-in-Ok-map_all
-returns-in-Ok-map_all g c = viewed c.requires.open (reads_then c.in-Ok.ensures.reads c.in-Ok-load_mapped.ensures.reads)
+returns-in-Ok-map_all g c = viewed c.requires.open tt (reads_then c.in-Ok.ensures.reads c.in-Ok-load_mapped.ensures.reads)
     (on_ok_weaker c.append_rows.result (λ printed. record {
       reply = answer (sorted_rows (emitted_rows c.as_slice-in-Ok-map_all.result.now (emitted_at c.in-Ok.plan.place c.as_slice-in-Ok-map_all-2.result.now)));
       line = printed.1;
