@@ -1,4 +1,4 @@
-//! Tests of the public calls of the crates `gate_file`, `doc_file` and `view_index`; nothing else.
+//! Tests of the public calls of the crates `gate_file` and `doc_file`; nothing else.
 #![tactic(auto)]
 
 #[cfg(test)]
@@ -11,13 +11,6 @@ mod documents;
 mod gate_file_tests;
 #[cfg(test)]
 mod incoming_tests;
-#[cfg(test)]
-mod index_file_tests;
-#[cfg(test)]
-mod index_scripts;
-#[cfg(test)]
-mod index_tests;
-pub mod indexes;
 #[cfg(test)]
 mod opening_tests;
 #[cfg(test)]

@@ -1,7 +1,7 @@
 use Rattle.std.specs.Prelude.{◌≡◌, true}
 use Rattle.std.specs.List.{list_all}
 use Rattle.view_index.specs.Replaced.{is_emission}
-use Rattle.file_tests.proofs.indexes.emissions_of.Given as goal
+use Rattle.index_tests.proofs.indexes.emissions_of.Given as goal
 
 abbrev pub invariant-loop-key : goal.invariant-loop-key
 invariant-loop-key l = list_all is_emission l.emissions ≡ true

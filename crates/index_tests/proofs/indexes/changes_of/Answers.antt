@@ -1,8 +1,8 @@
 use Rattle.std.specs.Prelude.{◌≡◌, ◌∷◌, [], ◌++◌, List, bytes_eq, false}
 use Rattle.std.proofs.Common.{ap, ◌∙◌, rules}
 use Rattle.view_index.specs.declared.doc_rows.DocRows.{DocRows}
-use Rattle.file_tests.proofs.Fit.{apart_two}
-use Rattle.file_tests.proofs.indexes.changes_of.Goals as goal
+use Rattle.index_tests.proofs.Fit.{apart_two}
+use Rattle.index_tests.proofs.indexes.changes_of.Goals as goal
 
 pub returns-clause-distinct : goal.returns-clause-distinct
 returns-clause-distinct c =

@@ -19,7 +19,7 @@ use Rattle.view_index.specs.Held.{or_empty, HoldsPicture}
 use Rattle.view_index.specs.Index.{both_in, file_of, is_touched, picture_of, views_of, IsSame}
 use Rattle.view_index.specs.Pending.{ArePending}
 use Rattle.view_index.specs.ViewRows.{next_rows}
-use Rattle.file_tests.specs.Indexes.{IsHeld}
+use Rattle.index_tests.specs.Indexes.{IsHeld}
 
 abbrev first_of : List Row × List Row → List Row
 first_of both = both.0

@@ -1,6 +1,6 @@
 use Rattle.crash_disk.specs.State.{told}
-use Rattle.file_tests.specs.Indexes.{IsHeld}
-use Rattle.file_tests.proofs.indexes.play_all.Given as goal
+use Rattle.index_tests.specs.Indexes.{IsHeld}
+use Rattle.index_tests.proofs.indexes.shows_all.Given as goal
 
 abbrev pub invariant-loop-turn : goal.invariant-loop-turn
 invariant-loop-turn l = IsHeld l.index (told l.folder)

@@ -4,8 +4,8 @@ use Rattle.std.proofs.Common.{ap, subst, sym}
 use Rattle.view_index.specs.Replaced.{ids_of}
 use Rattle.view_index.specs.declared.doc_rows.DocRows.{DocRows}
 use Rattle.crash_disk.specs.State.{told}
-use Rattle.file_tests.proofs.Held.{held_exchanged}
-use Rattle.file_tests.proofs.indexes.exchange.Goals as goal
+use Rattle.index_tests.proofs.Held.{held_exchanged}
+use Rattle.index_tests.proofs.indexes.exchange.Goals as goal
 
 pub returns : goal.returns
 returns c =

@@ -7,7 +7,7 @@ ghost use Rattle.view_ports.specs.declared.file_name.FileName.{FileName as NameS
 ghost use Rattle.crash_disk.specs.State.{calls_told, told};
 ghost use Rattle.view_index.specs.Index.{views_of};
 ghost use Rattle.view_index.specs.Replaced.{ids_of, is_change, is_emission};
-ghost use Rattle.file_tests.specs.Indexes.{IsHeld};
+ghost use Rattle.index_tests.specs.Indexes.{IsHeld};
 
 use crash_disk::MemoryFolder;
 use json_terms::{Chars, Emissions, NoMemory, Row, RowLists, Term};
