@@ -18,5 +18,7 @@ pub mod Mapped
 pub mod Batches
 pub mod Pooled
 pub mod Updated
+pub mod Firsts
+pub mod Nexts
 pub mod Remembered
 pub mod Honesty

@@ -1,5 +1,5 @@
 -- Mapping all documents: the children are made ready, and then map them.
-use Rattle.std.proofs.Common.{◌≡◌, ◌⊎◌, ◌<◌, ◌++◌, ℕ, List, [], ◌∷◌, length, max, min, OnOk, Result, Ok, Err, refl, sym, ap, ◌∙◌, subst, inl, inr, arith, append_assoc}
+use Rattle.std.proofs.Common.{◌≡◌, ◌++◌, ℕ, List, [], ◌∷◌, length, min, Result, Ok, Err, refl, sym, ap, ◌∙◌, subst, inl, inr, arith}
 use Rattle.std.specs.List.{AllByRecursion, AllZip}
 use Rattle.json_terms.specs.Json.{Json}
 use Rattle.view_ports.specs.Calls.{Call}
@@ -8,21 +8,17 @@ use Rattle.query_protocol.specs.Replies.{AreFew}
 use Rattle.child_pool.specs.declared.doc_rows.DocRowLists.{DocRowLists}
 use Rattle.child_pool.specs.declared.pool.Pool.{Pool}
 use Rattle.child_pool.specs.declared.pool_fault.PoolFault.{PoolFault}
-use Rattle.child_pool.specs.Histories.{WentIn, talk}
+use Rattle.child_pool.specs.Histories.{WentIn}
 use Rattle.child_pool.specs.Jobs.{IsAmong, Job}
 use Rattle.child_pool.specs.Mapping.{AreHonestRows, AreParts}
-use Rattle.child_pool.specs.Pools.{AfterBatch, AfterPreparing, AreKept, AreStopped, HasGivenUp, HasItsChildren, IsKept}
+use Rattle.child_pool.specs.Pools.{AfterPreparing, AreStopped, HasItsChildren}
 use Rattle.child_pool.specs.Prompts.{document_prompts, slots_prompts, update_prompts}
-use Rattle.child_pool.specs.Refused.{Refused}
 use Rattle.child_pool.specs.Talk.{AreTurns, Due, ready_slots, talk_of}
 use Rattle.child_pool.specs.Tries.{AllAnswered, Prompt}
 use Rattle.child_pool.specs.Updates.{AfterTries, AfterUpdate}
-use Rattle.child_pool.proofs.Attempts.{refused_after}
 use Rattle.child_pool.proofs.Pooled.{Stands, some_kept}
 use Rattle.child_pool.proofs.Refusals.{given_up_before, talk_given_up}
-use Rattle.child_pool.proofs.Slots.{map_in, none_in, then_in}
-use Rattle.child_pool.proofs.Talking.{talk_answered, update_lines}
-use Rattle.child_pool.proofs.Trying.{answered_then, answered_wider}
+use Rattle.child_pool.proofs.Slots.{map_in, none_in}
 
 -- each of some is among them
 among_more : {X : Type 0} (x : X) (xs ys : List X) → AllByRecursion (IsAmong xs) ys → AllByRecursion (IsAmong (x ∷ xs)) ys
@@ -105,48 +101,3 @@ module _ (functions : List ℕ → Functions) (honest : List ℕ → Type 0) (jo
         let all = given_up_before functions honest job old.width (slots_prompts job.sources kept slots) (document_prompts job.sources job.documents) (update_prompts job old.width kept) rose pool f calls w.added w.now (prompts_are job old slots is kept) w.holds.2 in
         map_in w (λ added now. AfterTries functions honest job old rose pool (Err f) calls added now × AfterUpdate functions honest job old.width rose pool (Err f) calls added now)
         ((kept, w.holds.1, all), talk_given_up functions honest job old.width kept rose pool f calls w.added w.now old.one_child all)
-
-    pub updated : {first second : List Call → Type 0} (rose_first rose_second rose : Type 0) (ready_pool pool : Pool) (result : Result DocRowLists PoolFault) → 0 < slots → (rose_first → rose) → (rose_second → rose) → OnOk result (pool ≡ ready_pool)
-        → (w : WentIn first job old.width calls (AfterPreparing functions honest job old slots rose_first ready_pool (Ok tt) calls)) (v : WentIn second job old.width w.now (AfterBatch functions honest job old.width slots job.documents rose_second pool result w.now))
-        → Both functions honest job old calls second rose pool result
-    updated rose_first rose_second rose ready_pool pool (Ok lists) some f g same w v =
-        let kept = w.holds.0 in
-        let prepared = w.holds.2 in
-        let first = slots_prompts job.sources kept slots in
-        let last = document_prompts job.sources job.documents in
-        let answered = subst (λ (prompts : List Prompt). AllAnswered rose prompts (v.added ++ w.added)) (sym (prompts_are job old slots is kept))
-        (answered_then rose first last w.added v.added (answered_wider rose_first rose f first w.added prepared.1) (answered_wider rose_second rose g last v.added v.holds.answered)) in
-        let remembers = subst (λ (n : ℕ). IsKept pool job.path (max n kept)) is (subst (λ (p : Pool). IsKept p job.path (max slots kept)) (sym same) (prepared.2 some)) in
-        let talked : AreTurns (talk_of job.sources job.documents old.width) (talk (v.added ++ w.added)) ⊎ rose = elim (talk_answered rose (update_prompts job old.width kept) (v.added ++ w.added) answered) [
-          | inl turns ↦ inl (subst (λ (dues : List Due). AreTurns dues (talk (v.added ++ w.added))) (update_lines job old.width kept old.one_child) turns)
-          | inr counted ↦ inr counted
-        ] in
-        then_in w v (λ added now. AfterTries functions honest job old rose pool (Ok lists) calls added now × AfterUpdate functions honest job old.width rose pool (Ok lists) calls added now) (
-          (kept, w.holds.1, record { answered = answered; remembers = λ documents. remembers }),
-          (
-            v.holds.is_ready.there,
-            record {
-              rows = v.holds.rows;
-              compile = λ is_honest documents. (v.holds.is_ready.told 0 some).compile is_honest;
-              talked = talked;
-            },
-            λ documents. subst (AreKept pool job.path) is v.holds.is_ready.remembered,
-          ),
-        )
-    updated rose_first rose_second rose ready_pool pool (Err fault) some f g same w v =
-        let kept = w.holds.0 in
-        let prepared = w.holds.2 in
-        let first = slots_prompts job.sources kept slots in
-        let last = document_prompts job.sources job.documents in
-        let h = v.holds in
-        let refused = refused_after functions honest job first last rose_first rose_second rose f g fault w.added h.tried calls w.now w.is_now prepared.1 h.refused in
-        let all : HasGivenUp functions honest job old.width (update_prompts job old.width kept) rose pool fault calls (v.added ++ w.added) v.now = record {
-          tried = h.tried ++ w.added;
-          stops = h.stops;
-          is = ap (λ (calls : List Call). calls ++ w.added) h.is ∙ append_assoc h.stops h.tried w.added;
-          only = h.only;
-          refused = subst (λ (prompts : List Prompt). Refused functions honest job prompts rose fault calls (h.tried ++ w.added)) (sym (prompts_are job old slots is kept)) refused;
-          stopped = h.stopped;
-        } in
-        then_in w v (λ added now. AfterTries functions honest job old rose pool (Err fault) calls added now × AfterUpdate functions honest job old.width rose pool (Err fault) calls added now)
-        ((kept, w.holds.1, all), talk_given_up functions honest job old.width kept rose pool fault calls (v.added ++ w.added) v.now old.one_child all)

@@ -21,3 +21,4 @@ pub mod Languages
 pub mod Pools
 pub mod Updates
 pub mod PoolCalls
+pub mod Firsts

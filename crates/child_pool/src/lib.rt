@@ -17,6 +17,6 @@ mod shown_line;
 pub use doc_rows::DocRowLists;
 pub use document::Document;
 pub use languages::language_word;
-pub use laws::honest_paths_are_refused_rightly;
+pub use laws::{honest_paths_are_refused_rightly, updates_go_in_pages};
 pub use pool::Pool;
 pub use pool_fault::PoolFault;

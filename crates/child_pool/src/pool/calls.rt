@@ -1,6 +1,7 @@
 // The calls of the pool: children are made ready, map documents, and are stopped.
 ghost use Rattle.std.specs.Prelude.{◌≡◌, ◌≢◌, ◌≤◌, ◌<◌, ◌^◌, ◌⊎◌, [], IfErr, IfOk, OnOk, None, Some, length, min};
 ghost use Rattle.design_docs.specs.Design.{map_sources};
+ghost use Rattle.child_pool.specs.Firsts.{MapsNext};
 ghost use Rattle.child_pool.specs.Mapping.{AreBounded};
 ghost use Rattle.child_pool.specs.PoolCalls.{Ends, MapsNothing, StaysAsMade, Maps, MapsAll, MapsBatch, Prepares, Readies, RefusesIdly, RefusesStopping, RefusesUnknown, StopsAll, path_for};
 ghost use Rattle.child_pool.specs.Pools.{IsKeptOf};
@@ -101,8 +102,35 @@ impl Pool {
             MapsNothing servers.old servers.new self.old self.new result }
         ensures bounded { IfOk result (AreBounded (length design.now.views) (length documents.now)) }
     {
+        self.map_next(alloc, servers, design, documents, false)
+    }
+
+    /// Maps the next documents of an update that comes page by page. The first of them make the children ready, as many as the
+    /// update needs; `begun` says that earlier pages had documents, since when the children were used for nothing else. Without
+    /// documents no server is called. After a refusal no child is left. The refusals are those of `prepare`.
+    pub fn map_next<C: Servers>(
+        &mut self,
+        alloc: Global,
+        servers: &mut C,
+        design: &Design,
+        documents: &[Document],
+        begun: bool,
+    ) -> Result<DocRowLists, PoolFault>
+        requires few { length design.now.views < 2 ^ 32 }
+        ensures went { MapsNext C.Servers servers.old servers.new
+            self.old self.new design.now begun documents.now result }
+        ensures ends { Ends C.Servers servers.old servers.new self.old self.new design.now result }
+        ensures unknown { documents.now ≢ [] → RefusesStopping C.Servers servers.old servers.new
+            self.old self.new design.now result }
+        ensures idle { documents.now ≡ [] →
+            MapsNothing servers.old servers.new self.old self.new result }
+        ensures bounded { IfOk result (AreBounded (length design.now.views) (length documents.now)) }
+    {
         if documents.is_empty() {
             return Ok(DocRowLists::new(alloc));
+        }
+        if begun {
+            return self.map_batch(alloc, servers, design, documents);
         }
         let slots = self.slots_for(documents.len());
         match self.prepare(alloc, servers, design, slots) {
