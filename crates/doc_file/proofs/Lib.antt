@@ -21,6 +21,7 @@ pub mod NotOfFile
 mod Storable
 mod Nexts
 mod Numbers
+pub mod Pages
 mod Since
 mod Progress
 mod Known

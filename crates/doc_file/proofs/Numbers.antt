@@ -182,7 +182,7 @@ later seq k [] less = refl
 later seq k (write ∷ older) less = later_match seq k write older less (bool_cases (nat_lt k (length (write ∷ older)))) (later seq k older less)
 
 -- those behind the first are those after its number
-rest_after : (seq : ℕ) (history : List Write) (c : ℕ × Write) (rest : List (ℕ × Write)) → changes_after seq history ≡ c ∷ rest → rest ≡ changes_after c.0 history
+pub rest_after : (seq : ℕ) (history : List Write) (c : ℕ × Write) (rest : List (ℕ × Write)) → changes_after seq history ≡ c ∷ rest → rest ≡ changes_after c.0 history
 rest_after seq history c rest is =
     let rising : Rises (c ∷ rest) = subst Rises is (rises seq history) in
     let is_numbered : All (IsNumbered history seq) (c ∷ rest) = subst (All (IsNumbered history seq)) is (each_numbered seq history) in

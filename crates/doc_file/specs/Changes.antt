@@ -1,5 +1,5 @@
 -- What has changed since a write: the last writes with greater numbers.
-use Rattle.std.specs.Prelude.{◌≡◌, ◌⊎◌, ℕ, ◌<◌, ◌≤◌, ◌^◌, List, length, map, true, false, Option, Some, None, option_map, IfSome, All, AllPairs, Contains}
+use Rattle.std.specs.Prelude.{◌≡◌, ◌⊎◌, ℕ, ◌<◌, ◌≤◌, ◌^◌, List, [], ◌∷◌, length, map, true, false, Option, Some, None, option_map, IfSome, All, AllPairs, Contains}
 use Rattle.json_terms.specs.Json.{Json}
 use Rattle.json_terms.specs.Seen.{json}
 use Rattle.doc_file.specs.declared.docs.Docs.{Docs}
@@ -13,6 +13,11 @@ use Rattle.doc_file.specs.History.{Write}
 -- a change as its number and its write
 abbrev pub numbered : Change → ℕ × Write
 numbered change = (change.seq, record { id = change.id; document = option_map json change.doc })
+
+-- the number of the last of these changes, or this one where there are none
+abbrev pub last_number : ℕ → List (ℕ × Write) → ℕ
+last_number seq [] = seq
+last_number seq (change ∷ changes) = last_number change.0 changes
 
 -- the stored document of an id's last write; a deletion has none
 abbrev pub IsStored : List ℕ → List ℕ → LastWrite → Option Json → Type 0

@@ -1,5 +1,5 @@
 -- What the definitions of documents say together.
-use Rattle.std.specs.Prelude.{◌≡◌, ◌<◌, ℕ, List, [], Some, filter, nat_lt, All, AllPairs}
+use Rattle.std.specs.Prelude.{◌≡◌, ◌<◌, ◌++◌, ℕ, List, [], Some, take, filter, nat_lt, All, AllPairs}
 use Rattle.std.specs.List.{AllByRecursion}
 use Rattle.std.specs.List.Sorted.{IsPermutation}
 use Rattle.json_terms.specs.Json.{Json}
@@ -10,6 +10,7 @@ use Rattle.doc_file.specs.declared.docs.Docs.{Docs}
 use Rattle.doc_file.specs.Accepted.{state_in, state_of}
 use Rattle.doc_file.specs.Docs.{last_of, HoldsHistory, IsAt, IsDocsFile}
 use Rattle.doc_file.specs.Held.{Stands}
+use Rattle.doc_file.specs.Changes.{last_number}
 use Rattle.doc_file.specs.History.{AreStored, IsStoredAs, Write, changes_after, last_seq, last_write, live_document, mapped, mapped_after}
 
 -- a crash leaves of open documents what stands for their history
@@ -48,3 +49,8 @@ LiveAreStored = (history : List Write) → AreStored history → (id : List ℕ)
 -- and so is each that views map
 abbrev pub MappedAreStored : Type 0
 MappedAreStored = (history : List Write) → AreStored history → (seq : ℕ) → AllByRecursion (λ entry. IsStoredAs entry.0 entry.1) (mapped_after seq history)
+
+-- what has changed may be listed page by page: behind the first n comes what was written after the last of their numbers
+abbrev pub ChangesGoInPages : Type 0
+ChangesGoInPages = (history : List Write) (seq n : ℕ)
+    → changes_after seq history ≡ take n (changes_after seq history) ++ changes_after (last_number seq (take n (changes_after seq history))) history

@@ -1,6 +1,6 @@
 //! Laws of the documents' file. Each holds for all values, and its function does nothing.
 
-ghost use Rattle.doc_file.specs.Laws.{ChangesAreNumbered, EmptyFoldersHoldNoWrites, FilesHold, ImagesStand, LaterAreListed, LiveAreStored, MappedAreListed, MappedAreStored, StatesAreTold};
+ghost use Rattle.doc_file.specs.Laws.{ChangesAreNumbered, ChangesGoInPages, EmptyFoldersHoldNoWrites, FilesHold, ImagesStand, LaterAreListed, LiveAreStored, MappedAreListed, MappedAreStored, StatesAreTold};
 
 /// Each image that a crash may leave of open documents stands for their history.
 pub fn images_of_open_documents_stand()
@@ -35,6 +35,11 @@ pub fn later_documents_are_listed()
 /// What has changed is the last write of its id, and is listed in the order of the numbers.
 pub fn changes_are_numbered()
     ensures { ChangesAreNumbered }
+{}
+
+/// It may be listed page by page.
+pub fn changes_go_in_pages()
+    ensures { ChangesGoInPages }
 {}
 
 /// Of a history whose documents can be stored, each live document and each that views map can be stored, and is of its id.

@@ -5,7 +5,7 @@ ghost use Rattle.json_terms.specs.Seen.{json};
 ghost use Rattle.view_ports.specs.Disk.{MovesNone};
 ghost use Rattle.gate_file.specs.Calls.{Moved, ReadsUpTo, Told};
 ghost use Rattle.gate_file.specs.GateFile.{name_of};
-ghost use Rattle.doc_file.specs.Changes.{numbered, AreInOrder, AreWhole, HasDocument, HasShortId, IsChange, IsNext, IsSpoiledAfter, IsStored};
+ghost use Rattle.doc_file.specs.Changes.{last_number, numbered, AreInOrder, AreWhole, HasDocument, HasShortId, IsChange, IsNext, IsSpoiledAfter, IsStored};
 ghost use Rattle.doc_file.specs.Docs.{bytes_in, file_of, IsLoaded, IsSpoiled};
 ghost use Rattle.doc_file.specs.History.{changes_after};
 ghost use Rattle.doc_file.specs.Reads.{AtHistory, FindsDamage, FindsNoDamage, IsCounted, IsReadFault};
@@ -73,6 +73,16 @@ impl Changes {
         ensures { result.now ≡ self.now }
     {
         self.items.as_slice()
+    }
+
+    /// The number of the last of them, or `seq` where there are none.
+    pub fn last_seq(&self, seq: u64) -> u64
+        ensures { result ≡ last_number seq (map numbered self.now) }
+    {
+        match self.items.as_slice().last() {
+            Some(change) => change.seq,
+            None => seq,
+        }
     }
 
     /// The list of the changes, without taking memory.
