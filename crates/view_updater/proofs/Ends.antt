@@ -1,5 +1,5 @@
 -- How an update ends: what the folder and the index are at, and what was asked.
-use Rattle.std.specs.Prelude.{◌≡◌, ◌⊎◌, ◌≤◌, ℕ, List, map, length, Result, Ok, Err, OnOk, Option, Some}
+use Rattle.std.specs.Prelude.{◌≡◌, ◌⊎◌, ◌≤◌, ◌++◌, ℕ, List, map, length, Result, Ok, Err, IfOk, OnOk, Option, Some}
 use Rattle.std.proofs.Common.{refl, sym, ap, ◌∙◌, subst, inl, inr}
 use Rattle.raw_collation.specs.Sorting.{sorted_rows}
 use Rattle.view_ports.specs.Calls.{Call}
@@ -38,7 +38,7 @@ use Rattle.view_updater.specs.declared.fault.UpdateFault.{UpdateFault}
 use Rattle.view_updater.specs.declared.fault.UpdateFault.TheVariants.{Docs as OfDocuments, Index as OfIndex, NoMemory}
 use Rattle.view_updater.specs.Exchanges.{HasExchanged, TakesIn}
 use Rattle.view_updater.specs.Faults.{by_index, by_pool}
-use Rattle.view_updater.specs.Updates.{documents_since, side, EndsAt, HasAsked, IsIdle, IsMetAs, IsNext, IsReached, Side, StandsAround}
+use Rattle.view_updater.specs.Updates.{documents_since, side, EndsAt, HasAsked, HasBrokenOff, IsBreak, IsIdle, IsMetAs, IsNext, IsReached, Side, StandsAround}
 use Rattle.view_updater.proofs.Carrying.{at_still, open_still, same_stem, same_views, stands_now, views_by_picture}
 use Rattle.view_updater.proofs.Nexts.{nothing_updated, rows_updated}
 
@@ -149,21 +149,28 @@ module _ {F C : Type 0} (f : Folders F) (s : Servers C) (docs : Docs) (design : 
     left = side folder mid.servers mid.pool index
 
     abbrev Exchanged : Result (Unit {0}) UpdateFault → List Write → Type 0
-    Exchanged result history = (IsIdle f s docs design from mid × OnOk result ⊥) ⊎ HasExchanged f s docs design from mid history result
+    Exchanged result history = HasExchanged f s docs design from mid history result ⊎ HasBrokenOff f s docs design from mid history result
 
     abbrev Asked : Result (Unit {0}) UpdateFault → List Write → Type 0
     Asked result history = (IsIdle f s docs design old left × OnOk result (seq_of old.index ≡ length history)) ⊎ HasAsked f s docs design old left history result
 
-    pub asked : (before result : Result (Unit {0}) UpdateFault) → ((mapped : Result DocRowLists PoolFault) → IsMetAs mapped before → IsMetAs mapped result) → (OnOk before ⊥ → OnOk result ⊥)
+    pub asked : (before result : Result (Unit {0}) UpdateFault) → ((mapped : Result DocRowLists PoolFault) → IsMetAs mapped before → IsMetAs mapped result) → (IsBreak before → IsBreak result)
         → (history : List Write) → IfTold (f.disk old.folder) (λ d. AreAt docs d.now history → Exchanged before history) → IfTold (f.disk old.folder) (λ d. AreAt docs d.now history → Asked result history)
-    asked before result met failed history =
+    asked before result met breaks history =
         told_now (f.disk old.folder) (λ d. AreAt docs d.now history → Exchanged before history) (λ d. AreAt docs d.now history → Asked result history) (λ d asks here. elim (asks here) [
-          | inl idle ↦ inl (idle.0, never_ok result (seq_of old.index ≡ length history) (failed idle.1))
-          | inr has ↦ inr (
+          | inl has ↦ inr (inl (
             has.mapped,
             met has.mapped has.met,
             subst (λ (n : ℕ). MapsAll s old.servers mid.servers old.pool design (documents_since n history) mid.pool has.mapped) seq_back has.maps,
-          )
+          ))
+          | inr has ↦ inr (inr (record {
+            done = has.done;
+            left = has.left;
+            all = subst (λ (n : ℕ). documents_since n history ≡ has.done ++ has.left) seq_back has.all;
+            lists = has.lists;
+            mapped = has.mapped;
+            cause = breaks has.cause;
+          }))
         ])
 
   -- ---- the picture that is committed
@@ -180,7 +187,7 @@ module _ {F C : Type 0} (f : Folders F) (s : Servers C) (docs : Docs) (design : 
 
     module _ (path : List ℕ) (calls : List Call) (follows : s.may_follow old.servers calls) (known : path_for old.pool design ≡ Some path) (has : HasItsChildren old.pool calls) where
       next_by : (mapped : Result DocRowLists PoolFault) → IsMetAs mapped well → MapsAll s old.servers mid.servers old.pool design (documents_since (seq_of rolled) history) mid.pool mapped
-          → TakesIn f s docs design from mid history mapped well
+          → OnOk well (IfOk mapped (TakesIn f s docs design from mid (changes_after (seq_of rolled) history)))
           → IsUpdated (s.functions path) (s.honest path × (length design.views ≤ source_limit)) design.views history (picture_of rolled) (next_picture newest mid.index)
       next_by (Err fault) met maps takes = absurd (well_met fault met)
       next_by (Ok lists) met maps takes =
@@ -196,7 +203,7 @@ module _ {F C : Type 0} (f : Folders F) (s : Servers C) (docs : Docs) (design : 
   pending_now : (history : List Write) → HasExchanged f s docs design from mid history well → ArePending mid.index
   pending_now history has = by_mapped has.mapped has.met has.takes
     where
-      by_mapped : (mapped : Result DocRowLists PoolFault) → IsMetAs mapped well → TakesIn f s docs design from mid history mapped well → ArePending mid.index
+      by_mapped : (mapped : Result DocRowLists PoolFault) → IsMetAs mapped well → OnOk well (IfOk mapped (TakesIn f s docs design from mid (changes_after (seq_of rolled) history))) → ArePending mid.index
       by_mapped (Err fault) met takes = absurd (well_met fault met)
       by_mapped (Ok lists) met takes = takes.1 back.pending
 
@@ -228,7 +235,7 @@ module _ {F C : Type 0} (f : Folders F) (s : Servers C) (docs : Docs) (design : 
           (subst (λ (stem : Stem). Tells (f.disk mid.folder) (f.disk folder) (Moves (IsFileOf stem) (λ image. Unit {0}) (λ files. OnOk committed (IsOpen index files)))) stem_then commits.others)
 
       module _ (newest_is : newest ≡ docs.seq) (asks : (history : List Write) → IfTold (f.disk old.folder) (λ d. AreAt docs d.now history
-          → (IsIdle f s docs design from mid × OnOk well ⊥) ⊎ HasExchanged f s docs design from mid history well)) where
+          → HasExchanged f s docs design from mid history well ⊎ HasBrokenOff f s docs design from mid history well)) where
         module _ (history : List Write) (picture : Option Picture) where
           abbrev Known : (FileName → File) → Type 0
           Known files = IsReached docs old.index history picture files × HasExchanged f s docs design from mid history well
@@ -239,14 +246,14 @@ module _ {F C : Type 0} (f : Folders F) (s : Servers C) (docs : Docs) (design : 
           abbrev Left : (FileName → List ℕ) → Type 0
           Left image = Stands (stem_of old.index) (views_of old.index) image picture ⊎ Stands (stem_of old.index) (views_of old.index) image (Some next)
 
-          chosen : (IsIdle f s docs design from mid × OnOk well ⊥) ⊎ HasExchanged f s docs design from mid history well → HasExchanged f s docs design from mid history well
-          chosen (inl idle) = absurd idle.1
-          chosen (inr has) = has
+          chosen : HasExchanged f s docs design from mid history well ⊎ HasBrokenOff f s docs design from mid history well → HasExchanged f s docs design from mid history well
+          chosen (inl has) = has
+          chosen (inr broken) = absurd broken.cause
 
           is_known : IfTold (f.disk old.folder) (λ d. IsReached docs old.index history picture d.now) → IfTold (f.disk old.folder) (λ d. Known d.now)
           is_known reached =
               told_pair (f.disk old.folder) (λ d. IsReached docs old.index history picture d.now)
-              (λ d. AreAt docs d.now history → (IsIdle f s docs design from mid × OnOk well ⊥) ⊎ HasExchanged f s docs design from mid history well) (λ d. Known d.now)
+              (λ d. AreAt docs d.now history → HasExchanged f s docs design from mid history well ⊎ HasBrokenOff f s docs design from mid history well) (λ d. Known d.now)
               (λ d is told. (is, chosen (told is.documents))) reached (asks history)
 
           pub known_next : (new : Side F C) (files : FileName → File) → Known files → IsNext f s docs design old new history picture next

@@ -1,68 +1,220 @@
--- What the exchange asks for and takes in.
-use Rattle.std.specs.Prelude.{◌≡◌, ◌⊎◌, ℕ, List, map, bytes_eq, Result, Ok, Err, OnOk}
+-- What an exchange asks for and takes in, page by page.
+use Rattle.std.specs.Prelude.{◌≡◌, ◌⊎◌, ◌+◌, ◌++◌, ◌<◌, ◌≤◌, ◌||◌, ℕ, List, [], length, take, bytes_eq, false, Option, Result, Ok, Err}
 use Rattle.std.specs.List.{IsDistinct}
-use Rattle.std.proofs.Common.{sym, ap, ◌∙◌, subst, inl, inr}
+use Rattle.std.proofs.Common.{refl, sym, ap, ◌∙◌, subst, inl, inr, arith, append_assoc, append-nil}
+use Rattle.std.proofs.lemmas.List.{length-append, nil_from_length}
 use Rattle.json_terms.specs.Json.{Json}
-use Rattle.view_ports.specs.Disk.{IfTold}
+use Rattle.view_ports.specs.Disk.{IfTold, MovesNone, Tells}
 use Rattle.view_ports.specs.declared.folder.Folder.{Ghosts as Folders}
 use Rattle.view_ports.specs.declared.servers.Servers.{Ghosts as Servers}
-use Rattle.view_ports.proofs.Told.{told_all, told_now}
+use Rattle.view_ports.proofs.DiskRuns.{none_refl}
+use Rattle.view_ports.proofs.Told.{told_all, told_now, told_pair, told_refl}
+use Rattle.gate_file.proofs.Looks.{told_none_then}
 use Rattle.design_docs.specs.declared.design.Design.{Design}
-use Rattle.query_protocol.specs.CommandLines.{document_of}
 use Rattle.doc_file.specs.declared.docs.Docs.{Docs}
+use Rattle.doc_file.specs.Changes.{last_number}
 use Rattle.doc_file.specs.Docs.{IsAt as AreAt}
 use Rattle.doc_file.specs.History.{Write, changes_after}
+use Rattle.doc_file.proofs.Pages.{go_in_pages}
 use Rattle.child_pool.specs.declared.doc_rows.DocRowLists.{DocRowLists}
 use Rattle.child_pool.specs.declared.pool_fault.PoolFault.{PoolFault}
+use Rattle.child_pool.specs.Firsts.{has_some, FirstAreMapped}
 use Rattle.child_pool.specs.PoolCalls.{MapsAll}
+use Rattle.child_pool.proofs.Nexts.{first_whole, nothing_first}
 use Rattle.view_model.specs.Since.{mapped_of}
-use Rattle.view_model.proofs.Distinct.{changes_distinct}
 use Rattle.view_index.specs.declared.doc_rows.DocRows.{DocRows}
+use Rattle.view_index.specs.Calls.{IsSettled}
 use Rattle.view_index.specs.Changed.{changed_rows}
-use Rattle.view_index.specs.Index.{next_in, seq_of, views_of}
+use Rattle.view_index.specs.Index.{next_in, picture_of, seq_of, views_of, IsSame}
 use Rattle.view_index.specs.Pending.{ArePending}
 use Rattle.view_index.specs.Replaced.{ids_of, replaced_views}
-use Rattle.view_index.proofs.Updating.{ids_written}
 use Rattle.view_updater.specs.declared.fault.UpdateFault.{UpdateFault}
-use Rattle.view_updater.specs.Exchanges.{HasExchanged, TakesIn}
-use Rattle.view_updater.specs.Updates.{IsIdle, IsMetAs, Side}
+use Rattle.view_updater.specs.declared.updating.Progress.{Progress}
+use Rattle.view_updater.specs.Exchanges.{documents_of, Exchanges, FollowsPage, HasComeTo, HasExchanged, OnlyReads, TakesIn}
+use Rattle.view_updater.specs.Faults.{by_pool}
+use Rattle.view_updater.specs.Updates.{documents_since, HasBrokenOff, IsBreak, Side}
+use Rattle.view_updater.proofs.ChangedSoFar.{taken_all}
+use Rattle.view_updater.proofs.OnlyReading.{known_before, reads_then}
+use Rattle.view_updater.proofs.Pages.{documents-append, mapped-append, nothing_replaced, page_distinct, page_replaced, some-append}
+
+abbrev pub refusal : UpdateFault → Result (Unit {0}) UpdateFault
+refusal fault = Err fault
+
+abbrev pub done : Result (Unit {0}) UpdateFault
+done = Ok tt
 
 module _ {F C : Type 0} (f : Folders F) (s : Servers C) (docs : Docs) (design : Design) (old new : Side F C) where
-  abbrev Asks : Result (Unit {0}) UpdateFault → List Write → Type 0
-  Asks result history = (IsIdle f s docs design old new × OnOk result ⊥) ⊎ HasExchanged f s docs design old new history result
+  -- over a history these writes were written since, and behind them those after a number
+  abbrev Goes : List (ℕ × Write) → ℕ → Type 0
+  Goes changes after = (history : List Write) → IfTold (f.disk old.folder) (λ d. AreAt docs d.now history → changes_after (seq_of old.index) history ≡ changes ++ changes_after after history)
 
-  -- nothing was asked
-  pub asks_nothing : (result : Result (Unit {0}) UpdateFault) → new.servers ≡ old.servers → new.pool ≡ old.pool → OnOk result ⊥ → (history : List Write)
-      → IfTold (f.disk old.folder) (λ d. AreAt docs d.now history → Asks result history)
-  asks_nothing result servers pool failed history = told_all (f.disk old.folder) (λ d. AreAt docs d.now history → Asks result history) (λ d here. inl ((servers, pool), failed))
+  abbrev Asks : Result (Unit {0}) UpdateFault → Type 0
+  Asks result = (history : List Write) → IfTold (f.disk old.folder) (λ d. AreAt docs d.now history
+      → HasExchanged f s docs design old new history result ⊎ HasBrokenOff f s docs design old new history result)
 
-  module _ (changes : List (ℕ × Write)) (documents : List (List (List ℕ × Json))) (documents_are : documents ≡ map (λ entry. document_of entry.1) (mapped_of changes)) (mapped : Result DocRowLists PoolFault)
-      (maps : MapsAll s old.servers new.servers old.pool design documents new.pool mapped)
-      (all : (history : List Write) → IfTold (f.disk old.folder) (λ d. AreAt docs d.now history → changes ≡ changes_after (seq_of old.index) history)) where
-    pub asks_all : (result : Result (Unit {0}) UpdateFault) → IsMetAs mapped result → ((history : List Write) → changes ≡ changes_after (seq_of old.index) history → TakesIn f s docs design old new history mapped result)
-        → (history : List Write) → IfTold (f.disk old.folder) (λ d. AreAt docs d.now history → Asks result history)
-    asks_all result met takes history =
-        told_now (f.disk old.folder) (λ d. AreAt docs d.now history → changes ≡ changes_after (seq_of old.index) history) (λ d. AreAt docs d.now history → Asks result history)
+  documents_then : (history : List Write) (changes : List (ℕ × Write)) (after : ℕ) → changes_after (seq_of old.index) history ≡ changes ++ changes_after after history
+      → documents_since (seq_of old.index) history ≡ documents_of changes ++ documents_of (changes_after after history)
+  documents_then history changes after is = ap documents_of is ∙ documents-append changes (changes_after after history)
+
+  module _ (changes : List (ℕ × Write)) (after : ℕ) (goes : Goes changes after) where
+    -- the documents of these were mapped, and then something else failed
+    pub asks_first : (fault : UpdateFault) (lists : DocRowLists) → IsBreak (refusal fault) → FirstAreMapped s old.servers new.servers old.pool new.pool design (documents_of changes) lists → Asks (refusal fault)
+    asks_first fault lists cause mapped history =
+        told_now (f.disk old.folder) (λ d. AreAt docs d.now history → changes_after (seq_of old.index) history ≡ changes ++ changes_after after history)
+        (λ d. AreAt docs d.now history → HasExchanged f s docs design old new history (refusal fault) ⊎ HasBrokenOff f s docs design old new history (refusal fault))
         (λ d is here. inr (record {
+          done = documents_of changes;
+          left = documents_of (changes_after after history);
+          all = documents_then history changes after (is here);
+          lists = lists;
           mapped = mapped;
-          met = met;
-          maps = subst (λ (ds : List (List (List ℕ × Json))). MapsAll s old.servers new.servers old.pool design ds new.pool mapped)
-              (documents_are ∙ ap (λ (cs : List (ℕ × Write)). map (λ entry. document_of entry.1) (mapped_of cs)) (is here)) maps;
-          takes = takes history (is here);
-        })) (all history)
+          cause = cause;
+        })) (goes history)
 
-  -- the rows were exchanged
-  pub takes_rows : (changes : List (ℕ × Write)) (lists : DocRowLists) (rows : List DocRows) (count : ℕ) → count ≡ views_of old.index → rows ≡ changed_rows count changes lists
-      → next_in new.index ≡ replaced_views rows (next_in old.index) → (IsDistinct bytes_eq (ids_of rows) → ArePending old.index → ArePending new.index)
-      → (history : List Write) → changes ≡ changes_after (seq_of old.index) history → TakesIn f s docs design old new history (Ok lists) (Ok tt)
-  takes_rows changes lists rows count counted are next pending history is =
-      let whole : rows ≡ changed_rows (views_of old.index) (changes_after (seq_of old.index) history) lists = are ∙ (λ i. changed_rows (counted i) (is i) lists) in
-      let ids : ids_of rows ≡ map (λ change. (change.1).id) (changes_after (seq_of old.index) history) = ap ids_of whole ∙ ids_written (views_of old.index) (changes_after (seq_of old.index) history) lists in
-      (next ∙ ap (λ r. replaced_views r (next_in old.index)) whole, pending (subst (IsDistinct bytes_eq) (sym ids) (changes_distinct (seq_of old.index) history)))
+    -- one of them was refused
+    pub asks_refused : (fault : PoolFault) → ((left : List (List (List ℕ × Json))) → MapsAll s old.servers new.servers old.pool design (documents_of changes ++ left) new.pool (Err fault)) → Asks (refusal (by_pool fault))
+    asks_refused fault refuses history =
+        told_now (f.disk old.folder) (λ d. AreAt docs d.now history → changes_after (seq_of old.index) history ≡ changes ++ changes_after after history)
+        (λ d. AreAt docs d.now history → HasExchanged f s docs design old new history (refusal (by_pool fault)) ⊎ HasBrokenOff f s docs design old new history (refusal (by_pool fault)))
+        (λ d is here. inl (record {
+          mapped = Err fault;
+          met = refl;
+          maps = subst (λ (ds : List (List (List ℕ × Json))). MapsAll s old.servers new.servers old.pool design ds new.pool (Err fault)) (sym (documents_then history changes after (is here)))
+              (refuses (documents_of (changes_after after history)));
+          takes = tt;
+        })) (goes history)
 
--- a refusal takes nothing in
-pub takes_nothing : {F C : Type 0} (f : Folders F) (s : Servers C) (docs : Docs) (design : Design) (old new : Side F C) (history : List Write) (mapped : Result DocRowLists PoolFault) (result : Result (Unit {0}) UpdateFault)
-    → OnOk result ⊥ → TakesIn f s docs design old new history mapped result
-takes_nothing f s docs design old new history (Err fault) result failed = tt
-takes_nothing f s docs design old new history (Ok lists) (Ok done) failed = absurd failed
-takes_nothing f s docs design old new history (Ok lists) (Err fault) failed = tt
+  -- all that were written since were taken in
+  pub asks_all : (progress : Progress) (changes : List (ℕ × Write)) (lists : DocRowLists) → HasComeTo f s docs design old new progress changes lists
+      → ((history : List Write) → IfTold (f.disk old.folder) (λ d. AreAt docs d.now history → changes_after progress.after history ≡ [])) → Asks done
+  asks_all progress changes lists come last history =
+      told_pair (f.disk old.folder) (λ d. AreAt docs d.now history → (changes_after (seq_of old.index) history ≡ changes ++ changes_after progress.after history) × TakesIn f s docs design old new changes lists)
+      (λ d. AreAt docs d.now history → changes_after progress.after history ≡ [])
+      (λ d. AreAt docs d.now history → HasExchanged f s docs design old new history done ⊎ HasBrokenOff f s docs design old new history done)
+      (λ d takes none here.
+      let whole : changes_after (seq_of old.index) history ≡ changes = (takes here).0 ∙ ap (λ l. changes ++ l) (none here) ∙ append-nil changes in
+      inl (record {
+        mapped = Ok lists;
+        met = λ fault is. cc;
+        maps = subst (λ (ds : List (List (List ℕ × Json))). MapsAll s old.servers new.servers old.pool design ds new.pool (Ok lists)) (ap documents_of (sym whole))
+            (first_whole s design old.servers new.servers old.pool new.pool (documents_of changes) lists come.mapped);
+        takes = subst (λ (cs : List (ℕ × Write)). TakesIn f s docs design old new cs lists) (sym whole) (takes here).1;
+      })) (come.takes history) (last history)
+
+-- ---- before the first page
+
+pub nothing_yet : {F C : Type 0} (f : Folders F) (s : Servers C) (docs : Docs) (design : Design) (old : Side F C) (progress : Progress) → progress.after ≡ seq_of old.index → progress.begun ≡ false → IsSettled old.index
+    → HasComeTo f s docs design old old progress [] []
+nothing_yet f s docs design old progress first idle settled = record {
+  mapped = nothing_first s design old.servers old.pool;
+  begun = idle;
+  each = refl;
+  takes = λ history. told_all (f.disk old.folder) (λ d. AreAt docs d.now history → (changes_after (seq_of old.index) history ≡ changes_after progress.after history) × TakesIn f s docs design old old [] [])
+      (λ d here. (ap (λ n. changes_after n history) (sym first), (nothing_replaced (picture_of old.index).rows (next_in old.index) settled.next, λ pending. pending)));
+  same = record { file = refl; seq = refl };
+  picture = refl;
+  disk = told_refl (f.disk old.folder) MovesNone (λ a. none_refl a);
+  later = omega arith;
+}
+
+-- ---- one page more
+
+module _ {F C : Type 0} (f : Folders F) (s : Servers C) (docs : Docs) (design : Design) (old now : Side F C) (progress : Progress) (changes : List (ℕ × Write)) (lists : DocRowLists) (come : HasComeTo f s docs design old now progress changes lists) where
+  -- the exchange ends with this fault
+  pub ends_early : (new : Side F C) (fault : UpdateFault) (result : Result (Option Progress) UpdateFault) → result ≡ Err fault → Asks f s docs design old new (refusal fault) → IsSame now.index new.index → picture_of new.index ≡ picture_of now.index
+      → OnlyReads f docs now.folder new.folder (refusal fault) → s.faults now.servers ≤ s.faults new.servers → FollowsPage f s docs design old new progress.after result
+  ends_early new fault result is asks same picture reads later = subst (FollowsPage f s docs design old new progress.after) (sym is) (record {
+    asks = asks;
+    same = record { file = same.file ∙ come.same.file; seq = same.seq ∙ come.same.seq };
+    picture = picture ∙ come.picture;
+    reads = reads_then f docs old.folder now.folder come.disk new.folder (refusal fault) come.later reads;
+    later = omega (arith, come.mapped.later, later);
+  })
+
+  -- where the writes go on
+  pub goes_so_far : Goes f s docs design old now changes progress.after
+  goes_so_far history =
+      told_now (f.disk old.folder) (λ d. AreAt docs d.now history → (changes_after (seq_of old.index) history ≡ changes ++ changes_after progress.after history) × TakesIn f s docs design old now changes lists)
+      (λ d. AreAt docs d.now history → changes_after (seq_of old.index) history ≡ changes ++ changes_after progress.after history) (λ d is here. (is here).0) (come.takes history)
+
+  module _ (page : List (ℕ × Write)) (limit : ℕ)
+      (read : (history : List Write) → IfTold (f.disk now.folder) (λ d. AreAt docs d.now history → page ≡ take limit (changes_after progress.after history))) where
+    abbrev last : ℕ
+    last = last_number progress.after page
+
+    page_is : (history : List Write) → IfTold (f.disk old.folder) (λ d. AreAt docs d.now history → page ≡ take limit (changes_after progress.after history))
+    page_is = known_before f docs old.folder now.folder come.disk (λ history. page ≡ take limit (changes_after progress.after history)) read
+
+    page_then : (history : List Write) → page ≡ take limit (changes_after progress.after history) → changes_after progress.after history ≡ page ++ changes_after last history
+    page_then history is = go_in_pages history progress.after limit ∙ (λ i. sym is i ++ changes_after (last_number progress.after (sym is i)) history)
+
+    both_then : (history : List Write) → changes_after (seq_of old.index) history ≡ changes ++ changes_after progress.after history → page ≡ take limit (changes_after progress.after history)
+        → changes_after (seq_of old.index) history ≡ (changes ++ page) ++ changes_after last history
+    both_then history so_far is = so_far ∙ ap (λ l. changes ++ l) (page_then history is) ∙ sym (append_assoc changes page (changes_after last history))
+
+    pub goes_on : Goes f s docs design old now (changes ++ page) last
+    goes_on history =
+        told_pair (f.disk old.folder) (λ d. AreAt docs d.now history → changes_after (seq_of old.index) history ≡ changes ++ changes_after progress.after history)
+        (λ d. AreAt docs d.now history → page ≡ take limit (changes_after progress.after history))
+        (λ d. AreAt docs d.now history → changes_after (seq_of old.index) history ≡ (changes ++ page) ++ changes_after last history)
+        (λ d so_far is here. both_then history (so_far here) (is here)) (goes_so_far history) (page_is history)
+
+    -- a page that isn't full is the last one
+    pub none_behind : length page < limit → (history : List Write) → IfTold (f.disk old.folder) (λ d. AreAt docs d.now history → changes_after last history ≡ [])
+    none_behind few history =
+        told_now (f.disk old.folder) (λ d. AreAt docs d.now history → page ≡ take limit (changes_after progress.after history)) (λ d. AreAt docs d.now history → changes_after last history ≡ [])
+        (λ d is here.
+        let all = taken_all limit page (changes_after progress.after history) few (is here) in
+        let long = ap length (all ∙ page_then history (is here)) ∙ length-append page (changes_after last history) in
+        nil_from_length (changes_after last history) (omega (arith, long, ap length all))) (page_is history)
+
+    module _ (new : Side F C) (others : DocRowLists) (mapped : FirstAreMapped s old.servers new.servers old.pool new.pool design (documents_of changes ++ documents_of page) (lists ++ others)) where
+      pub mapped_then : FirstAreMapped s old.servers new.servers old.pool new.pool design (documents_of (changes ++ page)) (lists ++ others)
+      mapped_then = subst (λ (ds : List (List (List ℕ × Json))). FirstAreMapped s old.servers new.servers old.pool new.pool design ds (lists ++ others)) (sym (documents-append changes page)) mapped
+
+      module _ (rows : List DocRows) (count : ℕ) (counted : count ≡ views_of old.index) (rows_are : rows ≡ changed_rows count page others) (replaced : next_in new.index ≡ replaced_views rows (next_in now.index))
+          (pending : IsDistinct bytes_eq (ids_of rows) → ArePending now.index → ArePending new.index) where
+        rows_counted : rows ≡ changed_rows (views_of old.index) page others
+        rows_counted = rows_are ∙ ap (λ n. changed_rows n page others) counted
+
+        taken_then : (history : List Write) → (changes_after (seq_of old.index) history ≡ changes ++ changes_after progress.after history) × TakesIn f s docs design old now changes lists
+            → page ≡ take limit (changes_after progress.after history) → (changes_after (seq_of old.index) history ≡ (changes ++ page) ++ changes_after last history) × TakesIn f s docs design old new (changes ++ page) (lists ++ others)
+        taken_then history so_far is =
+            let all = both_then history so_far.0 is in (
+              all,
+              (
+                replaced ∙ (λ i. replaced_views (rows_counted i) (so_far.1.0 i))
+                    ∙ page_replaced history (seq_of old.index) changes page (changes_after last history) all (views_of old.index) lists others (next_in old.index) come.each,
+                λ first. pending (subst (λ (r : List DocRows). IsDistinct bytes_eq (ids_of r)) (sym rows_are)
+                    (page_distinct history progress.after page (changes_after last history) (page_then history is) count others)) (so_far.1.1 first),
+              ),
+            )
+
+        pub come_on : (next : Progress) → next.after ≡ last → next.begun ≡ (progress.begun || has_some (documents_of page)) → length others ≡ length (mapped_of page) → IsSame now.index new.index → picture_of new.index ≡ picture_of now.index
+            → Tells (f.disk now.folder) (f.disk new.folder) MovesNone → f.faults now.folder ≤ f.faults new.folder → HasComeTo f s docs design old new next (changes ++ page) (lists ++ others)
+        come_on next after begun each same picture disk later = record {
+          mapped = mapped_then;
+          begun = begun ∙ ap (λ b. b || has_some (documents_of page)) come.begun ∙ some-append (documents_of changes) (documents_of page) ∙ ap has_some (sym (documents-append changes page));
+          each = length-append lists others ∙ (λ i. come.each i + each i) ∙ sym (length-append (mapped_of changes) (mapped_of page)) ∙ ap length (sym (mapped-append changes page));
+          takes = λ history. told_pair (f.disk old.folder) (λ d. AreAt docs d.now history → (changes_after (seq_of old.index) history ≡ changes ++ changes_after progress.after history) × TakesIn f s docs design old now changes lists)
+              (λ d. AreAt docs d.now history → page ≡ take limit (changes_after progress.after history))
+              (λ d. AreAt docs d.now history → (changes_after (seq_of old.index) history ≡ (changes ++ page) ++ changes_after next.after history) × TakesIn f s docs design old new (changes ++ page) (lists ++ others))
+              (λ d so_far is here. subst (λ (n : ℕ). (changes_after (seq_of old.index) history ≡ (changes ++ page) ++ changes_after n history) × TakesIn f s docs design old new (changes ++ page) (lists ++ others)) (sym after)
+              (taken_then history (so_far here) (is here))) (come.takes history) (page_is history);
+          same = record { file = same.file ∙ come.same.file; seq = same.seq ∙ come.same.seq };
+          picture = picture ∙ come.picture;
+          disk = told_none_then (f.disk old.folder) (f.disk now.folder) (f.disk new.folder) come.disk disk;
+          later = omega (arith, come.later, later);
+        }
+
+-- the exchange has come to its end
+pub ends_well : {F C : Type 0} (f : Folders F) (s : Servers C) (docs : Docs) (design : Design) (old new : Side F C) (progress : Progress) (changes : List (ℕ × Write)) (lists : DocRowLists)
+    → HasComeTo f s docs design old new progress changes lists → ((history : List Write) → IfTold (f.disk old.folder) (λ d. AreAt docs d.now history → changes_after progress.after history ≡ []))
+    → OnlyReads f docs old.folder new.folder done → Exchanges f s docs design old new done
+ends_well f s docs design old new progress changes lists come last reads = record {
+  asks = asks_all f s docs design old new progress changes lists come last;
+  same = come.same;
+  picture = come.picture;
+  reads = reads;
+  later = come.mapped.later;
+}

@@ -2,6 +2,7 @@ pub mod ChangedSoFar
 pub mod RowsSoFar
 pub mod OnlyReading
 pub mod Fitting
+pub mod Pages
 pub mod Exchanging
 pub mod Carrying
 pub mod Nexts

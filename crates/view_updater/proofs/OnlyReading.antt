@@ -1,12 +1,16 @@
 -- Calls that only read the folder, and their faults.
-use Rattle.std.specs.Prelude.{◌≡◌, ◌≢◌, ℕ, List, Result, Ok, Err, IsErr, IsErrAnd}
-use Rattle.std.proofs.Common.{ap, sym, ◌∙◌, subst}
+use Rattle.std.specs.Prelude.{◌≡◌, ◌≢◌, ◌≤◌, ℕ, List, Result, Ok, Err, IfErr, IsErr, IsErrAnd}
+use Rattle.std.proofs.Common.{ap, sym, ◌∙◌, subst, arith}
 use Rattle.std.proofs.lemmas.Result.{err_from_is_err_and}
 use Rattle.view_ports.specs.Causes.{HasCauseIf}
 use Rattle.view_ports.specs.Disk.{IfTold, MovesNone, Tells}
 use Rattle.view_ports.specs.declared.file_name.FileName.{FileName}
 use Rattle.view_ports.specs.declared.folder.Folder.{Ghosts as Folders}
-use Rattle.view_ports.proofs.Told.{told_all, told_now}
+use Rattle.view_ports.specs.Faults.{Rose}
+use Rattle.view_ports.specs.File.{File}
+use Rattle.view_ports.proofs.DiskRuns.{none_same}
+use Rattle.view_ports.proofs.Told.{told_all, told_back, told_now}
+use Rattle.gate_file.proofs.Looks.{told_none_then}
 use Rattle.gate_file.specs.declared.fault.GateFault.{GateFault}
 use Rattle.gate_file.specs.declared.fault.GateFault.TheVariants.{DiskFault, Damaged}
 use Rattle.doc_file.specs.declared.docs.Docs.{Docs}
@@ -20,6 +24,7 @@ use Rattle.view_updater.specs.declared.fault.UpdateFault.{UpdateFault}
 use Rattle.view_updater.specs.declared.fault.UpdateFault.TheVariants.{Docs as OfDocuments}
 use Rattle.view_updater.specs.Exchanges.{IsOfIndex, OnlyReads}
 use Rattle.view_updater.specs.Faults.{by_documents, by_pool}
+use Rattle.view_updater.specs.Updates.{IsBreak}
 
 -- a refusal by this fault
 pub failed_as : {T E : Type 0} (result : Result T E) (fault : E) → IsErr result × IsErrAnd result (λ e. e ≡ fault) → result ≡ Err fault
@@ -34,6 +39,10 @@ of_documents other gate is = cc
 of_no_index : (fault : DocFault) → IsOfIndex (by_documents fault) → ⊥
 of_no_index (doc.Gate fault) is = is
 of_no_index other is = is
+
+pub documents_break : (fault : DocFault) → IsBreak (Err (by_documents fault))
+documents_break (doc.Gate fault) = tt
+documents_break other = tt
 
 abbrev documents_failed : (T : Type 0) → DocFault → Result T DocFault
 documents_failed T fault = Err fault
@@ -92,6 +101,33 @@ module _ {F : Type 0} (f : Folders F) (docs : Docs) (old new : F) where
     cause = tt;
     sound = λ history. told_all (f.disk old) (λ d. AreAt docs d.now history → (name : FileName) (at : ℕ) → done_as T done ≢ Err (OfDocuments (Damaged name at))) (λ d here name at told. cc);
     later = reads.later;
+  }
+
+-- ---- one call that only reads behind others
+
+-- what a result that is an error promises is wider
+err_wider : {T E : Type 0} (result : Result T E) (P Q : E → Type 0) → ((e : E) → P e → Q e) → IfErr result P → IfErr result Q
+err_wider (Ok value) P Q then is = tt
+err_wider (Err fault) P Q then is = then fault is
+
+module _ {F : Type 0} (f : Folders F) (docs : Docs) (old mid : F) (disk : Tells (f.disk old) (f.disk mid) MovesNone) where
+  -- what is known over a history now was known before
+  pub known_before : (X : List Write → Type 0) → ((history : List Write) → IfTold (f.disk mid) (λ d. AreAt docs d.now history → X history))
+      → (history : List Write) → IfTold (f.disk old) (λ d. AreAt docs d.now history → X history)
+  known_before X told history =
+      told_back (f.disk old) (f.disk mid) (λ d. AreAt docs d.now history → X history) (λ d. AreAt docs d.now history → X history) MovesNone
+      (λ a b none known here.
+      let files : b.now ≡ a.now = λ i name. none_same a b none name i in
+      known (subst (λ (fs : FileName → File). AreAt docs fs history) (sym files) here)) disk (told history)
+
+  pub reads_then : {T : Type 0} (new : F) (result : Result T UpdateFault) → f.faults old ≤ f.faults mid → OnlyReads f docs mid new result → OnlyReads f docs old new result
+  reads_then new result later reads = record {
+    disk = told_none_then (f.disk old) (f.disk mid) (f.disk new) disk reads.disk;
+    faults = reads.faults;
+    cause = err_wider result (λ fault. fault ≡ OfDocuments DiskFault → Rose (f.faults mid) (f.faults new)) (λ fault. fault ≡ OfDocuments DiskFault → Rose (f.faults old) (f.faults new))
+        (λ fault rose told. let now = rose told in omega (arith, now, later)) reads.cause;
+    sound = known_before (λ history. (name : FileName) (at : ℕ) → result ≢ Err (OfDocuments (Damaged name at))) reads.sound;
+    later = omega (arith, later, reads.later);
   }
 
 -- ---- faults of the pool

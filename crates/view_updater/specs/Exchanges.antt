@@ -1,5 +1,6 @@
 -- What the parts of an update promise: the documents that were written since are read and mapped, and their rows exchanged.
-use Rattle.std.specs.Prelude.{◌≡◌, ◌≢◌, ◌⊎◌, ◌≤◌, ℕ, List, map, Result, Ok, Err, IfErr, IfOk, OnOk, All}
+use Rattle.std.specs.Prelude.{◌≡◌, ◌≢◌, ◌⊎◌, ◌<◌, ◌≤◌, ◌++◌, ℕ, List, length, map, take, Option, Some, None, Result, Ok, Err, IfErr, IfOk, OnOk, All}
+use Rattle.json_terms.specs.Json.{Json}
 use Rattle.view_ports.specs.Disk.{IfTold, MovesNone, Tells}
 use Rattle.view_ports.specs.Faults.{Rose}
 use Rattle.view_ports.specs.declared.file_name.FileName.{FileName}
@@ -14,14 +15,18 @@ use Rattle.doc_file.specs.Docs.{IsAt as AreAt}
 use Rattle.doc_file.specs.History.{Write, changes_after}
 use Rattle.child_pool.specs.declared.doc_rows.DocRowLists.{DocRowLists}
 use Rattle.child_pool.specs.declared.pool_fault.PoolFault.{PoolFault}
+use Rattle.child_pool.specs.Firsts.{has_some, FirstAreMapped}
 use Rattle.child_pool.specs.PoolCalls.{MapsAll}
+use Rattle.query_protocol.specs.CommandLines.{document_of}
+use Rattle.view_model.specs.Since.{mapped_of}
 use Rattle.view_index.specs.Changed.{changed_rows}
 use Rattle.view_index.specs.Index.{next_in, picture_of, seq_of, views_of, IsSame}
 use Rattle.view_index.specs.Pending.{ArePending}
 use Rattle.view_index.specs.Replaced.{replaced_views}
 use Rattle.view_updater.specs.declared.fault.UpdateFault.{UpdateFault}
 use Rattle.view_updater.specs.declared.fault.UpdateFault.TheVariants.{Docs as OfDocuments, Index as OfIndex}
-use Rattle.view_updater.specs.Updates.{documents_since, IsIdle, IsMetAs, Side}
+use Rattle.view_updater.specs.declared.updating.Progress.{Progress}
+use Rattle.view_updater.specs.Updates.{documents_since, HasBrokenOff, IsBreak, IsMetAs, Side}
 
 -- the fault is one of the index
 abbrev pub IsOfIndex : UpdateFault → Type 0
@@ -37,32 +42,60 @@ module _ {F : Type 0} (f : Folders F) (docs : Docs) (old new : F) where
     pub sound : (history : List Write) → IfTold (f.disk old) (λ d. AreAt docs d.now history → (name : FileName) (at : ℕ) → result ≢ Err (OfDocuments (Damaged name at)))
     pub later : f.faults old ≤ f.faults new
 
-  -- all last writes since a sequence are read
-  pub record ReadsAll (seq : ℕ) (result : Result Changes UpdateFault) : Type 0 where
-    pub all : (history : List Write) → IfTold (f.disk old) (λ d. AreAt docs d.now history → IfOk result (λ changes. map numbered changes ≡ changes_after seq history))
+  -- the next n last writes since a sequence are read
+  pub record ReadsPage (seq n : ℕ) (result : Result Changes UpdateFault) : Type 0 where
+    pub all : (history : List Write) → IfTold (f.disk old) (λ d. AreAt docs d.now history → IfOk result (λ changes. map numbered changes ≡ take n (changes_after seq history)))
+    pub after : IfOk result (λ changes. All (λ change. seq < change.seq) changes)
     pub bodies : IfOk result (λ changes. All HasDocument changes)
     pub short : IfOk result (λ changes. All HasShortId changes)
+    pub breaks : IfErr result (λ fault. IsBreak (Err fault))
     pub reads : OnlyReads result
+
+-- the documents that are mapped of these writes
+abbrev pub documents_of : List (ℕ × Write) → List (List (List ℕ × Json))
+documents_of changes = map (λ entry. document_of entry.1) (mapped_of changes)
 
 module _ {F C : Type 0} (f : Folders F) (s : Servers C) (docs : Docs) (design : Design) (old new : Side F C) where
   -- the next rows are those that a replacement by these lists makes
-  abbrev pub TakesIn : List Write → Result DocRowLists PoolFault → Result (Unit {0}) UpdateFault → Type 0
-  TakesIn history (Ok lists) result = OnOk result (
-      (next_in new.index ≡ replaced_views (changed_rows (views_of old.index) (changes_after (seq_of old.index) history) lists) (next_in old.index))
-      × (ArePending old.index → ArePending new.index))
-  TakesIn history (Err fault) result = Unit {0}
+  abbrev pub TakesIn : List (ℕ × Write) → DocRowLists → Type 0
+  TakesIn changes lists =
+      (next_in new.index ≡ replaced_views (changed_rows (views_of old.index) changes lists) (next_in old.index)) × (ArePending old.index → ArePending new.index)
 
   -- all documents that were written since were mapped, with this end, and their rows are exchanged
   pub record HasExchanged (history : List Write) (result : Result (Unit {0}) UpdateFault) : Type 0 where
     pub mapped : Result DocRowLists PoolFault
     pub met : IsMetAs mapped result
     pub maps : MapsAll s old.servers new.servers old.pool design (documents_since (seq_of old.index) history) new.pool mapped
-    pub takes : TakesIn history mapped result
+    pub takes : OnOk result (IfOk mapped (TakesIn (changes_after (seq_of old.index) history)))
 
   pub record Exchanges (result : Result (Unit {0}) UpdateFault) : Type 0 where
     pub asks : (history : List Write) → IfTold (f.disk old.folder) (λ d. AreAt docs d.now history
-        → (IsIdle f s docs design old new × OnOk result ⊥) ⊎ HasExchanged history result)
+        → HasExchanged history result ⊎ HasBrokenOff f s docs design old new history result)
     pub same : IsSame old.index new.index
     pub picture : picture_of new.index ≡ picture_of old.index
     pub reads : OnlyReads f docs old.folder new.folder result
     pub later : s.faults old.servers ≤ s.faults new.servers
+
+  -- the writes up to a number are exchanged: these since the index's sequence, with these lists for the documents of them
+  pub record HasComeTo (progress : Progress) (changes : List (ℕ × Write)) (lists : DocRowLists) : Type 0 where
+    pub mapped : FirstAreMapped s old.servers new.servers old.pool new.pool design (documents_of changes) lists
+    pub begun : progress.begun ≡ has_some (documents_of changes)
+    pub each : length lists ≡ length (mapped_of changes)
+    pub takes : (history : List Write) → IfTold (f.disk old.folder) (λ d. AreAt docs d.now history
+        → (changes_after (seq_of old.index) history ≡ changes ++ changes_after progress.after history) × TakesIn changes lists)
+    pub same : IsSame old.index new.index
+    pub picture : picture_of new.index ≡ picture_of old.index
+    pub disk : Tells (f.disk old.folder) (f.disk new.folder) MovesNone
+    pub later : f.faults old.folder ≤ f.faults new.folder
+
+  -- one page more is exchanged, behind a smaller number; or it was the last one, or this is refused, and so is the whole exchange
+  abbrev pub FollowsPage : ℕ → Result (Option Progress) UpdateFault → Type 0
+  FollowsPage before (Ok (Some progress)) = (before < progress.after) × (changes : List (ℕ × Write)) × (lists : DocRowLists) × HasComeTo progress changes lists
+  FollowsPage before (Ok None) = Exchanges (Ok tt)
+  FollowsPage before (Err fault) = Exchanges (Err fault)
+
+module _ {F C : Type 0} (f : Folders F) (s : Servers C) (docs : Docs) (design : Design) (now new : Side F C) where
+  -- the next page is exchanged, of any exchange that has come so far
+  abbrev pub ExchangesPage : Progress → Result (Option Progress) UpdateFault → Type 0
+  ExchangesPage progress result = (old : Side F C) (changes : List (ℕ × Write)) (lists : DocRowLists)
+      → HasComeTo f s docs design old now progress changes lists → FollowsPage f s docs design old new progress.after result

@@ -1,5 +1,5 @@
 -- Bringing an index up to date.
-use Rattle.std.specs.Prelude.{◌≡◌, ◌≢◌, ◌⊎◌, ◌≤◌, ℕ, List, map, length, Result, Ok, Err, IfErr, OnErr, OnOk, Option, Some}
+use Rattle.std.specs.Prelude.{◌≡◌, ◌≢◌, ◌⊎◌, ◌≤◌, ◌++◌, ℕ, List, map, length, Result, Ok, Err, IfErr, OnErr, OnOk, Option, Some}
 use Rattle.json_terms.specs.Json.{Json}
 use Rattle.view_ports.specs.Calls.{Call}
 use Rattle.view_ports.specs.Disk.{IfTold, Moves, Tells}
@@ -18,6 +18,7 @@ use Rattle.doc_file.specs.History.{Write, mapped_after}
 use Rattle.child_pool.specs.declared.doc_rows.DocRowLists.{DocRowLists}
 use Rattle.child_pool.specs.declared.pool.Pool.{Pool}
 use Rattle.child_pool.specs.declared.pool_fault.PoolFault.{PoolFault}
+use Rattle.child_pool.specs.Firsts.{FirstAreMapped}
 use Rattle.child_pool.specs.PoolCalls.{path_for, MapsAll}
 use Rattle.child_pool.specs.Pools.{HasItsChildren}
 use Rattle.view_model.specs.Picture.{Picture}
@@ -62,6 +63,13 @@ IsFileFault (OfIndex fault) = Unit {0}
 IsFileFault (OfDocuments fault) = Unit {0}
 IsFileFault other = ⊥
 
+-- reading the documents failed, or memory ran out
+abbrev pub IsBreak : Result (Unit {0}) UpdateFault → Type 0
+IsBreak (Ok done) = ⊥
+IsBreak (Err NoMemory) = Unit {0}
+IsBreak (Err (OfDocuments fault)) = Unit {0}
+IsBreak (Err other) = ⊥
+
 module _ {F C : Type 0} (f : Folders F) (s : Servers C) (docs : Docs) (design : Design) (old new : Side F C) where
   -- a picture that the update makes: over each list of calls that may have been made, of the path of the design's language; its rows
   -- are those of an honest path where there are no more views than a design document may have
@@ -84,10 +92,23 @@ module _ {F C : Type 0} (f : Folders F) (s : Servers C) (docs : Docs) (design : 
   abbrev pub IsIdle : Type 0
   IsIdle = (new.servers ≡ old.servers) × (new.pool ≡ old.pool)
 
-  -- all documents that were written since were mapped, with this end; before it, reading them or making room for them may have failed
-  abbrev pub HasAsked : List Write → Result (Unit {0}) UpdateFault → Type 0
-  HasAsked history result = (mapped : Result DocRowLists PoolFault) × IsMetAs mapped result
+  -- all documents that were written since were mapped, with this end; where they were, the commit may have been refused
+  abbrev pub HasMapped : List Write → Result (Unit {0}) UpdateFault → Type 0
+  HasMapped history result = (mapped : Result DocRowLists PoolFault) × IsMetAs mapped result
       × MapsAll s old.servers new.servers old.pool design (documents_since (seq_of old.index) history) new.pool mapped
+
+  -- the first of the documents that were written since were mapped, maybe none, and then reading more or making room failed
+  pub record HasBrokenOff (history : List Write) (result : Result (Unit {0}) UpdateFault) : Type 0 where
+    pub done : List (List (List ℕ × Json))
+    pub left : List (List (List ℕ × Json))
+    pub all : documents_since (seq_of old.index) history ≡ done ++ left
+    pub lists : DocRowLists
+    pub mapped : FirstAreMapped s old.servers new.servers old.pool new.pool design done lists
+    pub cause : IsBreak result
+
+  -- the documents that were written since were asked for, all or the first ones
+  abbrev pub HasAsked : List Write → Result (Unit {0}) UpdateFault → Type 0
+  HasAsked history result = HasMapped history result ⊎ HasBrokenOff history result
 
   pub record Updates (result : Result (Unit {0}) UpdateFault) : Type 0 where
     -- a crash leaves the picture or an updated one, and after Ok the index is at that; the documents' files are as they were

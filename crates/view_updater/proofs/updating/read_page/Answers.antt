@@ -1,0 +1,21 @@
+-- The documents couldn't be read.
+use Rattle.std.specs.Prelude.{IfErr, Err}
+use Rattle.std.proofs.Common.{rules, sym, subst}
+use Rattle.view_updater.specs.Faults.{by_documents}
+use Rattle.view_updater.specs.Updates.{IsBreak}
+use Rattle.view_updater.proofs.OnlyReading.{documents_break, failed_as, read_failed}
+use Rattle.view_updater.proofs.updating.read_page.Goals as goal
+
+pub returns-in_err-changed_since : goal.returns-in_err-changed_since
+returns-in_err-changed_since g c =
+    let fault = c.in_err-changed_since.field-0.0 in
+    let result = c.from_residual.result in
+    let failed = failed_as result (by_documents fault) c.from_residual.ensures in
+    record {
+      all = search rules;
+      after = search rules;
+      bodies = search rules;
+      short = search rules;
+      breaks = subst (λ r. IfErr r (λ e. IsBreak (Err e))) (sym failed) (documents_break fault);
+      reads = read_failed g.F.Folder c.args.docs.now c.args.folder.now c.changed_since.new.folder fault result failed c.changed_since.ensures.disk c.in_err-changed_since.ensures.cause c.in_err-changed_since.ensures.sound;
+    }
