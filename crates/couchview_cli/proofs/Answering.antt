@@ -25,7 +25,7 @@ use Rattle.view_engine.proofs.Worlds.{image_at}
 use Rattle.view_engine.specs.Calls.{IsStep, Scene}
 use Rattle.view_engine.specs.Disks.{AreOpen, IsReason}
 use Rattle.view_engine.specs.Worlds.{languages as languages_of}
-use Rattle.view_engine.proofs.Stepping.{step_around, step_damaged, step_full, step_full_in, step_reads, step_writes, step_sound, step_stopped, step_unwritten}
+use Rattle.view_engine.proofs.Stepping.{step_around, step_damaged, step_full, step_full_in, step_kept, step_reads, step_room_left, step_writes, step_sound, step_stopped, step_unwritten}
 use Rattle.view_ports.specs.declared.folder.Folder.{Ghosts as Folders}
 use Rattle.view_ports.specs.declared.servers.Servers.{Ghosts as Servers}
 use Rattle.couchview_cli.specs.Session.{Answered, IsAnswered, IsUnanswered, StandsEither}
@@ -123,10 +123,12 @@ module _ {F C : Type 0} {f : Folders F} {s : Servers C} {old new : Scene F C} {l
       moments = step_around step before at;
       whole = step_sound step before at;
       full = step_full step before at;
+      room = step_room_left step before at;
       left = step_stopped step before at other;
     };
     cause = λ is. (subst (IsReason f _ old.folder new.folder (request_of line)) is step.why).0;
-    found = record { halts = other; reads = step_reads step; damaged = step_damaged is_open step; writes = step_writes step; full = step_full_in is_open step };
+    found = record { halts = other; asks = IfErr-weaker (request_of line) (λ refusal. fault ≡ halt.NoMemory) (λ refusal. ⊥) (λ refusal is. other is) step.refused; reads = step_reads step; damaged = step_damaged is_open step; writes = step_writes step; full = step_full_in is_open step };
     still = step.disk.read;
+    kept = step_kept step;
     stays = step.stays;
   }

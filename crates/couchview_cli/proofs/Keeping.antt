@@ -12,7 +12,7 @@ use Rattle.view_ports.specs.Disk.{IfTold, LeavesOnly, Tells}
 use Rattle.view_ports.specs.declared.file_name.FileName.{FileName}
 use Rattle.view_ports.proofs.Told.{told_now}
 use Rattle.view_engine.specs.declared.halt.StepFault.{StepFault}
-use Rattle.view_engine.specs.declared.halt.StepFault.TheVariants.{Full}
+use Rattle.view_engine.specs.declared.halt.StepFault.TheVariants.{DiskFault, Full}
 use Rattle.view_engine.specs.Worlds.{HasRoomAt, IsFullAt, IsFullIn, StandsAround}
 use Rattle.view_ports.specs.declared.folder.Folder.{Ghosts as Folders}
 use Rattle.view_ports.specs.declared.servers.Servers.{Ghosts as Servers}
@@ -71,6 +71,8 @@ module _ {fault : StepFault} {old new : Told} {before : Moment} {HasLeft : Momen
     whole = halted.whole;
     full = told_now old (λ d. (name : FileName) (length : Option ℕ) → fault ≡ Full name length → IsFullAt d.now before.world (request_of (kept request_limit line)) name length) (λ d. (name : FileName) (length : Option ℕ) → fault ≡ Full name length → IsFullAt d.now before.world (request_of line) name length)
         (λ d full name length is. subst (λ r. IsFullAt d.now before.world r name length) (request_kept line) (full name length is)) halted.full;
+    room = told_now old (λ d. fault ≡ DiskFault → HasRoomAt d.now before.world (request_of (kept request_limit line))) (λ d. fault ≡ DiskFault → HasRoomAt d.now before.world (request_of line))
+        (λ d room is. subst (λ r. HasRoomAt d.now before.world r) (request_kept line) (room is)) halted.room;
     left = halted.left;
   }
 
@@ -90,6 +92,7 @@ still_kept {P} line still = subst (λ request. (Writes request → ⊥) → P) (
 found_kept : {disk : Told} {fault : StepFault} (line : List ℕ) → IsFoundOn disk (kept request_limit line) fault → IsFoundOn disk line fault
 found_kept {disk = disk} line found = record {
   halts = found.halts;
+  asks = subst (λ request. IfErr request (λ refusal. ⊥)) (request_kept line) found.asks;
   reads = λ name at is. subst ReadsDocuments (request_kept line) (found.reads name at is);
   damaged = found.damaged;
   writes = λ name length is. subst Writes (request_kept line) (found.writes name length is);
@@ -110,4 +113,4 @@ module _ {F C : Type 0} {f : Folders F} {s : Servers C} {old new : Scene F C} (l
   pub unanswered_whole : (fault : StepFault) → IsUnanswered f s old new given fault → IsUnanswered f s old new line fault
   unanswered_whole fault cut =
       let kept_unanswered : IsUnanswered f s old new (kept request_limit line) fault = subst (λ (l : List ℕ). IsUnanswered f s old new l fault) (is_kept line given is) cut in
-      record { halts = λ before at. IsHalted-kept line (kept_unanswered.halts before at); cause = cut.cause; found = found_kept line kept_unanswered.found; still = still_kept line kept_unanswered.still; stays = cut.stays }
+      record { halts = λ before at. IsHalted-kept line (kept_unanswered.halts before at); cause = cut.cause; found = found_kept line kept_unanswered.found; still = still_kept line kept_unanswered.still; kept = cut.kept; stays = cut.stays }

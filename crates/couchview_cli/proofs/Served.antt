@@ -124,6 +124,8 @@ module _ (languages : List (List ℕ × List ℕ)) (opening : World) where
           holds = holds_at old (s.may_follow off.mid.servers) (s.faults off.mid.servers) off.mid.engine off.moment come.stands;
           fits = off.fits;
           full = halted.full;
+          room = halted.room;
+          kept = off.halts.kept;
           since = halted.moments;
           moments = moved_halted begun old new world come.moved off.line halted.moments;
           images = images_around old new world off.line halted.moments;

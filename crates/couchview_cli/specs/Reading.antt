@@ -36,10 +36,11 @@ pub record IsReplied (line text : List ℕ) : Type 0 where
 abbrev pub Replies : Unit {0} → Exchange → Unit {0} → Type 0
 Replies before exchange after = IsReplied exchange.line exchange.text
 
--- a line isn't answered, for this fault: memory didn't run out; a request that reads documents met a body that is damaged; and one
--- that writes a document met a full file
+-- a line isn't answered, for this fault: it is a request, and memory didn't run out; one that reads documents met a body that is
+-- damaged; and one that writes a document met a full file
 pub record IsFoundOn (disk : Option (Disk FileName)) (line : List ℕ) (fault : StepFault) : Type 0 where
   pub halts : fault ≢ NoMemory
+  pub asks : IfErr (request_of line) (λ refusal. ⊥)
   pub reads : (name : FileName) (at : ℕ) → fault ≡ Damaged name at → ReadsDocuments (request_of line)
   pub damaged : (name : FileName) (at : ℕ) → fault ≡ Damaged name at → IfTold disk (λ d. HasBodyDamage d.now name at)
   pub writes : (name : FileName) (length : Option ℕ) → fault ≡ Full name length → Writes (request_of line)

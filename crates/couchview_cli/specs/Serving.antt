@@ -8,7 +8,7 @@ use Rattle.view_ports.specs.declared.ports.Sink.{Ghosts as Sinks}
 use Rattle.view_ports.specs.declared.ports.Source.{Ghosts as Sources}
 use Rattle.view_ports.specs.declared.servers.Servers.{Ghosts as Servers}
 use Rattle.view_ports.specs.Calls.{Call, child}
-use Rattle.view_ports.specs.Disk.{Disk, IfTold, IsImageOf, LeavesOnly, Tells}
+use Rattle.view_ports.specs.Disk.{Disk, IfTold, IsImageOf, LeavesOnly, MovesNone, Tells}
 use Rattle.view_ports.specs.Faults.{Rose}
 use Rattle.view_ports.specs.Exchanges.{Exchange, LeadsTo, lines_of, text_of}
 use Rattle.view_ports.specs.Functions.{Functions}
@@ -103,7 +103,8 @@ module _ (functions : List ℕ → Functions) (honest : List ℕ → Type 0) (la
   -- A run that a fault of the folder cut short: some first lines were answered, each wholly, and then the line in hand was
   -- not. Its request took effect wholly or not at all. The last line that is written names the fault, unless the sink fails.
   -- Want of memory doesn't cut a run short: such a line is answered. `mid` is the disk before the line in hand: nothing is
-  -- pending there, its files hold the world, and a file that is full is one of them.
+  -- pending there, its files hold the world, and a file that is full is one of them. No file changes since but where the disk
+  -- failed, and there the line's write would have passed no limit.
   pub record IsCutShort (before after : Outside) (AtEnd : List Call → Type 0) (status : ℕ) : Type 0 where
     pub bytes : List ℕ
     pub exchanges : List Exchange
@@ -128,6 +129,8 @@ module _ (functions : List ℕ → Functions) (honest : List ℕ → Type 0) (la
     pub holds : IfTold mid (λ d. Holds d.now moment.world)
     pub fits : HaveRoom opening moment.world before.disk mid exchanges
     pub full : IfTold mid (λ d. (name : FileName) (length : Option ℕ) → fault ≡ Full name length → IsFullAt d.now moment.world (request_of line) name length)
+    pub room : IfTold mid (λ d. fault ≡ DiskFault → HasRoomAt d.now moment.world (request_of line))
+    pub kept : fault ≢ DiskFault → Tells mid after.disk MovesNone
     pub since : Tells mid after.disk (LeavesOnly (StandsAround moment.world (request_of line)))
     pub moments : Tells before.disk after.disk (LeavesOnly (StandsSinceWith opening moment.world line))
     pub images : IfTold after.disk (λ d. (image : FileName → List ℕ) → IsImageOf d.now image → StandsAround moment.world (request_of line) image)

@@ -1,5 +1,5 @@
 -- What a session, which is an engine between its ports, does with a line, and how far it has come since the opening.
-use Rattle.std.specs.Prelude.{◌≡◌, ◌⊎◌, ℕ, List, true, Option, if◌then◌else◌}
+use Rattle.std.specs.Prelude.{◌≡◌, ◌≢◌, ◌⊎◌, ℕ, List, true, Option, if◌then◌else◌}
 use Rattle.view_ports.specs.declared.file_name.FileName.{FileName}
 use Rattle.view_ports.specs.declared.folder.Folder.{Ghosts as Folders}
 use Rattle.view_ports.specs.declared.servers.Servers.{Ghosts as Servers}
@@ -56,6 +56,7 @@ pub record IsHalted (fault : StepFault) (old new : Option (Disk FileName)) (befo
   pub moments : Tells old new (LeavesOnly (StandsAround before.world (request_of line)))
   pub whole : IfTold old (λ d. (name : FileName) (at : ℕ) → fault ≡ Damaged name at → ⊥)
   pub full : IfTold old (λ d. (name : FileName) (length : Option ℕ) → fault ≡ Full name length → IsFullAt d.now before.world (request_of line) name length)
+  pub room : IfTold old (λ d. fault ≡ DiskFault → HasRoomAt d.now before.world (request_of line))
   pub left : HasLeft before
 
 module _ {F C : Type 0} (f : Folders F) (s : Servers C) where
@@ -75,6 +76,7 @@ module _ {F C : Type 0} (f : Folders F) (s : Servers C) where
     pub cause : fault ≡ DiskFault → Rose (f.faults old.folder) (f.faults new.folder)
     pub found : IsFoundOn (f.disk new.folder) line fault
     pub still : (Writes (request_of line) → ⊥) → Tells (f.disk old.folder) (f.disk new.folder) MovesNone
+    pub kept : fault ≢ DiskFault → Tells (f.disk old.folder) (f.disk new.folder) MovesNone
     pub stays : Stays f s old new
 
   -- since the origin a session has come to this moment

@@ -23,12 +23,12 @@ use Rattle.view_engine.specs.declared.request.Request.{Request}
 use Rattle.view_engine.specs.declared.request.Request.TheVariants.{Delete, Put}
 use Rattle.view_engine.specs.Calls.{DoesBy, KeepsChild, IsStep, IsToldAs, Performed, RefusesUnread, Scene, StandsAt, StepsBy}
 use Rattle.view_engine.specs.Disks.{AreOpen, IsReason, ReadsDocuments}
-use Rattle.view_engine.specs.Halts.{halted_by, IsDamage, IsFullFor, LeavesFiles, WouldWrite, Writes}
+use Rattle.view_engine.specs.Halts.{halted_by, FitsFor, IsDamage, IsFullFor, LeavesFiles, WouldWrite, Writes}
 use Rattle.view_engine.specs.Moments.{Moment}
 use Rattle.view_engine.specs.Refusals.{request_of, refusal_text}
 use Rattle.view_engine.specs.Steps.{Does, DoesRequest, DoesRequestText, MayHaveCalled}
 use Rattle.view_engine.specs.World.{World}
-use Rattle.view_engine.specs.Worlds.{HasBodyDamage, IsFullAt, IsFullIn, StandsAround, StandsFor}
+use Rattle.view_engine.specs.Worlds.{HasBodyDamage, HasRoomAt, IsFullAt, IsFullIn, StandsAround, StandsFor}
 use Rattle.view_engine.proofs.Acting.{refused_at_once, spent_at_once}
 use Rattle.view_engine.proofs.Keeping.{open_none}
 use Rattle.view_engine.proofs.OnDisk.{disk_ends, disk_still}
@@ -61,6 +61,16 @@ told_unread : (out out' : List ℕ) (request : Result Request Refusal) (told : R
 told_unread out out' (Ok request) told unread appended = tt
 told_unread out out' (Err refusal) told (inl is) appended = let same : told ≡ refusal = cc in subst (λ (r : Refusal). out' ≡ out ++ ended (refusal_text r)) same appended
 told_unread out out' (Err refusal) told (inr is) appended = absurd (let never : ⊥ = cc in never)
+
+-- a fault that isn't told is want of memory there
+spent_unread : (request : Result Request Refusal) → IfErr request (λ refusal. NoMemory ≡ NoMemory)
+spent_unread (Ok request) = tt
+spent_unread (Err refusal) = refl
+
+stopped_unread : (request : Result Request Refusal) (fault : StepFault) → RefusesUnread request (Err (Stopped fault)) → IfErr request (λ refusal. fault ≡ NoMemory)
+stopped_unread (Ok request) fault unread = tt
+stopped_unread (Err refusal) fault (inl is) = absurd (let never : ⊥ = cc in never)
+stopped_unread (Err refusal) fault (inr is) = let same : fault ≡ NoMemory = cc in same
 
 read_as : (request : Result Request Refusal) (refused : Refusal) → request ≡ Err refused → RefusesUnread request (Err (Refused refused))
 read_as (Ok request) refused is = tt
@@ -157,7 +167,7 @@ module _ {F C : Type 0} {f : Folders F} {s : Servers C} where
           silent = is.1 ∙ performed.silent;
           blames = tt;
           fits = tt;
-          refused = tt;
+          refused = spent_unread (request_of line);
           asked = some;
           idle = λ none. absurd (some none);
           disk = disk_ends (λ given. tt) (λ goes. tt) performed.disk;
@@ -171,7 +181,7 @@ module _ {F C : Type 0} {f : Folders F} {s : Servers C} where
           silent = is.1 ∙ performed.silent;
           blames = tt;
           fits = tt;
-          refused = tt;
+          refused = stopped_unread (request_of line) fault performed.refused;
           asked = some;
           idle = λ none. absurd (some none);
           disk = disk_ends (λ left. left) (λ goes. goes) performed.disk;
@@ -218,6 +228,11 @@ told_full (Some d) docs world request P full known = λ name length is.
     let made = met.1 world known in
     record { docs = docs; at = known; full = met.0; write = made.0; accepted = made.1 }
 
+-- where the disk failed the request would have passed no limit of the file
+told_room : (disk : Option (Disk FileName)) (docs : Docs) (world : World) (request : Result Request Refusal) (A : Type 0) → (A → FitsFor docs request) → IfTold disk (λ d. AreAt docs d.now world.history)
+    → IfTold disk (λ d. A → HasRoomAt d.now world request)
+told_room disk docs world request A fits known = told_now disk (λ d. AreAt docs d.now world.history) (λ d. A → HasRoomAt d.now world request) (λ d at is. record { docs = docs; at = at; fits = fits is }) known
+
 module _ {F C : Type 0} {f : Folders F} {s : Servers C} {old new : Scene F C} {line out out' : List ℕ} where
   -- at each moment a crash leaves the world before the line or the one with its write
   pub step_around : {result : Result (Unit {0}) StepFault} → IsStep f s old new line out out' result → (before : Moment) → StandsAt f s old before
@@ -239,6 +254,12 @@ module _ {F C : Type 0} {f : Folders F} {s : Servers C} {old new : Scene F C} {l
     step_sound =
         told_never (f.disk old.folder) (λ d. AreAt old.engine.docs d.now before.world.history) (λ name at. fault ≡ Damaged name at)
         (λ name at is. (subst (IsReason f old.engine.docs old.folder new.folder (request_of line)) is step.why).1.1 before.world) at.documents
+
+    -- where the disk failed there was room for what the line writes
+    pub step_room_left : IfTold (f.disk old.folder) (λ d. fault ≡ DiskFault → HasRoomAt d.now before.world (request_of line))
+    step_room_left =
+        told_room (f.disk old.folder) old.engine.docs before.world (request_of line) (fault ≡ DiskFault)
+        (λ is. (subst (IsReason f old.engine.docs old.folder new.folder (request_of line)) is step.why).1) at.documents
 
     -- a full file is one with the write of the line
     pub step_full : IfTold (f.disk old.folder) (λ d. (name : FileName) (length : Option ℕ) → fault ≡ Full name length → IsFullAt d.now before.world (request_of line) name length)
@@ -276,6 +297,12 @@ step_full_in {f = f} {old = old} {new = new} {line = line} {fault = fault} is_op
     let still : LeavesFiles (Stopped fault) = subst (λ (e : StepFault). LeavesFiles (Stopped e)) (sym is) tt in
     full_named (f.disk old.folder) (f.disk new.folder) old.engine.docs (request_of line) name length why.0 is_open (step.disk.unmoved still)
 
+left_files : (fault : StepFault) → fault ≢ DiskFault → LeavesFiles (Stopped fault)
+left_files DiskFault other = other refl
+left_files (Damaged name at) other = tt
+left_files (Full name length) other = tt
+left_files NoMemory other = tt
+
 full_writes : (docs : Docs) (request : Result Request Refusal) (name : FileName) (length : Option ℕ) → IsFullFor docs request name length → Writes request
 full_writes docs (Ok (Put document)) name length full = tt
 full_writes docs (Ok (Delete id given)) name length full = tt
@@ -285,6 +312,10 @@ module _ {F C : Type 0} {f : Folders F} {s : Servers C} {old new : Scene F C} {l
   -- damage is met by a request that reads documents, and a full file by one that writes one
   pub step_reads : (name : FileName) (at : ℕ) → fault ≡ Damaged name at → ReadsDocuments (request_of line)
   step_reads name at is = (subst (IsReason f old.engine.docs old.folder new.folder (request_of line)) is step.why).0
+
+  -- only where the disk failed files have changed
+  pub step_kept : fault ≢ DiskFault → Tells (f.disk old.folder) (f.disk new.folder) MovesNone
+  step_kept other = step.disk.unmoved (left_files fault other)
 
   pub step_writes : (name : FileName) (length : Option ℕ) → fault ≡ Full name length → Writes (request_of line)
   step_writes name length is = full_writes old.engine.docs (request_of line) name length (subst (IsReason f old.engine.docs old.folder new.folder (request_of line)) is step.why).0

@@ -114,7 +114,12 @@ module _ {F : Type 0} (f : Folders F) where
 
 -- ---- a request on the engine
 
--- a line that is no request is refused as that, unless memory runs out
+-- a line that is no request is refused as that, and no fault but want of memory comes in its place
+abbrev pub RefusesLine : List ℕ → List ℕ → List ℕ → Result (Unit {0}) StepFault → Type 0
+RefusesLine line out out' (Ok done) = line ≢ [] → IfErr (request_of line) (λ refusal. out' ≡ out ++ ended (refusal_text refusal))
+RefusesLine line out out' (Err fault) = IfErr (request_of line) (λ refusal. fault ≡ NoMemory)
+
+-- the same of a request that is performed
 abbrev pub RefusesUnread : Result Request Refusal → Result (Unit {0}) Halt → Type 0
 RefusesUnread request result = IfErr request (λ refusal. (result ≡ Err (Refused refusal)) ⊎ (result ≡ Err (Stopped NoMemory)))
 
@@ -195,8 +200,7 @@ module _ {F C : Type 0} (f : Folders F) (s : Servers C) where
       pub blames : OnOk result (AppendsServerFault (request_of line) out out' → RoseBy 2 (s.faults old.servers) (s.faults new.servers))
       -- and where it is `ok`, what the request wrote passed no limit of the file
       pub fits : OnOk result (AppendsOk out out' → FitsFor old.engine.docs (request_of line))
-      -- a line that is no request is refused as that
-      pub refused : OnOk result (line ≢ [] → IfErr (request_of line) (λ refusal. out' ≡ out ++ ended (refusal_text refusal)))
+      pub refused : RefusesLine line out out' result
       -- an empty line asks for nothing
       pub asked : OnErr result (line ≢ [])
       pub idle : line ≡ [] → new.folder ≡ old.folder

@@ -45,7 +45,7 @@ abbrev pub StandsAround : World → Result Request Refusal → (FileName → Lis
 StandsAround world request image = StandsFor image world ⊎ StandsAfter world request image
 
 -- The files hold this world, in which the request is a write that is accepted, and with it the documents' file among them would
--- be too long, or has one commit too many.
+-- be too long, or else has one commit too many.
 pub record IsFullAt (files : FileName → File) (world : World) (request : Result Request Refusal) (name : FileName) (length : Option ℕ) : Type 0 where
   pub docs : Docs
   pub at : AreAt docs files world.history
@@ -53,8 +53,8 @@ pub record IsFullAt (files : FileName → File) (world : World) (request : Resul
   pub write : Write
   pub accepted : IsWrite world request write
 
--- An engine is open over the files, and what the request writes would make the documents' file among them too long, or is one
--- commit too many.
+-- An engine is open over the files, and what the request writes would make the documents' file among them too long, or else is
+-- one commit too many.
 pub record IsFullIn (files : FileName → File) (request : Result Request Refusal) (name : FileName) (length : Option ℕ) : Type 0 where
   pub docs : Docs
   pub is_open : AreOpen docs files
