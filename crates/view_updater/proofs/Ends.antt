@@ -11,7 +11,7 @@ use Rattle.view_ports.specs.declared.file_name.Stem.{Stem}
 use Rattle.view_ports.specs.declared.folder.Folder.{Ghosts as Folders}
 use Rattle.view_ports.specs.declared.servers.Servers.{Ghosts as Servers}
 use Rattle.view_ports.proofs.DiskRuns.{moves_none, moves_then, none_same, none_wider}
-use Rattle.view_ports.proofs.Told.{told_after, told_given, told_map, told_now, told_pair, told_still, told_then}
+use Rattle.view_ports.proofs.Told.{told_after, told_given, told_now, told_pair, told_still, told_then}
 use Rattle.design_docs.specs.declared.design.Design.{Design}
 use Rattle.doc_file.specs.declared.docs.Docs.{Docs}
 use Rattle.doc_file.specs.Docs.{IsAt as AreAt}
@@ -35,17 +35,12 @@ use Rattle.view_index.specs.Pending.{ArePending}
 use Rattle.view_index.specs.Replaced.{replaced_views}
 use Rattle.view_index.proofs.Committing.{last_sorted}
 use Rattle.view_updater.specs.declared.fault.UpdateFault.{UpdateFault}
-use Rattle.view_updater.specs.declared.fault.UpdateFault.TheVariants.{Docs as OfDocuments, Index as OfIndex, NoMemory}
-use Rattle.view_updater.specs.Exchanges.{HasExchanged, TakesIn}
+use Rattle.view_updater.specs.declared.fault.UpdateFault.TheVariants.{Docs as OfDocuments, Index as OfIndex, NoMemory, Pool as OfPool}
+use Rattle.view_updater.specs.Exchanges.{BreaksOff, HasExchanged, TakesIn}
 use Rattle.view_updater.specs.Faults.{by_index, by_pool}
-use Rattle.view_updater.specs.Updates.{documents_since, side, EndsAt, HasAsked, HasBrokenOff, IsBreak, IsIdle, IsMetAs, IsNext, IsReached, Side, StandsAround}
+use Rattle.view_updater.specs.Updates.{documents_since, side, EndsAt, HasAsked, IsBreak, IsIdle, IsLost, IsMetAs, IsNext, IsReached, Side, StandsAround}
 use Rattle.view_updater.proofs.Carrying.{at_still, open_still, same_stem, same_views, stands_now, views_by_picture}
 use Rattle.view_updater.proofs.Nexts.{nothing_updated, rows_updated}
-
--- what didn't go well promises nothing of where it did
-pub never_ok : (result : Result (Unit {0}) UpdateFault) (P : Type 0) → OnOk result ⊥ → OnOk result P
-never_ok (Ok done) P none = absurd none
-never_ok (Err fault) P none = tt
 
 module _ {F C : Type 0} (f : Folders F) (s : Servers C) (docs : Docs) (design : Design) (old : Side F C) (number : views_of old.index ≡ length design.views) where
   -- ---- nothing was written since
@@ -81,10 +76,12 @@ module _ {F C : Type 0} (f : Folders F) (s : Servers C) (docs : Docs) (design : 
         (λ image left. inl (stands_now old.index a.now picture is.at image left))
         (λ same other. at_still old.index new.index a.now b.now file same picture rows pending is.at) none) reached moves
 
-    pub refused_others : (result : Result (Unit {0}) UpdateFault) → OnOk result ⊥ → Tells (f.disk old.folder) (f.disk new.folder) (Moves (IsFileOf (stem_of old.index)) (λ image. Unit {0}) (λ files. OnOk result (IsOpen new.index files)))
-    refused_others result failed =
-        told_map (f.disk old.folder) (f.disk new.folder) MovesNone (Moves (IsFileOf (stem_of old.index)) (λ image. Unit {0}) (λ files. OnOk result (IsOpen new.index files)))
-        (λ a b none. none_wider (IsFileOf (stem_of old.index)) (λ image. Unit {0}) (λ files. OnOk result (IsOpen new.index files)) a b (λ image left. tt) (λ same. never_ok result (IsOpen new.index b.now) failed) none) moves
+    pub refused_others : (result : Result (Unit {0}) UpdateFault) → file_of new.index ≡ file_of old.index → IfTold (f.disk old.folder) (λ d. IsOpen old.index d.now)
+        → Tells (f.disk old.folder) (f.disk new.folder) (Moves (IsFileOf (stem_of old.index)) (λ image. Unit {0}) (λ files. IsLost result ⊎ IsOpen new.index files))
+    refused_others result file is_open =
+        told_given (f.disk old.folder) (f.disk new.folder) (λ d. IsOpen old.index d.now) MovesNone (Moves (IsFileOf (stem_of old.index)) (λ image. Unit {0}) (λ files. IsLost result ⊎ IsOpen new.index files))
+        (λ a b is none. none_wider (IsFileOf (stem_of old.index)) (λ image. Unit {0}) (λ files. IsLost result ⊎ IsOpen new.index files) a b (λ image left. tt)
+        (λ same. inr (open_still old.index new.index a.now b.now file same is)) none) is_open moves
 
 -- ---- faults of the commit
 
@@ -92,6 +89,11 @@ pub index_of_no_documents : (fault : IndexFault) (gate : GateFault) → by_index
 index_of_no_documents fault_of.NoMemory gate is = cc
 index_of_no_documents (fault_of.Store fault) gate is = cc
 index_of_no_documents (fault_of.Summer fault) gate is = cc
+
+pub index_of_no_pool : (fault : IndexFault) (of_pool : PoolFault) → by_index fault ≡ OfPool of_pool → ⊥
+index_of_no_pool fault_of.NoMemory of_pool is = cc
+index_of_no_pool (fault_of.Store fault) of_pool is = cc
+index_of_no_pool (fault_of.Summer fault) of_pool is = cc
 
 pub index_stored : (fault : IndexFault) (gate : GateFault) → by_index fault ≡ OfIndex (fault_of.Store gate) → fault ≡ fault_of.Store gate
 index_stored fault_of.NoMemory gate is = cc
@@ -123,7 +125,7 @@ unlike (fault_of.Summer fault) pool.Compile is = cc
 unlike (fault_of.Summer fault) pool.UnknownLanguage is = cc
 
 -- a refused commit is met by no fault of the pool
-pub commit_met : (fault : IndexFault) (mapped : Result DocRowLists PoolFault) → IsMetAs mapped well → IsMetAs mapped (Err (by_index fault))
+pub commit_met : (fault : IndexFault) (mapped : Result DocRowLists PoolFault) → IsMetAs mapped well → IsMetAs mapped (refused (by_index fault))
 commit_met fault (Err pool_fault) met = absurd (well_met pool_fault met)
 commit_met fault (Ok lists) met = λ pool_fault is. unlike fault pool_fault (let same : by_index fault ≡ by_pool pool_fault = cc in same)
 
@@ -149,7 +151,7 @@ module _ {F C : Type 0} (f : Folders F) (s : Servers C) (docs : Docs) (design : 
     left = side folder mid.servers mid.pool index
 
     abbrev Exchanged : Result (Unit {0}) UpdateFault → List Write → Type 0
-    Exchanged result history = HasExchanged f s docs design from mid history result ⊎ HasBrokenOff f s docs design from mid history result
+    Exchanged result history = HasExchanged f s docs design from mid history result ⊎ BreaksOff f s docs design from mid history result
 
     abbrev Asked : Result (Unit {0}) UpdateFault → List Write → Type 0
     Asked result history = (IsIdle f s docs design old left × OnOk result (seq_of old.index ≡ length history)) ⊎ HasAsked f s docs design old left history result
@@ -224,18 +226,27 @@ module _ {F C : Type 0} (f : Folders F) (s : Servers C) (docs : Docs) (design : 
 
     module _ (index : Index) (folder : F) (newest : ℕ) (committed : Result (Unit {0}) IndexFault) (commits : Commits f mid.index index mid.folder folder newest committed) where
       -- other files stay
-      pub others_then : (now : Index) (result : Result (Unit {0}) UpdateFault) → ((files : FileName → File) → OnOk committed (IsOpen index files) → OnOk result (IsOpen now files))
-          → Tells (f.disk old.folder) (f.disk folder) (Moves (IsFileOf (stem_of old.index)) (λ image. Unit {0}) (λ files. OnOk result (IsOpen now files)))
+      pub others_then : (now : Index) (result : Result (Unit {0}) UpdateFault) → ((files : FileName → File) → OnOk committed (IsOpen index files) → IsLost result ⊎ IsOpen now files)
+          → Tells (f.disk old.folder) (f.disk folder) (Moves (IsFileOf (stem_of old.index)) (λ image. Unit {0}) (λ files. IsLost result ⊎ IsOpen now files))
       others_then now result ends =
           told_then (f.disk old.folder) (f.disk mid.folder) (f.disk folder) MovesNone (Moves (IsFileOf (stem_of old.index)) (λ image. Unit {0}) (λ files. OnOk committed (IsOpen index files)))
-          (Moves (IsFileOf (stem_of old.index)) (λ image. Unit {0}) (λ files. OnOk result (IsOpen now files)))
-          (λ a b c none moved. moves_then (IsFileOf (stem_of old.index)) (λ image. Unit {0}) (λ image. Unit {0}) (λ image. Unit {0}) (λ files. Unit {0}) (λ files. OnOk committed (IsOpen index files)) (λ files. OnOk result (IsOpen now files)) a b c
+          (Moves (IsFileOf (stem_of old.index)) (λ image. Unit {0}) (λ files. IsLost result ⊎ IsOpen now files))
+          (λ a b c none moved. moves_then (IsFileOf (stem_of old.index)) (λ image. Unit {0}) (λ image. Unit {0}) (λ image. Unit {0}) (λ files. Unit {0}) (λ files. OnOk committed (IsOpen index files)) (λ files. IsLost result ⊎ IsOpen now files) a b c
           (λ image is. tt) (λ e image is. tt) (λ e ended. ends c.now ended)
           (none_wider (IsFileOf (stem_of old.index)) (λ image. Unit {0}) (λ files. Unit {0}) a b (λ image is. tt) (λ same. tt) none) moved) moves
           (subst (λ (stem : Stem). Tells (f.disk mid.folder) (f.disk folder) (Moves (IsFileOf stem) (λ image. Unit {0}) (λ files. OnOk committed (IsOpen index files)))) stem_then commits.others)
 
+      -- a commit that found no memory left the pair open
+      pub others_refused : (now : Index) → file_of now ≡ file_of index → IfTold (f.disk old.folder) (λ d. IsOpen old.index d.now) → (fault : IndexFault) → committed ≡ Err fault
+          → Tells (f.disk old.folder) (f.disk folder) (Moves (IsFileOf (stem_of old.index)) (λ image. Unit {0}) (λ files. IsLost (refused (by_index fault)) ⊎ IsOpen now files))
+      others_refused now file_now is_open fault_of.NoMemory is =
+          let still : (index ≡ mid.index) × (folder ≡ mid.folder) = commits.untouched is in
+          refused_others f s docs design old number (left folder now) (subst (λ (now : F). Tells (f.disk old.folder) (f.disk now) MovesNone) (sym still.1) moves) (refused NoMemory) (file_now ∙ ap file_of still.0 ∙ file ∙ back.file) is_open
+      others_refused now file_now is_open (fault_of.Store fault) is = others_then now (refused (by_index (fault_of.Store fault))) (λ files ended. inl tt)
+      others_refused now file_now is_open (fault_of.Summer fault) is = others_then now (refused (by_index (fault_of.Summer fault))) (λ files ended. inl tt)
+
       module _ (newest_is : newest ≡ docs.seq) (asks : (history : List Write) → IfTold (f.disk old.folder) (λ d. AreAt docs d.now history
-          → HasExchanged f s docs design from mid history well ⊎ HasBrokenOff f s docs design from mid history well)) where
+          → HasExchanged f s docs design from mid history well ⊎ BreaksOff f s docs design from mid history well)) where
         module _ (history : List Write) (picture : Option Picture) where
           abbrev Known : (FileName → File) → Type 0
           Known files = IsReached docs old.index history picture files × HasExchanged f s docs design from mid history well
@@ -246,14 +257,14 @@ module _ {F C : Type 0} (f : Folders F) (s : Servers C) (docs : Docs) (design : 
           abbrev Left : (FileName → List ℕ) → Type 0
           Left image = Stands (stem_of old.index) (views_of old.index) image picture ⊎ Stands (stem_of old.index) (views_of old.index) image (Some next)
 
-          chosen : HasExchanged f s docs design from mid history well ⊎ HasBrokenOff f s docs design from mid history well → HasExchanged f s docs design from mid history well
+          chosen : HasExchanged f s docs design from mid history well ⊎ BreaksOff f s docs design from mid history well → HasExchanged f s docs design from mid history well
           chosen (inl has) = has
           chosen (inr broken) = absurd broken.cause
 
           is_known : IfTold (f.disk old.folder) (λ d. IsReached docs old.index history picture d.now) → IfTold (f.disk old.folder) (λ d. Known d.now)
           is_known reached =
               told_pair (f.disk old.folder) (λ d. IsReached docs old.index history picture d.now)
-              (λ d. AreAt docs d.now history → HasExchanged f s docs design from mid history well ⊎ HasBrokenOff f s docs design from mid history well) (λ d. Known d.now)
+              (λ d. AreAt docs d.now history → HasExchanged f s docs design from mid history well ⊎ BreaksOff f s docs design from mid history well) (λ d. Known d.now)
               (λ d is told. (is, chosen (told is.documents))) reached (asks history)
 
           pub known_next : (new : Side F C) (files : FileName → File) → Known files → IsNext f s docs design old new history picture next

@@ -1,10 +1,11 @@
 -- What an exchange asks for and takes in, page by page.
-use Rattle.std.specs.Prelude.{◌≡◌, ◌⊎◌, ◌+◌, ◌++◌, ◌<◌, ◌≤◌, ◌||◌, ℕ, List, [], length, take, bytes_eq, false, Option, Result, Ok, Err}
+use Rattle.std.specs.Prelude.{◌≡◌, ◌⊎◌, ◌+◌, ◌++◌, ◌<◌, ◌≤◌, ◌||◌, ℕ, List, [], length, take, bytes_eq, false, Option, None, Result, Ok, Err}
 use Rattle.std.specs.List.{IsDistinct}
 use Rattle.std.proofs.Common.{refl, sym, ap, ◌∙◌, subst, inl, inr, arith, append_assoc, append-nil}
 use Rattle.std.proofs.lemmas.List.{length-append, nil_from_length}
 use Rattle.json_terms.specs.Json.{Json}
 use Rattle.view_ports.specs.Disk.{IfTold, MovesNone, Tells}
+use Rattle.view_ports.specs.Faults.{RoseBy}
 use Rattle.view_ports.specs.declared.folder.Folder.{Ghosts as Folders}
 use Rattle.view_ports.specs.declared.servers.Servers.{Ghosts as Servers}
 use Rattle.view_ports.proofs.DiskRuns.{none_refl}
@@ -17,9 +18,12 @@ use Rattle.doc_file.specs.Docs.{IsAt as AreAt}
 use Rattle.doc_file.specs.History.{Write, changes_after}
 use Rattle.doc_file.proofs.Pages.{go_in_pages}
 use Rattle.child_pool.specs.declared.doc_rows.DocRowLists.{DocRowLists}
+use Rattle.child_pool.specs.declared.pool.Pool.{Pool}
 use Rattle.child_pool.specs.declared.pool_fault.PoolFault.{PoolFault}
+use Rattle.child_pool.specs.declared.pool_fault.PoolFault.TheVariants as fault_of
+use Rattle.child_pool.specs.Languages.{path_in}
 use Rattle.child_pool.specs.Firsts.{has_some, FirstAreMapped}
-use Rattle.child_pool.specs.PoolCalls.{MapsAll}
+use Rattle.child_pool.specs.PoolCalls.{path_for, Ends, MapsAll, StaysAsMade}
 use Rattle.child_pool.proofs.Nexts.{first_whole, nothing_first}
 use Rattle.view_model.specs.Since.{mapped_of}
 use Rattle.view_index.specs.declared.doc_rows.DocRows.{DocRows}
@@ -29,10 +33,11 @@ use Rattle.view_index.specs.Index.{next_in, picture_of, seq_of, views_of, IsSame
 use Rattle.view_index.specs.Pending.{ArePending}
 use Rattle.view_index.specs.Replaced.{ids_of, replaced_views}
 use Rattle.view_updater.specs.declared.fault.UpdateFault.{UpdateFault}
+use Rattle.view_updater.specs.declared.fault.UpdateFault.TheVariants.{Docs as OfDocuments, Index as OfIndex, NoMemory, Pool as OfPool}
 use Rattle.view_updater.specs.declared.updating.Progress.{Progress}
-use Rattle.view_updater.specs.Exchanges.{documents_of, Exchanges, FollowsPage, HasComeTo, HasExchanged, OnlyReads, TakesIn}
+use Rattle.view_updater.specs.Exchanges.{documents_of, BreaksOff, Exchanges, FollowsPage, HasComeTo, HasExchanged, OnlyReads, TakesIn}
 use Rattle.view_updater.specs.Faults.{by_pool}
-use Rattle.view_updater.specs.Updates.{documents_since, HasBrokenOff, IsBreak, Side}
+use Rattle.view_updater.specs.Updates.{documents_since, IsBreak, Side}
 use Rattle.view_updater.proofs.ChangedSoFar.{taken_all}
 use Rattle.view_updater.proofs.OnlyReading.{known_before, reads_then}
 use Rattle.view_updater.proofs.Pages.{documents-append, mapped-append, nothing_replaced, page_distinct, page_replaced, some-append}
@@ -50,7 +55,7 @@ module _ {F C : Type 0} (f : Folders F) (s : Servers C) (docs : Docs) (design : 
 
   abbrev Asks : Result (Unit {0}) UpdateFault → Type 0
   Asks result = (history : List Write) → IfTold (f.disk old.folder) (λ d. AreAt docs d.now history
-      → HasExchanged f s docs design old new history result ⊎ HasBrokenOff f s docs design old new history result)
+      → HasExchanged f s docs design old new history result ⊎ BreaksOff f s docs design old new history result)
 
   documents_then : (history : List Write) (changes : List (ℕ × Write)) (after : ℕ) → changes_after (seq_of old.index) history ≡ changes ++ changes_after after history
       → documents_since (seq_of old.index) history ≡ documents_of changes ++ documents_of (changes_after after history)
@@ -61,7 +66,7 @@ module _ {F C : Type 0} (f : Folders F) (s : Servers C) (docs : Docs) (design : 
     pub asks_first : (fault : UpdateFault) (lists : DocRowLists) → IsBreak (refusal fault) → FirstAreMapped s old.servers new.servers old.pool new.pool design (documents_of changes) lists → Asks (refusal fault)
     asks_first fault lists cause mapped history =
         told_now (f.disk old.folder) (λ d. AreAt docs d.now history → changes_after (seq_of old.index) history ≡ changes ++ changes_after after history)
-        (λ d. AreAt docs d.now history → HasExchanged f s docs design old new history (refusal fault) ⊎ HasBrokenOff f s docs design old new history (refusal fault))
+        (λ d. AreAt docs d.now history → HasExchanged f s docs design old new history (refusal fault) ⊎ BreaksOff f s docs design old new history (refusal fault))
         (λ d is here. inr (record {
           done = documents_of changes;
           left = documents_of (changes_after after history);
@@ -75,7 +80,7 @@ module _ {F C : Type 0} (f : Folders F) (s : Servers C) (docs : Docs) (design : 
     pub asks_refused : (fault : PoolFault) → ((left : List (List (List ℕ × Json))) → MapsAll s old.servers new.servers old.pool design (documents_of changes ++ left) new.pool (Err fault)) → Asks (refusal (by_pool fault))
     asks_refused fault refuses history =
         told_now (f.disk old.folder) (λ d. AreAt docs d.now history → changes_after (seq_of old.index) history ≡ changes ++ changes_after after history)
-        (λ d. AreAt docs d.now history → HasExchanged f s docs design old new history (refusal (by_pool fault)) ⊎ HasBrokenOff f s docs design old new history (refusal (by_pool fault)))
+        (λ d. AreAt docs d.now history → HasExchanged f s docs design old new history (refusal (by_pool fault)) ⊎ BreaksOff f s docs design old new history (refusal (by_pool fault)))
         (λ d is here. inl (record {
           mapped = Err fault;
           met = refl;
@@ -90,7 +95,7 @@ module _ {F C : Type 0} (f : Folders F) (s : Servers C) (docs : Docs) (design : 
   asks_all progress changes lists come last history =
       told_pair (f.disk old.folder) (λ d. AreAt docs d.now history → (changes_after (seq_of old.index) history ≡ changes ++ changes_after progress.after history) × TakesIn f s docs design old new changes lists)
       (λ d. AreAt docs d.now history → changes_after progress.after history ≡ [])
-      (λ d. AreAt docs d.now history → HasExchanged f s docs design old new history done ⊎ HasBrokenOff f s docs design old new history done)
+      (λ d. AreAt docs d.now history → HasExchanged f s docs design old new history done ⊎ BreaksOff f s docs design old new history done)
       (λ d takes none here.
       let whole : changes_after (seq_of old.index) history ≡ changes = (takes here).0 ∙ ap (λ l. changes ++ l) (none here) ∙ append-nil changes in
       inl (record {
@@ -117,18 +122,70 @@ nothing_yet f s docs design old progress first idle settled = record {
   later = omega arith;
 }
 
+-- ---- the end of the pool
+
+-- a break is no fault of the pool
+no_pool : (fault : UpdateFault) (of_pool : PoolFault) → IsBreak (refusal fault) → refusal fault ≡ Err (OfPool of_pool) → ⊥
+no_pool NoMemory of_pool broken is = cc
+no_pool (OfDocuments fault) of_pool broken is = cc
+no_pool (OfPool fault) of_pool broken is = broken
+no_pool (OfIndex fault) of_pool broken is = broken
+
+by_pool_of : (fault of_pool : PoolFault) → refusal (by_pool fault) ≡ Err (OfPool of_pool) → fault ≡ of_pool
+by_pool_of fault_of.NoMemory of_pool is = cc
+by_pool_of fault_of.ServerFault of_pool is = cc
+by_pool_of (fault_of.BadReply line) of_pool is = cc
+by_pool_of fault_of.Compile of_pool is = cc
+by_pool_of fault_of.UnknownLanguage of_pool is = cc
+
+module _ {C : Type 0} (s : Servers C) (design : Design) (servers servers' : C) (pool pool' : Pool) where
+  -- how the pool ends where the update is refused
+  pub record EndsPool (fault : UpdateFault) : Type 0 where
+    pub keeps : StaysAsMade pool pool'
+    pub later : s.faults servers ≤ s.faults servers'
+    pub blames : refusal fault ≡ Err (OfPool fault_of.ServerFault) → RoseBy 2 (s.faults servers) (s.faults servers')
+    pub unknown : refusal fault ≡ Err (OfPool fault_of.UnknownLanguage) → path_for pool design ≡ None
+
+  -- something else failed
+  pub pool_left : (fault : UpdateFault) → IsBreak (refusal fault) → StaysAsMade pool pool' → s.faults servers ≤ s.faults servers' → EndsPool fault
+  pool_left fault broken keeps later =
+      record { keeps = keeps; later = later; blames = λ is. absurd (no_pool fault fault_of.ServerFault broken is); unknown = λ is. absurd (no_pool fault fault_of.UnknownLanguage broken is) }
+
+  -- or the pool refused
+  pub pool_refused : {T : Type 0} (fault : PoolFault) (result : Result T PoolFault) → result ≡ Err fault → Ends s servers servers' pool pool' design result → EndsPool (by_pool fault)
+  pool_refused fault result failed ends = record {
+    keeps = ends.keeps;
+    later = ends.later;
+    blames = λ is. ends.twice (failed ∙ ap Err (by_pool_of fault fault_of.ServerFault is));
+    unknown = λ is. ends.unknown (failed ∙ ap Err (by_pool_of fault fault_of.UnknownLanguage is));
+  }
+
+pub as_made : (pool : Pool) → StaysAsMade pool pool
+as_made pool = record { languages = refl; width = refl }
+
+-- what rose later rose since an earlier count
+rose_since : (before mid now : ℕ) → before ≤ mid → RoseBy 2 mid now → RoseBy 2 before now
+rose_since before mid now early rose = omega (arith, early, rose)
+
+-- a language that has no path now had none
+path_before : (pool pool' : Pool) (design : Design) → StaysAsMade pool pool' → path_for pool' design ≡ None → path_for pool design ≡ None
+path_before pool pool' design keeps is = ap (λ languages. path_in languages design.language) (sym keeps.languages) ∙ is
+
 -- ---- one page more
 
 module _ {F C : Type 0} (f : Folders F) (s : Servers C) (docs : Docs) (design : Design) (old now : Side F C) (progress : Progress) (changes : List (ℕ × Write)) (lists : DocRowLists) (come : HasComeTo f s docs design old now progress changes lists) where
   -- the exchange ends with this fault
   pub ends_early : (new : Side F C) (fault : UpdateFault) (result : Result (Option Progress) UpdateFault) → result ≡ Err fault → Asks f s docs design old new (refusal fault) → IsSame now.index new.index → picture_of new.index ≡ picture_of now.index
-      → OnlyReads f docs now.folder new.folder (refusal fault) → s.faults now.servers ≤ s.faults new.servers → FollowsPage f s docs design old new progress.after result
-  ends_early new fault result is asks same picture reads later = subst (FollowsPage f s docs design old new progress.after) (sym is) (record {
+      → OnlyReads f docs now.folder new.folder (refusal fault) → EndsPool s design now.servers new.servers now.pool new.pool fault → FollowsPage f s docs design old new progress.after result
+  ends_early new fault result is asks same picture reads ends = subst (FollowsPage f s docs design old new progress.after) (sym is) (record {
     asks = asks;
     same = record { file = same.file ∙ come.same.file; seq = same.seq ∙ come.same.seq };
     picture = picture ∙ come.picture;
     reads = reads_then f docs old.folder now.folder come.disk new.folder (refusal fault) come.later reads;
-    later = omega (arith, come.mapped.later, later);
+    later = omega (arith, come.mapped.later, ends.later);
+    keeps = record { languages = ends.keeps.languages ∙ come.mapped.keeps.languages; width = ends.keeps.width ∙ come.mapped.keeps.width };
+    blames = λ blamed. rose_since (s.faults old.servers) (s.faults now.servers) (s.faults new.servers) come.mapped.later (ends.blames blamed);
+    unknown = λ none. path_before old.pool now.pool design come.mapped.keeps (ends.unknown none);
   })
 
   -- where the writes go on
@@ -217,4 +274,7 @@ ends_well f s docs design old new progress changes lists come last reads = recor
   picture = come.picture;
   reads = reads;
   later = come.mapped.later;
+  keeps = come.mapped.keeps;
+  blames = λ is. cc;
+  unknown = λ is. cc;
 }

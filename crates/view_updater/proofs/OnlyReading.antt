@@ -21,10 +21,10 @@ use Rattle.doc_file.specs.History.{Write}
 use Rattle.child_pool.specs.declared.pool_fault.PoolFault.{PoolFault}
 use Rattle.child_pool.specs.declared.pool_fault.PoolFault.TheVariants as pool
 use Rattle.view_updater.specs.declared.fault.UpdateFault.{UpdateFault}
-use Rattle.view_updater.specs.declared.fault.UpdateFault.TheVariants.{Docs as OfDocuments}
-use Rattle.view_updater.specs.Exchanges.{IsOfIndex, OnlyReads}
+use Rattle.view_updater.specs.declared.fault.UpdateFault.TheVariants.{Docs as OfDocuments, Index as OfIndex, NoMemory, Pool as OfPool}
+use Rattle.view_updater.specs.Exchanges.{OnlyReads}
 use Rattle.view_updater.specs.Faults.{by_documents, by_pool}
-use Rattle.view_updater.specs.Updates.{IsBreak}
+use Rattle.view_updater.specs.Updates.{IsBreak, IsOfIndex}
 
 -- a refusal by this fault
 pub failed_as : {T E : Type 0} (result : Result T E) (fault : E) → IsErr result × IsErrAnd result (λ e. e ≡ fault) → result ≡ Err fault
@@ -40,15 +40,22 @@ of_no_index : (fault : DocFault) → IsOfIndex (by_documents fault) → ⊥
 of_no_index (doc.Gate fault) is = is
 of_no_index other is = is
 
-pub documents_break : (fault : DocFault) → IsBreak (Err (by_documents fault))
-documents_break (doc.Gate fault) = tt
-documents_break other = tt
-
 abbrev documents_failed : (T : Type 0) → DocFault → Result T DocFault
 documents_failed T fault = Err fault
 
-abbrev failed : (T : Type 0) → UpdateFault → Result T UpdateFault
+abbrev pub failed : (T : Type 0) → UpdateFault → Result T UpdateFault
 failed T fault = Err fault
+
+pub documents_break : (T : Type 0) (fault : DocFault) → IsBreak (failed T (by_documents fault))
+documents_break T (doc.Gate fault) = tt
+documents_break T other = tt
+
+-- what broke off one call breaks off another
+pub break_of : (S T : Type 0) (fault : UpdateFault) → IsBreak (failed S fault) → IsBreak (failed T fault)
+break_of S T NoMemory is = tt
+break_of S T (OfDocuments fault) is = tt
+break_of S T (OfPool fault) is = absurd is
+break_of S T (OfIndex fault) is = absurd is
 
 abbrev pub done_as : (T : Type 0) → T → Result T UpdateFault
 done_as T value = Ok value

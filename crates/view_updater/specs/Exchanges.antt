@@ -1,8 +1,8 @@
 -- What the parts of an update promise: the documents that were written since are read and mapped, and their rows exchanged.
-use Rattle.std.specs.Prelude.{◌≡◌, ◌≢◌, ◌⊎◌, ◌<◌, ◌≤◌, ◌++◌, ℕ, List, length, map, take, Option, Some, None, Result, Ok, Err, IfErr, IfOk, OnOk, All}
+use Rattle.std.specs.Prelude.{◌≡◌, ◌≢◌, ◌⊎◌, ◌<◌, ◌≤◌, ◌++◌, ℕ, List, length, map, take, Option, Some, None, Result, Ok, Err, IfErr, IfOk, OnErr, OnOk, All}
 use Rattle.json_terms.specs.Json.{Json}
 use Rattle.view_ports.specs.Disk.{IfTold, MovesNone, Tells}
-use Rattle.view_ports.specs.Faults.{Rose}
+use Rattle.view_ports.specs.Faults.{Rose, RoseBy}
 use Rattle.view_ports.specs.declared.file_name.FileName.{FileName}
 use Rattle.view_ports.specs.declared.folder.Folder.{Ghosts as Folders}
 use Rattle.view_ports.specs.declared.servers.Servers.{Ghosts as Servers}
@@ -15,8 +15,9 @@ use Rattle.doc_file.specs.Docs.{IsAt as AreAt}
 use Rattle.doc_file.specs.History.{Write, changes_after}
 use Rattle.child_pool.specs.declared.doc_rows.DocRowLists.{DocRowLists}
 use Rattle.child_pool.specs.declared.pool_fault.PoolFault.{PoolFault}
+use Rattle.child_pool.specs.declared.pool_fault.PoolFault.TheVariants.{ServerFault, UnknownLanguage}
 use Rattle.child_pool.specs.Firsts.{has_some, FirstAreMapped}
-use Rattle.child_pool.specs.PoolCalls.{MapsAll}
+use Rattle.child_pool.specs.PoolCalls.{path_for, MapsAll, StaysAsMade}
 use Rattle.query_protocol.specs.CommandLines.{document_of}
 use Rattle.view_model.specs.Since.{mapped_of}
 use Rattle.view_index.specs.Changed.{changed_rows}
@@ -24,14 +25,9 @@ use Rattle.view_index.specs.Index.{next_in, picture_of, seq_of, views_of, IsSame
 use Rattle.view_index.specs.Pending.{ArePending}
 use Rattle.view_index.specs.Replaced.{replaced_views}
 use Rattle.view_updater.specs.declared.fault.UpdateFault.{UpdateFault}
-use Rattle.view_updater.specs.declared.fault.UpdateFault.TheVariants.{Docs as OfDocuments, Index as OfIndex}
+use Rattle.view_updater.specs.declared.fault.UpdateFault.TheVariants.{Docs as OfDocuments, Pool as OfPool}
 use Rattle.view_updater.specs.declared.updating.Progress.{Progress}
-use Rattle.view_updater.specs.Updates.{documents_since, HasBrokenOff, IsBreak, IsMetAs, Side}
-
--- the fault is one of the index
-abbrev pub IsOfIndex : UpdateFault → Type 0
-IsOfIndex (OfIndex fault) = Unit {0}
-IsOfIndex other = ⊥
+use Rattle.view_updater.specs.Updates.{documents_since, HasBrokenOff, IsBreak, IsMetAs, IsOfIndex, Side}
 
 -- the documents' files are only read, and what may fail there
 module _ {F : Type 0} (f : Folders F) (docs : Docs) (old new : F) where
@@ -48,7 +44,7 @@ module _ {F : Type 0} (f : Folders F) (docs : Docs) (old new : F) where
     pub after : IfOk result (λ changes. All (λ change. seq < change.seq) changes)
     pub bodies : IfOk result (λ changes. All HasDocument changes)
     pub short : IfOk result (λ changes. All HasShortId changes)
-    pub breaks : IfErr result (λ fault. IsBreak (Err fault))
+    pub breaks : OnErr result (IsBreak result)
     pub reads : OnlyReads result
 
 -- the documents that are mapped of these writes
@@ -68,13 +64,20 @@ module _ {F C : Type 0} (f : Folders F) (s : Servers C) (docs : Docs) (design : 
     pub maps : MapsAll s old.servers new.servers old.pool design (documents_since (seq_of old.index) history) new.pool mapped
     pub takes : OnOk result (IfOk mapped (TakesIn (changes_after (seq_of old.index) history)))
 
+  -- the first of them were mapped, maybe none, and then reading more or making room failed
+  abbrev pub BreaksOff : List Write → Result (Unit {0}) UpdateFault → Type 0
+  BreaksOff history result = HasBrokenOff s old.servers new.servers old.pool new.pool design (seq_of old.index) history result
+
   pub record Exchanges (result : Result (Unit {0}) UpdateFault) : Type 0 where
     pub asks : (history : List Write) → IfTold (f.disk old.folder) (λ d. AreAt docs d.now history
-        → HasExchanged history result ⊎ HasBrokenOff f s docs design old new history result)
+        → HasExchanged history result ⊎ BreaksOff history result)
     pub same : IsSame old.index new.index
     pub picture : picture_of new.index ≡ picture_of old.index
     pub reads : OnlyReads f docs old.folder new.folder result
     pub later : s.faults old.servers ≤ s.faults new.servers
+    pub keeps : StaysAsMade old.pool new.pool
+    pub blames : result ≡ Err (OfPool ServerFault) → RoseBy 2 (s.faults old.servers) (s.faults new.servers)
+    pub unknown : result ≡ Err (OfPool UnknownLanguage) → path_for old.pool design ≡ None
 
   -- the writes up to a number are exchanged: these since the index's sequence, with these lists for the documents of them
   pub record HasComeTo (progress : Progress) (changes : List (ℕ × Write)) (lists : DocRowLists) : Type 0 where

@@ -1,9 +1,9 @@
 -- Bringing an index up to date.
-use Rattle.std.specs.Prelude.{◌≡◌, ◌≢◌, ◌⊎◌, ◌≤◌, ◌++◌, ℕ, List, map, length, Result, Ok, Err, IfErr, OnErr, OnOk, Option, Some}
+use Rattle.std.specs.Prelude.{◌≡◌, ◌≢◌, ◌⊎◌, ◌≤◌, ◌++◌, ℕ, List, map, length, Result, Ok, Err, IfErr, OnErr, OnOk, Option, Some, None}
 use Rattle.json_terms.specs.Json.{Json}
 use Rattle.view_ports.specs.Calls.{Call}
 use Rattle.view_ports.specs.Disk.{IfTold, Moves, Tells}
-use Rattle.view_ports.specs.Faults.{Rose}
+use Rattle.view_ports.specs.Faults.{Rose, RoseBy}
 use Rattle.view_ports.specs.Functions.{source_limit}
 use Rattle.view_ports.specs.File.{File}
 use Rattle.view_ports.specs.declared.file_name.FileName.{FileName}
@@ -18,8 +18,9 @@ use Rattle.doc_file.specs.History.{Write, mapped_after}
 use Rattle.child_pool.specs.declared.doc_rows.DocRowLists.{DocRowLists}
 use Rattle.child_pool.specs.declared.pool.Pool.{Pool}
 use Rattle.child_pool.specs.declared.pool_fault.PoolFault.{PoolFault}
+use Rattle.child_pool.specs.declared.pool_fault.PoolFault.TheVariants.{ServerFault, UnknownLanguage}
 use Rattle.child_pool.specs.Firsts.{FirstAreMapped}
-use Rattle.child_pool.specs.PoolCalls.{path_for, MapsAll}
+use Rattle.child_pool.specs.PoolCalls.{path_for, MapsAll, StaysAsMade}
 use Rattle.child_pool.specs.Pools.{HasItsChildren}
 use Rattle.view_model.specs.Picture.{Picture}
 use Rattle.view_model.specs.Update.{IsUpdated}
@@ -29,7 +30,7 @@ use Rattle.view_index.specs.Calls.{stem_of, IsAt, IsOpen, IsSettled}
 use Rattle.view_index.specs.Held.{or_empty, IsFileOf, Stands}
 use Rattle.view_index.specs.Index.{picture_of, seq_of, views_of}
 use Rattle.view_updater.specs.declared.fault.UpdateFault.{UpdateFault}
-use Rattle.view_updater.specs.declared.fault.UpdateFault.TheVariants.{Docs as OfDocuments, Index as OfIndex, NoMemory}
+use Rattle.view_updater.specs.declared.fault.UpdateFault.TheVariants.{Docs as OfDocuments, Index as OfIndex, NoMemory, Pool as OfPool}
 use Rattle.view_updater.specs.Faults.{by_pool}
 
 -- what an update is given and leaves
@@ -42,33 +43,55 @@ pub record Side (F C : Type 0) : Type 0 where
 abbrev pub side : {F C : Type 0} → F → C → Pool → Index → Side F C
 side folder servers pool index = record { folder = folder; servers = servers; pool = pool; index = index }
 
--- the documents are at a history, and the index is at a picture that isn't newer
+-- the documents are at a history, and the index is at a picture, or at none
 pub record IsReached (docs : Docs) (index : Index) (history : List Write) (picture : Option Picture) (files : FileName → File) : Type 0 where
   pub documents : AreAt docs files history
   pub at : IsAt index files picture
-  pub within : (or_empty (views_of index) picture).seq ≤ length history
 
 -- the documents that are mapped, where the index is of this sequence
 abbrev pub documents_since : ℕ → List Write → List (List (List ℕ × Json))
 documents_since seq history = map (λ entry. document_of entry.1) (mapped_after seq history)
 
 -- the pool refused to map, with a fault that is told, or mapped all
-abbrev pub IsMetAs : Result DocRowLists PoolFault → Result (Unit {0}) UpdateFault → Type 0
+abbrev pub IsMetAs : {T : Type 0} → Result DocRowLists PoolFault → Result T UpdateFault → Type 0
 IsMetAs (Ok lists) result = (fault : PoolFault) → result ≡ Err (by_pool fault) → result ≡ Err NoMemory
 IsMetAs (Err fault) result = result ≡ Err (by_pool fault)
 
--- the disk failed, a file is full, or something is damaged
-abbrev pub IsFileFault : UpdateFault → Type 0
-IsFileFault (OfIndex fault) = Unit {0}
-IsFileFault (OfDocuments fault) = Unit {0}
-IsFileFault other = ⊥
+-- the fault is one of the index
+abbrev pub IsOfIndex : UpdateFault → Type 0
+IsOfIndex (OfIndex fault) = Unit {0}
+IsOfIndex other = ⊥
+
+-- a fault of the index came
+abbrev pub IsLost : {T : Type 0} → Result T UpdateFault → Type 0
+IsLost (Ok done) = ⊥
+IsLost (Err fault) = IsOfIndex fault
 
 -- reading the documents failed, or memory ran out
-abbrev pub IsBreak : Result (Unit {0}) UpdateFault → Type 0
+abbrev pub IsBreak : {T : Type 0} → Result T UpdateFault → Type 0
 IsBreak (Ok done) = ⊥
 IsBreak (Err NoMemory) = Unit {0}
 IsBreak (Err (OfDocuments fault)) = Unit {0}
 IsBreak (Err other) = ⊥
+
+module _ {C : Type 0} (s : Servers C) (servers servers' : C) (pool pool' : Pool) (design : Design) (seq : ℕ) where
+  -- all documents that were written since were mapped, with this end; where they were, the commit may have been refused
+  abbrev pub HasMapped : {T : Type 0} → List Write → Result T UpdateFault → Type 0
+  HasMapped history result = (mapped : Result DocRowLists PoolFault) × IsMetAs mapped result
+      × MapsAll s servers servers' pool design (documents_since seq history) pool' mapped
+
+  -- the first of the documents that were written since were mapped, maybe none, and then reading more or making room failed
+  pub record HasBrokenOff {T : Type 0} (history : List Write) (result : Result T UpdateFault) : Type 0 where
+    pub done : List (List (List ℕ × Json))
+    pub left : List (List (List ℕ × Json))
+    pub all : documents_since seq history ≡ done ++ left
+    pub lists : DocRowLists
+    pub mapped : FirstAreMapped s servers servers' pool pool' design done lists
+    pub cause : IsBreak result
+
+  -- the documents that were written since a sequence were asked for, all or the first ones
+  abbrev pub HasAskedFor : {T : Type 0} → List Write → Result T UpdateFault → Type 0
+  HasAskedFor history result = HasMapped history result ⊎ HasBrokenOff history result
 
 module _ {F C : Type 0} (f : Folders F) (s : Servers C) (docs : Docs) (design : Design) (old new : Side F C) where
   -- a picture that the update makes: over each list of calls that may have been made, of the path of the design's language; its rows
@@ -83,32 +106,18 @@ module _ {F C : Type 0} (f : Folders F) (s : Servers C) (docs : Docs) (design : 
       Stands (stem_of old.index) (views_of old.index) image picture
       ⊎ ((next : Picture) × IsNext history picture next × Stands (stem_of old.index) (views_of old.index) image (Some next))
 
-  -- it was updated, or, where nothing of the files failed, it is as at its last commit
+  -- it was updated, or, where nothing of the index failed, it is as at its last commit
   abbrev pub EndsAt : List Write → Option Picture → Result (Unit {0}) UpdateFault → (FileName → File) → Type 0
   EndsAt history picture (Ok done) files = (next : Option Picture) × IsAt new.index files next × IsNext history picture (or_empty (views_of old.index) next)
-  EndsAt history picture (Err fault) files = (IsFileFault fault → ⊥) → IsAt new.index files picture
+  EndsAt history picture (Err fault) files = (IsOfIndex fault → ⊥) → IsAt new.index files picture
 
   -- nothing was asked
   abbrev pub IsIdle : Type 0
   IsIdle = (new.servers ≡ old.servers) × (new.pool ≡ old.pool)
 
-  -- all documents that were written since were mapped, with this end; where they were, the commit may have been refused
-  abbrev pub HasMapped : List Write → Result (Unit {0}) UpdateFault → Type 0
-  HasMapped history result = (mapped : Result DocRowLists PoolFault) × IsMetAs mapped result
-      × MapsAll s old.servers new.servers old.pool design (documents_since (seq_of old.index) history) new.pool mapped
-
-  -- the first of the documents that were written since were mapped, maybe none, and then reading more or making room failed
-  pub record HasBrokenOff (history : List Write) (result : Result (Unit {0}) UpdateFault) : Type 0 where
-    pub done : List (List (List ℕ × Json))
-    pub left : List (List (List ℕ × Json))
-    pub all : documents_since (seq_of old.index) history ≡ done ++ left
-    pub lists : DocRowLists
-    pub mapped : FirstAreMapped s old.servers new.servers old.pool new.pool design done lists
-    pub cause : IsBreak result
-
-  -- the documents that were written since were asked for, all or the first ones
+  -- the documents that were written since the index's sequence were asked for
   abbrev pub HasAsked : List Write → Result (Unit {0}) UpdateFault → Type 0
-  HasAsked history result = HasMapped history result ⊎ HasBrokenOff history result
+  HasAsked history result = HasAskedFor s old.servers new.servers old.pool new.pool design (seq_of old.index) history result
 
   pub record Updates (result : Result (Unit {0}) UpdateFault) : Type 0 where
     -- a crash leaves the picture or an updated one, and after Ok the index is at that; the documents' files are as they were
@@ -117,11 +126,17 @@ module _ {F C : Type 0} (f : Folders F) (s : Servers C) (docs : Docs) (design : 
     -- the documents that were written since are asked for, and no others; where there are none that were written, nothing is
     pub asks : (history : List Write) → IfTold (f.disk old.folder) (λ d. AreAt docs d.now history
         → (IsIdle × OnOk result (seq_of old.index ≡ length history)) ⊎ HasAsked history result)
-    -- whatever is told: files of other names are as they were, and a refusal leaves the rows and the sequence of the last commit
-    pub others : Tells (f.disk old.folder) (f.disk new.folder) (Moves (IsFileOf (stem_of old.index)) (λ image. Unit {0}) (λ files. OnOk result (IsOpen new.index files)))
+    -- whatever is told: files of other names are as they were, the index is open still where nothing of it failed, and a refusal leaves
+    -- the rows and the sequence of the last commit
+    pub others : Tells (f.disk old.folder) (f.disk new.folder) (Moves (IsFileOf (stem_of old.index)) (λ image. Unit {0}) (λ files. IsLost result ⊎ IsOpen new.index files))
     pub same : (stem_of new.index ≡ stem_of old.index) × (views_of new.index ≡ views_of old.index)
     pub settled : OnErr result (IsSettled new.index × (picture_of new.index ≡ picture_of old.index))
     -- a fault of the disk comes only where the folder counted one, and none is damaged over a history
     pub cause : IfErr result (λ fault. (fault ≡ OfDocuments DiskFault) ⊎ (fault ≡ OfIndex (Store DiskFault)) → Rose (f.faults old.folder) (f.faults new.folder))
     pub sound : (history : List Write) → IfTold (f.disk old.folder) (λ d. AreAt docs d.now history → (name : FileName) (at : ℕ) → result ≢ Err (OfDocuments (Damaged name at)))
     pub later : (f.faults old.folder ≤ f.faults new.folder) × (s.faults old.servers ≤ s.faults new.servers)
+    -- the pool's languages and width never change; servers are blamed only where two faults were counted, and a language is unknown
+    -- only where it has no path
+    pub keeps : StaysAsMade old.pool new.pool
+    pub blames : result ≡ Err (OfPool ServerFault) → RoseBy 2 (s.faults old.servers) (s.faults new.servers)
+    pub unknown : result ≡ Err (OfPool UnknownLanguage) → path_for old.pool design ≡ None

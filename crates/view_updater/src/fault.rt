@@ -11,7 +11,7 @@ use json_terms::NoMemory;
 use thiserror::Error;
 use view_index::IndexFault;
 
-/// Why an update is refused. But after a fault of the disk, a full file or damage the index is at its last commit.
+/// Why an update is refused. But after `Index` the index is at its last commit.
 #[derive(Debug, Drop, Error)]
 pub enum UpdateFault {
     /// The query servers gave up.

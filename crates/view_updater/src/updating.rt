@@ -33,8 +33,8 @@ struct Progress {
 ///
 /// The writes are taken in batches of 128, so that no more documents than these, and the index's rows, are held at once.
 ///
-/// After a fault of the disk, a full file and damage the object is not to be used again; after each other refusal it is as at its
-/// last commit.
+/// After a fault of the index the object is not to be used again; after each other refusal, a fault of the documents too, it is as
+/// at its last commit, and may be updated again. The pool's languages and width never change.
 pub fn update<F: Folder, C: Servers>(
     alloc: Global,
     folder: &mut F,

@@ -9,6 +9,7 @@ use Rattle.child_pool.specs.Firsts.{has_some, FirstAreMapped}
 use Rattle.child_pool.specs.Mapping.{AreBounded}
 use Rattle.child_pool.specs.PoolCalls.{MapsAll}
 use Rattle.query_protocol.specs.CommandLines.{document_of}
+use Rattle.doc_file.specs.declared.docs.changes.Changes.{Changes}
 use Rattle.doc_file.specs.Changes.{last_number, numbered}
 use Rattle.doc_file.proofs.Pages.{last_after}
 use Rattle.view_model.specs.Since.{mapped_of}
@@ -20,12 +21,12 @@ use Rattle.view_updater.specs.declared.updating.Progress.{Progress}
 use Rattle.view_updater.specs.declared.updating.TheConstants.{BATCH}
 use Rattle.view_updater.specs.Exchanges.{documents_of, OnlyReads}
 use Rattle.view_updater.specs.Faults.{by_index, by_pool}
-use Rattle.view_updater.specs.Updates.{side}
+use Rattle.view_updater.specs.Updates.{side, IsBreak}
 use Rattle.view_updater.proofs.Carrying.{same_views}
-use Rattle.view_updater.proofs.Exchanging.{asks_first, asks_refused, come_on, done, ends_early, ends_well, goes_on, goes_so_far, mapped_then, none_behind, refusal}
+use Rattle.view_updater.proofs.Exchanging.{as_made, asks_first, asks_refused, come_on, done, ends_early, ends_well, goes_on, goes_so_far, mapped_then, none_behind, pool_left, pool_refused, refusal}
 use Rattle.view_updater.proofs.Fitting.{bounded_fit}
 use Rattle.view_updater.proofs.Pages.{documents-append}
-use Rattle.view_updater.proofs.OnlyReading.{failed_as, pool_of_no_documents, pool_of_no_index, read_then, read_well, reads_then, same_failed}
+use Rattle.view_updater.proofs.OnlyReading.{break_of, failed_as, pool_of_no_documents, pool_of_no_index, read_then, read_well, reads_then, same_failed}
 use Rattle.view_updater.proofs.updating.exchange_page.Goals as goal
 
 pub returns-in_err-page : goal.returns-in_err-page
@@ -36,10 +37,12 @@ returns-in_err-page g c = λ old changes lists come.
     let design = c.args.design.now in
     let fault = c.in_err-page.field-0.0 in
     let result = c.from_residual.result in
+    let broken : IsBreak (refusal fault) = break_of Changes (Unit {0}) fault c.in_err-page.ensures.breaks in
     ends_early g.F.Folder g.C.Servers docs design old now c.args.progress changes lists come new fault result (failed_as result fault c.from_residual.ensures)
-    (asks_first g.F.Folder g.C.Servers docs design old new changes c.args.progress.after (goes_so_far g.F.Folder g.C.Servers docs design old now c.args.progress changes lists come) fault lists c.in_err-page.ensures.breaks come.mapped)
+    (asks_first g.F.Folder g.C.Servers docs design old new changes c.args.progress.after (goes_so_far g.F.Folder g.C.Servers docs design old now c.args.progress changes lists come) fault lists broken come.mapped)
     (record { file = refl; seq = refl }) refl
-    (same_failed g.F.Folder docs c.args.folder.now c.read_page.new.folder fault (refusal fault) refl c.in_err-page.ensures.reads) (omega arith)
+    (same_failed g.F.Folder docs c.args.folder.now c.read_page.new.folder fault (refusal fault) refl c.in_err-page.ensures.reads)
+    (pool_left g.C.Servers design now.servers now.servers now.pool now.pool fault broken (as_made now.pool) (omega arith))
 
 pub returns-in_err-changed : goal.returns-in_err-changed
 returns-in_err-changed g c = λ old changes lists come.
@@ -51,7 +54,8 @@ returns-in_err-changed g c = λ old changes lists come.
     ends_early g.F.Folder g.C.Servers docs design old now c.args.progress changes lists come new NoMemory result (failed_as result NoMemory c.from_residual-in_err-changed.ensures)
     (asks_first g.F.Folder g.C.Servers docs design old new changes c.args.progress.after (goes_so_far g.F.Folder g.C.Servers docs design old now c.args.progress changes lists come) NoMemory lists tt come.mapped)
     (record { file = refl; seq = refl }) refl
-    (read_then g.F.Folder docs c.args.folder.now c.read_page.new.folder c.in_ok-page.page NoMemory (refusal NoMemory) refl (λ is. is) (λ gate is. cc) c.in_ok-page.ensures.reads) (omega arith)
+    (read_then g.F.Folder docs c.args.folder.now c.read_page.new.folder c.in_ok-page.page NoMemory (refusal NoMemory) refl (λ is. is) (λ gate is. cc) c.in_ok-page.ensures.reads)
+    (pool_left g.C.Servers design now.servers now.servers now.pool now.pool NoMemory tt (as_made now.pool) (omega arith))
 
 pub returns-in_err-lists : goal.returns-in_err-lists
 returns-in_err-lists g c = λ old changes lists come.
@@ -72,7 +76,7 @@ returns-in_err-lists g c = λ old changes lists come.
     (λ left. subst (λ (ds : List (List (List ℕ × Json))). MapsAll g.C.Servers old.servers c.map_next.new.servers old.pool design (ds ++ left) c.map_next.new.self (Err fault)) whole (refuses left)))
     (record { file = refl; seq = refl }) refl
     (read_then g.F.Folder docs c.args.folder.now c.read_page.new.folder c.in_ok-page.page (by_pool fault) (refusal (by_pool fault)) refl (pool_of_no_index fault) (pool_of_no_documents fault) c.in_ok-page.ensures.reads)
-    c.map_next.ensures.ends.later
+    (pool_refused g.C.Servers design now.servers new.servers now.pool new.pool fault (Err fault) refl c.in_err-lists.ensures.ends)
 
 pub returns-in_err-rows : goal.returns-in_err-rows
 returns-in_err-rows g c = λ old changes lists come.
@@ -93,7 +97,7 @@ returns-in_err-rows g c = λ old changes lists come.
     (mapped_then g.F.Folder g.C.Servers docs design old now progress changes lists come page BATCH c.in_ok-page.ensures.all new others mapped))
     (record { file = refl; seq = refl }) refl
     (read_then g.F.Folder docs c.args.folder.now c.read_page.new.folder c.in_ok-page.page NoMemory (refusal NoMemory) refl (λ is. is) (λ gate is. cc) c.in_ok-page.ensures.reads)
-    c.map_next.ensures.ends.later
+    (pool_left g.C.Servers design now.servers new.servers now.pool new.pool NoMemory tt c.map_next.ensures.ends.keeps c.map_next.ensures.ends.later)
 
 pub replace-requires : goal.replace-requires
 replace-requires g c =
@@ -128,7 +132,7 @@ returns-in_err-replace g c = λ old changes lists come.
     c.replace.ensures.same c.replace.ensures.picture
     (subst (λ folder. OnlyReads g.F.Folder docs c.args.folder.now folder (refusal NoMemory)) (sym c.replace.ensures.folder)
     (read_then g.F.Folder docs c.args.folder.now c.read_page.new.folder c.in_ok-page.page NoMemory (refusal NoMemory) refl (λ is. is) (λ gate is. cc) c.in_ok-page.ensures.reads))
-    c.map_next.ensures.ends.later
+    (pool_left g.C.Servers design now.servers new.servers now.pool new.pool NoMemory tt c.map_next.ensures.ends.keeps c.map_next.ensures.ends.later)
 
 -- some documents are there where their number isn't 0
 is_some_list : (documents : List (List (List ℕ × Json))) → not (length documents == 0) ≡ has_some documents

@@ -1,6 +1,7 @@
 -- The documents couldn't be read.
-use Rattle.std.specs.Prelude.{IfErr, Err}
+use Rattle.std.specs.Prelude.{OnErr}
 use Rattle.std.proofs.Common.{rules, sym, subst}
+use Rattle.doc_file.specs.declared.docs.changes.Changes.{Changes}
 use Rattle.view_updater.specs.Faults.{by_documents}
 use Rattle.view_updater.specs.Updates.{IsBreak}
 use Rattle.view_updater.proofs.OnlyReading.{documents_break, failed_as, read_failed}
@@ -16,6 +17,6 @@ returns-in_err-changed_since g c =
       after = search rules;
       bodies = search rules;
       short = search rules;
-      breaks = subst (λ r. IfErr r (λ e. IsBreak (Err e))) (sym failed) (documents_break fault);
+      breaks = subst (λ r. OnErr r (IsBreak r)) (sym failed) (documents_break Changes fault);
       reads = read_failed g.F.Folder c.args.docs.now c.args.folder.now c.changed_since.new.folder fault result failed c.changed_since.ensures.disk c.in_err-changed_since.ensures.cause c.in_err-changed_since.ensures.sound;
     }

@@ -1,5 +1,5 @@
 -- The exchange, and the commit over it.
-use Rattle.std.specs.Prelude.{◌≡◌, ◌≢◌, ◌≤◌, ℕ, length, Result, Ok, Err, Some}
+use Rattle.std.specs.Prelude.{◌≡◌, ◌≢◌, ◌⊎◌, ◌≤◌, ℕ, length, Result, Ok, Err, Some}
 use Rattle.std.proofs.Common.{refl, sym, ap, ◌∙◌, subst, inl, inr, arith}
 use Rattle.std.proofs.lemmas.List.{length-map}
 use Rattle.view_ports.specs.Faults.{Rose}
@@ -7,6 +7,7 @@ use Rattle.view_ports.proofs.DiskRuns.{moves_none}
 use Rattle.view_ports.proofs.Told.{told_all, told_still}
 use Rattle.view_ports.specs.declared.file_name.FileName.{FileName}
 use Rattle.gate_file.specs.declared.fault.GateFault.TheVariants.{DiskFault, Damaged}
+use Rattle.child_pool.specs.declared.pool_fault.PoolFault.TheVariants.{ServerFault, UnknownLanguage}
 use Rattle.doc_file.specs.Docs.{seq_of as documents_seq, IsAt as AreAt}
 use Rattle.doc_file.specs.declared.docs.Info.{Info}
 use Rattle.view_model.specs.Picture.{Picture}
@@ -16,12 +17,12 @@ use Rattle.view_index.specs.declared.fault.IndexFault.{IndexFault}
 use Rattle.view_index.specs.Index.{both_in, is_touched, seq_of}
 use Rattle.view_index.specs.ViewRows.{next_rows}
 use Rattle.view_updater.specs.declared.fault.UpdateFault.{UpdateFault}
-use Rattle.view_updater.specs.declared.fault.UpdateFault.TheVariants.{Docs as OfDocuments}
-use Rattle.view_updater.specs.Exchanges.{IsOfIndex}
+use Rattle.view_updater.specs.declared.fault.UpdateFault.TheVariants.{Docs as OfDocuments, Pool as OfPool}
 use Rattle.view_updater.specs.Faults.{by_index}
-use Rattle.view_updater.specs.Updates.{side, EndsAt, Updates}
+use Rattle.view_updater.specs.Updates.{side, EndsAt, IsLost, IsOfIndex, Updates}
 use Rattle.view_updater.proofs.Carrying.{same_stem, same_views, views_by_picture}
-use Rattle.view_updater.proofs.Ends.{asked, commit_met, commit_refused, committed_stands, idle_stands, index_of_no_documents, index_stored, known_next, others_then, refused, refused_others, refused_stands, well, IsBack}
+use Rattle.view_updater.proofs.Exchanging.{as_made}
+use Rattle.view_updater.proofs.Ends.{asked, commit_met, commit_refused, committed_stands, idle_stands, index_of_no_documents, index_of_no_pool, index_stored, known_next, others_refused, others_then, refused, refused_others, refused_stands, well, IsBack}
 use Rattle.view_updater.proofs.updating.update.Goals as goal
 
 -- the commit went well
@@ -43,12 +44,15 @@ returns-then-seq-newest g c =
       stands = idle_stands g.F.Folder g.C.Servers docs c.args.design.now old c.requires.number newest;
       asks = λ history. told_all disk (λ d. AreAt docs d.now history → _) (λ d here. inl ((refl, refl), newest ∙ here.count));
       others = told_still disk (λ d. IsOpen c.args.index.now d.now) _
-          (λ d is. moves_none (IsFileOf stem) (λ image. Unit {0}) (λ files. IsOpen c.args.index.now files) d (λ image left. tt) is) c.requires.index;
+          (λ d is. moves_none (IsFileOf stem) (λ image. Unit {0}) (λ files. IsLost well ⊎ IsOpen c.args.index.now files) d (λ image left. tt) (inr is)) c.requires.index;
       same = (refl, refl);
       settled = tt;
       cause = tt;
       sound = λ history. told_all disk (λ d. AreAt docs d.now history → (name : FileName) (at : ℕ) → well ≢ Err (OfDocuments (Damaged name at))) (λ d here name at is. cc);
       later = (omega arith, omega arith);
+      keeps = as_made c.args.pool.now;
+      blames = λ is. cc;
+      unknown = λ is. cc;
     }
 
 pub returns-in-Err : goal.returns-in-Err
@@ -68,12 +72,15 @@ returns-in-Err g c =
     record {
       stands = refused_stands g.F.Folder g.C.Servers docs design old c.requires.number new c.in-Err.ensures.reads.disk fault file rows c.roll_back-in-Err.ensures.pending;
       asks = λ history. asked g.F.Folder g.C.Servers docs design old mid c.requires.number rolled back c.exchange.new.folder last (refused fault) (refused fault) (λ mapped met. met) (λ none. none) history (c.in-Err.ensures.asks history);
-      others = refused_others g.F.Folder g.C.Servers docs design old c.requires.number new c.in-Err.ensures.reads.disk (refused fault) tt;
+      others = refused_others g.F.Folder g.C.Servers docs design old c.requires.number new c.in-Err.ensures.reads.disk (refused fault) file c.requires.index;
       same = (same_stem index last file, same_views index last rows);
       settled = (record { next = c.roll_back-in-Err.ensures.next; pending = c.roll_back-in-Err.ensures.pending }, rows);
       cause = λ told. elim told [ inl is ↦ c.in-Err.ensures.reads.cause is | inr is ↦ absurd (c.in-Err.ensures.reads.faults (subst IsOfIndex (sym is) tt)) ];
       sound = c.in-Err.ensures.reads.sound;
       later = (c.in-Err.ensures.reads.later, c.in-Err.ensures.later);
+      keeps = c.in-Err.ensures.keeps;
+      blames = c.in-Err.ensures.blames;
+      unknown = c.in-Err.ensures.unknown;
     }
 
 pub returns-in-Err-commit : goal.returns-in-Err-commit
@@ -99,13 +106,17 @@ returns-in-Err-commit g c =
       stands = commit_refused g.F.Folder g.C.Servers docs design old mid c.requires.number rolled back ex.same.file ex.picture ex.reads.disk committed c.commit.new.folder newest (Err fault) commits newest_is ex.asks
           last c.roll_back-in-Err-commit.ensures.same.file rows c.roll_back-in-Err-commit.ensures.pending fault refl;
       asks = λ history. asked g.F.Folder g.C.Servers docs design old mid c.requires.number rolled back c.commit.new.folder last well (refused (by_index fault)) (commit_met fault) (λ none. absurd none) history (ex.asks history);
-      others = others_then g.F.Folder g.C.Servers docs design old mid c.requires.number rolled back ex.same.file ex.picture ex.reads.disk committed c.commit.new.folder newest (Err fault) commits last (refused (by_index fault)) (λ files ended. tt);
+      others = others_refused g.F.Folder g.C.Servers docs design old mid c.requires.number rolled back ex.same.file ex.picture ex.reads.disk committed c.commit.new.folder newest (Err fault) commits last
+          c.roll_back-in-Err-commit.ensures.same.file c.requires.index fault refl;
       same = (stem, same_views index last rows);
       settled = (record { next = c.roll_back-in-Err-commit.ensures.next; pending = c.roll_back-in-Err-commit.ensures.pending }, rows);
       cause = λ told. elim told [ inl is ↦ absurd (index_of_no_documents fault DiskFault is) | inr is ↦ rose_later (g.F.Folder.faults c.args.folder.now) (g.F.Folder.faults c.exchange.new.folder) (g.F.Folder.faults c.commit.new.folder) ex.reads.later (commits.cause.failed (index_stored fault DiskFault is)) ];
       sound = λ history. told_all (g.F.Folder.disk c.args.folder.now) (λ d. AreAt docs d.now history → (name : FileName) (at : ℕ) → refused (by_index fault) ≢ Err (OfDocuments (Damaged name at)))
           (λ d here name at is. index_of_no_documents fault (Damaged name at) (let same : by_index fault ≡ OfDocuments (Damaged name at) = cc in same));
       later = (omega (arith, ex.reads.later, commits.cause.later), ex.later);
+      keeps = ex.keeps;
+      blames = λ is. absurd (index_of_no_pool fault ServerFault (let same : by_index fault ≡ OfPool ServerFault = cc in same));
+      unknown = λ is. absurd (index_of_no_pool fault UnknownLanguage (let same : by_index fault ≡ OfPool UnknownLanguage = cc in same));
     })
 
 pub returns : goal.returns
@@ -134,10 +145,13 @@ returns g c =
             known_next g.F.Folder g.C.Servers docs design old mid c.requires.number rolled back ex.same.file ex.picture ex.reads.disk committed c.commit.new.folder newest well_index commits newest_is ex.asks history picture new was known,
           ));
       asks = λ history. asked g.F.Folder g.C.Servers docs design old mid c.requires.number rolled back c.commit.new.folder committed well well (λ mapped met. met) (λ none. none) history (ex.asks history);
-      others = others_then g.F.Folder g.C.Servers docs design old mid c.requires.number rolled back ex.same.file ex.picture ex.reads.disk committed c.commit.new.folder newest well_index commits committed well (λ files ended. ended);
+      others = others_then g.F.Folder g.C.Servers docs design old mid c.requires.number rolled back ex.same.file ex.picture ex.reads.disk committed c.commit.new.folder newest well_index commits committed well (λ files ended. inr ended);
       same = (stem, views);
       settled = tt;
       cause = tt;
       sound = λ history. told_all (g.F.Folder.disk c.args.folder.now) (λ d. AreAt docs d.now history → (name : FileName) (at : ℕ) → well ≢ Err (OfDocuments (Damaged name at))) (λ d here name at is. cc);
       later = (omega (arith, ex.reads.later, commits.cause.later), ex.later);
+      keeps = ex.keeps;
+      blames = λ is. cc;
+      unknown = λ is. cc;
     }
