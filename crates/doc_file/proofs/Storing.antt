@@ -7,8 +7,8 @@ use Rattle.view_ports.specs.File.{File}
 use Rattle.view_ports.specs.Disk.{Disk, IfTold, Moves, OthersStay, Tells}
 use Rattle.view_ports.specs.declared.file_name.FileName.{FileName}
 use Rattle.view_ports.specs.declared.file_name.Stem.TheVariants.{Docs as DocsStem}
-use Rattle.view_ports.proofs.Told.{told_still, told_after}
-use Rattle.view_ports.proofs.DiskRuns.{moves_none, on_ok}
+use Rattle.view_ports.proofs.Told.{told_after, told_given, told_refl, told_still}
+use Rattle.view_ports.proofs.DiskRuns.{moves_none, moves_wider, on_ok}
 use Rattle.gate_file.specs.declared.root.Root.{Root}
 use Rattle.gate_file.specs.declared.gate.GateFile.{GateFile}
 use Rattle.gate_file.specs.GateFile.{commits_of, name_of, root_of, start_of}
@@ -43,6 +43,21 @@ stays_at docs disk history write ends ended at =
     told_still disk (λ d. IsAt docs d.now history) (Moves IsDocsFile (λ image. Stands image history ⊎ Stands image (write ∷ history)) ends)
     (λ d is. moves_none IsDocsFile (λ image. Stands image history ⊎ Stands image (write ∷ history)) ends d (λ image left. inl (image_now docs d.now is.is_open history is image left)) (ended d.now))
     at
+
+abbrev pub MovesOwn : Disk FileName → Disk FileName → Type 0
+MovesOwn = Moves IsDocsFile (λ image. Unit {0}) (λ files. Unit {0})
+
+-- and no other file changed
+pub others_still : (disk : Told) → Tells disk disk MovesOwn
+others_still disk = told_refl disk MovesOwn (λ d. moves_none IsDocsFile (λ image. Unit {0}) (λ files. Unit {0}) d (λ image left. tt) tt)
+
+-- nor does any while bytes are published in the documents' file
+pub others_published : {T E : Type 0} (docs : Docs) (bytes : List ℕ) (skipped : ℕ) (result : Result T E) (old new : Told) → IfTold old (λ d. IsOpen docs d.now) → Tells old new (Publishes (file_of docs) bytes skipped result)
+    → Tells old new MovesOwn
+others_published docs bytes skipped result old new =
+    told_given old new (λ d. IsOpen docs d.now) (Publishes (file_of docs) bytes skipped result) MovesOwn
+    (λ a b is moves. moves_wider (λ n. n ≡ name_of (file_of docs)) IsDocsFile _ (λ image. Unit {0}) _ (λ files. Unit {0}) a b
+    (λ n same. ap (λ (k : FileName). k.stem) same ∙ is.pair.own) (λ image framed. tt) (λ others ended. tt) moves)
 
 -- The draft is of the entries and the place that the object has, and its bytes are what is published.
 module _ (docs : Docs) (id : List ℕ) (content : Option Json) (draft : Draft) (start : ℕ) (start_is : start ≡ start_of (file_of docs)) (listed : List Entry) (listed_is : listed ≡ entries_of docs)

@@ -17,7 +17,7 @@ use Rattle.doc_file.specs.Calls.{IsUntouched, Stores, Writes}
 use Rattle.doc_file.specs.Docs.{file_of}
 use Rattle.doc_file.specs.Stored.{write_of}
 use Rattle.doc_file.specs.Writes.{IsFileFault}
-use Rattle.doc_file.proofs.Storing.{stays_at}
+use Rattle.doc_file.proofs.Storing.{others_still, stays_at}
 
 module _ {F : Type 0} (f : Folders F) (docs : Docs) (folder : F) (id : List ℕ) (content : Option Json) where
   -- nothing was called
@@ -26,6 +26,7 @@ module _ {F : Type 0} (f : Folders F) (docs : Docs) (folder : F) (id : List ℕ)
     revision = tt;
     is_open = told_all (f.disk folder) (λ d. Unit {0}) (λ d. tt);
     stands = λ history at. stays_at docs (f.disk folder) history (write_of history id content) (λ files. Unit {0}) (λ files. tt) at;
+    others = others_still (f.disk folder);
     long = λ is. absurd (other (too_long (file_of docs)) (let same : fault ≡ Gate (too_long (file_of docs)) = cc in same));
     short = tt;
     spent = λ is. absurd (other (used_up (file_of docs)) (let same : fault ≡ Gate (used_up (file_of docs)) = cc in same));

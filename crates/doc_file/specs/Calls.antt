@@ -41,6 +41,8 @@ module _ {F : Type 0} (f : Folders F) (docs docs' : Docs) (old new : F) where
     pub stands : (history : List Write) → IfTold (f.disk old) (λ d. IsAt docs d.now history) → Tells (f.disk old) (f.disk new)
         (Moves IsDocsFile (λ image. Stands image history ⊎ Stands image (write_of history id content ∷ history))
         (λ files. OnOk result (IsAt docs' files (write_of history id content ∷ history))))
+    -- whatever the files hold, those of other names are as they were
+    pub others : Tells (f.disk old) (f.disk new) (Moves IsDocsFile (λ image. Unit {0}) (λ files. Unit {0}))
     -- the file is full exactly where it would be too long, and else where it has all of its commits
     pub long : result ≡ Err (Gate (too_long (file_of docs))) → 2 ^ 40 < length_with docs id content
     pub short : OnOk result (length_with docs id content ≤ 2 ^ 40)

@@ -14,7 +14,7 @@ use Rattle.doc_file.specs.declared.rev.Rev.{Rev}
 use Rattle.doc_file.specs.Held.{find_last}
 use Rattle.doc_file.specs.Stored.{generation_in, write_of}
 use Rattle.doc_file.proofs.Standing.{generation_room}
-use Rattle.doc_file.proofs.Storing.{counted_now, publishes, room_now, stays_at, told_at, told_open}
+use Rattle.doc_file.proofs.Storing.{counted_now, others_published, others_still, publishes, room_now, stays_at, told_at, told_open}
 use Rattle.doc_file.proofs.docs.Docs.store.Goals as goal
 
 -- a file whose disk failed was not full
@@ -43,6 +43,7 @@ returns-in_err-rev-clause-stored g c = record {
       let write = write_of history c.args.id (option_map json c.args.content) in
       stays_at c.args.self.now (g.F.Folder.disk c.args.folder.now) history write (λ files. OnOk c.from_residual.result (IsAt c.args.self.now files (write ∷ history)))
       (λ files. ended_err c.from_residual.result (IsAt c.args.self.now files (write ∷ history)) c.from_residual.ensures.0) at;
+  others = others_still (g.F.Folder.disk c.args.folder.now);
   long = search rules;
   short = search rules;
   spent = search rules;
@@ -72,6 +73,7 @@ returns-in_err-publish-clause-stored g c = record {
       c.requires.room c.requires.storable c.as_slice-2.result.now c.as_slice-2.ensures.value c.in_ok-rev.field-0.body refl
       (g.F.Folder.disk c.args.folder.now) (g.F.Folder.disk c.publish.new.folder) history c.publish.result _
       (λ a b is_at others ended. ended_err c.from_residual-in_err-publish.result _ c.from_residual-in_err-publish.ensures.0) at c.publish.ensures.disk;
+  others = others_published c.args.self.now c.as_slice-2.result.now c.in_ok-rev.field-0.body c.publish.result (g.F.Folder.disk c.args.folder.now) (g.F.Folder.disk c.publish.new.folder) c.requires.open c.publish.ensures.disk;
   long = search rules;
   short = search rules;
   spent = search rules;
@@ -108,6 +110,7 @@ returns-clause-stored g c = record {
       c.requires.room c.requires.storable c.as_slice-2.result.now c.as_slice-2.ensures.value c.in_ok-rev.field-0.body refl
       c.in_ok-publish.ensures.few _ c.in_ok-publish.ensures.done (ap (λ (r : Rev). r.seq) c.in_ok-rev.ensures.rev) refl
       c.publish.result c.in_ok-publish.field-0 c.in_ok-publish.was (g.F.Folder.disk c.args.folder.now) (g.F.Folder.disk c.publish.new.folder) history at c.publish.ensures.disk;
+  others = others_published c.args.self.now c.as_slice-2.result.now c.in_ok-rev.field-0.body c.publish.result (g.F.Folder.disk c.args.folder.now) (g.F.Folder.disk c.publish.new.folder) c.requires.open c.publish.ensures.disk;
   long = search rules;
   short = search rules;
   spent = search rules;
