@@ -9,15 +9,17 @@ use Rattle.view_ports.specs.declared.file_name.Stem.{Stem}
 use Rattle.view_ports.proofs.DiskRuns.{moves_then, moves_wider}
 use Rattle.view_ports.proofs.Images.{IsImage-settled}
 use Rattle.view_ports.proofs.Told.{told_both, told_map, told_then}
-use Rattle.gate_file.specs.GateFile.{name_of}
+use Rattle.gate_file.specs.declared.gate.GateFile.{GateFile}
+use Rattle.gate_file.specs.GateFile.{name_of, root_of}
 use Rattle.gate_file.specs.Open.{side_of}
 use Rattle.gate_file.specs.Opens.{Empties}
+use Rattle.gate_file.specs.Pair.{IsOpenPair, own_bytes}
 use Rattle.gate_file.proofs.Images.{empty_holds, empty_stands}
 use Rattle.gate_file.proofs.Pairs.{apart, sides}
 use Rattle.gate_file.proofs.Published.{image_now}
 use Rattle.view_model.specs.Picture.{Picture}
 use Rattle.view_index.specs.declared.index.Index.{Index}
-use Rattle.view_index.specs.Calls.{stem_of, IsAt, IsOpen}
+use Rattle.view_index.specs.Calls.{stem_of, IsAt}
 use Rattle.view_index.specs.Held.{or_empty, up_to, HoldsIndex, HoldsPicture, IsFileOf, Stands}
 use Rattle.view_index.specs.Index.{file_of, seq_of, views_of}
 use Rattle.view_index.specs.Opens.{IsLoaded, Shows}
@@ -44,44 +46,50 @@ own_or_other stem own n own_of n_of = by_side (sides stem n n_of) (sides stem ow
     by_side (inr high) (inl own_low) = inr (λ same. apart stem (sym high ∙ same ∙ own_low))
     by_side (inr high) (inr own_high) = inl (high ∙ sym own_high)
 
-module _ (index : Index) (old : FileName → File) (is_open : IsOpen index old) where
-  others_empty : (n : FileName) → n.stem ≡ stem_of index → n ≢ name_of (file_of index) → old n ≡ settled []
+module _ (stem : Stem) (views : ℕ) (gate : GateFile) (old : FileName → File) (is_open : IsOpenPair stem gate old) where
+  others_empty : (n : FileName) → n.stem ≡ stem → n ≢ name_of gate → old n ≡ settled []
   others_empty n of_pair differs = is_open.other n of_pair differs
 
   -- without bytes the files stand for no picture
-  pub cleared : (new : FileName → File) → OthersStay (λ n. n ≡ name_of (file_of index)) old new → new (name_of (file_of index)) ≡ settled [] → HoldsIndex (stem_of index) (views_of index) new None
-  cleared new others done = empty_holds (stem_of index) (HoldsPicture (views_of index)) (picture_of_root (views_of index)) new
-      (λ n of_pair. ⊎_elim (λ same. ap new same ∙ done) (λ differs. others n differs ∙ others_empty n of_pair differs) (own_or_other (stem_of index) (name_of (file_of index)) n refl of_pair)) None tt
+  cleared : (new : FileName → File) → OthersStay (λ n. n ≡ name_of gate) old new → new (name_of gate) ≡ settled [] → HoldsIndex stem views new None
+  cleared new others done = empty_holds stem (HoldsPicture views) (picture_of_root views) new
+      (λ n of_pair. ⊎_elim (λ same. ap new same ∙ done) (λ differs. others n differs ∙ others_empty n of_pair differs) (own_or_other stem (name_of gate) n is_open.own of_pair)) None tt
 
   -- what a crash leaves meanwhile stands for the picture, or for none
-  while_cleared : (picture : Option Picture) → IsAt index old picture → (image : FileName → List ℕ) → IsImage (old (name_of (file_of index))) (image (name_of (file_of index))) ⊎ (image (name_of (file_of index)) ≡ [])
-      → ((n : FileName) → n ≢ name_of (file_of index) → IsImage (old n) (image n)) → Stands (stem_of index) (views_of index) image picture ⊎ Stands (stem_of index) (views_of index) image None
-  while_cleared picture at image (inl before) outside =
-      inl (image_now (stem_of index) (file_of index) old is_open (HoldsPicture (views_of index)) (picture_of_root (views_of index)) picture at.holds image
-      (λ n of_pair. ⊎_elim (λ same. subst (λ k. IsImage (old k) (image k)) (sym same) before) (λ differs. outside n differs) (own_or_other (stem_of index) (name_of (file_of index)) n refl of_pair)))
-  while_cleared picture at image (inr none) outside =
-      inr (empty_stands (stem_of index) (HoldsPicture (views_of index)) (picture_of_root (views_of index)) image
+  while_cleared : (picture : Option Picture) → HoldsPicture views (root_of gate) (own_bytes gate old) picture → (image : FileName → List ℕ) → IsImage (old (name_of gate)) (image (name_of gate)) ⊎ (image (name_of gate) ≡ [])
+      → ((n : FileName) → n ≢ name_of gate → IsImage (old n) (image n)) → Stands stem views image picture ⊎ Stands stem views image None
+  while_cleared picture holds image (inl before) outside =
+      inl (image_now stem gate old is_open (HoldsPicture views) (picture_of_root views) picture holds image
+      (λ n of_pair. ⊎_elim (λ same. subst (λ k. IsImage (old k) (image k)) (sym same) before) (λ differs. outside n differs) (own_or_other stem (name_of gate) n is_open.own of_pair)))
+  while_cleared picture holds image (inr none) outside =
+      inr (empty_stands stem (HoldsPicture views) (picture_of_root views) image
       (λ n of_pair. ⊎_elim (λ same. ap image same ∙ none)
-      (λ differs. IsImage-settled [] (image n) (subst (λ f. IsImage f (image n)) (others_empty n of_pair differs) (outside n differs))) (own_or_other (stem_of index) (name_of (file_of index)) n refl of_pair))
+      (λ differs. IsImage-settled [] (image n) (subst (λ f. IsImage f (image n)) (others_empty n of_pair differs) (outside n differs))) (own_or_other stem (name_of gate) n is_open.own of_pair))
       None tt)
 
-ended_holds : {E : Type 0} (index : Index) (result : Result (Unit {0}) E) (files now : FileName → File) → IsOpen index files → OthersStay (λ n. n ≡ name_of (file_of index)) files now
-    → OnOk result (now (name_of (file_of index)) ≡ settled []) → OnOk result (HoldsIndex (stem_of index) (views_of index) now None)
-ended_holds index (Ok v) files now is_open others done = cleared index files is_open now others done
-ended_holds index (Err e) files now is_open others done = tt
+  ended_holds : {E : Type 0} (result : Result (Unit {0}) E) (now : FileName → File) → OthersStay (λ n. n ≡ name_of gate) old now
+      → OnOk result (now (name_of gate) ≡ settled []) → OnOk result (HoldsIndex stem views now None)
+  ended_holds (Ok v) now others done = cleared now others done
+  ended_holds (Err e) now others done = tt
+
+-- the file of an open pair is cleared
+pub clear_pair : {E : Type 0} (stem : Stem) (views : ℕ) (gate : GateFile) (a b : Disk FileName) (picture : Option Picture) (result : Result (Unit {0}) E)
+    → IsOpenPair stem gate a.now → HoldsPicture views (root_of gate) (own_bytes gate a.now) picture → Empties (name_of gate) result a b
+    → Moves (IsFileOf stem) (λ image. Stands stem views image picture ⊎ Stands stem views image None) (λ files. OnOk result (HoldsIndex stem views files None)) a b
+clear_pair stem views gate a b picture result is_open holds moved =
+    moves_wider (λ n. n ≡ name_of gate) (IsFileOf stem)
+    (λ image. IsImage (a.now (name_of gate)) (image (name_of gate)) ⊎ (image (name_of gate) ≡ []))
+    (λ image. Stands stem views image picture ⊎ Stands stem views image None)
+    (λ files. OnOk result (files (name_of gate) ≡ settled []))
+    (λ files. OnOk result (HoldsIndex stem views files None)) a b
+    (λ n same. ap (λ (k : FileName). k.stem) same ∙ is_open.own)
+    (λ image framed. while_cleared stem views gate a.now is_open picture holds image framed.inside framed.outside)
+    (λ others ended. ended_holds stem views gate a.now is_open result b.now others ended) moved
 
 clear_moved : {E : Type 0} (index : Index) (a b : Disk FileName) (picture : Option Picture) (result : Result (Unit {0}) E) → IsAt index a.now picture → Empties (name_of (file_of index)) result a b
     → Moves (IsFileOf (stem_of index)) (λ image. Stands (stem_of index) (views_of index) image picture ⊎ Stands (stem_of index) (views_of index) image None)
     (λ files. OnOk result (HoldsIndex (stem_of index) (views_of index) files None)) a b
-clear_moved index a b picture result here moved =
-    moves_wider (λ n. n ≡ name_of (file_of index)) (IsFileOf (stem_of index))
-    (λ image. IsImage (a.now (name_of (file_of index))) (image (name_of (file_of index))) ⊎ (image (name_of (file_of index)) ≡ []))
-    (λ image. Stands (stem_of index) (views_of index) image picture ⊎ Stands (stem_of index) (views_of index) image None)
-    (λ files. OnOk result (files (name_of (file_of index)) ≡ settled []))
-    (λ files. OnOk result (HoldsIndex (stem_of index) (views_of index) files None)) a b
-    (λ n same. ap (λ (k : FileName). k.stem) same)
-    (λ image framed. while_cleared index a.now here.is_open picture here image framed.inside framed.outside)
-    (λ others ended. ended_holds index result a.now b.now here.is_open others ended) moved
+clear_moved index a b picture result here moved = clear_pair (stem_of index) (views_of index) (file_of index) a b picture result here.is_open here.holds moved
 
 -- ---- as the folder tells it
 
@@ -144,14 +152,14 @@ others_both stem old mid new first second =
     (λ image is. tt) (λ ended image is. tt) (λ one_ended other_ended. tt) one other)
     first second
 
--- and where a file of an index that was opened is cleared
-pub others_cleared : {E : Type 0} (stem : Stem) (index : Index) (named : stem_of index ≡ stem) (result : Result (Unit {0}) E) (old mid new : Option (Disk FileName)) → Tells old mid (Moves (IsFileOf stem) (λ image. Unit {0}) (λ files. Unit {0}))
-    → Tells mid new (Empties (name_of (file_of index)) result) → Tells old new (Moves (IsFileOf stem) (λ image. Unit {0}) (λ files. Unit {0}))
-others_cleared stem index named result old mid new first second =
+-- and where one of the files of an index is cleared
+pub others_cleared : {E : Type 0} (stem : Stem) (own : FileName) (named : own.stem ≡ stem) (result : Result (Unit {0}) E) (old mid new : Option (Disk FileName)) → Tells old mid (Moves (IsFileOf stem) (λ image. Unit {0}) (λ files. Unit {0}))
+    → Tells mid new (Empties own result) → Tells old new (Moves (IsFileOf stem) (λ image. Unit {0}) (λ files. Unit {0}))
+others_cleared stem own named result old mid new first second =
     others_both stem old mid new first
-    (told_map mid new (Empties (name_of (file_of index)) result) (Moves (IsFileOf stem) (λ image. Unit {0}) (λ files. Unit {0}))
-    (λ b d clears. moves_wider (λ n. n ≡ name_of (file_of index)) (IsFileOf stem) (λ image. IsImage (b.now (name_of (file_of index))) (image (name_of (file_of index))) ⊎ (image (name_of (file_of index)) ≡ [])) (λ image. Unit {0})
-    (λ files. OnOk result (files (name_of (file_of index)) ≡ settled [])) (λ files. Unit {0}) b d
+    (told_map mid new (Empties own result) (Moves (IsFileOf stem) (λ image. Unit {0}) (λ files. Unit {0}))
+    (λ b d clears. moves_wider (λ n. n ≡ own) (IsFileOf stem) (λ image. IsImage (b.now own) (image own) ⊎ (image own ≡ [])) (λ image. Unit {0})
+    (λ files. OnOk result (files own ≡ settled [])) (λ files. Unit {0}) b d
     (λ n same. ap (λ (k : FileName). k.stem) same ∙ named) (λ image framed. tt) (λ others ended. tt) clears) second)
 
 pub both_ok : {T E : Type 0} (result : Result T E) (P Q R : T → Type 0) → ((x : T) → P x → Q x → R x) → IfOk result P → IfOk result Q → IfOk result R

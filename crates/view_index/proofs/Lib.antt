@@ -12,4 +12,5 @@ pub mod Committing
 pub mod Loaded
 pub mod Opening
 pub mod Emptying
+pub mod Removing
 pub mod Updating

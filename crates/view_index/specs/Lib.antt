@@ -11,3 +11,4 @@ pub mod Calls
 pub mod Loads
 pub mod Opens
 pub mod Laws
+pub mod Removes

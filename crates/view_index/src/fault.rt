@@ -2,13 +2,14 @@
 
 ghost use Rattle.std.specs.Prelude.{◌≡◌};
 ghost use Rattle.view_index.specs.declared.fault.IndexFault.TheVariants.{NoMemory as OutOfMemory};
-ghost use Rattle.view_index.specs.Faults.{index_fault};
+ghost use Rattle.view_index.specs.Faults.{folder_fault, index_fault};
 
 use child_pool::PoolFault;
 use gate_file::GateFault;
 use json_terms::NoMemory;
 use std::alloc::{AllocError, AllocFailed};
 use thiserror::Error;
+use view_ports::FolderFault;
 
 /// Why a call on an index is refused.
 #[derive(Debug, Drop, Error)]
@@ -31,6 +32,17 @@ impl From<GateFault> for IndexFault {
         match fault {
             GateFault::NoMemory => IndexFault::NoMemory,
             other => IndexFault::Store(other),
+        }
+    }
+}
+
+impl From<FolderFault> for IndexFault {
+    ghost from_gives = { λ fault e. e ≡ folder_fault fault };
+
+    fn from(fault: FolderFault) -> IndexFault {
+        match fault {
+            FolderFault::Failed => IndexFault::Store(GateFault::DiskFault),
+            FolderFault::NoMemory => IndexFault::NoMemory,
         }
     }
 }

@@ -2,6 +2,7 @@
 
 mod commit;
 mod open;
+mod remove;
 mod replace;
 mod roll_back;
 
@@ -46,6 +47,13 @@ impl Index {
         ensures { result.now ≡ slice_index_or (picture_of self.now).rows view [] }
     {
         self.views.as_slice()[view as usize].rows()
+    }
+
+    /// How many views it has. It takes no memory.
+    pub fn views(&self) -> usize
+        ensures { result ≡ views_of self.now }
+    {
+        self.views.len()
     }
 
     /// The name of the file that holds the index. It takes no memory.

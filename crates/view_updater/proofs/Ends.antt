@@ -38,7 +38,7 @@ use Rattle.view_updater.specs.declared.fault.UpdateFault.{UpdateFault}
 use Rattle.view_updater.specs.declared.fault.UpdateFault.TheVariants.{Docs as OfDocuments, Index as OfIndex, NoMemory, Pool as OfPool}
 use Rattle.view_updater.specs.Exchanges.{BreaksOff, HasExchanged, TakesIn}
 use Rattle.view_updater.specs.Faults.{by_index, by_pool}
-use Rattle.view_updater.specs.Updates.{documents_since, side, EndsAt, HasAsked, IsBreak, IsIdle, IsLost, IsMetAs, IsNext, IsReached, Side, StandsAround}
+use Rattle.view_updater.specs.Updates.{documents_since, side, EndsAt, HasAsked, IsBreak, IsIdle, IsLost, IsMadeBy, IsMetAs, IsNext, IsReached, Side, StandsAround}
 use Rattle.view_updater.proofs.Carrying.{at_still, open_still, same_stem, same_views, stands_now, views_by_picture}
 use Rattle.view_updater.proofs.Nexts.{nothing_updated, rows_updated}
 
@@ -56,10 +56,10 @@ module _ {F C : Type 0} (f : Folders F) (s : Servers C) (docs : Docs) (design : 
 
   -- the files and the index are as they were
   pub idle_stands : seq_of old.index ≡ docs.seq → (history : List Write) (picture : Option Picture) → IfTold (f.disk old.folder) (λ d. IsReached docs old.index history picture d.now)
-      → Tells (f.disk old.folder) (f.disk old.folder) (Moves (IsFileOf (stem_of old.index)) (StandsAround f s docs design old old history picture) (EndsAt f s docs design old old history picture (Ok tt)))
+      → Tells (f.disk old.folder) (f.disk old.folder) (Moves (IsFileOf (stem_of old.index)) (StandsAround f s docs design old old history picture (Ok tt)) (EndsAt f s docs design old old history picture (Ok tt)))
   idle_stands newest history picture reached =
-      told_still (f.disk old.folder) (λ d. IsReached docs old.index history picture d.now) (Moves (IsFileOf (stem_of old.index)) (StandsAround f s docs design old old history picture) (EndsAt f s docs design old old history picture (Ok tt)))
-      (λ d is. moves_none (IsFileOf (stem_of old.index)) (StandsAround f s docs design old old history picture) (EndsAt f s docs design old old history picture (Ok tt)) d
+      told_still (f.disk old.folder) (λ d. IsReached docs old.index history picture d.now) (Moves (IsFileOf (stem_of old.index)) (StandsAround f s docs design old old history picture (Ok tt)) (EndsAt f s docs design old old history picture (Ok tt)))
+      (λ d is. moves_none (IsFileOf (stem_of old.index)) (StandsAround f s docs design old old history picture (Ok tt)) (EndsAt f s docs design old old history picture (Ok tt)) d
       (λ image left. inl (stands_now old.index d.now picture is.at image left))
       (picture, is.at, idle_next history picture d.now is.at old (newest ∙ is.documents.count))) reached
 
@@ -68,11 +68,11 @@ module _ {F C : Type 0} (f : Folders F) (s : Servers C) (docs : Docs) (design : 
   module _ (new : Side F C) (moves : Tells (f.disk old.folder) (f.disk new.folder) MovesNone) where
     pub refused_stands : (fault : UpdateFault) → file_of new.index ≡ file_of old.index → picture_of new.index ≡ picture_of old.index → ArePending new.index
         → (history : List Write) (picture : Option Picture) → IfTold (f.disk old.folder) (λ d. IsReached docs old.index history picture d.now)
-        → Tells (f.disk old.folder) (f.disk new.folder) (Moves (IsFileOf (stem_of old.index)) (StandsAround f s docs design old new history picture) (EndsAt f s docs design old new history picture (Err fault)))
+        → Tells (f.disk old.folder) (f.disk new.folder) (Moves (IsFileOf (stem_of old.index)) (StandsAround f s docs design old new history picture (Err fault)) (EndsAt f s docs design old new history picture (Err fault)))
     refused_stands fault file rows pending history picture reached =
         told_given (f.disk old.folder) (f.disk new.folder) (λ d. IsReached docs old.index history picture d.now) MovesNone
-        (Moves (IsFileOf (stem_of old.index)) (StandsAround f s docs design old new history picture) (EndsAt f s docs design old new history picture (Err fault)))
-        (λ a b is none. none_wider (IsFileOf (stem_of old.index)) (StandsAround f s docs design old new history picture) (EndsAt f s docs design old new history picture (Err fault)) a b
+        (Moves (IsFileOf (stem_of old.index)) (StandsAround f s docs design old new history picture (Err fault)) (EndsAt f s docs design old new history picture (Err fault)))
+        (λ a b is none. none_wider (IsFileOf (stem_of old.index)) (StandsAround f s docs design old new history picture (Err fault)) (EndsAt f s docs design old new history picture (Err fault)) a b
         (λ image left. inl (stands_now old.index a.now picture is.at image left))
         (λ same other. at_still old.index new.index a.now b.now file same picture rows pending is.at) none) reached moves
 
@@ -284,34 +284,34 @@ module _ {F C : Type 0} (f : Folders F) (s : Servers C) (docs : Docs) (design : 
               (subst (λ (n : ℕ). Tells (f.disk mid.folder) (f.disk folder) (Moves (IsFileOf (stem_of mid.index))
               (λ image. Stands (stem_of mid.index) n image picture ⊎ Stands (stem_of mid.index) n image (Some next)) (λ files. OnOk committed (IsAt index files (Some next))))) views_then told)
 
-          pub committed_stands : (new : Side F C) (ends : (FileName → File) → Type 0) → ((was files : FileName → File) → Known was → OnOk committed (IsAt index files (Some next)) → ends files)
+          pub committed_stands : (new : Side F C) (result : Result (Unit {0}) UpdateFault) → IsMadeBy f s docs design old new result next → (ends : (FileName → File) → Type 0) → ((was files : FileName → File) → Known was → OnOk committed (IsAt index files (Some next)) → ends files)
               → IfTold (f.disk old.folder) (λ d. IsReached docs old.index history picture d.now)
-              → Tells (f.disk old.folder) (f.disk folder) (Moves (IsFileOf (stem_of old.index)) (StandsAround f s docs design old new history picture) ends)
-          committed_stands new ends endings reached =
+              → Tells (f.disk old.folder) (f.disk folder) (Moves (IsFileOf (stem_of old.index)) (StandsAround f s docs design old new history picture result) ends)
+          committed_stands new result made ends endings reached =
               let known : IfTold (f.disk old.folder) (λ d. Known d.now) = is_known reached in
               told_then (f.disk old.folder) (f.disk mid.folder) (f.disk folder) (λ a b. Known a.now × MovesNone a b) (Moves (IsFileOf (stem_of old.index)) Left (λ files. OnOk committed (IsAt index files (Some next))))
-              (Moves (IsFileOf (stem_of old.index)) (StandsAround f s docs design old new history picture) ends)
-              (λ a b c first moved. moves_then (IsFileOf (stem_of old.index)) (λ image. Stands (stem_of old.index) (views_of old.index) image picture) Left (StandsAround f s docs design old new history picture)
+              (Moves (IsFileOf (stem_of old.index)) (StandsAround f s docs design old new history picture result) ends)
+              (λ a b c first moved. moves_then (IsFileOf (stem_of old.index)) (λ image. Stands (stem_of old.index) (views_of old.index) image picture) Left (StandsAround f s docs design old new history picture result)
               (λ files. Unit {0}) (λ files. OnOk committed (IsAt index files (Some next))) ends a b c
               (λ image is. inl is)
-              (λ e image is. around new a.now first.0 image is)
+              (λ e image is. around a.now first.0 image is)
               (λ e ended. endings a.now c.now first.0 ended)
               (none_wider (IsFileOf (stem_of old.index)) (λ image. Stands (stem_of old.index) (views_of old.index) image picture) (λ files. Unit {0}) a b (λ image is. stands_now old.index a.now picture first.0.0.at image is) (λ same. tt) first.1) moved)
               (told_given (f.disk old.folder) (f.disk mid.folder) (λ d. Known d.now) MovesNone (λ a b. Known a.now × MovesNone a b) (λ a b is none. (is, none)) known moves)
               (of_old (commits.stands picture (mid_at known)))
             where
-              around : (new : Side F C) (was : FileName → File) → Known was → (image : FileName → List ℕ) → Left image → StandsAround f s docs design old new history picture image
-              around new was is image (inl stands) = inl stands
-              around new was is image (inr stands) = inr (next, known_next new was is, stands)
+              around : (was : FileName → File) → Known was → (image : FileName → List ℕ) → Left image → StandsAround f s docs design old new history picture result image
+              around was is image (inl stands) = inl stands
+              around was is image (inr stands) = inr (next, known_next new was is, made, stands)
 
         -- the commit was refused: for want of memory nothing was done
         pub commit_refused : (now : Index) → file_of now ≡ file_of index → picture_of now ≡ picture_of old.index → ArePending now → (fault : IndexFault) → committed ≡ Err fault → (history : List Write) (picture : Option Picture)
             → IfTold (f.disk old.folder) (λ d. IsReached docs old.index history picture d.now)
-            → Tells (f.disk old.folder) (f.disk folder) (Moves (IsFileOf (stem_of old.index)) (StandsAround f s docs design old (left folder now) history picture) (EndsAt f s docs design old (left folder now) history picture (Err (by_index fault))))
+            → Tells (f.disk old.folder) (f.disk folder) (Moves (IsFileOf (stem_of old.index)) (StandsAround f s docs design old (left folder now) history picture (Err (by_index fault))) (EndsAt f s docs design old (left folder now) history picture (Err (by_index fault))))
         commit_refused now file_now rows_now pending fault_of.NoMemory is history picture reached =
             let still : (index ≡ mid.index) × (folder ≡ mid.folder) = commits.untouched is in
             refused_stands f s docs design old number (left folder now) (subst (λ (now : F). Tells (f.disk old.folder) (f.disk now) MovesNone) (sym still.1) moves) NoMemory (file_now ∙ ap file_of still.0 ∙ file ∙ back.file) rows_now pending history picture reached
         commit_refused now file_now rows_now pending (fault_of.Store fault) is history picture reached =
-            committed_stands history picture (left folder now) (EndsAt f s docs design old (left folder now) history picture (Err (by_index (fault_of.Store fault)))) (λ was files known ended other. absurd (other tt)) reached
+            committed_stands history picture (left folder now) (Err (by_index (fault_of.Store fault))) tt (EndsAt f s docs design old (left folder now) history picture (Err (by_index (fault_of.Store fault)))) (λ was files known ended other. absurd (other tt)) reached
         commit_refused now file_now rows_now pending (fault_of.Summer fault) is history picture reached =
-            committed_stands history picture (left folder now) (EndsAt f s docs design old (left folder now) history picture (Err (by_index (fault_of.Summer fault)))) (λ was files known ended other. absurd (other tt)) reached
+            committed_stands history picture (left folder now) (Err (by_index (fault_of.Summer fault))) tt (EndsAt f s docs design old (left folder now) history picture (Err (by_index (fault_of.Summer fault)))) (λ was files known ended other. absurd (other tt)) reached

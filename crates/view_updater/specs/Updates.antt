@@ -100,11 +100,16 @@ module _ {F C : Type 0} (f : Folders F) (s : Servers C) (docs : Docs) (design : 
   IsNext history picture next = (path : List ℕ) (calls : List Call) → s.may_follow old.servers calls → path_for old.pool design ≡ Some path → HasItsChildren old.pool calls
       → IsUpdated (s.functions path) (s.honest path × (length design.views ≤ source_limit)) design.views history (or_empty (views_of old.index) picture) next
 
-  -- an image stands for the picture, or for one that the update makes
-  abbrev pub StandsAround : List Write → Option Picture → (FileName → List ℕ) → Type 0
-  StandsAround history picture image =
+  -- the picture that the update makes is that of the index after Ok, and may be one of no index only where a fault of the index came
+  abbrev pub IsMadeBy : Result (Unit {0}) UpdateFault → Picture → Type 0
+  IsMadeBy (Ok done) next = next ≡ picture_of new.index
+  IsMadeBy (Err fault) next = IsOfIndex fault
+
+  -- an image stands for the picture, or for the one that the update makes
+  abbrev pub StandsAround : List Write → Option Picture → Result (Unit {0}) UpdateFault → (FileName → List ℕ) → Type 0
+  StandsAround history picture result image =
       Stands (stem_of old.index) (views_of old.index) image picture
-      ⊎ ((next : Picture) × IsNext history picture next × Stands (stem_of old.index) (views_of old.index) image (Some next))
+      ⊎ ((next : Picture) × IsNext history picture next × IsMadeBy result next × Stands (stem_of old.index) (views_of old.index) image (Some next))
 
   -- it was updated, or, where nothing of the index failed, it is as at its last commit
   abbrev pub EndsAt : List Write → Option Picture → Result (Unit {0}) UpdateFault → (FileName → File) → Type 0
@@ -122,7 +127,7 @@ module _ {F C : Type 0} (f : Folders F) (s : Servers C) (docs : Docs) (design : 
   pub record Updates (result : Result (Unit {0}) UpdateFault) : Type 0 where
     -- a crash leaves the picture or an updated one, and after Ok the index is at that; the documents' files are as they were
     pub stands : (history : List Write) (picture : Option Picture) → IfTold (f.disk old.folder) (λ d. IsReached docs old.index history picture d.now)
-        → Tells (f.disk old.folder) (f.disk new.folder) (Moves (IsFileOf (stem_of old.index)) (StandsAround history picture) (EndsAt history picture result))
+        → Tells (f.disk old.folder) (f.disk new.folder) (Moves (IsFileOf (stem_of old.index)) (StandsAround history picture result) (EndsAt history picture result))
     -- the documents that were written since are asked for, and no others; where there are none that were written, nothing is
     pub asks : (history : List Write) → IfTold (f.disk old.folder) (λ d. AreAt docs d.now history
         → (IsIdle × OnOk result (seq_of old.index ≡ length history)) ⊎ HasAsked history result)
@@ -131,9 +136,10 @@ module _ {F C : Type 0} (f : Folders F) (s : Servers C) (docs : Docs) (design : 
     pub others : Tells (f.disk old.folder) (f.disk new.folder) (Moves (IsFileOf (stem_of old.index)) (λ image. Unit {0}) (λ files. IsLost result ⊎ IsOpen new.index files))
     pub same : (stem_of new.index ≡ stem_of old.index) × (views_of new.index ≡ views_of old.index)
     pub settled : OnErr result (IsSettled new.index × (picture_of new.index ≡ picture_of old.index))
-    -- a fault of the disk comes only where the folder counted one, and none is damaged over a history
+    -- a fault of the disk comes only where the folder counted one; the index is never damaged, nor are the documents over a history
     pub cause : IfErr result (λ fault. (fault ≡ OfDocuments DiskFault) ⊎ (fault ≡ OfIndex (Store DiskFault)) → Rose (f.faults old.folder) (f.faults new.folder))
     pub sound : (history : List Write) → IfTold (f.disk old.folder) (λ d. AreAt docs d.now history → (name : FileName) (at : ℕ) → result ≢ Err (OfDocuments (Damaged name at)))
+    pub whole : (name : FileName) (at : ℕ) → result ≢ Err (OfIndex (Store (Damaged name at)))
     pub later : (f.faults old.folder ≤ f.faults new.folder) × (s.faults old.servers ≤ s.faults new.servers)
     -- the pool's languages and width never change; servers are blamed only where two faults were counted, and a language is unknown
     -- only where it has no path

@@ -14,10 +14,13 @@ use Rattle.view_model.specs.Picture.{Picture}
 use Rattle.view_index.specs.Calls.{next_picture, stem_of, IsOpen}
 use Rattle.view_index.specs.Held.{IsFileOf}
 use Rattle.view_index.specs.declared.fault.IndexFault.{IndexFault}
-use Rattle.view_index.specs.Index.{both_in, is_touched, seq_of}
+use Rattle.view_index.specs.declared.fault.IndexFault.TheVariants.{NoMemory, Store}
+use Rattle.view_index.specs.declared.index.Index.{Index}
+use Rattle.gate_file.specs.Calls.{too_long, used_up}
+use Rattle.view_index.specs.Index.{both_in, file_of, is_touched, seq_of}
 use Rattle.view_index.specs.ViewRows.{next_rows}
 use Rattle.view_updater.specs.declared.fault.UpdateFault.{UpdateFault}
-use Rattle.view_updater.specs.declared.fault.UpdateFault.TheVariants.{Docs as OfDocuments, Pool as OfPool}
+use Rattle.view_updater.specs.declared.fault.UpdateFault.TheVariants.{Docs as OfDocuments, Index as OfIndex, Pool as OfPool}
 use Rattle.view_updater.specs.Faults.{by_index}
 use Rattle.view_updater.specs.Updates.{side, EndsAt, IsLost, IsOfIndex, Updates}
 use Rattle.view_updater.proofs.Carrying.{same_stem, same_views, views_by_picture}
@@ -32,6 +35,13 @@ well_index = Ok tt
 -- a fault that was counted later was counted
 rose_later : (a b c : ℕ) → a ≤ b → Rose b c → Rose a c
 rose_later a b c later rose = omega arith
+
+-- a commit never finds damage
+commit_whole : (index : Index) (fault : IndexFault) → (fault ≡ Store DiskFault) ⊎ (fault ≡ Store (too_long (file_of index))) ⊎ (fault ≡ Store (used_up (file_of index))) ⊎ (fault ≡ NoMemory) → (name : FileName) (at : ℕ) → fault ≡ Store (Damaged name at) → ⊥
+commit_whole index fault (inl disk) name at is = cc
+commit_whole index fault (inr (inl long)) name at is = cc
+commit_whole index fault (inr (inr (inl spent))) name at is = cc
+commit_whole index fault (inr (inr (inr want))) name at is = cc
 
 pub returns-then-seq-newest : goal.returns-then-seq-newest
 returns-then-seq-newest g c =
@@ -49,6 +59,7 @@ returns-then-seq-newest g c =
       settled = tt;
       cause = tt;
       sound = λ history. told_all disk (λ d. AreAt docs d.now history → (name : FileName) (at : ℕ) → well ≢ Err (OfDocuments (Damaged name at))) (λ d here name at is. cc);
+      whole = λ name at is. cc;
       later = (omega arith, omega arith);
       keeps = as_made c.args.pool.now;
       blames = λ is. cc;
@@ -77,6 +88,7 @@ returns-in-Err g c =
       settled = (record { next = c.roll_back-in-Err.ensures.next; pending = c.roll_back-in-Err.ensures.pending }, rows);
       cause = λ told. elim told [ inl is ↦ c.in-Err.ensures.reads.cause is | inr is ↦ absurd (c.in-Err.ensures.reads.faults (subst IsOfIndex (sym is) tt)) ];
       sound = c.in-Err.ensures.reads.sound;
+      whole = λ name at is. let same : fault ≡ OfIndex (Store (Damaged name at)) = cc in c.in-Err.ensures.reads.faults (subst IsOfIndex (sym same) tt);
       later = (c.in-Err.ensures.reads.later, c.in-Err.ensures.later);
       keeps = c.in-Err.ensures.keeps;
       blames = c.in-Err.ensures.blames;
@@ -113,6 +125,7 @@ returns-in-Err-commit g c =
       cause = λ told. elim told [ inl is ↦ absurd (index_of_no_documents fault DiskFault is) | inr is ↦ rose_later (g.F.Folder.faults c.args.folder.now) (g.F.Folder.faults c.exchange.new.folder) (g.F.Folder.faults c.commit.new.folder) ex.reads.later (commits.cause.failed (index_stored fault DiskFault is)) ];
       sound = λ history. told_all (g.F.Folder.disk c.args.folder.now) (λ d. AreAt docs d.now history → (name : FileName) (at : ℕ) → refused (by_index fault) ≢ Err (OfDocuments (Damaged name at)))
           (λ d here name at is. index_of_no_documents fault (Damaged name at) (let same : by_index fault ≡ OfDocuments (Damaged name at) = cc in same));
+      whole = λ name at is. let same : by_index fault ≡ OfIndex (Store (Damaged name at)) = cc in commit_whole c.exchange.new.index fault commits.faults name at (index_stored fault (Damaged name at) same);
       later = (omega (arith, ex.reads.later, commits.cause.later), ex.later);
       keeps = ex.keeps;
       blames = λ is. absurd (index_of_no_pool fault ServerFault (let same : by_index fault ≡ OfPool ServerFault = cc in same));
@@ -138,7 +151,7 @@ returns g c =
     let views = sym (views_by_picture committed) ∙ ap (λ (p : Picture). length p.rows) commits.picture ∙ length-map (both_in c.exchange.new.index) (next_rows (is_touched c.exchange.new.index)) ∙ same_views index c.exchange.new.index (ex.picture ∙ back.rows) in
     record {
       stands = λ history picture. committed_stands g.F.Folder g.C.Servers docs design old mid c.requires.number rolled back ex.same.file ex.picture ex.reads.disk committed c.commit.new.folder newest well_index commits newest_is ex.asks
-          history picture new (EndsAt g.F.Folder g.C.Servers docs design old new history picture well)
+          history picture new well (sym commits.picture) (EndsAt g.F.Folder g.C.Servers docs design old new history picture well)
           (λ was files known ended. (
             Some (next_picture newest c.exchange.new.index),
             ended,
@@ -150,6 +163,7 @@ returns g c =
       settled = tt;
       cause = tt;
       sound = λ history. told_all (g.F.Folder.disk c.args.folder.now) (λ d. AreAt docs d.now history → (name : FileName) (at : ℕ) → well ≢ Err (OfDocuments (Damaged name at))) (λ d here name at is. cc);
+      whole = λ name at is. cc;
       later = (omega (arith, ex.reads.later, commits.cause.later), ex.later);
       keeps = ex.keeps;
       blames = λ is. cc;

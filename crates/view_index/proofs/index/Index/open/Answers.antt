@@ -87,7 +87,7 @@ returns-in_err-clear g c =
     let named : stem_of index ≡ stem = c.in_ok-index.ensures.fresh.named in
     let past : newest < seq_of index = omega (arith, c.if-index-newest.false) in
     let clears : Tells mid cut (Empties (name_of (file_of index)) c.clear.result) = subst (λ (n : FileName). Tells mid cut (Empties n c.clear.result)) c.name.ensures c.clear.ensures.disk in
-    let others = others_cleared stem index named c.clear.result old mid cut c.load.ensures.others clears in
+    let others = others_cleared stem (name_of (file_of index)) named c.clear.result old mid cut c.load.ensures.others clears in
     record {
       fresh = search rules;
       found = finds_none stem views c.from_residual-in_err-clear.result (IsFound stem views newest) old cut _ c.from_residual-in_err-clear.ensures.0 others;
@@ -122,7 +122,7 @@ returns g c =
     let shown : Tells old cut (λ a b. WasPast stem views newest index named number past c.clear.result a.now b.now) = was_past stem views newest index named number past c.clear.result old mid cut c.in_ok-index.ensures.found clears in
     let empty : IfTold cut (λ d. HoldsIndex stem views d.now None) = told_after old cut (λ d. Unit {0}) _ (λ a b. WasPast stem views newest index named number past c.clear.result a.now b.now) (λ a b is was. done (HoldsIndex stem views b.now None) was.none) (told_all old (λ d. Unit {0}) (λ d. tt)) shown in
     let opens : Tells cut new (Moves (IsFileOf stem) (λ image. Stands stem views image None) (λ files. IfOk c.load-2.result (λ index. IsAt index files None))) = c.load-2.ensures.stands None empty in
-    let others = others_cleared stem index named c.clear.result old mid cut c.load.ensures.others clears in
+    let others = others_cleared stem (name_of (file_of index)) named c.clear.result old mid cut c.load.ensures.others clears in
     let never : IfTold cut (λ d. FindsDamage (λ name at. ⊥) c.load-2.result) = told_pair cut (λ d. HoldsIndex stem views d.now None) (λ d. HoldsIndex stem views d.now None → FindsDamage (λ name at. ⊥) c.load-2.result) _ (λ d holds sound. sound holds) empty (c.load-2.ensures.sound None) in
     record {
       fresh = c.load-2.ensures.fresh;

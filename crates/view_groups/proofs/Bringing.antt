@@ -1,0 +1,406 @@
+-- The index of a design is opened, and then brought up to date.
+use Rattle.std.specs.Prelude.{◌≡◌, ◌≢◌, ◌⊎◌, ◌<◌, ◌≤◌, ℕ, List, length, Option, Some, Result, Ok, Err, IfErr, IfOk, OnOk, All, slice_get, slice_index_or, slice_set, refl}
+use Rattle.std.proofs.Common.{ap, sym, ◌∙◌, subst, inl, inr, ⊎_elim, arith}
+use Rattle.std.proofs.lemmas.Bool.{cases_eq, cases_lt}
+use Rattle.std.proofs.lemmas.List.{get_or-set_other, get_or-set_same, length-set}
+use Rattle.std.proofs.lemmas.List.Elements.{All-same}
+use Rattle.std.proofs.lemmas.Option.{get_or_from_slice_get, slice_get-get_or, slice_get_within}
+use Rattle.view_ports.specs.Disk.{Disk, IfTold, Moves, OthersStay, Tells}
+use Rattle.view_ports.specs.Faults.{Rose}
+use Rattle.view_ports.specs.File.{File, IsImage}
+use Rattle.view_ports.specs.declared.file_name.FileName.{FileName}
+use Rattle.view_ports.specs.declared.file_name.Stem.{Stem}
+use Rattle.view_ports.specs.declared.file_name.Stem.TheVariants.{Docs as DocsStem, View}
+use Rattle.view_ports.specs.declared.folder.Folder.{Ghosts as Folders}
+use Rattle.view_ports.specs.declared.servers.Servers.{Ghosts as Servers}
+use Rattle.view_ports.proofs.DiskRuns.{moves_none, moves_then, moves_wider}
+use Rattle.view_ports.proofs.Told.{told_after, told_all, told_given, told_map, told_now, told_still, told_then}
+use Rattle.gate_file.specs.declared.fault.GateFault.TheVariants.{DiskFault, Damaged}
+use Rattle.gate_file.specs.GateFile.{commits_of, name_of, root_of}
+use Rattle.gate_file.proofs.Beside.{open_beside}
+use Rattle.gate_file.proofs.Stretches.{told_end}
+use Rattle.design_docs.specs.declared.design.Design.{Design}
+use Rattle.doc_file.specs.declared.docs.Docs.{Docs}
+use Rattle.doc_file.specs.Docs.{entries_of, file_of as documents_file, seq_of as documents_seq, IsAt as AreDocumentsAt}
+use Rattle.doc_file.specs.Held.{HoldsRoot, KeepsEach}
+use Rattle.doc_file.specs.History.{Write}
+use Rattle.child_pool.specs.PoolCalls.{path_for}
+use Rattle.child_pool.specs.Pools.{HasItsChildren}
+use Rattle.view_model.specs.Update.{IsUpdated}
+use Rattle.view_ports.specs.Calls.{Call}
+use Rattle.view_ports.specs.Functions.{source_limit}
+use Rattle.child_pool.specs.declared.doc_rows.DocRowLists.{DocRowLists}
+use Rattle.child_pool.specs.declared.pool.Pool.{Pool}
+use Rattle.child_pool.specs.declared.pool_fault.PoolFault.{PoolFault}
+use Rattle.child_pool.specs.declared.pool_fault.PoolFault.TheVariants.{ServerFault, UnknownLanguage}
+use Rattle.view_model.specs.Picture.{Picture}
+use Rattle.view_index.specs.declared.fault.IndexFault.{IndexFault}
+use Rattle.view_index.specs.declared.fault.IndexFault.TheVariants as fault_of
+use Rattle.view_index.specs.declared.index.Index.{Index}
+use Rattle.view_index.specs.Calls.{stem_of, IsAt, IsOpen}
+use Rattle.view_index.specs.Held.{or_empty, IsFileOf, Stands}
+use Rattle.view_index.specs.Index.{seq_of, views_of}
+use Rattle.view_updater.specs.declared.fault.UpdateFault.{UpdateFault}
+use Rattle.view_updater.specs.declared.fault.UpdateFault.TheVariants.{Docs as OfDocuments, Index as OfIndex, NoMemory, Pool as OfPool}
+use Rattle.view_updater.specs.Faults.{by_index, by_pool}
+use Rattle.view_updater.specs.Updates.{side as side_of_index, EndsAt as EndsIndex, HasAskedFor, IsBreak, IsLost, IsMadeBy as IsMadeOf, IsMetAs, IsOfIndex}
+use Rattle.view_updater.proofs.Ends.{index_of_no_documents, index_of_no_pool, index_stored}
+use Rattle.view_groups.specs.declared.groups.Groups.{Groups}
+use Rattle.view_groups.specs.Brings.{side, Brings, EndsAt, IsIdle, IsMadeBy, MayLeave, Side}
+use Rattle.view_groups.specs.Groups.{open_of, AreAt, AreOpen, IsGroup}
+use Rattle.view_groups.specs.Openings.{EndsOpen, IsFit, OpensGroup}
+use Rattle.view_groups.specs.Pictures.{Pictures}
+use Rattle.view_groups.specs.Reached.{picture_for, sig_of, views_in, IsReached, StandsAround}
+use Rattle.view_groups.specs.Updating.{UpdatesAt}
+use Rattle.view_groups.proofs.Closing.{other_at, set_at, set_held, set_there, unset, AreSetAt}
+use Rattle.view_groups.proofs.Opening.{at_holds, holds_views}
+use Rattle.view_groups.proofs.Standing.{open_still, settled_stand}
+use Rattle.view_groups.proofs.Telling.{told_never}
+
+-- ---- documents, and results
+
+-- the documents stay where files of indexes change
+documents_still : (docs : Docs) (files files' : FileName → File) (history : List Write) → ((n : FileName) → n.stem ≡ DocsStem → files' n ≡ files n) → AreDocumentsAt docs files history → AreDocumentsAt docs files' history
+documents_still docs files files' history same at =
+    let own : files' (name_of (documents_file docs)) ≡ files (name_of (documents_file docs)) = same (name_of (documents_file docs)) at.is_open.pair.own in
+    record {
+      is_open = record {
+        pair = open_beside DocsStem files files' same (documents_file docs) at.is_open.pair;
+        commits = at.is_open.commits;
+        loaded = subst (λ (file : File). HoldsRoot (root_of (documents_file docs)) (commits_of (documents_file docs)) file.seen (documents_seq docs) (entries_of docs)) (sym own) at.is_open.loaded;
+      };
+      count = at.count;
+      each = subst (λ (file : File). KeepsEach history file.seen (entries_of docs)) (sym own) at.each;
+      stored = at.stored;
+    }
+
+abbrev pub placed : ℕ → Result (Unit {0}) UpdateFault → Result ℕ UpdateFault
+placed place (Ok done) = Ok place
+placed place (Err fault) = Err fault
+
+unplaced : (place : ℕ) (result : Result (Unit {0}) UpdateFault) (fault : UpdateFault) → placed place result ≡ Err fault → result ≡ Err fault
+unplaced place (Ok done) fault is = let no : ⊥ = cc in absurd no
+unplaced place (Err e) fault is = let same : e ≡ fault = cc in ap (λ x. Err x) same
+
+lost_placed : (place : ℕ) (result : Result (Unit {0}) UpdateFault) → IsLost result → IsLost (placed place result)
+lost_placed place (Ok done) lost = lost
+lost_placed place (Err e) lost = lost
+
+ok_placed : (place : ℕ) (result : Result (Unit {0}) UpdateFault) (P : Type 0) → OnOk result P → OnOk (placed place result) P
+ok_placed place (Ok done) P is = is
+ok_placed place (Err e) P is = tt
+
+break_placed : (place : ℕ) (result : Result (Unit {0}) UpdateFault) → IsBreak result → IsBreak (placed place result)
+break_placed place (Ok done) broken = broken
+break_placed place (Err NoMemory) broken = broken
+break_placed place (Err (OfDocuments fault)) broken = broken
+break_placed place (Err (OfIndex fault)) broken = broken
+break_placed place (Err (OfPool fault)) broken = broken
+
+met_placed : (place : ℕ) (mapped : Result DocRowLists PoolFault) (result : Result (Unit {0}) UpdateFault) → IsMetAs mapped result → IsMetAs mapped (placed place result)
+met_placed place (Ok lists) (Ok done) met = λ fault is. let no : ⊥ = cc in absurd no
+met_placed place (Ok lists) (Err e) met = λ fault is.
+    let same : e ≡ by_pool fault = cc in
+    let want = met fault (ap (λ x. Err x) same) in
+    let is_want : e ≡ NoMemory = cc in
+    ap (λ x. Err x) is_want
+met_placed place (Err fault) (Ok done) met = let no : ⊥ = cc in absurd no
+met_placed place (Err fault) (Err e) met = let same : e ≡ by_pool fault = cc in ap (λ x. Err x) same
+
+asked_placed : {C : Type 0} (s : Servers C) (servers servers' : C) (pool pool' : Pool) (design : Design) (seq : ℕ) (place : ℕ) (history : List Write) (result : Result (Unit {0}) UpdateFault)
+    → HasAskedFor s servers servers' pool pool' design seq history result → HasAskedFor s servers servers' pool pool' design seq history (placed place result)
+asked_placed s servers servers' pool pool' design seq place history result (inl asked) = inl (asked.0, met_placed place asked.0 result asked.1, asked.2)
+asked_placed s servers servers' pool pool' design seq place history result (inr broken) =
+    inr (record { done = broken.done; left = broken.left; all = broken.all; lists = broken.lists; mapped = broken.mapped; cause = break_placed place result broken.cause })
+
+module _ {F C : Type 0} (f : Folders F) (s : Servers C) (docs : Docs) (design : Design) (groups : Groups) (folder : F) (servers : C) (pool : Pool) where
+  abbrev own : List ℕ
+  own = sig_of design
+
+  abbrev given : Side F C
+  given = side folder servers pool groups
+
+  -- the documents tell the newest write
+  fit_of : (newest : ℕ) → newest ≡ documents_seq docs → (history : List Write) (pictures : Pictures) (files : FileName → File) → IsReached docs groups design history pictures files → AreAt groups files pictures × IsFit (sig_of design) (views_in design) newest pictures
+  fit_of newest is history pictures files reached =
+      let count = reached.documents.count in
+      (reached.indexes, record { within = omega (arith, reached.within, is, count); shaped = reached.shaped })
+
+  now_stands : (history : List Write) (pictures : Pictures) (files : FileName → File) (image : FileName → List ℕ) → IsReached docs groups design history pictures files → ((n : FileName) → n.stem ≡ View (sig_of design) → IsImage (files n) (image n)) → Stands (View (sig_of design)) (views_in design) image (pictures (sig_of design))
+  now_stands history pictures files image reached is =
+      let here = reached.indexes.held (sig_of design) in
+      settled_stand (sig_of design) (views_in design) files image (pictures (sig_of design)) (holds_views (View (sig_of design)) here.0 (views_in design) files (pictures (sig_of design)) reached.shaped here.1) is
+
+  -- ---- no memory for the signature
+
+  pub brings_nothing : IfTold (f.disk folder) (λ d. AreOpen groups d.now) → (result : Result ℕ UpdateFault) → result ≡ Err NoMemory → Brings f s docs design (side folder servers pool groups) (side folder servers pool groups) result
+  brings_nothing are result failed = subst (λ r. Brings f s docs design (side folder servers pool groups) (side folder servers pool groups) r) (sym failed) (record {
+    stands = λ history pictures reached. told_still (f.disk folder) _ _
+        (λ d k. moves_none (IsFileOf (View (sig_of design))) (StandsAround design pictures (MayLeave f s docs design given given history pictures (Err NoMemory))) (EndsAt f s docs design given given history pictures (Err NoMemory)) d
+        (λ image is. inl (now_stands history pictures d.now image k (λ n of_pair. is n))) (λ kept. k.indexes)) reached;
+    asks = λ history pictures. told_all (f.disk folder) _ (λ d k. inl ((refl, refl), tt));
+    sound = λ history pictures. told_all (f.disk folder) _ (λ d k name at. (λ is. cc, λ is. cc));
+    others = told_still (f.disk folder) (λ d. AreOpen groups d.now) _
+        (λ d here. moves_none (IsFileOf (View (sig_of design))) (λ image. Unit {0}) (λ files. IsLost {T = ℕ} (Err NoMemory) ⊎ AreOpen groups files) d (λ image is. tt) (inr here)) are;
+    place = tt;
+    cause = λ told. absurd (⊎_elim (λ is. let no : ⊥ = cc in no) (λ is. let no : ⊥ = cc in no) told);
+    blames = λ is. let no : ⊥ = cc in absurd no;
+    unknown = λ is. let no : ⊥ = cc in absurd no;
+    later = (omega arith, omega arith);
+    keeps = record { languages = refl; width = refl };
+  })
+
+  module _ (newest : ℕ) (newest_is : newest ≡ documents_seq docs) (open_before : IfTold (f.disk folder) (λ d. AreOpen groups d.now)) (mid_groups : Groups) (mid : F) where
+    -- ---- the index could not be opened
+
+    module _ (fault : IndexFault) (opens : OpensGroup (sig_of design) (views_in design) newest f groups mid_groups folder mid (Err fault)) where
+      ends_refused : (history : List Write) (pictures : Pictures) (files : FileName → File) (reason : IndexFault) → EndsOpen (sig_of design) (views_in design) newest mid_groups pictures (Err reason) files
+          → (IsOfIndex (by_index reason) → ⊥) → AreAt mid_groups files pictures
+      ends_refused history pictures files (fault_of.Store gate) ended kept = absurd (kept tt)
+      ends_refused history pictures files fault_of.NoMemory ended kept = ended
+      ends_refused history pictures files (fault_of.Summer pool) ended kept = absurd (kept tt)
+
+      pub brings_refused : (result : Result ℕ UpdateFault) → result ≡ Err (by_index fault) → Brings f s docs design (side folder servers pool groups) (side mid servers pool mid_groups) result
+      brings_refused result failed = subst (λ r. Brings f s docs design (side folder servers pool groups) (side mid servers pool mid_groups) r) (sym failed) (record {
+        stands = λ history pictures reached. told_map (f.disk folder) (f.disk mid) _ _
+            (λ a b moved. moves_wider (IsFileOf (View (sig_of design))) (IsFileOf (View (sig_of design))) (λ image. Stands (View (sig_of design)) (views_in design) image (pictures (sig_of design)))
+            (StandsAround design pictures (MayLeave f s docs design given (side mid servers pool mid_groups) history pictures (Err (by_index fault)))) (EndsOpen (sig_of design) (views_in design) newest mid_groups pictures (Err fault))
+            (EndsAt f s docs design given (side mid servers pool mid_groups) history pictures (Err (by_index fault))) a b (λ n is. is) (λ image framed. inl framed.inside)
+            (λ others ended. ends_refused history pictures b.now fault ended) moved)
+            (opens.stands pictures (told_now (f.disk folder) _ _ (λ d k. fit_of newest newest_is history pictures d.now k) reached));
+        asks = λ history pictures. told_all (f.disk folder) _ (λ d k. inl ((refl, refl), tt));
+        sound = λ history pictures. told_now (f.disk folder) _ _ (λ d never k name at. (
+          λ is. index_of_no_documents fault (Damaged name at) (let same : by_index fault ≡ OfDocuments (Damaged name at) = cc in same),
+          λ is. never (fit_of newest newest_is history pictures d.now k) name at (ap (λ e. Err e) (index_stored fault (Damaged name at) (let same : by_index fault ≡ OfIndex (fault_of.Store (Damaged name at)) = cc in same))),
+        )) (opens.sound pictures);
+        others = told_map (f.disk folder) (f.disk mid) _ _
+            (λ a b told. moves_wider (IsFileOf (View (sig_of design))) (IsFileOf (View (sig_of design))) (λ image. Unit {0}) (λ image. Unit {0}) (λ files. Unit {0}) (λ files. IsLost {T = ℕ} (Err (by_index fault)) ⊎ AreOpen mid_groups files) a b
+            (λ n is. is) (λ image framed. tt) (λ others ended. inr told.1) told.0)
+            (told_end (f.disk folder) (f.disk mid) (Moves (IsFileOf (View (sig_of design))) (λ image. Unit {0}) (λ files. Unit {0})) (λ d. AreOpen mid_groups d.now) opens.others (opens.is_open open_before));
+        place = tt;
+        cause = λ told. ⊎_elim (λ is. absurd (index_of_no_documents fault DiskFault is)) (λ is. opens.cause.failed (index_stored fault DiskFault is)) told;
+        blames = λ is. absurd (index_of_no_pool fault ServerFault (let same : by_index fault ≡ OfPool ServerFault = cc in same));
+        unknown = λ is. absurd (index_of_no_pool fault UnknownLanguage (let same : by_index fault ≡ OfPool UnknownLanguage = cc in same));
+        later = (opens.cause.later, omega arith);
+        keeps = record { languages = refl; width = refl };
+      })
+
+    -- ---- it was opened, and an update was made
+
+    module _ (place : ℕ) (opens : OpensGroup (sig_of design) (views_in design) newest f groups mid_groups folder mid (Ok place)) (groups' : Groups) (new : F) (servers' : C) (pool' : Pool) (result : Result (Unit {0}) UpdateFault)
+        (at : UpdatesAt f s docs design (side mid servers pool mid_groups) (side new servers' pool' groups') place result) where
+      abbrev left : Side F C
+      left = side new servers' pool' groups'
+
+      within : place < length (open_of mid_groups)
+      within = slice_get_within (open_of mid_groups) place at.before at.there.there
+
+      here : (d : Index) → slice_index_or (open_of mid_groups) place d ≡ at.before
+      here d = get_or_from_slice_get (open_of mid_groups) place at.before d at.there.there
+
+      named : stem_of at.after ≡ View (sig_of design)
+      named = at.updates.same.0 ∙ at.there.named
+
+      number : views_of at.after ≡ views_in design
+      number = at.updates.same.1 ∙ at.there.number
+
+      -- an index in another place is of other files
+      other : (k : ℕ) (d : Index) → k < length (open_of mid_groups) → (k ≡ place → ⊥) → stem_of (slice_index_or (open_of mid_groups) k d) ≢ View (sig_of design)
+      other k d below differs = λ is.
+          let own_stem : stem_of (slice_index_or (open_of mid_groups) place d) ≡ View (sig_of design) = ap stem_of (here d) ∙ at.there.named in
+          ⊎_elim (λ lower. mid_groups.apart k place d lower within (is ∙ sym own_stem)) (λ upper. mid_groups.apart place k d upper below (own_stem ∙ sym is)) (either k place differs)
+        where
+          either : (a b : ℕ) → (a ≡ b → ⊥) → (a < b) ⊎ (b < a)
+          either a b differ = ⊎_elim (λ lower. inl lower) (λ upper. inr (⊎_elim (λ more. more) (λ less. absurd (differ (omega (arith, upper, less)))) (cases_lt b a))) (cases_lt a b)
+
+      -- what is so of the new index in this place, and of each other one, is so of all
+      placed_all : (P : Index → Type 0) → P at.after → ((k : ℕ) (d : Index) → k < length (open_of mid_groups) → stem_of (slice_index_or (open_of mid_groups) k d) ≢ View (sig_of design) → P (slice_index_or (open_of mid_groups) k d)) → All P (open_of groups')
+      placed_all P now each = All-same P (open_of groups') (slice_set (open_of mid_groups) place at.after) at.placed
+          (λ k d below.
+          let xs = open_of mid_groups in
+          let long = length-set xs place at.after in
+          let inside : k < length xs = omega (arith, long, below) in
+          ⊎_elim
+          (λ same. subst P (sym (ap (λ m. slice_index_or (slice_set xs place at.after) m d) same ∙ get_or-set_same xs place at.after d within)) now)
+          (λ differs. subst P (sym (get_or-set_other xs place k at.after d differs)) (each k d inside (other k d inside differs)))
+          (cases_eq k place))
+
+      placed_at : (files files' : FileName → File) (pictures after : Pictures) (picture : Option Picture) → AreSetAt (sig_of design) picture pictures after → OthersStay (IsFileOf (View (sig_of design))) files files'
+          → AreAt mid_groups files pictures → IsAt at.after files' picture → AreAt groups' files' after
+      placed_at files files' pictures after picture set others was now = record {
+        held = set_held (sig_of design) files pictures after picture set files' others (views_in design) was.held (at_holds (sig_of design) (views_in design) at.after files' picture named number now);
+        each = placed_all (λ i. (sig : List ℕ) → stem_of i ≡ View sig → IsAt i files' (after sig))
+            (λ sig is. let same : sig_of design ≡ sig = cc in subst (λ z. IsAt at.after files' (after z)) same (subst (λ p. IsAt at.after files' p) (sym set.0) now))
+            (λ k d below differs. other_at (sig_of design) files pictures after picture set files' others (slice_index_or (open_of mid_groups) k d) differs (was.each k d below));
+      }
+
+      placed_open : (files files' : FileName → File) → OthersStay (IsFileOf (View (sig_of design))) files files' → AreOpen mid_groups files → IsOpen at.after files' → AreOpen groups' files'
+      placed_open files files' others was now = placed_all (λ i. IsOpen i files') now
+          (λ k d below differs. open_still (slice_index_or (open_of mid_groups) k d) files files' (λ n of_pair. others n (λ is. differs (sym of_pair ∙ is))) (was k d below))
+
+      -- the index is at its picture
+      before_at : (files : FileName → File) (pictures : Pictures) → AreAt mid_groups files pictures → IsAt at.before files (pictures (sig_of design))
+      before_at files pictures was = subst (λ i. IsAt i files (pictures (sig_of design))) (here at.before) (was.each place at.before within (sig_of design) (ap stem_of (here at.before) ∙ at.there.named))
+
+      -- ---- what is known once it is open
+
+      abbrev IsThere : List Write → Pictures → Disk FileName → Type 0
+      IsThere history pictures d = AreDocumentsAt docs d.now history × AreAt mid_groups d.now pictures
+
+      abbrev IsBegun : List Write → Pictures → Disk FileName → Disk FileName → Type 0
+      IsBegun history pictures a b = IsReached docs groups design history pictures a.now
+          × Moves (IsFileOf (View (sig_of design))) (λ image. Stands (View (sig_of design)) (views_in design) image (pictures (sig_of design))) (λ files. AreDocumentsAt docs files history × AreAt mid_groups files pictures) a b
+
+      begun : (history : List Write) (pictures : Pictures) → IfTold (f.disk folder) (λ d. IsReached docs groups design history pictures d.now) → Tells (f.disk folder) (f.disk mid) (IsBegun history pictures)
+      begun history pictures reached = told_given (f.disk folder) (f.disk mid) (λ d. IsReached docs groups design history pictures d.now) _ (IsBegun history pictures)
+          (λ a b k moved. (
+            k,
+            record {
+              moments = moved.moments;
+              others = moved.others;
+              ended = (documents_still docs a.now b.now history (λ n of_docs. moved.others n (λ of_view. let no : ⊥ = cc in no)) k.documents, moved.ended);
+            },
+          ))
+          reached (opens.stands pictures (told_now (f.disk folder) _ _ (λ d k. fit_of newest newest_is history pictures d.now k) reached))
+
+      there : (history : List Write) (pictures : Pictures) → IfTold (f.disk folder) (λ d. IsReached docs groups design history pictures d.now) → IfTold (f.disk mid) (IsThere history pictures)
+      there history pictures reached = told_after (f.disk folder) (f.disk mid) (λ d. IsReached docs groups design history pictures d.now) (IsThere history pictures) (IsBegun history pictures) (λ a b k moved. moved.1.ended) reached (begun history pictures reached)
+
+      -- ---- the update
+
+      abbrev Next : ℕ → List Write → Pictures → Picture → Type 0
+      Next n history pictures next = (path : List ℕ) (calls : List Call) → s.may_follow servers calls → path_for pool design ≡ Some path → HasItsChildren pool calls
+          → IsUpdated (s.functions path) (s.honest path × (views_in design ≤ source_limit)) design.views history (or_empty n (pictures (sig_of design))) next
+
+      abbrev Ends : ℕ → List Write → Pictures → Result (Unit {0}) UpdateFault → (FileName → File) → Type 0
+      Ends n history pictures (Ok done) files = (next : Option Picture) × IsAt at.after files next × Next n history pictures (or_empty n next)
+      Ends n history pictures (Err fault) files = (IsOfIndex fault → ⊥) → IsAt at.after files (pictures (sig_of design))
+
+      abbrev Made : Picture → Type 0
+      Made next = IsMadeOf f s docs design (side_of_index mid servers pool at.before) (side_of_index new servers' pool' at.after) result next
+
+      abbrev Moving : Stem → ℕ → List Write → Pictures → Type 0
+      Moving stem n history pictures = Tells (f.disk mid) (f.disk new) (Moves (IsFileOf stem)
+          (λ image. Stands stem n image (pictures (sig_of design)) ⊎ ((next : Picture) × Next n history pictures next × Made next × Stands stem n image (Some next))) (Ends n history pictures result))
+
+      ended : (history : List Write) (pictures : Pictures) → Tells (f.disk mid) (f.disk new) (Moves (IsFileOf (stem_of at.before))
+          (λ image. Stands (stem_of at.before) (views_of at.before) image (pictures (sig_of design)) ⊎ ((next : Picture) × Next (views_of at.before) history pictures next × Made next × Stands (stem_of at.before) (views_of at.before) image (Some next)))
+          (EndsIndex f s docs design (side_of_index mid servers pool at.before) (side_of_index new servers' pool' at.after) history (pictures (sig_of design)) result))
+          → Moving (stem_of at.before) (views_of at.before) history pictures
+      ended history pictures told = told_map (f.disk mid) (f.disk new) _ _ (λ a b moved. record { moments = moved.moments; others = moved.others; ended = by_result result b.now moved.ended }) told
+        where
+          by_result : (r : Result (Unit {0}) UpdateFault) (files : FileName → File) → EndsIndex f s docs design (side_of_index mid servers pool at.before) (side_of_index new servers' pool' at.after) history (pictures (sig_of design)) r files
+              → Ends (views_of at.before) history pictures r files
+          by_result (Ok done) files is = is
+          by_result (Err fault) files is = is
+
+      moving : (history : List Write) (pictures : Pictures) → IfTold (f.disk mid) (IsThere history pictures) → Moving (View (sig_of design)) (views_in design) history pictures
+      moving history pictures known =
+          subst (λ (stem : Stem). Moving stem (views_in design) history pictures) at.there.named
+          (subst (λ (n : ℕ). Moving (stem_of at.before) n history pictures) at.there.number
+          (ended history pictures (at.updates.stands history (pictures (sig_of design)) (told_now (f.disk mid) (IsThere history pictures) _ (λ d k. record { documents = k.0; at = before_at d.now pictures k.1 }) known))))
+
+      -- ---- both
+
+      group : IsGroup groups' place (sig_of design) (views_in design) at.after
+      group = record {
+        there = subst (λ (l : List Index). slice_get l place ≡ Some at.after) (sym at.placed)
+            (slice_get-get_or (slice_set (open_of mid_groups) place at.after) place at.after (let long = length-set (open_of mid_groups) place at.after in omega (arith, long, within))
+            ∙ ap (λ i. Some i) (get_or-set_same (open_of mid_groups) place at.after at.after within));
+        named = named;
+        number = number;
+      }
+
+      ends_at : (history : List Write) (pictures : Pictures) (files files' : FileName → File) → AreAt mid_groups files pictures → OthersStay (IsFileOf (View (sig_of design))) files files' → (r : Result (Unit {0}) UpdateFault)
+          → Ends (views_in design) history pictures r files' → EndsAt f s docs design given left history pictures (placed place r) files'
+      ends_at history pictures files files' was others (Ok done) ended = record {
+        index = at.after;
+        group = group;
+        next = ended.0;
+        shows = (ended.1).last ∙ ap (λ n. or_empty n ended.0) number;
+        made = ended.2;
+        after = set_at (sig_of design) ended.0 pictures;
+        set = set_there (sig_of design) ended.0 pictures;
+        at = placed_at files files' pictures (set_at (sig_of design) ended.0 pictures) ended.0 (set_there (sig_of design) ended.0 pictures) others was ended.1;
+      }
+      ends_at history pictures files files' was others (Err fault) ended = λ kept. placed_at files files' pictures pictures (pictures (sig_of design)) (unset (sig_of design) pictures) others was (ended kept)
+
+      made_placed : (r : Result (Unit {0}) UpdateFault) (next : Picture) → IsMadeOf f s docs design (side_of_index mid servers pool at.before) (side_of_index new servers' pool' at.after) r next
+          → IsMadeBy f s docs design given left (placed place r) next
+      made_placed (Ok done) next is = (at.after, group, is)
+      made_placed (Err fault) next is = is
+
+      around_placed : (history : List Write) (pictures : Pictures) (image : FileName → List ℕ)
+          → Stands (View (sig_of design)) (views_in design) image (pictures (sig_of design)) ⊎ ((next : Picture) × Next (views_in design) history pictures next × Made next × Stands (View (sig_of design)) (views_in design) image (Some next))
+          → StandsAround design pictures (MayLeave f s docs design given left history pictures (placed place result)) image
+      around_placed history pictures image (inl stands) = inl stands
+      around_placed history pictures image (inr (next, is, made, stands)) = inr (next, (is, made_placed result next made), stands)
+
+      stands : (history : List Write) (pictures : Pictures) → IfTold (f.disk folder) (λ d. IsReached docs groups design history pictures d.now)
+          → Tells (f.disk folder) (f.disk new) (Moves (IsFileOf (View (sig_of design))) (StandsAround design pictures (MayLeave f s docs design given left history pictures (placed place result))) (EndsAt f s docs design given left history pictures (placed place result)))
+      stands history pictures reached =
+          let around : (FileName → List ℕ) → Type 0 = StandsAround design pictures (MayLeave f s docs design given left history pictures (placed place result)) in
+          let known : (FileName → File) → Type 0 = λ files. AreDocumentsAt docs files history × AreAt mid_groups files pictures in
+          told_then (f.disk folder) (f.disk mid) (f.disk new) (IsBegun history pictures) (Moves (IsFileOf (View (sig_of design))) (λ image. Stands (View (sig_of design)) (views_in design) image (pictures (sig_of design)) ⊎ ((next : Picture) × Next (views_in design) history pictures next × Made next × Stands (View (sig_of design)) (views_in design) image (Some next))) (Ends (views_in design) history pictures result))
+          (Moves (IsFileOf (View (sig_of design))) around (EndsAt f s docs design given left history pictures (placed place result)))
+          (λ a b c first second. moves_then (IsFileOf (View (sig_of design))) (λ image. Stands (View (sig_of design)) (views_in design) image (pictures (sig_of design))) _ around known (Ends (views_in design) history pictures result)
+          (EndsAt f s docs design given left history pictures (placed place result)) a b c
+          (λ image before. inl before) (λ was image either. around_placed history pictures image either) (λ was done. ends_at history pictures b.now c.now was.1 second.others result done) first.1 second)
+          (begun history pictures reached) (moving history pictures (there history pictures reached))
+
+      asked : (history : List Write) (pictures : Pictures) (files : FileName → File) → AreAt mid_groups files pictures
+          → (((servers' ≡ servers) × (pool' ≡ pool)) × OnOk result (seq_of at.before ≡ length history)) ⊎ HasAskedFor s servers servers' pool pool' design (seq_of at.before) history result
+          → (IsIdle f s docs design given left × OnOk (placed place result) ((picture_for design pictures).seq ≡ length history)) ⊎ HasAskedFor s servers servers' pool pool' design (picture_for design pictures).seq history (placed place result)
+      asked history pictures files was either =
+          let seq_is : seq_of at.before ≡ (picture_for design pictures).seq = ap (λ (p : Picture). p.seq) (before_at files pictures was).last ∙ ap (λ n. (or_empty n (pictures (sig_of design))).seq) at.there.number in
+          ⊎_elim
+          (λ idle. inl (idle.0, ok_placed place result ((picture_for design pictures).seq ≡ length history) (subst (λ (n : ℕ). OnOk result (n ≡ length history)) seq_is idle.1)))
+          (λ some. inr (asked_placed s servers servers' pool pool' design (picture_for design pictures).seq place history result (subst (λ (n : ℕ). HasAskedFor s servers servers' pool pool' design n history result) seq_is some)))
+          either
+
+      -- what is known once it is open is known before
+      known_before : (history : List Write) (pictures : Pictures) (N : Type 0) → IfTold (f.disk mid) (λ d. IsThere history pictures d → N) → IfTold (f.disk folder) (λ d. IsReached docs groups design history pictures d.now → N)
+      known_before history pictures N after = told_never {X = Unit {0}} (f.disk folder) (f.disk mid) (λ d. IsReached docs groups design history pictures d.now) (λ u a b. IsBegun history pictures a b) (λ u d. IsThere history pictures d) N
+          (λ a b u first. first.1.ended) (λ u. after)
+          (λ reached. told_map (f.disk folder) (f.disk mid) (IsBegun history pictures) (λ a b. (u : Unit {0}) × IsBegun history pictures a b) (λ a b first. (tt, first)) (begun history pictures reached))
+
+      abbrev Opened : Disk FileName → Disk FileName → Type 0
+      Opened a b = Moves (IsFileOf (View (sig_of design))) (λ image. Unit {0}) (λ files. Unit {0}) a b × AreOpen mid_groups b.now
+
+      others_stay : Tells (f.disk folder) (f.disk new) (Moves (IsFileOf (View (sig_of design))) (λ image. Unit {0}) (λ files. IsLost (placed place result) ⊎ AreOpen groups' files))
+      others_stay =
+          let updated : Tells (f.disk mid) (f.disk new) (Moves (IsFileOf (View (sig_of design))) (λ image. Unit {0}) (λ files. IsLost result ⊎ IsOpen at.after files)) =
+          subst (λ (stem : Stem). Tells (f.disk mid) (f.disk new) (Moves (IsFileOf stem) (λ image. Unit {0}) (λ files. IsLost result ⊎ IsOpen at.after files))) at.there.named at.updates.others in
+          told_then (f.disk folder) (f.disk mid) (f.disk new) Opened (Moves (IsFileOf (View (sig_of design))) (λ image. Unit {0}) (λ files. IsLost result ⊎ IsOpen at.after files))
+          (Moves (IsFileOf (View (sig_of design))) (λ image. Unit {0}) (λ files. IsLost (placed place result) ⊎ AreOpen groups' files))
+          (λ a b c first second. moves_then (IsFileOf (View (sig_of design))) (λ image. Unit {0}) (λ image. Unit {0}) (λ image. Unit {0}) (λ files. Unit {0}) (λ files. IsLost result ⊎ IsOpen at.after files)
+          (λ files. IsLost (placed place result) ⊎ AreOpen groups' files) a b c (λ image is. tt) (λ ended image is. tt)
+          (λ early late. ⊎_elim (λ lost. inl (lost_placed place result lost)) (λ is_open. inr (placed_open b.now c.now second.others first.1 is_open)) late) first.0 second)
+          (told_end (f.disk folder) (f.disk mid) (Moves (IsFileOf (View (sig_of design))) (λ image. Unit {0}) (λ files. Unit {0})) (λ d. AreOpen mid_groups d.now) opens.others (opens.is_open open_before)) updated
+
+      place_is : (r : Result (Unit {0}) UpdateFault) → IfOk (placed place r) (λ p. (index : Index) × IsGroup groups' p (sig_of design) (views_in design) index)
+      place_is (Ok done) = (at.after, group)
+      place_is (Err fault) = tt
+
+      rising : (r : Result (Unit {0}) UpdateFault) → IfErr r (λ fault. (fault ≡ OfDocuments DiskFault) ⊎ (fault ≡ OfIndex (fault_of.Store DiskFault)) → Rose (f.faults mid) (f.faults new))
+          → IfErr (placed place r) (λ fault. (fault ≡ OfDocuments DiskFault) ⊎ (fault ≡ OfIndex (fault_of.Store DiskFault)) → Rose (f.faults folder) (f.faults new))
+      rising (Ok done) rose = tt
+      rising (Err fault) rose = λ is. let early = opens.cause.later in let rises = rose is in omega (arith, early, rises)
+
+      brought : Brings f s docs design (side folder servers pool groups) (side new servers' pool' groups') (placed place result)
+      brought = record {
+        stands = stands;
+        asks = λ history pictures. known_before history pictures _ (told_now (f.disk mid) _ _ (λ d asks known. asked history pictures d.now known.1 (asks known.0)) (at.updates.asks history));
+        sound = λ history pictures. told_now (f.disk folder) _ _ (λ d never reached name k. (λ is. never reached name k (unplaced place result (OfDocuments (Damaged name k)) is), λ is. at.updates.whole name k (unplaced place result (OfIndex (fault_of.Store (Damaged name k))) is)))
+            (known_before history pictures ((name : FileName) (k : ℕ) → result ≢ Err (OfDocuments (Damaged name k))) (told_now (f.disk mid) _ _ (λ d never known. never known.0) (at.updates.sound history)));
+        others = others_stay;
+        place = place_is result;
+        cause = rising result at.updates.cause;
+        blames = λ is. at.updates.blames (unplaced place result (OfPool ServerFault) is);
+        unknown = λ is. at.updates.unknown (unplaced place result (OfPool UnknownLanguage) is);
+        later = (let early = opens.cause.later in let late = at.updates.later.0 in omega (arith, early, late), at.updates.later.1);
+        keeps = at.updates.keeps;
+      }
+
+      pub brings_updated : (answer : Result ℕ UpdateFault) → answer ≡ placed place result → Brings f s docs design (side folder servers pool groups) (side new servers' pool' groups') answer
+      brings_updated answer is = subst (λ r. Brings f s docs design (side folder servers pool groups) (side new servers' pool' groups') r) (sym is) brought

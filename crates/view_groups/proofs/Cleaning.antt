@@ -1,0 +1,155 @@
+-- What is left once all listed indexes are removed that are not kept.
+use Rattle.std.specs.Prelude.{◌≡◌, ◌⊎◌, ◌≤◌, ℕ, List, [], ◌∷◌, length, true, false, Option, Some, None, Result, Ok, Err, IfErr, OnOk, Contains, refl}
+use Rattle.std.proofs.Common.{ap, ◌∙◌, subst, inl, inr, ⊎_elim, arith}
+use Rattle.view_ports.specs.Disk.{IfTold, Moves, Tells}
+use Rattle.view_ports.specs.Faults.{Rose}
+use Rattle.view_ports.specs.File.{File}
+use Rattle.view_ports.specs.FolderCalls.{IsListing, Passes}
+use Rattle.view_ports.specs.declared.file_name.FileName.{FileName}
+use Rattle.view_ports.specs.declared.file_name.Stem.TheVariants.{View}
+use Rattle.view_ports.specs.declared.folder.Folder.{Ghosts as Folders}
+use Rattle.view_ports.specs.declared.folder.FolderFault.{FolderFault}
+use Rattle.view_ports.specs.declared.folder.FolderFault.TheVariants.{Failed, NoMemory as FolderNoMemory}
+use Rattle.view_ports.proofs.DiskRuns.{moves_passes, moves_then}
+use Rattle.view_ports.proofs.Told.{told_after, told_all, told_back, told_given, told_map, told_pair, told_then}
+use Rattle.gate_file.specs.declared.fault.GateFault.TheVariants.{DiskFault, Damaged}
+use Rattle.gate_file.specs.declared.root.Root.{Root}
+use Rattle.gate_file.specs.GateFile.{name_of, root_of}
+use Rattle.gate_file.specs.Open.{side_in, side_of}
+use Rattle.gate_file.proofs.Images.{empty_stands}
+use Rattle.gate_file.proofs.Pairs.{sides}
+use Rattle.view_model.specs.Picture.{Picture}
+use Rattle.view_index.specs.declared.fault.IndexFault.{IndexFault}
+use Rattle.view_index.specs.declared.fault.IndexFault.TheVariants.{NoMemory, Store, Summer}
+use Rattle.view_index.specs.Faults.{folder_fault}
+use Rattle.view_index.specs.Held.{HoldsIndex, HoldsPicture}
+use Rattle.view_index.specs.Removes.{IsRemoveFault}
+use Rattle.view_index.proofs.Carried.{picture_of_root}
+use Rattle.view_groups.specs.declared.groups.Groups.{Groups}
+use Rattle.view_groups.specs.Cleans.{Cleans, EndsAt, IsIndexFile}
+use Rattle.view_groups.specs.Groups.{AreAt, AreOpen}
+use Rattle.view_groups.specs.Pictures.{Pictures}
+use Rattle.view_groups.specs.Removing.{AreLeft, IsNamed, RemovesEach, StandsForFewer}
+use Rattle.view_groups.proofs.Removing.{fewer_refl, none_gone}
+use Rattle.view_groups.proofs.Standing.{images_stand, others_matter_not}
+
+-- ---- files without bytes hold no picture
+
+only_none : (views : ℕ) (root : Option Root) (bytes : List ℕ) (picture : Option Picture) → HoldsPicture views root bytes None → HoldsPicture views root bytes picture → picture ≡ None
+only_none views None bytes None none holds = refl
+only_none views None bytes (Some picture) none holds = absurd holds
+only_none views (Some root) bytes picture none holds = absurd none
+
+pub empty_none : (sig : List ℕ) (views : ℕ) (files : FileName → File) (picture : Option Picture) → HoldsIndex (View sig) views files picture → ((n : FileName) → n.stem ≡ View sig → (files n).seen ≡ []) → picture ≡ None
+empty_none sig views files picture holds empty =
+    let image : FileName → List ℕ = λ n. (files n).seen in
+    let none = empty_stands (View sig) (HoldsPicture views) (picture_of_root views) image empty None tt in
+    only_none views (root_of (side_in (View sig) image)) (image (name_of (side_in (View sig) image))) picture none.stands holds.stands.stands
+
+-- a pair is listed, or has no bytes
+listed_or_empty : (files : FileName → File) (names : List FileName) → IsListing files names → (sig : List ℕ) → IsNamed names (View sig) ⊎ ((n : FileName) → n.stem ≡ View sig → (files n).seen ≡ [])
+listed_or_empty files names listing sig = by_sides (side false) (side true)
+  where
+    by_bytes : (n : FileName) (bytes : List ℕ) → (files n).seen ≡ bytes → Contains names n ⊎ ((files n).seen ≡ [])
+    by_bytes n [] is = inr is
+    by_bytes n (byte ∷ bytes) is = inl ((listing.all n).1 (let long : length (files n).seen ≡ length (byte ∷ bytes) = ap length is in omega (arith, long)))
+
+    side : (high : _) → Contains names (side_of (View sig) high) ⊎ ((files (side_of (View sig) high)).seen ≡ [])
+    side high = by_bytes (side_of (View sig) high) (files (side_of (View sig) high)).seen refl
+
+    by_sides : Contains names (side_of (View sig) false) ⊎ ((files (side_of (View sig) false)).seen ≡ []) → Contains names (side_of (View sig) true) ⊎ ((files (side_of (View sig) true)).seen ≡ [])
+        → IsNamed names (View sig) ⊎ ((n : FileName) → n.stem ≡ View sig → (files n).seen ≡ [])
+    by_sides (inl low) high = inl (side_of (View sig) false, low, refl)
+    by_sides (inr low) (inl high) = inl (side_of (View sig) true, high, refl)
+    by_sides (inr low) (inr high) = inr (λ n of_pair. ⊎_elim (λ is. ap (λ k. (files k).seen) is ∙ low) (λ is. ap (λ k. (files k).seen) is ∙ high) (sides (View sig) n of_pair))
+
+no_want : (P : Type 0) → IsRemoveFault NoMemory → P
+no_want P is = absurd (⊎_elim (λ disk. let no : ⊥ = cc in no) (λ damage. let was = damage.2 in let no : ⊥ = cc in no) is)
+
+module _ (kept : List (List ℕ)) (names : List FileName) (groups groups' : Groups) (pictures : Pictures) where
+  abbrev Left : (FileName → File) → Type 0
+  Left files = (left : Pictures) × AreLeft kept (IsNamed names) pictures left × AreAt groups' files left
+
+  ends : (files files' : FileName → File) → IsListing files names → AreAt groups files pictures → (r : Result (Unit {0}) IndexFault) → IfErr r IsRemoveFault → OnOk r (Left files') → EndsAt kept groups' pictures r files'
+  ends files files' listing at (Ok done) faults left =
+      let gone : (sig : List ℕ) → (Contains kept sig → ⊥) → left.0 sig ≡ None = λ sig unkept. ⊎_elim
+      (λ listed. (left.1).gone sig listed unkept)
+      (λ empty. let here = at.held sig in none_gone kept pictures left.0 sig (left.1).fewer (empty_none sig here.0 files (pictures sig) here.1 empty))
+      (listed_or_empty files names listing sig) in
+      (left.0, record { stay = λ sig is. ⊎_elim (λ same. same) (λ none. absurd (none.1 is)) ((left.1).fewer sig); gone = gone }, left.2)
+  ends files files' listing at (Err (Store fault)) faults left = tt
+  ends files files' listing at (Err NoMemory) faults left = no_want (EndsAt kept groups' pictures (Err NoMemory) files') faults
+  ends files files' listing at (Err (Summer fault)) faults left = absurd (⊎_elim (λ disk. let no : ⊥ = cc in no) (λ damage. let was = damage.2 in let no : ⊥ = cc in no) faults)
+
+module _ {F : Type 0} (f : Folders F) (kept : List (List ℕ)) (groups : Groups) (old mid : F) (passes : Tells (f.disk old) (f.disk mid) Passes) (later : f.faults old ≤ f.faults mid) where
+  at_mid : (pictures : Pictures) → IfTold (f.disk old) (λ d. AreAt groups d.now pictures) → IfTold (f.disk mid) (λ d. AreAt groups d.now pictures)
+  at_mid pictures at = told_after (f.disk old) (f.disk mid) (λ d. AreAt groups d.now pictures) (λ d. AreAt groups d.now pictures) Passes (λ a b here same. (others_matter_not groups a.now b.now pictures (λ n is. same.same n)).0 here) at passes
+
+  open_mid : IfTold (f.disk old) (λ d. AreOpen groups d.now) → IfTold (f.disk mid) (λ d. AreOpen groups d.now)
+  open_mid are = told_after (f.disk old) (f.disk mid) (λ d. AreOpen groups d.now) (λ d. AreOpen groups d.now) Passes (λ a b here same. (others_matter_not groups a.now b.now (λ sig. None) (λ n is. same.same n)).1 here) are passes
+
+  module _ (names : List FileName) (groups' : Groups) (new : F) (result : Result (Unit {0}) IndexFault) (listing : IfTold (f.disk old) (λ d. IsListing d.now names)) (removes : RemovesEach kept (IsNamed names) f groups groups' mid new result) where
+    stands : (pictures : Pictures) → IfTold (f.disk old) (λ d. AreAt groups d.now pictures) → Tells (f.disk old) (f.disk new) (Moves IsIndexFile (StandsForFewer kept pictures) (EndsAt kept groups' pictures result))
+    stands pictures at =
+        told_then (f.disk old) (f.disk mid) (f.disk new) (λ a b. (IsListing a.now names × AreAt groups a.now pictures) × Passes a b) (Moves IsIndexFile (StandsForFewer kept pictures) (λ files. OnOk result (Left kept names groups groups' pictures files)))
+        (Moves IsIndexFile (StandsForFewer kept pictures) (EndsAt kept groups' pictures result))
+        (λ a b c known moved. moves_then IsIndexFile (StandsForFewer kept pictures) (StandsForFewer kept pictures) (StandsForFewer kept pictures) (λ files. Unit {0}) (λ files. OnOk result (Left kept names groups groups' pictures files)) (EndsAt kept groups' pictures result) a b c
+        (λ image stands. stands) (λ ended image stands. stands) (λ ended done. ends kept names groups groups' pictures a.now c.now known.0.0 known.0.1 result removes.faults done)
+        (moves_passes IsIndexFile (StandsForFewer kept pictures) (λ files. Unit {0}) a b (λ image is. (pictures, fewer_refl kept pictures, images_stand a.now pictures image known.0.1.held is)) (λ same. tt) known.1) moved)
+        (told_given (f.disk old) (f.disk mid) (λ d. IsListing d.now names × AreAt groups d.now pictures) Passes (λ a b. (IsListing a.now names × AreAt groups a.now pictures) × Passes a b) (λ a b known same. (known, same))
+        (told_pair (f.disk old) (λ d. IsListing d.now names) (λ d. AreAt groups d.now pictures) (λ d. IsListing d.now names × AreAt groups d.now pictures) (λ d one other. (one, other)) listing at) passes)
+        (removes.stands pictures (at_mid pictures at))
+
+    pub cleans : Cleans kept f groups groups' old new result
+    cleans = record {
+      stands = stands;
+      sound = λ pictures. told_back (f.disk old) (f.disk mid) _ _ Passes (λ a b same never here. never ((others_matter_not groups a.now b.now pictures (λ n is. same.same n)).0 here)) passes (removes.sound pictures);
+      others = told_then (f.disk old) (f.disk mid) (f.disk new) Passes (Moves IsIndexFile (λ image. Unit {0}) (λ files. Unit {0})) (Moves IsIndexFile (λ image. Unit {0}) (λ files. Unit {0}))
+          (λ a b c same moved. moves_then IsIndexFile (λ image. Unit {0}) (λ image. Unit {0}) (λ image. Unit {0}) (λ files. Unit {0}) (λ files. Unit {0}) (λ files. Unit {0}) a b c
+          (λ image is. tt) (λ ended image is. tt) (λ one_ended other_ended. tt) (moves_passes IsIndexFile (λ image. Unit {0}) (λ files. Unit {0}) a b (λ image is. tt) (λ all. tt) same) moved) passes removes.others;
+      is_open = λ are want. by_result result want removes.faults (removes.is_open (open_mid are));
+      faults = named result removes.faults;
+      cause = record { later = omega (arith, later, removes.cause.later); failed = rising result removes.cause.failed };
+    }
+      where
+        by_result : (r : Result (Unit {0}) IndexFault) → IfErr r (λ e. e ≡ NoMemory) → IfErr r IsRemoveFault → OnOk r (IfTold (f.disk new) (λ d. AreOpen groups' d.now)) → IfTold (f.disk new) (λ d. AreOpen groups' d.now)
+        by_result (Ok done) want faults are = are
+        by_result (Err fault) want faults are = no_want (IfTold (f.disk new) (λ d. AreOpen groups' d.now)) (subst IsRemoveFault want faults)
+
+        named : (r : Result (Unit {0}) IndexFault) → IfErr r IsRemoveFault → IfErr r (λ e. (e ≡ Store DiskFault) ⊎ (e ≡ NoMemory) ⊎ ((name : FileName) × (at : ℕ) × (e ≡ Store (Damaged name at))))
+        named (Ok done) faults = tt
+        named (Err fault) faults = ⊎_elim (λ disk. inl disk) (λ damage. inr (inr damage)) faults
+
+        rising : (r : Result (Unit {0}) IndexFault) → IfErr r (λ e. e ≡ Store DiskFault → Rose (f.faults mid) (f.faults new)) → IfErr r (λ e. e ≡ Store DiskFault → Rose (f.faults old) (f.faults new))
+        rising (Ok done) rose = tt
+        rising (Err fault) rose = λ is. let rises = rose is in omega (arith, later, rises)
+
+  -- the names could not be listed
+  module _ (fault : FolderFault) (rose : fault ≡ Failed → Rose (f.faults old) (f.faults mid)) where
+    ends_failed : (reason : FolderFault) (pictures : Pictures) (files : FileName → File) → AreAt groups files pictures → EndsAt kept groups pictures (Err (folder_fault reason)) files
+    ends_failed Failed pictures files at = tt
+    ends_failed FolderNoMemory pictures files at = (pictures, fewer_refl kept pictures, at)
+
+    undamaged : (reason : FolderFault) (name : FileName) (at : ℕ) → folder_fault reason ≡ Store (Damaged name at) → ⊥
+    undamaged Failed name at is = cc
+    undamaged FolderNoMemory name at is = cc
+
+    named_failed : (reason : FolderFault) → (folder_fault reason ≡ Store DiskFault) ⊎ (folder_fault reason ≡ NoMemory) ⊎ ((name : FileName) × (at : ℕ) × (folder_fault reason ≡ Store (Damaged name at)))
+    named_failed Failed = inl refl
+    named_failed FolderNoMemory = inr (inl refl)
+
+    failed_disk : (reason : FolderFault) → folder_fault reason ≡ Store DiskFault → reason ≡ Failed
+    failed_disk Failed is = refl
+    failed_disk FolderNoMemory is = let no : ⊥ = cc in absurd no
+
+    pub cleans_failed : Cleans kept f groups groups old mid (Err (folder_fault fault))
+    cleans_failed = record {
+      stands = λ pictures at. told_given (f.disk old) (f.disk mid) (λ d. AreAt groups d.now pictures) Passes (Moves IsIndexFile (StandsForFewer kept pictures) (EndsAt kept groups pictures (Err (folder_fault fault))))
+          (λ a b here same. moves_passes IsIndexFile (StandsForFewer kept pictures) (EndsAt kept groups pictures (Err (folder_fault fault))) a b (λ image is. (pictures, fewer_refl kept pictures, images_stand a.now pictures image here.held is))
+          (λ all. ends_failed fault pictures b.now ((others_matter_not groups a.now b.now pictures (λ n is. all n)).0 here)) same) at passes;
+      sound = λ pictures. told_all (f.disk old) _ (λ d here name at failed. undamaged fault name at (cc));
+      others = told_map (f.disk old) (f.disk mid) Passes (Moves IsIndexFile (λ image. Unit {0}) (λ files. Unit {0})) (λ a b same. moves_passes IsIndexFile (λ image. Unit {0}) (λ files. Unit {0}) a b (λ image is. tt) (λ all. tt) same) passes;
+      is_open = λ are want. open_mid are;
+      faults = named_failed fault;
+      cause = record { later = later; failed = λ is. rose (failed_disk fault is) };
+    }

@@ -1,0 +1,201 @@
+-- Indexes are removed one after another.
+use Rattle.std.specs.Prelude.{◌≡◌, ◌⊎◌, ◌<◌, ◌+◌, ◌++◌, ◌∷◌, [], ℕ, List, length, take, slice_index_or, None, Result, Ok, Err, IfErr, OnOk, Contains, refl}
+use Rattle.std.proofs.lemmas.List.{take_more}
+use Rattle.std.proofs.lemmas.List.Elements.{Contains-push_cases}
+use Rattle.std.proofs.Common.{ap, sym, ◌∙◌, subst, inl, inr, ⊎_elim, arith}
+use Rattle.view_ports.specs.Disk.{Disk, IfTold, Moves, Tells}
+use Rattle.view_ports.specs.Faults.{Rose}
+use Rattle.view_ports.specs.File.{File}
+use Rattle.view_ports.specs.declared.file_name.FileName.{FileName}
+use Rattle.view_ports.specs.declared.file_name.Stem.{Stem}
+use Rattle.view_ports.specs.declared.file_name.Stem.TheVariants.{View}
+use Rattle.view_ports.specs.declared.folder.Folder.{Ghosts as Folders}
+use Rattle.view_ports.proofs.DiskRuns.{moves_none, moves_then, moves_wider}
+use Rattle.view_ports.proofs.Told.{told_after, told_all, told_map, told_now, told_refl, told_still, told_then}
+use Rattle.gate_file.specs.declared.fault.GateFault.TheVariants.{DiskFault, Damaged}
+use Rattle.view_index.specs.declared.fault.IndexFault.{IndexFault}
+use Rattle.view_index.specs.declared.fault.IndexFault.TheVariants.{Store}
+use Rattle.view_index.specs.Held.{HoldsIndex, IsFileOf, Stands}
+use Rattle.view_index.specs.Opens.{FindsDamage}
+use Rattle.view_index.specs.Removes.{Removes}
+use Rattle.view_groups.specs.declared.groups.Groups.{Groups}
+use Rattle.view_groups.specs.Cleans.{AreFewer, IsIndexFile}
+use Rattle.view_groups.specs.Groups.{AreAt, AreOpen, IsClosed}
+use Rattle.view_groups.specs.Pictures.{Pictures}
+use Rattle.view_groups.specs.Removing.{AreLeft, IsNamed, RemovesEach, StandsForFewer}
+use Rattle.view_groups.proofs.Closing.{closed_at, closed_open, set_at, set_stand, set_there, unset}
+use Rattle.view_groups.proofs.Standing.{images_stand, same_or_not}
+use Rattle.view_groups.proofs.Telling.{told_by, told_each, told_from, told_never}
+
+abbrev pub well : Result (Unit {0}) IndexFault
+well = Ok tt
+
+module _ (kept : List (List ℕ)) where
+  pub fewer_refl : (pictures : Pictures) → AreFewer kept pictures pictures
+  fewer_refl pictures = λ sig. inl refl
+
+  pub fewer_then : (pictures left fewer : Pictures) → AreFewer kept pictures left → AreFewer kept left fewer → AreFewer kept pictures fewer
+  fewer_then pictures left fewer first second = λ sig. ⊎_elim (λ same. ⊎_elim (λ was. inl (same ∙ was)) (λ gone. inr (same ∙ gone.0, gone.1)) (first sig)) (λ gone. inr gone) (second sig)
+
+  pub none_gone : (pictures left : Pictures) (sig : List ℕ) → AreFewer kept pictures left → pictures sig ≡ None → left sig ≡ None
+  none_gone pictures left sig fewer none = ⊎_elim (λ same. same ∙ none) (λ gone. gone.0) (fewer sig)
+
+  -- one is gone that isn't kept
+  fewer_set : (own : List ℕ) (pictures : Pictures) → (Contains kept own → ⊥) → AreFewer kept pictures (set_at own None pictures)
+  fewer_set own pictures unkept = λ sig. ⊎_elim
+      (λ same. inr (subst (λ s. set_at own None pictures s ≡ None) (sym same) (set_there own None pictures).0, λ is. unkept (subst (Contains kept) same is)))
+      (λ differs. inl ((set_there own None pictures).1 sig differs))
+      (same_or_not sig own)
+
+  module _ {F : Type 0} (f : Folders F) where
+    -- nothing was to go
+    pub removes_nothing : (IsToGo : Stem → Type 0) (groups : Groups) (folder : F) → ((sig : List ℕ) → IsToGo (View sig) → (Contains kept sig → ⊥) → ⊥) → RemovesEach kept IsToGo f groups groups folder folder well
+    removes_nothing IsToGo groups folder never = record {
+      stands = λ pictures at. told_still (f.disk folder) (λ d. AreAt groups d.now pictures) (Moves IsIndexFile (StandsForFewer kept pictures) (λ files. (left : Pictures) × AreLeft kept IsToGo pictures left × AreAt groups files left))
+          (λ d here. moves_none IsIndexFile (StandsForFewer kept pictures) (λ files. (left : Pictures) × AreLeft kept IsToGo pictures left × AreAt groups files left) d
+          (λ image is. (pictures, fewer_refl pictures, images_stand d.now pictures image here.held is))
+          (pictures, record { fewer = fewer_refl pictures; gone = λ sig listed unkept. absurd (never sig listed unkept) }, here)) at;
+      sound = λ pictures. told_all (f.disk folder) (λ d. AreAt groups d.now pictures → (name : FileName) (at : ℕ) → well ≡ Err (Store (Damaged name at)) → ⊥) (λ d here name at failed. cc);
+      others = told_refl (f.disk folder) (Moves IsIndexFile (λ image. Unit {0}) (λ files. Unit {0})) (λ d. moves_none IsIndexFile (λ image. Unit {0}) (λ files. Unit {0}) d (λ image is. tt) tt);
+      is_open = λ are. are;
+      faults = tt;
+      cause = record { later = omega arith; failed = tt };
+    }
+
+    -- fewer were to go
+    pub removes_of : (IsToGo IsToGo' : Stem → Type 0) (groups groups' : Groups) (old new : F) (result : Result (Unit {0}) IndexFault) → ((sig : List ℕ) → IsToGo' (View sig) → IsToGo (View sig))
+        → RemovesEach kept IsToGo f groups groups' old new result → RemovesEach kept IsToGo' f groups groups' old new result
+    removes_of IsToGo IsToGo' groups groups' old new result within removes = record {
+      stands = λ pictures at. told_map (f.disk old) (f.disk new) _ _
+          (λ a b moved. record { moments = moved.moments; others = moved.others; ended = by_result result pictures b.now moved.ended }) (removes.stands pictures at);
+      sound = removes.sound;
+      others = removes.others;
+      is_open = removes.is_open;
+      faults = removes.faults;
+      cause = removes.cause;
+    }
+      where
+        by_result : (r : Result (Unit {0}) IndexFault) (pictures : Pictures) (files : FileName → File) → OnOk r ((left : Pictures) × AreLeft kept IsToGo pictures left × AreAt groups' files left) → OnOk r ((left : Pictures) × AreLeft kept IsToGo' pictures left × AreAt groups' files left)
+        by_result (Ok done) pictures files left = (left.0, record { fewer = (left.1).fewer; gone = λ sig listed unkept. (left.1).gone sig (within sig listed) unkept }, left.2)
+        by_result (Err fault) pictures files left = tt
+
+    -- what was to go is of no matter to a refusal
+    pub removes_failed : (IsToGo IsToGo' : Stem → Type 0) (groups groups' : Groups) (old new : F) (fault : IndexFault) → RemovesEach kept IsToGo f groups groups' old new (Err fault) → RemovesEach kept IsToGo' f groups groups' old new (Err fault)
+    removes_failed IsToGo IsToGo' groups groups' old new fault removes = record {
+      stands = λ pictures at. told_map (f.disk old) (f.disk new) _ _ (λ a b moved. record { moments = moved.moments; others = moved.others; ended = tt }) (removes.stands pictures at);
+      sound = removes.sound;
+      others = removes.others;
+      is_open = removes.is_open;
+      faults = removes.faults;
+      cause = removes.cause;
+    }
+
+    -- one index is closed and removed
+    module _ (own : List ℕ) (groups groups' : Groups) (closed : IsClosed (View own) groups groups') (unkept : Contains kept own → ⊥) (old new : F) (result : Result (Unit {0}) IndexFault) (removes : Removes f (View own) old new result) where
+      abbrev Ends : Pictures → (FileName → File) → Type 0
+      Ends pictures files = OnOk result ((left : Pictures) × AreLeft kept (λ s. s ≡ View own) pictures left × AreAt groups' files left)
+
+      ends : (pictures : Pictures) (views : ℕ) (files files' : FileName → File) → AreAt groups files pictures → ((n : FileName) → (n.stem ≡ View own → ⊥) → files' n ≡ files n) → (r : Result (Unit {0}) IndexFault)
+          → OnOk r (HoldsIndex (View own) views files' None) → OnOk r ((left : Pictures) × AreLeft kept (λ s. s ≡ View own) pictures left × AreAt groups' files' left)
+      ends pictures views files files' at others (Err fault) holds = tt
+      ends pictures views files files' at others (Ok done) holds = (
+        set_at own None pictures,
+        record {
+          fewer = fewer_set own pictures unkept;
+          gone = λ sig is unlisted. let same : sig ≡ own = cc in subst (λ s. set_at own None pictures s ≡ None) (sym same) (set_there own None pictures).0;
+        },
+        closed_at own files pictures (set_at own None pictures) None (set_there own None pictures) files' others groups groups' closed views at holds,
+      )
+
+      moved_one : (pictures : Pictures) (a b : Disk FileName) (views : ℕ) → AreAt groups a.now pictures
+          → Moves (IsFileOf (View own)) (λ image. Stands (View own) views image (pictures own) ⊎ Stands (View own) views image None) (λ files. OnOk result (HoldsIndex (View own) views files None)) a b
+          → Moves IsIndexFile (StandsForFewer kept pictures) (Ends pictures) a b
+      moved_one pictures a b views at moved =
+          moves_wider (IsFileOf (View own)) IsIndexFile (λ image. Stands (View own) views image (pictures own) ⊎ Stands (View own) views image None) (StandsForFewer kept pictures)
+          (λ files. OnOk result (HoldsIndex (View own) views files None)) (Ends pictures) a b (λ n is. (own, is))
+          (λ image framed. ⊎_elim
+          (λ before. (pictures, fewer_refl pictures, set_stand own a.now pictures pictures (pictures own) (unset own pictures) image views at.held (record { inside = before; outside = framed.outside })))
+          (λ none. (
+            set_at own None pictures,
+            fewer_set own pictures unkept,
+            set_stand own a.now pictures (set_at own None pictures) None (set_there own None pictures) image views at.held (record { inside = none; outside = framed.outside }),
+          ))
+          framed.inside)
+          (λ others ended. ends pictures views a.now b.now at others result ended) moved
+
+      pub removed_one : RemovesEach kept (λ s. s ≡ View own) f groups groups' old new result
+      removed_one = record {
+        stands = λ pictures at. told_from (f.disk old) (f.disk new) (λ d. AreAt groups d.now pictures) (λ views d. HoldsIndex (View own) views d.now (pictures own))
+            (λ views. Moves (IsFileOf (View own)) (λ image. Stands (View own) views image (pictures own) ⊎ Stands (View own) views image None) (λ files. OnOk result (HoldsIndex (View own) views files None)))
+            (Moves IsIndexFile (StandsForFewer kept pictures) (Ends pictures)) _
+            (λ a here. here.held own) (λ views holds. removes.stands views (pictures own) holds) (λ a b views here holds moved. moved_one pictures a b views here moved) removes.others at;
+        sound = λ pictures. told_now (f.disk old) _ (λ d. AreAt groups d.now pictures → (name : FileName) (at : ℕ) → result ≡ Err (Store (Damaged name at)) → ⊥)
+            (λ d never here name at failed. let holds = here.held own in never holds.0 holds.1 name at failed)
+            (told_each (f.disk old) (λ views d. HoldsIndex (View own) views d.now (pictures own) → FindsDamage (λ name at. ⊥) result) (λ views. removes.sound views (pictures own)));
+        others = told_map (f.disk old) (f.disk new) _ (Moves IsIndexFile (λ image. Unit {0}) (λ files. Unit {0}))
+            (λ a b moved. moves_wider (IsFileOf (View own)) IsIndexFile (λ image. Unit {0}) (λ image. Unit {0}) (λ files. Unit {0}) (λ files. Unit {0}) a b (λ n is. (own, is)) (λ image framed. tt) (λ others ended. tt) moved) removes.others;
+        is_open = λ are. by_result result (told_after (f.disk old) (f.disk new) (λ d. AreOpen groups d.now) (λ d. AreOpen groups' d.now) _ (λ a b here moved. closed_open own a.now b.now moved.others groups groups' closed here) are removes.others);
+        faults = removes.faults;
+        cause = removes.cause;
+      }
+        where
+          by_result : (r : Result (Unit {0}) IndexFault) → IfTold (f.disk new) (λ d. AreOpen groups' d.now) → OnOk r (IfTold (f.disk new) (λ d. AreOpen groups' d.now))
+          by_result (Ok done) are = are
+          by_result (Err fault) are = tt
+
+    -- some, and then others
+    module _ (One Other : Stem → Type 0) (first second third : Groups) (old mid new : F) (result : Result (Unit {0}) IndexFault)
+        (early : RemovesEach kept One f first second old mid well) (late : RemovesEach kept Other f second third mid new result) where
+      abbrev Both : Stem → Type 0
+      Both s = One s ⊎ Other s
+
+      abbrev Begun : Pictures → Pictures → Disk FileName → Disk FileName → Type 0
+      Begun pictures left a b = Moves IsIndexFile (StandsForFewer kept pictures) (λ files. AreLeft kept One pictures left × AreAt second files left) a b
+
+      began : (pictures : Pictures) → IfTold (f.disk old) (λ d. AreAt first d.now pictures) → Tells (f.disk old) (f.disk mid) (λ a b. (left : Pictures) × Begun pictures left a b)
+      began pictures at = told_map (f.disk old) (f.disk mid) _ _ (λ a b moved. let left = moved.ended in (left.0, record { moments = moved.moments; others = moved.others; ended = (left.1, left.2) })) (early.stands pictures at)
+
+      ends_both : (pictures left : Pictures) (files : FileName → File) → AreLeft kept One pictures left → (r : Result (Unit {0}) IndexFault) → OnOk r ((fewer : Pictures) × AreLeft kept Other left fewer × AreAt third files fewer)
+          → OnOk r ((fewer : Pictures) × AreLeft kept Both pictures fewer × AreAt third files fewer)
+      ends_both pictures left files begun (Err fault) ended = tt
+      ends_both pictures left files begun (Ok done) ended = (
+        ended.0,
+        record {
+          fewer = fewer_then pictures left ended.0 begun.fewer (ended.1).fewer;
+          gone = λ sig is unkept. ⊎_elim (λ one. none_gone left ended.0 sig (ended.1).fewer (begun.gone sig one unkept)) (λ other. (ended.1).gone sig other unkept) is;
+        },
+        ended.2,
+      )
+
+      pub removes_then : RemovesEach kept Both f first third old new result
+      removes_then = record {
+        stands = λ pictures at. told_by (f.disk old) (f.disk mid) (f.disk new) (Begun pictures) (λ left d. AreAt second d.now left)
+            (λ left. Moves IsIndexFile (StandsForFewer kept left) (λ files. OnOk result ((fewer : Pictures) × AreLeft kept Other left fewer × AreAt third files fewer)))
+            (Moves IsIndexFile (StandsForFewer kept pictures) (λ files. OnOk result ((fewer : Pictures) × AreLeft kept Both pictures fewer × AreAt third files fewer))) _
+            (λ a b left begun. begun.ended.1) (λ left here. late.stands left here)
+            (λ a b c left begun moved. moves_then IsIndexFile (StandsForFewer kept pictures) (StandsForFewer kept left) (StandsForFewer kept pictures)
+            (λ files. AreLeft kept One pictures left × AreAt second files left) (λ files. OnOk result ((fewer : Pictures) × AreLeft kept Other left fewer × AreAt third files fewer))
+            (λ files. OnOk result ((fewer : Pictures) × AreLeft kept Both pictures fewer × AreAt third files fewer)) a b c
+            (λ image stands. stands) (λ ended image stands. (stands.0, fewer_then pictures left stands.0 (ended.0).fewer stands.1, stands.2))
+            (λ ended done. ends_both pictures left c.now ended.0 result done) begun moved)
+            late.others (began pictures at);
+        sound = λ pictures. told_never (f.disk old) (f.disk mid) (λ d. AreAt first d.now pictures) (Begun pictures) (λ left d. AreAt second d.now left) ((name : FileName) (at : ℕ) → result ≡ Err (Store (Damaged name at)) → ⊥)
+            (λ a b left begun. begun.ended.1) (λ left. late.sound left) (λ at. began pictures at);
+        others = told_then (f.disk old) (f.disk mid) (f.disk new) _ _ (Moves IsIndexFile (λ image. Unit {0}) (λ files. Unit {0}))
+            (λ a b c one other. moves_then IsIndexFile (λ image. Unit {0}) (λ image. Unit {0}) (λ image. Unit {0}) (λ files. Unit {0}) (λ files. Unit {0}) (λ files. Unit {0}) a b c
+            (λ image is. tt) (λ ended image is. tt) (λ one_ended other_ended. tt) one other) early.others late.others;
+        is_open = λ are. late.is_open (early.is_open are);
+        faults = late.faults;
+        cause = record { later = omega (arith, early.cause.later, late.cause.later); failed = by_fault result late.cause.failed };
+      }
+        where
+          by_fault : (r : Result (Unit {0}) IndexFault) → IfErr r (λ e. e ≡ Store DiskFault → Rose (f.faults mid) (f.faults new)) → IfErr r (λ e. e ≡ Store DiskFault → Rose (f.faults old) (f.faults new))
+          by_fault (Ok done) rose = tt
+          by_fault (Err fault) rose = λ is. let rises = rose is in omega (arith, early.cause.later, rises)
+
+-- the names so far and the next one
+pub named_more : (names : List FileName) (i : ℕ) (d : FileName) → i < length names → (stem : Stem) → IsNamed (take (i + 1) names) stem → IsNamed (take i names) stem ⊎ (stem ≡ (slice_index_or names i d).stem)
+named_more names i d within stem is =
+    let more : take (i + 1) names ≡ take i names ++ slice_index_or names i d ∷ [] = take_more names i d within in
+    ⊎_elim (λ before. inl (is.0, before, is.2)) (λ same. inr (sym is.2 ∙ sym (ap (λ (n : FileName). n.stem) same)))
+    (Contains-push_cases (take i names) (slice_index_or names i d) is.0 (subst (λ (ns : List FileName). Contains ns is.0) more is.1))

@@ -1,0 +1,34 @@
+-- What a folder tells over several calls, where something is known only of what it tells.
+use Rattle.std.specs.Prelude.{Option, Some, None}
+use Rattle.view_ports.specs.Disk.{IfTold, Tells}
+
+module _ {D X : Type 0} where
+  -- what is known for each is known for all
+  pub told_each : (now : Option D) (P : X → D → Type 0) → ((x : X) → IfTold now (P x)) → IfTold now (λ d. (x : X) → P x d)
+  told_each None P known = tt
+  told_each (Some a) P known = λ x. known x
+
+  -- what begins with something that is known before
+  pub told_from : (old new : Option D) (H : D → Type 0) (P : X → D → Type 0) (S : X → D → D → Type 0) (T U : D → D → Type 0) → ((a : D) → H a → (x : X) × P x a) → ((x : X) → IfTold old (P x) → Tells old new (S x))
+      → ((a b : D) (x : X) → H a → P x a → S x a b → T a b) → Tells old new U → IfTold old H → Tells old new T
+  told_from None None H P S T U begins goes ends told known = tt
+  told_from None (Some b) H P S T U begins goes ends told known = absurd told
+  told_from (Some a) None H P S T U begins goes ends told known = absurd told
+  told_from (Some a) (Some b) H P S T U begins goes ends told known = let x = begins a known in ends a b x.0 known x.1 (goes x.0 x.1)
+
+  -- a second stretch that begins with something that the first one ends with
+  pub told_by : (old mid new : Option D) (P : X → D → D → Type 0) (Q : X → D → Type 0) (S : X → D → D → Type 0) (T U : D → D → Type 0) → ((a b : D) (x : X) → P x a b → Q x b) → ((x : X) → IfTold mid (Q x) → Tells mid new (S x))
+      → ((a b c : D) (x : X) → P x a b → S x b c → T a c) → Tells mid new U → Tells old mid (λ a b. (x : X) × P x a b) → Tells old new T
+  told_by None None None P Q S T U begins goes ends told first = tt
+  told_by None None (Some c) P Q S T U begins goes ends told first = absurd told
+  told_by None (Some b) new P Q S T U begins goes ends told first = absurd first
+  told_by (Some a) None new P Q S T U begins goes ends told first = absurd first
+  told_by (Some a) (Some b) None P Q S T U begins goes ends told first = absurd told
+  told_by (Some a) (Some b) (Some c) P Q S T U begins goes ends told first = ends a b c first.0 first.1 (goes first.0 (begins a b first.0 first.1))
+
+  -- what never comes of it
+  pub told_never : (old mid : Option D) (H : D → Type 0) (P : X → D → D → Type 0) (Q : X → D → Type 0) (N : Type 0) → ((a b : D) (x : X) → P x a b → Q x b) → ((x : X) → IfTold mid (λ d. Q x d → N))
+      → (IfTold old H → Tells old mid (λ a b. (x : X) × P x a b)) → IfTold old (λ d. H d → N)
+  told_never None mid H P Q N begins goes first = tt
+  told_never (Some a) None H P Q N begins goes first = λ known. absurd (first known)
+  told_never (Some a) (Some b) H P Q N begins goes first = λ known. let x = first known in goes x.0 (begins a b x.0 x.1)

@@ -1,0 +1,47 @@
+-- Removing the files of indexes that no design has.
+use Rattle.std.specs.Prelude.{◌≡◌, ◌⊎◌, ℕ, List, None, Result, Ok, Err, IfErr, Contains}
+use Rattle.view_ports.specs.Causes.{HasCauseIf}
+use Rattle.view_ports.specs.Disk.{IfTold, Moves, Tells}
+use Rattle.view_ports.specs.File.{File}
+use Rattle.view_ports.specs.declared.file_name.FileName.{FileName}
+use Rattle.view_ports.specs.declared.file_name.Stem.TheVariants.{View}
+use Rattle.view_ports.specs.declared.folder.Folder.{Ghosts as Folders}
+use Rattle.gate_file.specs.declared.fault.GateFault.TheVariants.{DiskFault, Damaged}
+use Rattle.view_index.specs.declared.fault.IndexFault.{IndexFault}
+use Rattle.view_index.specs.declared.fault.IndexFault.TheVariants.{NoMemory, Store}
+use Rattle.view_groups.specs.declared.groups.Groups.{Groups}
+use Rattle.view_groups.specs.Groups.{AreAt, AreOpen}
+use Rattle.view_groups.specs.Pictures.{Pictures, StandFor}
+
+-- a file of an index
+abbrev pub IsIndexFile : FileName → Type 0
+IsIndexFile name = (sig : List ℕ) × (name.stem ≡ View sig)
+
+module _ (kept : List (List ℕ)) where
+  -- some of the pictures are gone, none of which is kept
+  abbrev pub AreFewer : Pictures → Pictures → Type 0
+  AreFewer pictures fewer = (sig : List ℕ) → (fewer sig ≡ pictures sig) ⊎ ((fewer sig ≡ None) × (Contains kept sig → ⊥))
+
+  -- the pictures that are kept stay, and all others are gone
+  pub record AreKept (pictures left : Pictures) : Type 0 where
+    pub stay : (sig : List ℕ) → Contains kept sig → left sig ≡ pictures sig
+    pub gone : (sig : List ℕ) → (Contains kept sig → ⊥) → left sig ≡ None
+
+  -- so it ends: want of memory may leave some that are not kept
+  abbrev pub EndsAt : Groups → Pictures → Result (Unit {0}) IndexFault → (FileName → File) → Type 0
+  EndsAt groups pictures (Ok done) files = (left : Pictures) × AreKept pictures left × AreAt groups files left
+  EndsAt groups pictures (Err (Store fault)) files = Unit {0}
+  EndsAt groups pictures (Err other) files = (left : Pictures) × AreFewer pictures left × AreAt groups files left
+
+  module _ {F : Type 0} (f : Folders F) (groups groups' : Groups) (old new : F) where
+    pub record Cleans (result : Result (Unit {0}) IndexFault) : Type 0 where
+      -- at each moment a crash leaves each picture that is kept, and each other one wholly or not at all; files of no index are as
+      -- they were
+      pub stands : (pictures : Pictures) → IfTold (f.disk old) (λ d. AreAt groups d.now pictures)
+          → Tells (f.disk old) (f.disk new) (Moves IsIndexFile (λ image. (fewer : Pictures) × AreFewer pictures fewer × StandFor image fewer) (EndsAt groups' pictures result))
+      pub sound : (pictures : Pictures) → IfTold (f.disk old) (λ d. AreAt groups d.now pictures → (name : FileName) (at : ℕ) → result ≡ Err (Store (Damaged name at)) → ⊥)
+      -- whatever the files hold
+      pub others : Tells (f.disk old) (f.disk new) (Moves IsIndexFile (λ image. Unit {0}) (λ files. Unit {0}))
+      pub is_open : IfTold (f.disk old) (λ d. AreOpen groups d.now) → IfErr result (λ e. e ≡ NoMemory) → IfTold (f.disk new) (λ d. AreOpen groups' d.now)
+      pub faults : IfErr result (λ e. (e ≡ Store DiskFault) ⊎ (e ≡ NoMemory) ⊎ ((name : FileName) × (at : ℕ) × (e ≡ Store (Damaged name at))))
+      pub cause : HasCauseIf (λ e. e ≡ Store DiskFault) (f.faults old) (f.faults new) result

@@ -1,0 +1,40 @@
+-- The indexes of a database that are open.
+use Rattle.std.specs.Prelude.{◌≡◌, ◌≢◌, ℕ, List, Option, Some, None, All, Contains, slice_get}
+use Rattle.view_ports.specs.File.{File}
+use Rattle.view_ports.specs.declared.file_name.FileName.{FileName}
+use Rattle.view_ports.specs.declared.file_name.Stem.{Stem}
+use Rattle.view_ports.specs.declared.file_name.Stem.TheVariants.{View}
+use Rattle.view_index.specs.declared.index.Index.{Index}
+use Rattle.view_index.specs.Calls.{stem_of, IsAt, IsOpen}
+use Rattle.view_index.specs.Index.{views_of}
+use Rattle.view_groups.specs.declared.groups.Groups.{Groups}
+use Rattle.view_groups.specs.Pictures.{Pictures, AreHeld}
+
+-- the indexes that are open
+abbrev pub open_of : Groups → List Index
+open_of groups = groups.open.items
+
+-- the index in this place is that of the signature, of so many views
+pub record IsGroup (groups : Groups) (place : ℕ) (sig : List ℕ) (views : ℕ) (index : Index) : Type 0 where
+  pub there : slice_get (open_of groups) place ≡ Some index
+  pub named : stem_of index ≡ View sig
+  pub number : views_of index ≡ views
+
+-- the place of the open index of these files; without a place no open index is of them
+abbrev pub IsPlaceOf : Groups → Stem → Option ℕ → Type 0
+IsPlaceOf groups stem (Some place) = (index : Index) × (slice_get (open_of groups) place ≡ Some index) × (stem_of index ≡ stem)
+IsPlaceOf groups stem None = All (λ index. stem_of index ≢ stem) (open_of groups)
+
+-- the index of these files is closed, and nothing else was opened
+pub record IsClosed (stem : Stem) (old new : Groups) : Type 0 where
+  pub gone : All (λ index. stem_of index ≢ stem) (open_of new)
+  pub others : All (Contains (open_of old)) (open_of new)
+
+-- what each open index keeps is what the folder holds
+abbrev pub AreOpen : Groups → (FileName → File) → Type 0
+AreOpen groups files = All (λ index. IsOpen index files) (open_of groups)
+
+-- the files hold these pictures, and each open index is at its own
+pub record AreAt (groups : Groups) (files : FileName → File) (pictures : Pictures) : Type 0 where
+  pub held : AreHeld files pictures
+  pub each : All (λ index. (sig : List ℕ) → stem_of index ≡ View sig → IsAt index files (pictures sig)) (open_of groups)

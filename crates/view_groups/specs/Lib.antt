@@ -1,0 +1,9 @@
+pub mod Pictures
+pub mod Groups
+pub mod Reached
+pub mod Openings
+pub mod Brings
+pub mod Updating
+pub mod Cleans
+pub mod Removing
+pub mod Laws

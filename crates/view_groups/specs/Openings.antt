@@ -1,0 +1,41 @@
+-- Opening the index of a signature among the others.
+use Rattle.std.specs.Prelude.{◌≡◌, ◌≤◌, ℕ, List, length, Result, Ok, Err, IfErr, IfOk}
+use Rattle.view_ports.specs.Disk.{IfTold, Moves, Tells}
+use Rattle.view_ports.specs.File.{File}
+use Rattle.view_ports.specs.declared.file_name.FileName.{FileName}
+use Rattle.view_ports.specs.declared.file_name.Stem.TheVariants.{View}
+use Rattle.view_ports.specs.declared.folder.Folder.{Ghosts as Folders}
+use Rattle.view_index.specs.declared.fault.IndexFault.{IndexFault}
+use Rattle.view_index.specs.declared.fault.IndexFault.TheVariants.{Store}
+use Rattle.view_index.specs.declared.index.Index.{Index}
+use Rattle.view_index.specs.Calls.{IsCounted}
+use Rattle.view_index.specs.Held.{or_empty, IsFileOf, Stands}
+use Rattle.view_index.specs.Opens.{FindsDamage, IsOpenFault}
+use Rattle.view_groups.specs.declared.groups.Groups.{Groups}
+use Rattle.view_groups.specs.Groups.{AreAt, AreOpen, IsGroup}
+use Rattle.view_groups.specs.Pictures.{Pictures}
+
+module _ (own : List ℕ) (views newest : ℕ) where
+  -- the picture of this signature is no newer than the newest write, and has the rows of so many views
+  pub record IsFit (pictures : Pictures) : Type 0 where
+    pub within : (or_empty views (pictures own)).seq ≤ newest
+    pub shaped : length (or_empty views (pictures own)).rows ≡ views
+
+  -- so it ends: want of memory leaves the pictures too
+  abbrev pub EndsOpen : Groups → Pictures → Result ℕ IndexFault → (FileName → File) → Type 0
+  EndsOpen groups pictures (Ok place) files = AreAt groups files pictures
+  EndsOpen groups pictures (Err (Store fault)) files = Unit {0}
+  EndsOpen groups pictures (Err other) files = AreAt groups files pictures
+
+  module _ {F : Type 0} (f : Folders F) (groups groups' : Groups) (old new : F) where
+    pub record OpensGroup (result : Result ℕ IndexFault) : Type 0 where
+      -- a crash leaves the same pictures, and so does the opening
+      pub stands : (pictures : Pictures) → IfTold (f.disk old) (λ d. AreAt groups d.now pictures × IsFit pictures)
+          → Tells (f.disk old) (f.disk new) (Moves (IsFileOf (View own)) (λ image. Stands (View own) views image (pictures own)) (EndsOpen groups' pictures result))
+      pub sound : (pictures : Pictures) → IfTold (f.disk old) (λ d. AreAt groups d.now pictures × IsFit pictures → FindsDamage (λ name at. ⊥) result)
+      -- whatever the files hold
+      pub others : Tells (f.disk old) (f.disk new) (Moves (IsFileOf (View own)) (λ image. Unit {0}) (λ files. Unit {0}))
+      pub is_open : IfTold (f.disk old) (λ d. AreOpen groups d.now) → IfTold (f.disk new) (λ d. AreOpen groups' d.now)
+      pub place : IfOk result (λ place. (index : Index) × IsGroup groups' place own views index)
+      pub faults : IfErr result IsOpenFault
+      pub cause : IsCounted f old new result

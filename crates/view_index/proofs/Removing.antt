@@ -1,0 +1,58 @@
+-- An index whose files are opened and then cleared.
+use Rattle.std.specs.Prelude.{◌≡◌, ◌⊎◌, ℕ, List, Option, None, Result, Ok, Err, IfOk, IsErr, OnOk}
+use Rattle.std.proofs.Common.{subst, inl}
+use Rattle.view_ports.specs.Disk.{Disk, IfTold, Moves, Tells}
+use Rattle.view_ports.specs.File.{File}
+use Rattle.view_ports.specs.declared.file_name.FileName.{FileName}
+use Rattle.view_ports.specs.declared.file_name.Stem.{Stem}
+use Rattle.view_ports.proofs.DiskRuns.{moves_then}
+use Rattle.view_ports.proofs.Told.{told_given, told_then}
+use Rattle.gate_file.specs.declared.gate.GateFile.{GateFile}
+use Rattle.gate_file.specs.GateFile.{name_of, root_of}
+use Rattle.gate_file.specs.Open.{opened, IsOpened, WhileOpening}
+use Rattle.gate_file.specs.Opens.{Empties}
+use Rattle.gate_file.specs.Pair.{IsOpenPair, own_bytes}
+use Rattle.gate_file.proofs.Opened.{opened_holds, opened_open, opening_stands}
+use Rattle.view_model.specs.Picture.{Picture}
+use Rattle.view_index.specs.Held.{HoldsIndex, HoldsPicture, IsFileOf, Stands}
+use Rattle.view_index.proofs.Carried.{picture_of_root}
+use Rattle.view_index.proofs.Emptying.{clear_pair}
+
+module _ (stem : Stem) (views : ℕ) (gate : GateFile) (picture : Option Picture) where
+  abbrev IsThere : (FileName → File) → Type 0
+  IsThere files = IsOpenPair stem gate files × HoldsPicture views (root_of gate) (own_bytes gate files) picture
+
+  -- the pair that was opened stands for what the files stood for
+  opens : (old mid : Option (Disk FileName)) → IfTold old (λ d. gate ≡ opened stem d.now) → Tells old mid (λ a b. Moves (IsFileOf stem) (WhileOpening stem a.now) (IsOpened gate a.now) a b)
+      → IfTold old (λ d. HoldsIndex stem views d.now picture) → Tells old mid (Moves (IsFileOf stem) (λ image. Stands stem views image picture) IsThere)
+  opens old mid gate_is moves holds =
+      let known : (FileName → File) → (FileName → File) → Type 0 = λ old files. (gate ≡ opened stem old) × IsOpened gate old files in
+      opening_stands stem (HoldsPicture views) (picture_of_root views) old mid picture known IsThere
+      (λ a b is ended. (opened_open stem gate a.now b.now ended.0 ended.1, opened_holds stem gate a.now b.now ended.0 ended.1 (HoldsPicture views) (picture_of_root views) picture is)) holds
+      (told_given old mid (λ d. gate ≡ opened stem d.now) (λ a b. Moves (IsFileOf stem) (WhileOpening stem a.now) (IsOpened gate a.now) a b) (λ a b. Moves (IsFileOf stem) (WhileOpening stem a.now) (known a.now) a b)
+      (λ a b file_is moved. record { moments = moved.moments; others = moved.others; ended = (file_is, moved.ended) }) gate_is moves)
+
+  -- a crash leaves the picture or none, and in the end there is none
+  pub removed : {E : Type 0} (result : Result (Unit {0}) E) (old mid new : Option (Disk FileName)) → IfTold old (λ d. gate ≡ opened stem d.now)
+      → Tells old mid (λ a b. Moves (IsFileOf stem) (WhileOpening stem a.now) (IsOpened gate a.now) a b) → Tells mid new (Empties (name_of gate) result) → IfTold old (λ d. HoldsIndex stem views d.now picture)
+      → Tells old new (Moves (IsFileOf stem) (λ image. Stands stem views image picture ⊎ Stands stem views image None) (λ files. OnOk result (HoldsIndex stem views files None)))
+  removed result old mid new gate_is moves clears holds =
+      let leaves : (FileName → List ℕ) → Type 0 = λ image. Stands stem views image picture ⊎ Stands stem views image None in
+      let ends : (FileName → File) → Type 0 = λ files. OnOk result (HoldsIndex stem views files None) in
+      told_then old mid new (Moves (IsFileOf stem) (λ image. Stands stem views image picture) IsThere) (Empties (name_of gate) result) (Moves (IsFileOf stem) leaves ends)
+      (λ a b d first second. moves_then (IsFileOf stem) (λ image. Stands stem views image picture) leaves leaves IsThere ends ends a b d
+      (λ image stands. inl stands) (λ there image either. either) (λ there done. done) first
+      (clear_pair stem views gate b d picture result first.ended.0 first.ended.1 second))
+      (opens old mid gate_is moves holds) clears
+
+-- what was opened, by its result
+pub opened_by : {E : Type 0} (stem : Stem) (gate : GateFile) (result : Result GateFile E) → result ≡ Ok gate → (old mid : Option (Disk FileName))
+    → Tells old mid (λ a b. Moves (IsFileOf stem) (WhileOpening stem a.now) (λ files. IfOk result (λ gate. IsOpened gate a.now files)) a b)
+    → Tells old mid (λ a b. Moves (IsFileOf stem) (WhileOpening stem a.now) (IsOpened gate a.now) a b)
+opened_by stem gate result was old mid told =
+    subst (λ (r : Result GateFile _). Tells old mid (λ a b. Moves (IsFileOf stem) (WhileOpening stem a.now) (λ files. IfOk r (λ gate. IsOpened gate a.now files)) a b)) was told
+
+-- a refusal did nothing to the end
+pub failed_done : {T E : Type 0} (result : Result T E) (P : Type 0) → IsErr result → OnOk result P
+failed_done (Ok value) P failed = (let never : ⊥ = cc in absurd never)
+failed_done (Err error) P failed = tt
