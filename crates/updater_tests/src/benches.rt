@@ -1,0 +1,131 @@
+//! Documents, query servers and an index in memory: what is written, what is asked, and what the index shows after an update.
+
+use child_pool::Pool;
+use crash_disk::MemoryFolder;
+use design_docs::{Design, DesignFault, read_design};
+use doc_file::{DocFault, Docs, Rev};
+use json_terms::{NoMemory, Row, Term, read_term, write_term};
+use std::alloc::Global;
+use view_index::Index;
+use view_ports::FieldServers;
+use view_updater::{UpdateFault, update};
+
+const SIG: [u8; 32] = *b"0123456789abcdef0123456789abcdef";
+
+/// Two views, of the members `a` and `b`.
+const DESIGN: &str =
+    r#"{"_id":"_design/d","language":"field","views":{"v":{"map":"a"},"w":{"map":"b"}}}"#;
+
+/// More views than any design here has.
+const MANY: usize = 32;
+
+/// A document: its id, its other members, each behind a comma, and the revision that it is put over.
+#[derive(Clone, Copy)]
+pub struct Doc<'a> {
+    pub id: &'a str,
+    pub members: &'a str,
+    pub over: Option<Rev>,
+}
+
+/// What an index is brought up to date from.
+#[derive(Drop)]
+pub struct Bench {
+    pub folder: MemoryFolder,
+    servers: FieldServers,
+    pool: Pool,
+    design: Design,
+}
+
+fn design_of(alloc: Global) -> Result<Design, NoMemory> {
+    let document = read_term(alloc, DESIGN.as_bytes()).unwrap_or(Term::Null);
+    match read_design(alloc, &document) {
+        Ok(design) => Ok(design),
+        Err(_fault) => Err(NoMemory),
+    }
+}
+
+/// The text of a document.
+fn text_of(alloc: Global, doc: &Doc) -> Result<String, NoMemory> {
+    let mut text = String::new(alloc);
+    text.push_str("{\"_id\":\"")?;
+    text.push_str(doc.id)?;
+    text.push_str("\"")?;
+    if let Some(rev) = doc.over {
+        text.push_str(",\"_rev\":\"")?;
+        text.push_str(rev.text(alloc)?.as_str())?;
+        text.push_str("\"")?;
+    }
+    text.push_str(doc.members)?;
+    text.push_str("}")?;
+    Ok(text)
+}
+
+/// Appends the key, the id and the place of each row.
+fn put_rows(alloc: Global, rows: &[Row], text: &mut Vec<u8>) -> Result<(), NoMemory> {
+    text.push(b'[')?;
+    for row in rows {
+        write_term(alloc, &row.key, text)?;
+        text.push(b' ')?;
+        text.extend_from_slice(row.id.as_str().as_bytes())?;
+        text.push(b' ')?;
+        text.extend_from_slice(row.place.to_string(alloc)?.as_bytes())?;
+        text.push(b';')?;
+    }
+    text.push(b']')?;
+    Ok(())
+}
+
+/// The sequence of an index, and the rows of its views.
+fn text_shown(alloc: Global, index: &Index) -> Result<Vec<u8>, NoMemory> {
+    let mut text = Vec::new(alloc);
+    text.extend_from_slice(index.seq().to_string(alloc)?.as_bytes())?;
+    for view in 0..index.views() {
+        if view < MANY {
+            put_rows(alloc, index.rows(view as u32), &mut text)?;
+        }
+    }
+    Ok(text)
+}
+
+impl Bench {
+    /// A folder, and servers of which the calls with these numbers fail.
+    pub fn new(alloc: Global, folder: MemoryFolder, fail: &[u64]) -> Result<Bench, NoMemory> {
+        Ok(Bench {
+            folder,
+            servers: FieldServers::new(alloc, fail.to_vec(alloc)?)?,
+            pool: Pool::new(alloc, 1, &[])?,
+            design: design_of(alloc)?,
+        })
+    }
+
+    /// Puts a document, or deletes it where its member `_deleted` is true.
+    pub fn put(&mut self, alloc: Global, doc: &Doc) -> Result<(), DocFault> {
+        let text = text_of(alloc, doc)?;
+        let mut docs = Docs::open(alloc, &mut self.folder)?;
+        let document = read_term(alloc, text.as_str().as_bytes()).unwrap_or(Term::Null);
+        docs.put(alloc, &mut self.folder, document)?;
+        Ok(())
+    }
+
+    /// Opens the documents and the index, and updates it. What it shows then is in `shown`, also where the update is refused.
+    pub fn update(&mut self, alloc: Global, shown: &mut Vec<u8>) -> Result<(), UpdateFault> {
+        let docs = Docs::open(alloc, &mut self.folder)?;
+        let views = self.design.views.len();
+        if views > MANY {
+            return Err(UpdateFault::NoMemory);
+        }
+        let newest = docs.info().update_seq;
+        let mut index = Index::open(alloc, &mut self.folder, SIG, views as u32, newest)?;
+        let done = update(
+            alloc,
+            &mut self.folder,
+            &mut self.servers,
+            &mut self.pool,
+            &docs,
+            &self.design,
+            &mut index,
+        );
+        *shown = text_shown(alloc, &index)?;
+        done
+    }
+}
