@@ -1,11 +1,13 @@
 //! Documents, query servers and an index in memory: what is written, what is asked, and what the index shows after an update.
 
-use child_pool::Pool;
+use child_pool::{Pool, PoolFault};
 use crash_disk::MemoryFolder;
 use design_docs::{Design, DesignFault, read_design};
 use doc_file::{DocFault, Docs, Rev};
 use json_terms::{NoMemory, Row, Term, read_term, write_term};
 use std::alloc::Global;
+use std::test::Fail;
+use test_tools::same_text;
 use view_index::Index;
 use view_ports::FieldServers;
 use view_updater::{UpdateFault, update};
@@ -107,6 +109,12 @@ impl Bench {
         Ok(())
     }
 
+    /// How many writes the documents have had.
+    pub fn written(&mut self, alloc: Global) -> Result<u64, DocFault> {
+        let docs = Docs::open(alloc, &mut self.folder)?;
+        Ok(docs.info().update_seq)
+    }
+
     /// Opens the documents and the index, and updates it. What it shows then is in `shown`, also where the update is refused.
     pub fn update(&mut self, alloc: Global, shown: &mut Vec<u8>) -> Result<(), UpdateFault> {
         let docs = Docs::open(alloc, &mut self.folder)?;
@@ -128,4 +136,26 @@ impl Bench {
         *shown = text_shown(alloc, &index)?;
         done
     }
+}
+
+/// Whether the servers' fault refuses an update. Then the index shows what it did before, and a further update isn't refused.
+pub fn is_refused(
+    alloc: Global,
+    bench: &mut Bench,
+    before: &str,
+    after: &str,
+) -> Result<bool, Fail> {
+    let mut shown = Vec::new(alloc);
+    let refused = match bench.update(alloc, &mut shown) {
+        Ok(()) => false,
+        Err(UpdateFault::Pool(PoolFault::ServerFault)) => true,
+        Err(fault) => return Err(Fail::from(fault)),
+    };
+    if refused {
+        same_text(Ok(String::from_utf8(shown)?), before, "refused")?;
+        shown = Vec::new(alloc);
+        bench.update(alloc, &mut shown)?;
+    }
+    same_text(Ok(String::from_utf8(shown)?), after, "updated")?;
+    Ok(refused)
 }

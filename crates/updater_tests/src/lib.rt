@@ -2,6 +2,12 @@
 #![tactic(auto)]
 
 #[cfg(test)]
+mod batch_tests;
+#[cfg(test)]
 mod benches;
+#[cfg(test)]
+mod folder_tests;
+#[cfg(test)]
+mod scripts;
 #[cfg(test)]
 mod update_tests;

@@ -1,51 +1,10 @@
 //! Indexes after updates, and what is asked for them.
 
-use crate::benches::{Bench, Doc};
-use child_pool::PoolFault;
+use crate::benches::{Bench, Doc, is_refused};
+use crate::scripts::{TURNS, put_next, shown_behind};
 use crash_disk::MemoryFolder;
-use doc_file::Rev;
 use std::alloc::Global;
 use std::test::Fail;
-use test_tools::same_text;
-use view_updater::UpdateFault;
-
-/// A document's id, its other members, the generation and the number of the write that it is put over, and what an index shows
-/// that is updated behind it.
-type Write = (&'static str, &'static str, (u64, u64), &'static str);
-
-const NEW: (u64, u64) = (0, 0);
-
-const WRITES: [Write; 11] = [
-    ("x", r#","a":1,"b":2"#, NEW, "1[1 x 0;][2 x 0;]"),
-    ("y", r#","a":3"#, NEW, "2[1 x 0;3 y 0;][2 x 0;]"),
-    ("z", r#","b":4"#, NEW, "3[1 x 0;3 y 0;][2 x 0;4 z 0;]"),
-    ("y", "", (1, 2), "4[1 x 0;][2 x 0;4 z 0;]"),
-    ("z", r#","_deleted":true"#, (1, 3), "5[1 x 0;][2 x 0;]"),
-    ("x", r#","a":9,"b":0"#, (1, 1), "6[9 x 0;][0 x 0;]"),
-    (
-        "_design/d",
-        r#","a":5,"language":"field","views":{}"#,
-        NEW,
-        "7[9 x 0;][0 x 0;]",
-    ),
-    ("w", r#","a":5"#, NEW, "8[5 w 0;9 x 0;][0 x 0;]"),
-    (
-        "y",
-        r#","a":"s","b":0"#,
-        (2, 4),
-        "9[5 w 0;9 x 0;\"s\" y 0;][0 x 0;0 y 0;]",
-    ),
-    (
-        "w",
-        r#","_deleted":true"#,
-        (1, 8),
-        "10[9 x 0;\"s\" y 0;][0 x 0;0 y 0;]",
-    ),
-    ("y", r#","a":null"#, (3, 9), "11[9 x 0;null y 0;][0 x 0;]"),
-];
-
-/// How many of the writes come before each update.
-const TURNS: [usize; 7] = [3, 0, 1, 1, 1, 1, 4];
 
 const NEVER: u64 = u64::MAX;
 
@@ -70,57 +29,6 @@ const FAILING: &[([u64; 2], &[usize])] = &[
     ([37, 38], &[]),
 ];
 
-fn doc_of(write: &Write) -> Doc<'static> {
-    let &(id, members, (generation, seq), _shown) = write;
-    let over = if seq == 0 {
-        None
-    } else {
-        Some(Rev { generation, seq })
-    };
-    Doc { id, members, over }
-}
-
-/// What an index shows behind so many writes.
-fn shown_behind(count: usize) -> &'static str {
-    match WRITES.get(count.saturating_sub(1)) {
-        Some(write) if count > 0 => write.3,
-        _ => "0[][]",
-    }
-}
-
-fn put_next(alloc: Global, bench: &mut Bench, before: usize, count: usize) -> Result<(), Fail> {
-    for write in WRITES.iter().skip(before).take(count) {
-        bench.put(alloc, &doc_of(write))?;
-    }
-    Ok(())
-}
-
-/// Whether the servers' fault refuses the update. Then the index shows what it did behind so many writes as were there before, and a
-/// further update isn't refused.
-fn is_refused(alloc: Global, bench: &mut Bench, before: usize, count: usize) -> Result<bool, Fail> {
-    let mut shown = Vec::new(alloc);
-    let refused = match bench.update(alloc, &mut shown) {
-        Ok(()) => false,
-        Err(UpdateFault::Pool(PoolFault::ServerFault)) => true,
-        Err(fault) => return Err(Fail::from(fault)),
-    };
-    if refused {
-        same_text(
-            Ok(String::from_utf8(shown)?),
-            shown_behind(before),
-            "refused",
-        )?;
-        shown = Vec::new(alloc);
-        bench.update(alloc, &mut shown)?;
-    }
-    same_text(
-        Ok(String::from_utf8(shown)?),
-        shown_behind(count),
-        "updated",
-    )?;
-    Ok(refused)
-}
-
 /// The number of writes before each update that is refused where these calls fail.
 fn refused_with(alloc: Global, fail: &[u64; 2]) -> Result<Vec<usize>, Fail> {
     let folder = MemoryFolder::new(alloc, Vec::new(alloc), false)?;
@@ -130,7 +38,7 @@ fn refused_with(alloc: Global, fail: &[u64; 2]) -> Result<Vec<usize>, Fail> {
     for count in TURNS {
         let next = before.saturating_add(count);
         put_next(alloc, &mut bench, before, count)?;
-        if is_refused(alloc, &mut bench, before, next)? {
+        if is_refused(alloc, &mut bench, shown_behind(before), shown_behind(next))? {
             refused.push(next)?;
         }
         before = next;
