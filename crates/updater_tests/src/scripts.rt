@@ -6,11 +6,11 @@ use std::alloc::Global;
 
 /// A document's id, its other members, the generation and the number of the write that it is put over, and what an index shows
 /// that is updated behind it.
-pub type Write = (&'static str, &'static str, (u64, u64), &'static str);
+type Write = (&'static str, &'static str, (u64, u64), &'static str);
 
 const NEW: (u64, u64) = (0, 0);
 
-pub const WRITES: [Write; 11] = [
+const WRITES: [Write; 11] = [
     ("x", r#","a":1,"b":2"#, NEW, "1[1 x 0;][2 x 0;]"),
     ("y", r#","a":3"#, NEW, "2[1 x 0;3 y 0;][2 x 0;]"),
     ("z", r#","b":4"#, NEW, "3[1 x 0;3 y 0;][2 x 0;4 z 0;]"),

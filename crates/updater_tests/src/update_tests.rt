@@ -1,6 +1,6 @@
 //! Indexes after updates, and what is asked for them.
 
-use crate::benches::{Bench, Doc, is_refused};
+use crate::benches::{Bench, is_refused};
 use crate::scripts::{TURNS, put_next, shown_behind};
 use crash_disk::MemoryFolder;
 use std::alloc::Global;
