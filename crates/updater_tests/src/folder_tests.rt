@@ -83,7 +83,7 @@ fn an_update_that_met_a_failing_call_is_made_good(rt: HostRuntime) -> Result<(),
 
 /// How many choices of what a stop leaves are tried in each call: nothing that wasn't synced, all of it, 255 in each place that was
 /// written, and mixtures.
-const CHOICES: u64 = 4;
+const CHOICES: u64 = 12;
 
 /// An update behind a stop within a call shows what the documents have that are left.
 fn update_behind(alloc: Global, whole: &MemoryFolder, call: u64, choice: u64) -> Result<(), Fail>
@@ -96,18 +96,15 @@ fn update_behind(alloc: Global, whole: &MemoryFolder, call: u64, choice: u64) ->
     Ok(())
 }
 
-/// A stop in the second build, or in the write before it.
+/// A stop within each call of the script.
 #[test]
 fn a_stop_leaves_what_can_be_updated(rt: HostRuntime) -> Result<(), Fail> {
     let alloc = rt.alloc();
     let folder = MemoryFolder::new(alloc, Vec::new(alloc), true)?;
     let mut bench = Bench::new(alloc, folder, &[])?;
-    put_next(alloc, &mut bench, 0, 3)?;
-    update_to(alloc, &mut bench, 3)?;
-    let from = bench.folder.calls_noted();
-    put_next(alloc, &mut bench, 3, 1)?;
-    update_to(alloc, &mut bench, 4)?;
-    for call in from..bench.folder.calls_noted() {
+    let met = play(alloc, &mut bench)?;
+    assert!(rt; met == Met::Nowhere);
+    for call in 0..bench.folder.calls_noted() {
         for choice in 0..CHOICES {
             update_behind(alloc, &bench.folder, call, choice)?;
         }
