@@ -23,7 +23,7 @@ use Rattle.view_engine.specs.Worlds.{HasRoomAt, IsAtWorld, StandsAround, StandsF
 use Rattle.view_engine.proofs.Exclusive.{around_either}
 use Rattle.view_engine.proofs.Worlds.{image_at}
 use Rattle.view_engine.specs.Calls.{IsStep, Scene}
-use Rattle.view_engine.specs.Disks.{AreOpen, IsReason}
+use Rattle.view_engine.specs.Disks.{IsReason, LiesOpen}
 use Rattle.view_engine.specs.Worlds.{languages as languages_of}
 use Rattle.view_engine.proofs.Stepping.{step_around, step_damaged, step_full, step_full_in, step_kept, step_reads, step_room_left, step_writes, step_sound, step_stopped, step_unwritten}
 use Rattle.view_ports.specs.declared.folder.Folder.{Ghosts as Folders}
@@ -99,7 +99,7 @@ module _ {F C : Type 0} {f : Folders F} {s : Servers C} {old new : Scene F C} {l
           (λ refusal told. inl (told ∙ ap (λ (front : List ℕ). front ++ ended (refusal_text refusal)) empty)) (step.refused some);
     };
     blames = λ is. step.blames (appended_fault line start out empty is);
-    still = step.disk.read;
+    still = step.disk.documents.read;
     stays = step.stays;
   }
 
@@ -112,12 +112,12 @@ module _ {F C : Type 0} {f : Folders F} {s : Servers C} {old new : Scene F C} {l
     room = λ before at. told_all (f.disk old.folder) (λ d. is_ok (ended (refusal_text NoMemory)) ≡ true → HasRoomAt d.now before.world (request_of line)) (λ d ok. absurd (constant_no_ok ok));
     prints = record { none = λ none. absurd (step.asked none); some = λ some. (refusal_text NoMemory, refusal_line NoMemory, refl); refused = λ some. spent_refused (request_of line) };
     blames = λ is. absurd (constant_no_fault line is);
-    still = step.disk.read;
+    still = step.disk.documents.read;
     stays = step.stays;
   }
 
   -- after each other fault the line is not answered
-  pub unanswered_by : (fault : StepFault) → fault ≢ halt.NoMemory → AreOpen f old.engine.docs old.folder → IsStep f s old new line start out (Err fault) → IsUnanswered f s old new line fault
+  pub unanswered_by : (fault : StepFault) → fault ≢ halt.NoMemory → LiesOpen f old.engine old.folder → IsStep f s old new line start out (Err fault) → IsUnanswered f s old new line fault
   unanswered_by fault other is_open step = record {
     halts = λ before at. record {
       moments = step_around step before at;
@@ -128,7 +128,7 @@ module _ {F C : Type 0} {f : Folders F} {s : Servers C} {old new : Scene F C} {l
     };
     cause = λ is. (subst (IsReason f _ old.folder new.folder (request_of line)) is step.why).0;
     found = record { halts = other; asks = IfErr-weaker (request_of line) (λ refusal. fault ≡ halt.NoMemory) (λ refusal. ⊥) (λ refusal is. other is) step.refused; reads = step_reads step; damaged = step_damaged is_open step; writes = step_writes step; full = step_full_in is_open step };
-    still = step.disk.read;
+    still = step.disk.documents.read;
     kept = step_kept step;
     stays = step.stays;
   }

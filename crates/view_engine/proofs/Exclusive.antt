@@ -7,14 +7,13 @@ use Rattle.view_ports.specs.declared.file_name.FileName.{FileName}
 use Rattle.doc_file.specs.declared.fault.DocFault.{DocFault}
 use Rattle.doc_file.specs.declared.fault.DocFault.TheVariants as doc
 use Rattle.doc_file.specs.Accepted.{State}
-use Rattle.doc_file.specs.Held.{Stands}
 use Rattle.doc_file.specs.History.{Write}
 use Rattle.doc_file.specs.Incoming.{IsUnfit, IsWritable}
 use Rattle.doc_file.specs.Writes.{IsAcceptedDelete, IsAcceptedPut, IsRefusedDelete, IsRefusedPut}
 use Rattle.view_engine.specs.declared.refusal.Refusal.{Refusal}
 use Rattle.view_engine.specs.declared.request.Request.{Request}
 use Rattle.view_engine.specs.declared.request.Request.TheVariants.{Delete, Get, Info, Put, View}
-use Rattle.view_engine.specs.Worlds.{StandsAround}
+use Rattle.view_engine.specs.Worlds.{StandsAround, StandsFor}
 use Rattle.view_engine.specs.Get.{not_live}
 use Rattle.view_engine.specs.Laws.{IsNotRefusedAndDone, IsRefusedOnce}
 use Rattle.view_engine.specs.Moments.{Moment}
@@ -161,8 +160,8 @@ module _ (functions : List ℕ → Functions) (honest : List ℕ → Type 0) (la
 
   -- an image that stands for the history before a line, or with its write, stands for the world before or after it
   pub around_either : (before : Moment) (byte : ℕ) (bytes text : List ℕ) (after : Moment) (image : FileName → List ℕ) → Does functions honest languages before (byte ∷ bytes) text after
-      → StandsAround before.world (request_of (byte ∷ bytes)) image → Stands image before.world.history ⊎ Stands image after.world.history
+      → StandsAround before.world (request_of (byte ∷ bytes)) image → StandsFor image before.world ⊎ StandsFor image after.world
   around_either before byte bytes text after image does (inl stands) = inl stands
   around_either before byte bytes text after image does (inr made) =
       let same = request_writes before (request_of (byte ∷ bytes)) does.0 after made.0 does.1 made.1 in
-      inr (subst (λ (w : World). Stands image w.history) (sym same) made.2)
+      inr (subst (StandsFor image) (sym same) made.2)

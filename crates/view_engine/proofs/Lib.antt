@@ -32,3 +32,4 @@ pub mod Reading
 pub mod ServerFaults
 pub mod Rooms
 pub mod ReplyLines
+pub mod Whole

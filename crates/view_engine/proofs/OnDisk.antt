@@ -13,6 +13,7 @@ use Rattle.doc_file.specs.declared.docs.Docs.{Docs}
 use Rattle.doc_file.specs.declared.fault.DocFault.{DocFault}
 use Rattle.doc_file.specs.declared.fault.DocFault.TheVariants as doc
 use Rattle.doc_file.specs.Docs.{IsAt as AreAt, IsOpen, IsSame}
+use Rattle.view_engine.specs.declared.engine.Engine.{Engine}
 use Rattle.view_engine.specs.declared.halt.Halt.{Halt}
 use Rattle.view_engine.specs.declared.halt.Halt.TheVariants.{Refused, Stopped}
 use Rattle.view_engine.specs.declared.halt.StepFault.{StepFault}
@@ -20,9 +21,9 @@ use Rattle.view_engine.specs.declared.halt.StepFault.TheVariants.{DiskFault, Dam
 use Rattle.view_engine.specs.declared.refusal.Refusal.{Refusal}
 use Rattle.view_engine.specs.declared.request.Request.{Request}
 use Rattle.view_engine.specs.declared.request.Request.TheVariants.{Get, View}
-use Rattle.view_engine.specs.Disks.{AreOpen, IfStopped, IsReadReason, IsReason, KeepsDisk, Reads, ReadsDocuments}
+use Rattle.view_engine.specs.Disks.{AreOpen, IfStopped, IsReadReason, IsReason, KeepsDisk, KeepsDocuments, Reads, ReadsDocuments}
 use Rattle.view_engine.specs.Halts.{halted_as, FitsFor, IsDamage}
-use Rattle.view_engine.proofs.Keeping.{moments_none, moments_still, open_none, stands_none, stands_still}
+use Rattle.view_engine.proofs.Keeping.{moved_none, moved_still, open_none}
 use Rattle.view_engine.proofs.OwnFiles.{own_none, own_still}
 use Rattle.view_engine.proofs.SameDocs.{IsOpen-same}
 use Rattle.view_engine.proofs.SameFiles.{damage_back}
@@ -31,55 +32,61 @@ use Rattle.view_engine.proofs.Unmoved.{IsAt-none}
 
 module _ {F : Type 0} {f : Folders F} {docs : Docs} {request : Result Request Refusal} {GivenUp GoesOn : Type 0} where
   -- nothing was called
-  pub disk_still : {folder : F} → AreOpen f docs folder → KeepsDisk f docs docs folder folder request GivenUp GoesOn
-  disk_still {folder} is_open = record {
-    moments = λ world at. moments_still docs (f.disk folder) request world at;
-    own = λ world at. own_still (f.disk folder);
+  pub documents_still : {folder : F} → AreOpen f docs folder → KeepsDocuments f docs docs folder folder request GivenUp GoesOn
+  documents_still {folder} is_open = record {
+    moved = λ world at. moved_still docs (f.disk folder) request world at;
+    own = own_still (f.disk folder);
     read = λ never. told_refl (f.disk folder) MovesNone none_refl;
     unmoved = λ given. told_refl (f.disk folder) MovesNone none_refl;
-    unwritten = λ given world at. stands_still docs (f.disk folder) world.history at;
     still = λ world at never. still_same docs (f.disk folder) request world at never;
     is_open = λ goes_on. is_open;
   }
 
   -- no file changed
-  pub disk_read : {old new : F} → Tells (f.disk old) (f.disk new) MovesNone → AreOpen f docs old → KeepsDisk f docs docs old new request GivenUp GoesOn
-  disk_read {old} {new} none is_open = record {
-    moments = λ world at. moments_none docs (f.disk old) (f.disk new) none request world at;
-    own = λ world at. own_none (f.disk old) (f.disk new) none;
+  pub documents_read : {old new : F} → Tells (f.disk old) (f.disk new) MovesNone → AreOpen f docs old → KeepsDocuments f docs docs old new request GivenUp GoesOn
+  documents_read {old} {new} none is_open = record {
+    moved = λ world at. moved_none docs (f.disk old) (f.disk new) none request world at;
+    own = own_none (f.disk old) (f.disk new) none;
     read = λ never. none;
     unmoved = λ given. none;
-    unwritten = λ given world at. stands_none docs (f.disk old) (f.disk new) none world.history at;
     still = λ world at never. none;
     is_open = λ goes_on. open_none docs (f.disk old) (f.disk new) none is_open;
   }
 
   -- what was to be written and wasn't
-  pub disk_same : {docs' : Docs} {old new : F} → IsSame docs docs' × (new ≡ old) → AreOpen f docs old → KeepsDisk f docs docs' old new request GivenUp GoesOn
-  disk_same {docs'} {old} {new} same is_open =
-      let there : KeepsDisk f docs docs' old old request GivenUp GoesOn = record {
-        moments = λ world at. moments_still docs (f.disk old) request world at;
-        own = λ world at. own_still (f.disk old);
+  pub documents_same : {docs' : Docs} {old new : F} → IsSame docs docs' × (new ≡ old) → AreOpen f docs old → KeepsDocuments f docs docs' old new request GivenUp GoesOn
+  documents_same {docs'} {old} {new} same is_open =
+      let there : KeepsDocuments f docs docs' old old request GivenUp GoesOn = record {
+        moved = λ world at. moved_still docs (f.disk old) request world at;
+        own = own_still (f.disk old);
         read = λ never. told_refl (f.disk old) MovesNone none_refl;
         unmoved = λ given. told_refl (f.disk old) MovesNone none_refl;
-        unwritten = λ given world at. stands_still docs (f.disk old) world.history at;
         still = λ world at never. still_same docs (f.disk old) request world at never;
         is_open = λ goes_on. told_now (f.disk old) (λ d. IsOpen docs d.now) (λ d. IsOpen docs' d.now) (λ d opened. IsOpen-same docs docs' d.now same.0 opened) is_open;
       } in
-      subst (λ (folder : F). KeepsDisk f docs docs' old folder request GivenUp GoesOn) (sym same.1) there
+      subst (λ (folder : F). KeepsDocuments f docs docs' old folder request GivenUp GoesOn) (sym same.1) there
 
   -- less is asked of how it ended
-  pub disk_ends : {docs' : Docs} {old new : F} {Given Goes : Type 0} → (GivenUp → Given) → (GoesOn → Goes) → KeepsDisk f docs docs' old new request Given Goes
-      → KeepsDisk f docs docs' old new request GivenUp GoesOn
-  disk_ends given goes keeps = record {
-    moments = keeps.moments;
+  documents_ends : {docs' : Docs} {old new : F} {Given Goes : Type 0} → (GivenUp → Given) → (GoesOn → Goes) → KeepsDocuments f docs docs' old new request Given Goes
+      → KeepsDocuments f docs docs' old new request GivenUp GoesOn
+  documents_ends given goes keeps = record {
+    moved = keeps.moved;
     own = keeps.own;
     read = keeps.read;
     unmoved = λ was. keeps.unmoved (given was);
-    unwritten = λ was. keeps.unwritten (given was);
     still = keeps.still;
     is_open = λ was. keeps.is_open (goes was);
   }
+
+-- the same of an engine
+pub disk_ends : {F : Type 0} {f : Folders F} {engine engine' : Engine} {old new : F} {request : Result Request Refusal} {GivenUp GoesOn Given Goes : Type 0} → (GivenUp → Given) → (GoesOn → Goes)
+    → KeepsDisk f engine engine' old new request Given Goes → KeepsDisk f engine engine' old new request GivenUp GoesOn
+disk_ends given goes keeps = record {
+  documents = documents_ends given goes keeps.documents;
+  moments = keeps.moments;
+  unwritten = λ was. keeps.unwritten (given was);
+  is_open = λ was. keeps.is_open (goes was);
+}
 
 -- ---- causes
 

@@ -17,7 +17,7 @@ use Rattle.doc_file.specs.History.{Write, last_write, live_document}
 use Rattle.view_engine.specs.declared.request.ViewName.{ViewName}
 use Rattle.view_engine.specs.declared.refusal.Refusal.{Refusal}
 use Rattle.view_engine.specs.declared.refusal.Refusal.TheVariants.{MissingNamedView, UnknownLanguage}
-use Rattle.view_engine.specs.World.{World}
+use Rattle.view_engine.specs.World.{World, of_history}
 use Rattle.view_engine.specs.Get.{get_refusal, not_live}
 use Rattle.view_engine.specs.Refusals.{first_of}
 use Rattle.view_engine.specs.View.{design_id, no_language, no_path, no_view, view_refusal}
@@ -38,7 +38,7 @@ not_refused (Some write) document is = rw is refl
 module _ (languages : List (List ℕ × List ℕ)) (history : List Write) (name : ViewName) (id : List ℕ) (document : Json) (design : Design)
     (is : id ≡ design_id name.design) (live : live_document history id ≡ Some document) (has : HasDesign document) (of : IsDesignOf document design) where
   abbrev world : World
-  world = record { history = history }
+  world = of_history history
 
   lives : live_document history (design_id name.design) ≡ Some document
   lives = ap (live_document history) (sym is) ∙ live
@@ -70,7 +70,7 @@ module _ (languages : List (List ℕ × List ℕ)) (history : List Write) (name 
         ∙ ap (λ (l : List ℕ). first_of (no_path l (path_in languages l) ∷ [])) (sym of.0)
         ∙ ap (λ (p : Option (List ℕ)). first_of (no_path design.language p ∷ [])) (sym none)
 
-    pub planned : (path : List ℕ) → path_in languages design.language ≡ Some path → IsPlan languages world name id design place path
+    pub planned : (path : List ℕ) → path_in languages design.language ≡ Some path → IsPlan languages history name id design place path
     planned path known =
         let there_is : path_in languages (language_of document) ≡ Some path = ap (path_in languages) (sym of.0) ∙ known in
         record {

@@ -28,7 +28,7 @@ use Rattle.view_engine.specs.Halts.{halted_as, FitsFor, IsDamage}
 use Rattle.view_engine.specs.World.{World}
 use Rattle.view_engine.proofs.HaltedAs.{after_damage, not_deleted, spoiled_damage}
 use Rattle.view_engine.proofs.Keeping.{at_none}
-use Rattle.view_engine.proofs.OnDisk.{disk_read, read_halted, read_reason}
+use Rattle.view_engine.proofs.OnDisk.{documents_read, read_halted, read_reason}
 use Rattle.view_engine.proofs.ServerFaults.{err_unblamed}
 
 -- the definition is met in each world that the documents are at
@@ -70,7 +70,7 @@ module _ {F : Type 0} {f : Folders F} {docs : Docs} {old new : F} {request : Req
     silent = tt;
     unblamed = λ never. cc;
     fits = fits;
-    disk = disk_read none is_open;
+    disk = documents_read none is_open;
     why = tt;
     later = later;
   }
@@ -82,7 +82,7 @@ module _ {F : Type 0} {f : Folders F} {docs : Docs} {old new : F} {request : Req
     silent = silent;
     unblamed = err_unblamed halt other;
     fits = tt;
-    disk = disk_read none is_open;
+    disk = documents_read none is_open;
     why = read_halted f docs old new (Ok request) halt is_read why;
     later = later;
   }

@@ -15,6 +15,7 @@ use Rattle.view_engine.specs.Calls.{AppendsOk, IsStep, Scene, StandsAt}
 use Rattle.view_engine.specs.Moments.{Moment}
 use Rattle.view_engine.specs.Refusals.{refusal_text, request_of}
 use Rattle.view_engine.specs.Worlds.{HasRoomAt}
+use Rattle.view_engine.proofs.Whole.{documents_at}
 
 -- a refusal isn't `ok`
 pub refused_no_ok : (refusal : Refusal) (out out' : List ℕ) → out' ≡ out ++ ended (refusal_text refusal) → AppendsOk out out' → ⊥
@@ -38,4 +39,4 @@ module _ {F C : Type 0} {f : Folders F} {s : Servers C} {old new : Scene F C} {l
       → IfTold (f.disk old.folder) (λ d. is_ok out' ≡ true → HasRoomAt d.now before.world (request_of line))
   step_room step empty before at =
       told_now (f.disk old.folder) (λ d. AreAt old.engine.docs d.now before.world.history) (λ d. is_ok out' ≡ true → HasRoomAt d.now before.world (request_of line))
-      (λ d here ok. record { docs = old.engine.docs; at = here; fits = step.fits (out', ap (λ (front : List ℕ). front ++ out') (sym empty), ok) }) at.documents
+      (λ d here ok. record { docs = old.engine.docs; at = here; fits = step.fits (out', ap (λ (front : List ℕ). front ++ out') (sym empty), ok) }) (documents_at _ _ before.world at.documents)

@@ -22,7 +22,7 @@ use Rattle.view_engine.specs.declared.refusal.Refusal.TheVariants as refusal
 use Rattle.view_engine.specs.declared.request.Request.{Request}
 use Rattle.view_engine.specs.declared.request.Request.TheVariants.{Delete, Put}
 use Rattle.view_engine.specs.Calls.{DoesBy, KeepsChild, IsStep, IsToldAs, Performed, RefusesUnread, Scene, StandsAt, StepsBy}
-use Rattle.view_engine.specs.Disks.{AreOpen, IsReason, ReadsDocuments}
+use Rattle.view_engine.specs.Disks.{IsReason, LiesOpen, ReadsDocuments}
 use Rattle.view_engine.specs.Halts.{halted_by, FitsFor, IsDamage, IsFullFor, LeavesFiles, WouldWrite, Writes}
 use Rattle.view_engine.specs.Moments.{Moment}
 use Rattle.view_engine.specs.Refusals.{request_of, refusal_text}
@@ -31,11 +31,12 @@ use Rattle.view_engine.specs.World.{World}
 use Rattle.view_engine.specs.Worlds.{HasBodyDamage, HasRoomAt, IsFullAt, IsFullIn, StandsAround, StandsFor}
 use Rattle.view_engine.proofs.Acting.{refused_at_once, spent_at_once}
 use Rattle.view_engine.proofs.Keeping.{open_none}
-use Rattle.view_engine.proofs.OnDisk.{disk_ends, disk_still}
+use Rattle.view_engine.proofs.OnDisk.{disk_ends, documents_still}
 use Rattle.view_engine.proofs.ReplyLines.{refusal_line}
 use Rattle.view_engine.proofs.Rooms.{nothing_no_ok, refused_no_ok}
 use Rattle.view_engine.proofs.ServerFaults.{nothing_appended, reply_no_fault, told_is_fault}
 use Rattle.view_engine.proofs.Unmoved.{files_same}
+use Rattle.view_engine.proofs.Whole.{documents_at, documents_open, kept_whole}
 
 does_text : (functions : List ℕ → Functions) (honest : List ℕ → Type 0) (languages : List (List ℕ × List ℕ)) (before : Moment) (line text : List ℕ) (after : Moment) → line ≢ []
     → DoesRequestText functions honest languages before (request_of line) text after → Does functions honest languages before line text after
@@ -78,7 +79,7 @@ read_as (Err refusal) refused is = inl (let same : refusal ≡ refused = cc in a
 
 module _ {F C : Type 0} {f : Folders F} {s : Servers C} where
   -- an empty line
-  pub step_nothing : {now : Scene F C} {out : List ℕ} → AreOpen f now.engine.docs now.folder → IsStep f s now now [] out out (Ok tt)
+  pub step_nothing : {now : Scene F C} {out : List ℕ} → LiesOpen f now.engine now.folder → IsStep f s now now [] out out (Ok tt)
   step_nothing {now} {out} is_open = record {
     does = λ before at. record {
       text = [];
@@ -94,7 +95,7 @@ module _ {F C : Type 0} {f : Folders F} {s : Servers C} where
     refused = λ some. absurd (some refl);
     asked = tt;
     idle = λ none. refl;
-    disk = disk_still is_open;
+    disk = kept_whole refl is_open (documents_still (documents_open _ _ is_open));
     why = tt;
     stays = record { languages = refl; width = refl; disk_faults = omega arith; server_faults = omega arith };
   }
@@ -190,7 +191,7 @@ module _ {F C : Type 0} {f : Folders F} {s : Servers C} where
         })
 
   -- a line that is no request
-  pub unread : {now : Scene F C} {request : Result Request Refusal} {out : List ℕ} (refused : Refusal) → request ≢ Err refusal.ServerFault → (refused ≢ refusal.NoMemory → request ≡ Err refused) → AreOpen f now.engine.docs now.folder
+  pub unread : {now : Scene F C} {request : Result Request Refusal} {out : List ℕ} (refused : Refusal) → request ≢ Err refusal.ServerFault → (refused ≢ refusal.NoMemory → request ≡ Err refused) → LiesOpen f now.engine now.folder
       → Performed f s now now request out out (Err (halted_by refused))
   unread refusal.NoMemory unblamed is is_open = spent_at_once is_open
   unread {now = now} {request = request} other unblamed is is_open =
@@ -253,19 +254,19 @@ module _ {F C : Type 0} {f : Folders F} {s : Servers C} {old new : Scene F C} {l
     pub step_sound : IfTold (f.disk old.folder) (λ d. (name : FileName) (at : ℕ) → fault ≡ Damaged name at → ⊥)
     step_sound =
         told_never (f.disk old.folder) (λ d. AreAt old.engine.docs d.now before.world.history) (λ name at. fault ≡ Damaged name at)
-        (λ name at is. (subst (IsReason f old.engine.docs old.folder new.folder (request_of line)) is step.why).1.1 before.world) at.documents
+        (λ name at is. (subst (IsReason f old.engine.docs old.folder new.folder (request_of line)) is step.why).1.1 before.world) (documents_at _ _ before.world at.documents)
 
     -- where the disk failed there was room for what the line writes
     pub step_room_left : IfTold (f.disk old.folder) (λ d. fault ≡ DiskFault → HasRoomAt d.now before.world (request_of line))
     step_room_left =
         told_room (f.disk old.folder) old.engine.docs before.world (request_of line) (fault ≡ DiskFault)
-        (λ is. (subst (IsReason f old.engine.docs old.folder new.folder (request_of line)) is step.why).1) at.documents
+        (λ is. (subst (IsReason f old.engine.docs old.folder new.folder (request_of line)) is step.why).1) (documents_at _ _ before.world at.documents)
 
     -- a full file is one with the write of the line
     pub step_full : IfTold (f.disk old.folder) (λ d. (name : FileName) (length : Option ℕ) → fault ≡ Full name length → IsFullAt d.now before.world (request_of line) name length)
     step_full =
         told_full (f.disk old.folder) old.engine.docs before.world (request_of line) (λ name length. fault ≡ Full name length)
-        (λ name length is. subst (IsReason f old.engine.docs old.folder new.folder (request_of line)) is step.why) at.documents
+        (λ name length is. subst (IsReason f old.engine.docs old.folder new.folder (request_of line)) is step.why) (documents_at _ _ before.world at.documents)
 
 -- a damaged place is one that an engine met which is open over these files, and no file has changed since
 damage_named : (old new : Option (Disk FileName)) (docs : Docs) (name : FileName) (at : ℕ) → IfTold old (λ d. IsOpen docs d.now) → IfTold old (λ d. IsDamage docs d.now name at) → Tells old new MovesNone
@@ -277,12 +278,12 @@ damage_named (Some a) (Some b) docs name at is_open damage moves =
     let here : HasBodyDamage a.now name at = record { docs = docs; is_open = is_open; damage = damage } in
     subst (λ (files : FileName → File). HasBodyDamage files name at) (files_same a.now b.now (none_same a b moves)) here
 
-pub step_damaged : {F C : Type 0} {f : Folders F} {s : Servers C} {old new : Scene F C} {line out out' : List ℕ} {fault : StepFault} → AreOpen f old.engine.docs old.folder → IsStep f s old new line out out' (Err fault)
+pub step_damaged : {F C : Type 0} {f : Folders F} {s : Servers C} {old new : Scene F C} {line out out' : List ℕ} {fault : StepFault} → LiesOpen f old.engine old.folder → IsStep f s old new line out out' (Err fault)
     → (name : FileName) (at : ℕ) → fault ≡ Damaged name at → IfTold (f.disk new.folder) (λ d. HasBodyDamage d.now name at)
 step_damaged {f = f} {old = old} {new = new} {line = line} {fault = fault} is_open step name at is =
     let why = subst (IsReason f old.engine.docs old.folder new.folder (request_of line)) is step.why in
     let still : LeavesFiles (Stopped fault) = subst (λ (e : StepFault). LeavesFiles (Stopped e)) (sym is) tt in
-    damage_named (f.disk old.folder) (f.disk new.folder) old.engine.docs name at is_open why.1.0 (step.disk.unmoved still)
+    damage_named (f.disk old.folder) (f.disk new.folder) old.engine.docs name at (documents_open _ _ is_open) why.1.0 (step.disk.documents.unmoved still)
 
 -- a full file is one of an engine that is open over these files, which are as they were
 full_named : (old new : Option (Disk FileName)) (docs : Docs) (request : Result Request Refusal) (name : FileName) (length : Option ℕ) → IsFullFor docs request name length → IfTold old (λ d. IsOpen docs d.now) → Tells old new MovesNone
@@ -290,12 +291,12 @@ full_named : (old new : Option (Disk FileName)) (docs : Docs) (request : Result 
 full_named old new docs request name length full is_open moves =
     told_now new (λ d. IsOpen docs d.now) (λ d. IsFullIn d.now request name length) (λ d opened. record { docs = docs; is_open = opened; full = full }) (open_none docs old new moves is_open)
 
-pub step_full_in : {F C : Type 0} {f : Folders F} {s : Servers C} {old new : Scene F C} {line out out' : List ℕ} {fault : StepFault} → AreOpen f old.engine.docs old.folder → IsStep f s old new line out out' (Err fault)
+pub step_full_in : {F C : Type 0} {f : Folders F} {s : Servers C} {old new : Scene F C} {line out out' : List ℕ} {fault : StepFault} → LiesOpen f old.engine old.folder → IsStep f s old new line out out' (Err fault)
     → (name : FileName) (length : Option ℕ) → fault ≡ Full name length → IfTold (f.disk new.folder) (λ d. IsFullIn d.now (request_of line) name length)
 step_full_in {f = f} {old = old} {new = new} {line = line} {fault = fault} is_open step name length is =
     let why = subst (IsReason f old.engine.docs old.folder new.folder (request_of line)) is step.why in
     let still : LeavesFiles (Stopped fault) = subst (λ (e : StepFault). LeavesFiles (Stopped e)) (sym is) tt in
-    full_named (f.disk old.folder) (f.disk new.folder) old.engine.docs (request_of line) name length why.0 is_open (step.disk.unmoved still)
+    full_named (f.disk old.folder) (f.disk new.folder) old.engine.docs (request_of line) name length why.0 (documents_open _ _ is_open) (step.disk.documents.unmoved still)
 
 left_files : (fault : StepFault) → fault ≢ DiskFault → LeavesFiles (Stopped fault)
 left_files DiskFault other = other refl
@@ -315,7 +316,7 @@ module _ {F C : Type 0} {f : Folders F} {s : Servers C} {old new : Scene F C} {l
 
   -- only where the disk failed files have changed
   pub step_kept : fault ≢ DiskFault → Tells (f.disk old.folder) (f.disk new.folder) MovesNone
-  step_kept other = step.disk.unmoved (left_files fault other)
+  step_kept other = step.disk.documents.unmoved (left_files fault other)
 
   pub step_writes : (name : FileName) (length : Option ℕ) → fault ≡ Full name length → Writes (request_of line)
   step_writes name length is = full_writes old.engine.docs (request_of line) name length (subst (IsReason f old.engine.docs old.folder new.folder (request_of line)) is step.why).0

@@ -29,13 +29,12 @@ use Rattle.view_engine.specs.declared.refusal.Refusal.{Refusal}
 use Rattle.view_engine.specs.declared.refusal.Refusal.TheVariants.{ServerFault}
 use Rattle.view_engine.specs.declared.request.Request.{Request}
 use Rattle.view_engine.specs.Calls.{ActsHere, DoesHere, DoesHereBy, IsRefusedHere, IsReplyLine, IsUnlikeFault, LeavesWorld}
-use Rattle.view_engine.specs.Disks.{AreOpen, IfStopped, IsReason, KeepsDisk, OverWorld}
+use Rattle.view_engine.specs.Disks.{AreOpen, IfStopped, IsReason, KeepsDocuments, OverWorld}
 use Rattle.view_engine.specs.Halts.{halted_as, Fits, FitsFor, GoesOn, IsFull, IsFullFor, LeavesFiles, Writes as WritesOne}
 use Rattle.view_engine.specs.Steps.{IsWrite}
 use Rattle.view_engine.specs.World.{written, World}
 use Rattle.view_engine.proofs.Around.{moves_around}
-use Rattle.view_engine.proofs.OnDisk.{disk_same, disk_still}
-use Rattle.view_engine.proofs.OwnFiles.{own_moved}
+use Rattle.view_engine.proofs.OnDisk.{documents_same, documents_still}
 use Rattle.view_engine.proofs.SameDocs.{IsAt-same}
 use Rattle.view_engine.proofs.ServerFaults.{err_unblamed, halted_unblamed}
 use Rattle.view_engine.proofs.Still.{still_written}
@@ -51,7 +50,7 @@ spent_here {f = f} {docs = docs} {old = old} {request = request} {out = out} {ou
       silent = silent;
       unblamed = λ never. cc;
       fits = tt;
-      disk = disk_still is_open;
+      disk = documents_still is_open;
       why = tt;
       later = omega arith;
     })
@@ -68,7 +67,7 @@ module _ {F : Type 0} {f : Folders F} {docs : Docs} {old : F} {request : Request
     silent = refl;
     unblamed = err_unblamed (Refused refusal) (λ same. other (let is_fault : refusal ≡ ServerFault = cc in is_fault));
     fits = tt;
-    disk = disk_still is_open;
+    disk = documents_still is_open;
     why = tt;
     later = omega arith;
   }
@@ -101,14 +100,13 @@ module _ {F : Type 0} (f : Folders F) (docs docs' : Docs) (old new : F) (request
     abbrev Side : Result Rev DocFault → Type 0
     Side = Writes f docs docs' old new id content Accepted IsRefused
 
-    disk_moved : {GivenUp GoesOn : Type 0} (result : Result Rev DocFault) → Accepted → (GivenUp → ⊥) → (GoesOn → AreOpen f docs' new) → Side result → KeepsDisk f docs docs' old new (Ok request) GivenUp GoesOn
+    disk_moved : {GivenUp GoesOn : Type 0} (result : Result Rev DocFault) → Accepted → (GivenUp → ⊥) → (GoesOn → AreOpen f docs' new) → Side result → KeepsDocuments f docs docs' old new (Ok request) GivenUp GoesOn
     disk_moved result accepted ungiven opens stored = record {
-      moments = λ world at. moves_around world (Ok request) (write_of world.history id content) (λ files. OnOk result (AreAt docs' files (write_of world.history id content ∷ world.history))) (f.disk old) (f.disk new)
+      moved = λ world at. moves_around world (Ok request) (write_of world.history id content) (λ files. OnOk result (AreAt docs' files (write_of world.history id content ∷ world.history))) (f.disk old) (f.disk new)
           (told_now (f.disk old) (λ d. AreAt docs d.now world.history) (λ d. IsWrite world (Ok request) (write_of world.history id content)) (λ d is. writes d.now world is accepted) at) (stored.stored.stands world.history at);
-      own = λ world at. own_moved (f.disk old) (f.disk new) _ _ (stored.stored.stands world.history at);
+      own = stored.stored.others;
       read = λ never. absurd (never is_write);
       unmoved = λ given. absurd (ungiven given);
-      unwritten = λ given. absurd (ungiven given);
       still = λ world at never. still_written (f.disk old) (f.disk new) world (Ok request) (write_of world.history id content) _
           (told_now (f.disk old) (λ d. AreAt docs d.now world.history) (λ d. IsWrite world (Ok request) (write_of world.history id content)) (λ d is. writes d.now world is accepted) at)
           never (stored.stored.stands world.history at);
@@ -215,7 +213,7 @@ module _ {F : Type 0} (f : Folders F) (docs docs' : Docs) (old new : F) (request
           silent = silent;
           unblamed = err_unblamed (halted_as fault) (halted_unblamed fault);
           fits = tt;
-          disk = disk_same same is_open;
+          disk = documents_same same is_open;
           why = why_halted fault stored;
           later = stored.stored.cause.later;
         }

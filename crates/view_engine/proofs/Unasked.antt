@@ -16,15 +16,16 @@ use Rattle.view_engine.specs.Moments.{Moment}
 use Rattle.view_engine.specs.Refusals.{refusal_text}
 use Rattle.view_engine.specs.Steps.{DoesRequest, MayHaveCalled}
 use Rattle.view_engine.specs.View.{view_refusal}
-use Rattle.view_engine.proofs.Keeping.{at_none}
+use Rattle.view_engine.proofs.Whole.{world_none}
+use Rattle.view_engine.specs.World.{of_history}
 
 -- the refusal is that of the definition
 abbrev pub IsRefusedThere : List (List ℕ × List ℕ) → List Write → ViewName → Halt → Type 0
-IsRefusedThere languages history name halt = (r : Refusal) → halt ≡ Refused r → view_refusal languages (record { history = history }) name ≡ Some r
+IsRefusedThere languages history name halt = (r : Refusal) → halt ≡ Refused r → view_refusal languages (of_history history) name ≡ Some r
 
 -- each refusal is said of the same disk
 pub told_refused : (x : Option (Disk FileName)) (docs_at : Disk FileName → Type 0) (languages : List (List ℕ × List ℕ)) (history : List Write) (name : ViewName) (halt : Halt) → IfTold x docs_at
-    → ((r : Refusal) → halt ≡ Refused r → IfTold x (λ d. docs_at d → view_refusal languages (record { history = history }) name ≡ Some r)) → IfTold x (λ d. IsRefusedThere languages history name halt)
+    → ((r : Refusal) → halt ≡ Refused r → IfTold x (λ d. docs_at d → view_refusal languages (of_history history) name ≡ Some r)) → IfTold x (λ d. IsRefusedThere languages history name halt)
 told_refused None docs_at languages history name halt at refused = tt
 told_refused (Some a) docs_at languages history name halt at refused = λ r is. refused r is at
 
@@ -39,7 +40,7 @@ module _ (functions : List ℕ → Functions) (honest : List ℕ → Type 0) (la
   pub unasked : IfTold x (λ d. IsRefusedThere languages before.world.history name halt) → Leaves y may_follow faults engine (λ left. IfTold x (λ d. Halts left))
   unasked refused = record {
     after = before;
-    is_at = record { documents = at_none engine.docs x y moves before.world.history at.documents; child = at.child };
+    is_at = record { documents = world_none engine engine x y refl refl moves before.world at.documents; child = at.child };
     allowed = told_halts x refused;
   }
     where

@@ -51,6 +51,9 @@ use Rattle.view_engine.specs.declared.request.Request.TheVariants.{View as ViewR
 use Rattle.view_engine.specs.declared.request.ViewName.{ViewName}
 use Rattle.view_engine.specs.declared.refusal.Refusal.{Refusal}
 use Rattle.view_engine.specs.declared.refusal.Refusal.TheVariants as refusal
+use Rattle.view_groups.specs.declared.groups.Groups.{Groups}
+use Rattle.view_engine.specs.declared.engine.Engine.{Engine}
+use Rattle.view_engine.specs.Worlds.{IsAtWorld}
 use Rattle.view_engine.specs.World.{mapped}
 use Rattle.view_engine.specs.Answer.{answer}
 use Rattle.view_engine.specs.Engine.{Appends, IsAt, Leaves}
@@ -114,7 +117,7 @@ all_mappable (entry ∷ entries) all = (mappable entry.1 all.0.stored, all_mappa
 -- ---- what is known once the request is planned and the documents are read, where the folder tells its disk
 
 pub record IsKnown (languages : List (List ℕ × List ℕ)) (before : Moment) (name : ViewName) (id : List ℕ) (design : Design) (place : ℕ) (path : List ℕ) (ids : List (List ℕ)) (documents : List (List (List ℕ × Json))) : Type 0 where
-  pub plan : IsPlan languages before.world name id design place path
+  pub plan : IsPlan languages before.world.history name id design place path
   pub ids_are : ids ≡ map (λ entry. entry.0) (mapped before.world)
   pub documents_are : documents ≡ map (λ entry. document_of entry.1) (mapped before.world)
   pub stored : AllByRecursion IsMappable documents
@@ -122,18 +125,18 @@ pub record IsKnown (languages : List (List ℕ × List ℕ)) (before : Moment) (
 -- what planning and reading say of the disk, that neither changed
 pub known_at : (languages : List (List ℕ × List ℕ)) (before : Moment) (name : ViewName) (id : List ℕ) (design : Design) (place : ℕ) (path : List ℕ) (documents : List (List (List ℕ × Json))) (m : Mapped) (x y : Option (Disk FileName)) (docs : Docs)
     → documents ≡ m.documents.items → IfTold x (λ d. AreAt docs d.now before.world.history) → Tells x y MovesNone → path_in languages design.language ≡ Some path
-    → IfTold x (λ d. AreAt docs d.now before.world.history → (p : List ℕ) → path_in languages design.language ≡ Some p → IsPlan languages before.world name id design place p)
+    → IfTold x (λ d. AreAt docs d.now before.world.history → (p : List ℕ) → path_in languages design.language ≡ Some p → IsPlan languages before.world.history name id design place p)
     → IfTold y (λ d. AreAt docs d.now before.world.history → AreMapped before.world.history m) → IfTold x (λ d. IsKnown languages before name id design place path m.ids.items documents)
 known_at languages before name id design place path documents m x y docs documents_are at moves path_is plans maps =
     let history = before.world.history in
-    let planned : IfTold x (λ d. AreAt docs d.now history → IsPlan languages before.world name id design place path × AreStored history) =
-    told_now x (λ d. AreAt docs d.now history → (p : List ℕ) → path_in languages design.language ≡ Some p → IsPlan languages before.world name id design place p)
-    (λ d. AreAt docs d.now history → IsPlan languages before.world name id design place path × AreStored history) (λ d is there. (is there path path_is, there.stored)) plans in
-    told_now x (λ d. (IsPlan languages before.world name id design place path × AreStored history) × AreMapped history m) (λ d. IsKnown languages before name id design place path m.ids.items documents)
+    let planned : IfTold x (λ d. AreAt docs d.now history → IsPlan languages before.world.history name id design place path × AreStored history) =
+    told_now x (λ d. AreAt docs d.now history → (p : List ℕ) → path_in languages design.language ≡ Some p → IsPlan languages before.world.history name id design place p)
+    (λ d. AreAt docs d.now history → IsPlan languages before.world.history name id design place path × AreStored history) (λ d is there. (is there path path_is, there.stored)) plans in
+    told_now x (λ d. (IsPlan languages before.world.history name id design place path × AreStored history) × AreMapped history m) (λ d. IsKnown languages before name id design place path m.ids.items documents)
     (λ d both.
     let documents_is : documents ≡ map (λ entry. document_of entry.1) (mapped before.world) = documents_are ∙ both.1.documents in
     record { plan = both.0.0; ids_are = both.1.ids; documents_are = documents_is; stored = subst (AllByRecursion IsMappable) (sym documents_is) (all_mappable (mapped before.world) (mapped_are_stored history both.0.1 0)) })
-    (told_known x y docs history (IsPlan languages before.world name id design place path × AreStored history) (AreMapped history m) at moves planned maps)
+    (told_known x y docs history (IsPlan languages before.world.history name id design place path × AreStored history) (AreMapped history m) at moves planned maps)
 
 module _ (functions : List ℕ → Functions) (honest : List ℕ → Type 0) (languages : List (List ℕ × List ℕ)) (before : Moment) (name : ViewName) (id : List ℕ) (design : Design) (place : ℕ) (path : List ℕ)
     (within : place < length design.views) (ids : List (List ℕ)) (documents : List (List (List ℕ × Json))) where
@@ -301,16 +304,19 @@ module _ (functions : List ℕ → Functions) (honest : List ℕ → Type 0) (la
 
     -- ---- with the folder, of which no file has changed
 
-    module _ (x z : Option (Disk FileName)) (docs : Docs) (documents_at : IfTold z (λ d. AreAt docs d.now before.world.history)) (known : IfTold x (λ d. Known)) where
-      stays_at : (now : List Call) → may_follow now → HasItsChildren pool now → IsAt z may_follow new (record { docs = docs; pool = pool }) (after now)
-      stays_at now follows stands = record { documents = documents_at; child = record { width = keeps ∙ was; started = refl; child = stands; follows = follows; counts = refl } }
+    module _ (x z : Option (Disk FileName)) (docs : Docs) (groups : Groups) (world_at : IfTold z (λ d. IsAtWorld (record { docs = docs; pool = pool; groups = groups }) d.now before.world)) (known : IfTold x (λ d. Known)) where
+      abbrev after_it : Engine
+      after_it = record { docs = docs; pool = pool; groups = groups }
+
+      stays_at : (now : List Call) → may_follow now → HasItsChildren pool now → IsAt z may_follow new after_it (after now)
+      stays_at now follows stands = record { documents = world_at; child = record { width = keeps ∙ was; started = refl; child = stands; follows = follows; counts = refl } }
 
       abbrev Halts : Halt → Moment → Type 0
       Halts halt left = ((r : Refusal) → halt ≡ Refused r → DoesRequest functions honest languages before (Ok (ViewRequest name None)) (refusal_text r) left) × MayHaveCalled languages before (Ok (ViewRequest name None)) left
 
       pub done : (lists : List (List (List (Json × Json)))) (was now : List ℕ) → Updates old_pool.width (Ok lists) → (documents ≡ [] → pool.started ≡ old_pool.started)
           → now ≡ was ++ ended (printed lists)
-          → Appends z may_follow new (record { docs = docs; pool = pool }) (λ text left. IfTold x (λ d. DoesRequestText functions honest languages before (Ok (ViewRequest name None)) text left)) was now
+          → Appends z may_follow new after_it (λ text left. IfTold x (λ d. DoesRequestText functions honest languages before (Ok (ViewRequest name None)) text left)) was now
       done lists was now w idle appended = let v = at_moment (Ok lists) w in record {
         text = ended (printed lists);
         after = after v.now;
@@ -321,7 +327,7 @@ module _ (functions : List ℕ → Functions) (honest : List ℕ → Type 0) (la
       }
 
       pub ran_out : (lists : List (List (List (Json × Json)))) (halt : Halt) → Updates old_pool.width (Ok lists) → (documents ≡ [] → pool.started ≡ old_pool.started) → halt ≡ Stopped NoMemory
-          → Leaves z may_follow new (record { docs = docs; pool = pool }) (λ left. IfTold x (λ d. Halts halt left))
+          → Leaves z may_follow new after_it (λ left. IfTold x (λ d. Halts halt left))
       ran_out lists halt w idle memory = let v = at_moment (Ok lists) w in record {
         after = after v.now;
         is_at = stays_at v.now v.follows v.holds.1.0;
@@ -330,7 +336,7 @@ module _ (functions : List ℕ → Functions) (honest : List ℕ → Type 0) (la
       }
 
       pub refused : (f : PoolFault) (halt : Halt) → Updates old_pool.width (Err f) → documents ≢ [] → (f ≡ fault.ServerFault → RoseBy 2 old new) → halt ≡ met_by id f
-          → Leaves z may_follow new (record { docs = docs; pool = pool }) (λ left. IfTold x (λ d. Halts halt left))
+          → Leaves z may_follow new after_it (λ left. IfTold x (λ d. Halts halt left))
       refused f halt w some twice met_as = let v = at_moment (Err f) w in record {
         after = after v.now;
         is_at = stays_at v.now v.follows (stands_stopped pool v.now v.holds.1.stopped);

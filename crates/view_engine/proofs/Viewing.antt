@@ -12,6 +12,7 @@ use Rattle.child_pool.specs.Pools.{languages_of}
 use Rattle.child_pool.specs.declared.pool_fault.PoolFault.{PoolFault}
 use Rattle.child_pool.specs.declared.pool_fault.PoolFault.TheVariants as fault
 use Rattle.doc_file.specs.declared.docs.Docs.{Docs}
+use Rattle.view_groups.specs.declared.groups.Groups.{Groups}
 use Rattle.view_engine.specs.declared.halt.Halt.{Halt}
 use Rattle.view_engine.specs.declared.halt.Halt.TheVariants.{Refused, Stopped}
 use Rattle.view_engine.specs.declared.halt.StepFault.{StepFault}
@@ -20,13 +21,14 @@ use Rattle.view_engine.specs.declared.refusal.Refusal.{Refusal}
 use Rattle.view_engine.specs.declared.refusal.Refusal.TheVariants.{ServerFault}
 use Rattle.view_engine.specs.declared.request.Request.{Request}
 use Rattle.view_engine.specs.Calls.{AppendsReplyTo, AppendsText, DoesBy, KeepsChild, LeavesMoment, Performed, RefusesUnread, Scene, StandsAt, scene}
-use Rattle.view_engine.specs.Disks.{AreOpen, IfStopped, IsReadReason, IsReason, Reads, ReadsDocuments}
+use Rattle.view_engine.specs.Disks.{IfStopped, LiesOpen, IsReadReason, IsReason, Reads, ReadsDocuments}
 use Rattle.view_engine.specs.Halts.{FitsFor, GoesOn}
 use Rattle.view_engine.specs.Moments.{Moment}
 use Rattle.view_engine.specs.Refusals.{refusal_text}
 use Rattle.view_engine.specs.Steps.{DoesRequest, DoesRequestText, MayHaveCalled}
 use Rattle.view_engine.specs.ViewPlan.{met_by}
-use Rattle.view_engine.proofs.OnDisk.{disk_read, read_halted}
+use Rattle.view_engine.proofs.OnDisk.{documents_read, read_halted}
+use Rattle.view_engine.proofs.Whole.{documents_open, kept_whole}
 use Rattle.view_engine.proofs.ServerFaults.{spent_unblamed}
 
 -- a pool's fault is no fault of the engine
@@ -96,13 +98,13 @@ read_request_unread (Ok request) result reads = tt
 read_request_unread (Err refusal) result reads = absurd reads
 
 -- a request that only reads the documents
-module _ {F C T : Type 0} {f : Folders F} {s : Servers C} {docs : Docs} {pool pool' : Pool} {folder folder' : F} {servers servers' : C} {request : Result Request Refusal} {out out' : List ℕ}
-    (is_open : AreOpen f docs folder) where
+module _ {F C T : Type 0} {f : Folders F} {s : Servers C} {docs : Docs} {pool pool' : Pool} {groups : Groups} {folder folder' : F} {servers servers' : C} {request : Result Request Refusal} {out out' : List ℕ}
+    (is_open : LiesOpen f (record { docs = docs; pool = pool; groups = groups }) folder) where
   pub viewed_halted : {halt : Halt} → (halt ≡ Refused ServerFault → RoseBy 2 (s.faults servers) (s.faults servers')) → ReadsDocuments request → Reads f {T = T} docs folder folder' (Err halt) → out' ≡ out
-      → LeavesHalted f s (scene (record { docs = docs; pool = pool }) folder servers) (scene (record { docs = docs; pool = pool' }) folder' servers') request halt
-      → LeavesChild f s (scene (record { docs = docs; pool = pool }) folder servers) (scene (record { docs = docs; pool = pool' }) folder' servers') request halt
+      → LeavesHalted f s (scene (record { docs = docs; pool = pool; groups = groups }) folder servers) (scene (record { docs = docs; pool = pool'; groups = groups }) folder' servers') request halt
+      → LeavesChild f s (scene (record { docs = docs; pool = pool; groups = groups }) folder servers) (scene (record { docs = docs; pool = pool'; groups = groups }) folder' servers') request halt
       → StaysAsMade pool pool' → s.faults servers ≤ s.faults servers'
-      → Performed f s (scene (record { docs = docs; pool = pool }) folder servers) (scene (record { docs = docs; pool = pool' }) folder' servers') request out out' (Err halt)
+      → Performed f s (scene (record { docs = docs; pool = pool; groups = groups }) folder servers) (scene (record { docs = docs; pool = pool'; groups = groups }) folder' servers') request out out' (Err halt)
   viewed_halted {halt} blames is_read reads silent leaves child keeps later = record {
     does = does_halted f s _ _ request out out' halt leaves child;
     prints = tt;
@@ -110,17 +112,17 @@ module _ {F C T : Type 0} {f : Folders F} {s : Servers C} {docs : Docs} {pool po
     refused = read_request_unread request _ is_read;
     blames = λ is. blames (let same : halt ≡ Refused ServerFault = cc in same);
     fits = tt;
-    disk = disk_read reads.disk is_open;
+    disk = kept_whole refl is_open (documents_read reads.disk (documents_open _ _ is_open));
     why = read_halted f docs folder folder' request halt is_read reads.why;
     stays = record { languages = keeps.languages; width = keeps.width; disk_faults = reads.later; server_faults = later };
   }
 
   -- and whose reply was appended, or memory ran out
   pub viewed : {read : Result T Halt} {result : Result (Unit {0}) Halt} → ReadsDocuments request → Reads f docs folder folder' read → OnOk result (AppendsReplyTo request out out') → OnOk result (FitsFor docs request) → OnErr result (out' ≡ out) → IfErr result (λ halt. halt ≡ Stopped NoMemory)
-      → OnOk result (AppendsReply f s (scene (record { docs = docs; pool = pool }) folder servers) (scene (record { docs = docs; pool = pool' }) folder' servers') request out out')
-      → IfErr result (LeavesHalted f s (scene (record { docs = docs; pool = pool }) folder servers) (scene (record { docs = docs; pool = pool' }) folder' servers') request)
+      → OnOk result (AppendsReply f s (scene (record { docs = docs; pool = pool; groups = groups }) folder servers) (scene (record { docs = docs; pool = pool'; groups = groups }) folder' servers') request out out')
+      → IfErr result (LeavesHalted f s (scene (record { docs = docs; pool = pool; groups = groups }) folder servers) (scene (record { docs = docs; pool = pool'; groups = groups }) folder' servers') request)
       → StaysAsMade pool pool' → s.faults servers ≤ s.faults servers'
-      → Performed f s (scene (record { docs = docs; pool = pool }) folder servers) (scene (record { docs = docs; pool = pool' }) folder' servers') request out out' result
+      → Performed f s (scene (record { docs = docs; pool = pool; groups = groups }) folder servers) (scene (record { docs = docs; pool = pool'; groups = groups }) folder' servers') request out out' result
   viewed {result = result} is_read reads prints fits silent memory appends leaves keeps later = record {
     does = does_by f s _ _ request out out' result appends leaves
         (IfErr-weaker result (λ halt. halt ≡ Stopped NoMemory) _ (λ halt spent fault is other. absurd (other (let so : fault ≡ NoMemory = cc in so))) memory);
@@ -129,7 +131,7 @@ module _ {F C T : Type 0} {f : Folders F} {s : Servers C} {docs : Docs} {pool po
     refused = read_request_unread request result is_read;
     blames = λ is. absurd (spent_unblamed result memory is);
     fits = fits;
-    disk = disk_read reads.disk is_open;
+    disk = kept_whole refl is_open (documents_read reads.disk (documents_open _ _ is_open));
     why = IfErr-weaker result (λ halt. halt ≡ Stopped NoMemory) _ (λ halt spent. subst (IfStopped (IsReason f docs folder folder' request)) (sym spent) tt) memory;
     stays = record { languages = keeps.languages; width = keeps.width; disk_faults = reads.later; server_faults = later };
   }

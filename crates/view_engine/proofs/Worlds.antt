@@ -13,7 +13,7 @@ use Rattle.gate_file.proofs.Looks.{told_none_then}
 use Rattle.child_pool.specs.declared.pool.Started.{Started}
 use Rattle.child_pool.specs.Pools.{AreThere}
 use Rattle.doc_file.specs.History.{Write}
-use Rattle.doc_file.proofs.Stores.{at_holds, image_now}
+use Rattle.doc_file.proofs.Stores.{at_holds}
 use Rattle.view_engine.specs.declared.engine.Engine.{Engine}
 use Rattle.view_engine.specs.declared.refusal.Refusal.{Refusal}
 use Rattle.view_engine.specs.declared.request.Request.{Request}
@@ -26,6 +26,7 @@ use Rattle.view_engine.specs.Steps.{Answers}
 use Rattle.view_engine.specs.World.{World}
 use Rattle.view_engine.specs.Worlds.{at_start, GoesOnFrom, Holds, IsAtWorld, IsChildless, StandsFor, width}
 use Rattle.view_engine.proofs.AcceptedWrites.{Answers-accepted}
+use Rattle.view_engine.proofs.Whole.{image_stands}
 
 -- ---- worlds
 
@@ -54,11 +55,11 @@ answers_grow functions honest languages before e after answers =
 
 -- each image that a crash may leave now stands for the world
 pub image_at : (engine : Engine) (files : FileName → File) (world : World) → IsAtWorld engine files world → (image : FileName → List ℕ) → IsImageOf files image → StandsFor image world
-image_at engine files world at image is = image_now engine.docs files at.is_open world.history at image is
+image_at = image_stands
 
 -- nothing is pending in its files, and they hold the world
 pub world_held : (engine : Engine) (files : FileName → File) (world : World) → IsAtWorld engine files world → Holds files world
-world_held engine files world at = at_holds engine.docs files at.is_open world.history at
+world_held engine files world at = record { documents = at_holds engine.docs files at.documents.is_open world.history at.documents; indexes = at.indexes.held }
 
 module _ (disk : Option (Disk FileName)) (may_follow : List Call → Type 0) (faults : ℕ) (engine : Engine) where
   -- an engine without a child is at the start of its world, where no call was made on the servers

@@ -20,7 +20,7 @@ use Rattle.view_engine.specs.declared.request.Request.{Request}
 use Rattle.view_engine.specs.declared.request.Request.TheVariants.{Put, Delete, Get, Info}
 use Rattle.view_engine.specs.Accepted.{is_ok}
 use Rattle.view_engine.specs.Delete.{DoesDelete, IsDeleteRefused}
-use Rattle.view_engine.specs.Disks.{HasGivenUp, IfStopped, IsReason, KeepsDisk, MayGoOn, OverWorld}
+use Rattle.view_engine.specs.Disks.{HasGivenUp, IfStopped, IsReason, KeepsDisk, KeepsDocuments, MayGoOn, OverWorld}
 use Rattle.view_engine.specs.Engine.{Appends, HasChild, IsAt, Leaves}
 use Rattle.view_engine.specs.Get.{get_refusal, DoesGet, DoesInfo}
 use Rattle.view_engine.specs.Halts.{FitsFor, HasGoneOn, HasLeftFiles}
@@ -108,7 +108,7 @@ module _ {F : Type 0} (f : Folders F) where
       pub unblamed : result ≢ Err (Refused ServerFault)
       -- what is written passes no limit of the file
       pub fits : OnOk result (FitsFor docs (Ok request))
-      pub disk : KeepsDisk f docs docs' old new (Ok request) (HasGivenUp result) (MayGoOn result)
+      pub disk : KeepsDocuments f docs docs' old new (Ok request) (HasGivenUp result) (MayGoOn result)
       pub why : IfErr result (IfStopped (IsReason f docs old new (Ok request)))
       pub later : f.faults old ≤ f.faults new
 
@@ -179,7 +179,7 @@ module _ {F C : Type 0} (f : Folders F) (s : Servers C) where
       pub blames : result ≡ Err (Refused ServerFault) → RoseBy 2 (s.faults old.servers) (s.faults new.servers)
       -- what is written passes no limit of the file
       pub fits : OnOk result (FitsFor old.engine.docs request)
-      pub disk : KeepsDisk f old.engine.docs new.engine.docs old.folder new.folder request (HasGivenUp result) (MayGoOn result)
+      pub disk : KeepsDisk f old.engine new.engine old.folder new.folder request (HasGivenUp result) (MayGoOn result)
       pub why : IfErr result (IfStopped (IsReason f old.engine.docs old.folder new.folder request))
       pub stays : Stays old new
 
@@ -204,7 +204,7 @@ module _ {F C : Type 0} (f : Folders F) (s : Servers C) where
       -- an empty line asks for nothing
       pub asked : OnErr result (line ≢ [])
       pub idle : line ≡ [] → new.folder ≡ old.folder
-      pub disk : KeepsDisk f old.engine.docs new.engine.docs old.folder new.folder (request_of line) (HasLeftFiles result) (HasGoneOn result)
+      pub disk : KeepsDisk f old.engine new.engine old.folder new.folder (request_of line) (HasLeftFiles result) (HasGoneOn result)
       pub why : IfErr result (IsReason f old.engine.docs old.folder new.folder (request_of line))
       pub stays : Stays old new
 

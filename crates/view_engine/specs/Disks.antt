@@ -1,4 +1,4 @@
--- What a request promises of the documents and their disk, and why it meets a fault.
+-- What a request promises of the files and their disk, and why it meets a fault.
 use Rattle.std.specs.Prelude.{◌≤◌, ℕ, List, Result, Ok, Err, IfErr}
 use Rattle.view_ports.specs.Disk.{IfTold, LeavesOnly, MovesNone, Tells}
 use Rattle.view_ports.specs.Faults.{Rose}
@@ -13,8 +13,9 @@ use Rattle.view_engine.specs.declared.halt.StepFault.TheVariants.{DiskFault, Dam
 use Rattle.view_engine.specs.declared.refusal.Refusal.{Refusal}
 use Rattle.view_engine.specs.declared.request.Request.{Request}
 use Rattle.view_engine.specs.declared.request.Request.TheVariants.{Get, View}
-use Rattle.view_engine.specs.Worlds.{StandsAround, StandsFor}
-use Rattle.view_engine.specs.Halts.{FitsFor, GoesOn, IsDamage, IsFullFor, IsStill, LeavesFiles, MovesDocuments, WouldWrite, Writes}
+use Rattle.view_engine.specs.declared.engine.Engine.{Engine}
+use Rattle.view_engine.specs.Worlds.{IsAtWorld, IsOpen as IsEngineOpen, StandsAround, StandsFor}
+use Rattle.view_engine.specs.Halts.{DocumentsStandAround, FitsFor, GoesOn, IsDamage, IsFullFor, IsStill, LeavesFiles, MovesDocuments, WouldWrite, Writes}
 use Rattle.view_engine.specs.World.{World}
 
 -- ---- how a request ends
@@ -52,21 +53,35 @@ module _ {F : Type 0} (f : Folders F) where
   abbrev pub CrashLeaves : F → F → ((FileName → List ℕ) → Type 0) → Type 0
   CrashLeaves old new P = Tells (f.disk old) (f.disk new) (LeavesOnly P)
 
-  -- what the disk may hold at each moment of a request, and where the documents are after it
-  pub record KeepsDisk (docs docs' : Docs) (old new : F) (request : Result Request Refusal) (HasGivenUp GoesOn : Type 0) : Type 0 where
-    -- a crash leaves the world before the request, or the one with the write that the request makes
-    pub moments : OverWorld docs old (λ world. CrashLeaves old new (StandsAround world request))
-    -- no file changes but those of the documents
-    pub own : OverWorld docs old (λ world. Tells (f.disk old) (f.disk new) MovesDocuments)
-    -- a request that writes no document changes no file, whatever the folder holds
+  -- what the documents' files may hold at each moment of a request, and where the documents are after it
+  pub record KeepsDocuments (docs docs' : Docs) (old new : F) (request : Result Request Refusal) (HasGivenUp GoesOn : Type 0) : Type 0 where
+    -- a crash leaves the documents before the request, or those with the write that it makes, and no other file changes
+    pub moved : OverWorld docs old (λ world. Tells (f.disk old) (f.disk new) (MovesDocuments (DocumentsStandAround world request)))
+    -- whatever the folder holds, no other file changes; a request that writes no document changes none, nor does one that is given up
+    pub own : Tells (f.disk old) (f.disk new) (MovesDocuments (λ image. Unit {0}))
     pub read : (Writes request → ⊥) → Tells (f.disk old) (f.disk new) MovesNone
-    -- where it is given up, no file changes, and a crash leaves the world before it
     pub unmoved : HasGivenUp → Tells (f.disk old) (f.disk new) MovesNone
-    pub unwritten : HasGivenUp → OverWorld docs old (λ world. CrashLeaves old new (λ image. StandsFor image world))
     -- only a write that is accepted changes a file
     pub still : IsStill docs (f.disk old) (f.disk new) request
     -- where the engine may go on, its documents are open
     pub is_open : GoesOn → AreOpen docs' new
+
+  -- for each world that an engine and the disk, where it is told, are at
+  abbrev pub OverWholeWorld : Engine → F → (World → Type 0) → Type 0
+  OverWholeWorld engine folder P = (world : World) → IfTold (f.disk folder) (λ d. IsAtWorld engine d.now world) → P world
+
+  abbrev pub LiesOpen : Engine → F → Type 0
+  LiesOpen engine folder = IfTold (f.disk folder) (λ d. IsEngineOpen engine d.now)
+
+  -- what the disk may hold at each moment of a request, and where the engine is after it
+  pub record KeepsDisk (engine engine' : Engine) (old new : F) (request : Result Request Refusal) (HasGivenUp GoesOn : Type 0) : Type 0 where
+    pub documents : KeepsDocuments engine.docs engine'.docs old new request HasGivenUp GoesOn
+    -- a crash leaves the world before the request, or the one with the write that the request makes
+    pub moments : OverWholeWorld engine old (λ world. CrashLeaves old new (StandsAround world request))
+    -- where it is given up, a crash leaves the world before it
+    pub unwritten : HasGivenUp → OverWholeWorld engine old (λ world. CrashLeaves old new (λ image. StandsFor image world))
+    -- where the engine may go on, it lies open
+    pub is_open : GoesOn → LiesOpen engine' new
 
   -- the cause of a fault of a call that only reads: the folder's, or a damaged place, which there is in no world
   abbrev pub IsReadReason : Docs → F → F → StepFault → Type 0

@@ -1,5 +1,5 @@
 -- What a refusal or a fault of the documents is to a request, and what faults leave.
-use Rattle.std.specs.Prelude.{◌≡◌, ℕ, false, ◌^◌, ◌<◌, ◌≤◌, List, Option, Some, None, Result, Ok, Err}
+use Rattle.std.specs.Prelude.{◌≡◌, ◌⊎◌, ℕ, false, ◌∷◌, ◌^◌, ◌<◌, ◌≤◌, List, Option, Some, None, Result, Ok, Err}
 use Rattle.json_terms.specs.Json.{Json, object, members_of}
 use Rattle.design_docs.specs.Documents.{id_of}
 use Rattle.view_ports.specs.Disk.{Disk, IfTold, Moves, MovesNone, Tells}
@@ -12,6 +12,7 @@ use Rattle.doc_file.specs.declared.fault.DocFault.{DocFault}
 use Rattle.doc_file.specs.declared.fault.DocFault.TheVariants as doc
 use Rattle.doc_file.specs.Calls.{length_with}
 use Rattle.doc_file.specs.Docs.{bytes_in, file_of, is_deleted, last_of, IsAt, IsDocsFile, IsSpoiled}
+use Rattle.doc_file.specs.Held.{Stands}
 use Rattle.doc_file.specs.History.{Write}
 use Rattle.doc_file.specs.Writes.{content_of}
 use Rattle.view_engine.specs.declared.halt.Halt.{Halt}
@@ -120,9 +121,14 @@ Writes (Ok (Put document)) = Unit {0}
 Writes (Ok (Delete id given)) = Unit {0}
 Writes other = ⊥
 
--- only files of the documents change, and of each other file a crash leaves at each moment what it might have left before
-abbrev pub MovesDocuments : Disk FileName → Disk FileName → Type 0
-MovesDocuments = Moves IsDocsFile (λ image. Unit {0}) (λ files. Unit {0})
+-- an image stands for the documents of the world before a request, or for those with the write that the request makes
+abbrev pub DocumentsStandAround : World → Result Request Refusal → (FileName → List ℕ) → Type 0
+DocumentsStandAround world request image = Stands image world.history ⊎ ((write : Write) × IsWrite world request write × Stands image (write ∷ world.history))
+
+-- only files of the documents change, of which a crash leaves at each moment what has P, and of each other file what it might have
+-- left before
+abbrev pub MovesDocuments : ((FileName → List ℕ) → Type 0) → Disk FileName → Disk FileName → Type 0
+MovesDocuments P = Moves IsDocsFile P (λ files. Unit {0})
 
 -- where the request isn't a write that is accepted in the world, no file changes
 abbrev pub IsStill : Docs → Option (Disk FileName) → Option (Disk FileName) → Result Request Refusal → Type 0

@@ -13,6 +13,7 @@ use Rattle.view_engine.specs.declared.halt.Halt.TheVariants.{Refused}
 use Rattle.view_engine.specs.declared.refusal.Refusal.{Refusal}
 use Rattle.view_engine.specs.declared.request.ViewName.{ViewName}
 use Rattle.view_engine.specs.View.{view_refusal}
+use Rattle.view_engine.specs.World.{of_history}
 use Rattle.view_engine.specs.ViewPlan.{IsPlan}
 
 -- the language of a plan has a path
@@ -24,10 +25,10 @@ module _ {F : Type 0} (f : Folders F) (engine : Engine) (folder : F) (name : Vie
   abbrev pub PlansView : Type 0
   PlansView = (history : List Write) → IfTold (f.disk folder) (λ d. AreAt engine.docs d.now history
       → IfOk result (λ plan. (path : List ℕ) → path_in (languages_of engine.pool) plan.design.language ≡ Some path
-      → IsPlan (languages_of engine.pool) (record { history = history }) name plan.id plan.design plan.place path))
+      → IsPlan (languages_of engine.pool) history name plan.id plan.design plan.place path))
 
   -- over a history it is refused only as the view is
   abbrev pub RefusesView : Type 0
   RefusesView = IfErr result (λ halt. (refusal : Refusal) → halt ≡ Refused refusal → (history : List Write)
       → IfTold (f.disk folder) (λ d. AreAt engine.docs d.now history
-      → view_refusal (languages_of engine.pool) (record { history = history }) name ≡ Some refusal))
+      → view_refusal (languages_of engine.pool) (of_history history) name ≡ Some refusal))

@@ -13,8 +13,8 @@ use Rattle.view_engine.specs.declared.halt.Halt.{Halt}
 use Rattle.view_engine.specs.declared.halt.Halt.TheVariants.{Refused, Stopped}
 use Rattle.view_engine.specs.declared.halt.StepFault.TheVariants.{NoMemory}
 use Rattle.view_engine.specs.declared.refusal.Refusal.TheVariants as refusal
-use Rattle.doc_file.specs.History.{live_document}
-use Rattle.view_engine.specs.World.{World}
+use Rattle.doc_file.specs.History.{Write, live_document}
+use Rattle.view_engine.specs.World.{of_history}
 use Rattle.view_engine.specs.View.{design_id, view_refusal}
 
 -- the source of the view in a place
@@ -22,16 +22,16 @@ abbrev pub source_at : List View → ℕ → List ℕ
 source_at views place = slice_index_or (map_sources views) place []
 
 -- the request isn't refused yet: the design document is live, the view has this place in its design, and the language has a path
-pub record IsPlan (languages : List (List ℕ × List ℕ)) (world : World) (name : ViewName) (id : List ℕ) (design : Design) (place : ℕ) (path : List ℕ) : Type 0 where
+pub record IsPlan (languages : List (List ℕ × List ℕ)) (history : List Write) (name : ViewName) (id : List ℕ) (design : Design) (place : ℕ) (path : List ℕ) : Type 0 where
   pub document : Json
-  pub live : live_document world.history (design_id name.design) ≡ Some document
+  pub live : live_document history (design_id name.design) ≡ Some document
   pub source_is : source_of name.view document ≡ Some (source_at design.views place)
   pub path_is : path_in languages (language_of document) ≡ Some path
   pub language : design.language ≡ language_of document
   pub views : design.views ≡ views_of document
   pub few : length design.views ≤ source_limit
   pub id_is : id ≡ design_id name.design
-  pub accepted : view_refusal languages world name ≡ None
+  pub accepted : view_refusal languages (of_history history) name ≡ None
 
 -- a pool's refusal, as a request meets it
 abbrev pub met_by : List ℕ → PoolFault → Halt

@@ -8,6 +8,8 @@ use Rattle.doc_file.specs.declared.docs.Docs.{Docs}
 use Rattle.doc_file.specs.Docs.{HoldsHistory, IsAt as AreAt, IsDamagedAt, IsOpen as AreOpen}
 use Rattle.doc_file.specs.Held.{Stands}
 use Rattle.doc_file.specs.History.{Write}
+use Rattle.view_groups.specs.Groups.{AreAt as AreIndexesAt, AreOpen as AreIndexesOpen}
+use Rattle.view_groups.specs.Pictures.{AreHeld, StandFor}
 use Rattle.view_engine.specs.declared.engine.Engine.{Engine}
 use Rattle.view_engine.specs.declared.refusal.Refusal.{Refusal}
 use Rattle.view_engine.specs.declared.request.Request.{Request}
@@ -28,13 +30,15 @@ at_start world width faults = record { world = world; width = width; started = N
 
 -- ---- files, and what a crash leaves of them
 
--- nothing is pending in the files, and they hold this world
-abbrev pub Holds : (FileName → File) → World → Type 0
-Holds files world = HoldsHistory files world.history
+-- nothing is pending in the files, and they hold this world: its history, and the picture of each index
+pub record Holds (files : FileName → File) (world : World) : Type 0 where
+  pub documents : HoldsHistory files world.history
+  pub indexes : AreHeld files world.pictures
 
 -- an image of the disk, as a crash leaves it, stands for this world
-abbrev pub StandsFor : (FileName → List ℕ) → World → Type 0
-StandsFor image world = Stands image world.history
+pub record StandsFor (image : FileName → List ℕ) (world : World) : Type 0 where
+  pub documents : Stands image world.history
+  pub indexes : StandFor image world.pictures
 
 -- an image stands for the world with the write that the request makes
 abbrev pub StandsAfter : World → Result Request Refusal → (FileName → List ℕ) → Type 0
@@ -90,13 +94,15 @@ Knows known engine = languages engine ≡ known
 abbrev pub width : Engine → ℕ
 width engine = width_of engine.pool
 
--- what an engine keeps is what the folder holds
-abbrev pub IsOpen : Engine → (FileName → File) → Type 0
-IsOpen engine files = AreOpen engine.docs files
+-- what an engine keeps is what the folder holds, of the documents and of each index that is open
+pub record IsOpen (engine : Engine) (files : FileName → File) : Type 0 where
+  pub documents : AreOpen engine.docs files
+  pub indexes : AreIndexesOpen engine.groups files
 
 -- an engine and the folder are at this world
-abbrev pub IsAtWorld : Engine → (FileName → File) → World → Type 0
-IsAtWorld engine files world = AreAt engine.docs files world.history
+pub record IsAtWorld (engine : Engine) (files : FileName → File) (world : World) : Type 0 where
+  pub documents : AreAt engine.docs files world.history
+  pub indexes : AreIndexesAt engine.groups files world.pictures
 
 -- an engine keeps no child
 abbrev pub IsChildless : Engine → Type 0

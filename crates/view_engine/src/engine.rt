@@ -5,7 +5,7 @@ ghost use Rattle.view_ports.specs.Calls.{Call};
 ghost use Rattle.view_ports.specs.Lines.{ended};
 ghost use Rattle.child_pool.specs.Languages.{languages_in};
 ghost use Rattle.view_engine.specs.Calls.{scene, IsStep, IsToldAs, Performed};
-ghost use Rattle.view_engine.specs.Disks.{AreOpen};
+ghost use Rattle.view_engine.specs.Disks.{LiesOpen};
 ghost use Rattle.view_engine.specs.Engine.{HasStopped};
 ghost use Rattle.view_engine.specs.Halts.{fault_of, halted_as};
 ghost use Rattle.view_engine.specs.Refusals.{refusal_text};
@@ -25,13 +25,15 @@ use child_pool::Pool;
 use doc_file::{DocFault, Docs};
 use json_terms::NoMemory;
 use std::alloc::Global;
+use view_groups::Groups;
 use view_ports::{Folder, Servers};
 
-/// A database of documents in a folder, with the query servers of its views, and what its requests do.
+/// A database of documents in a folder, with the indexes and the query servers of its views, and what its requests do.
 #[derive(Drop)]
 pub struct Engine {
     docs: Docs,
     pool: Pool,
+    groups: Groups,
 }
 
 impl Engine {
@@ -62,7 +64,11 @@ impl Engine {
     {
         match Docs::open(alloc, folder) {
             Ok(docs) => match Pool::new(alloc, width, words) {
-                Ok(pool) => Ok(Engine { docs, pool }),
+                Ok(pool) => Ok(Engine {
+                    docs,
+                    pool,
+                    groups: Groups::new(alloc),
+                }),
                 Err(NoMemory) => Err(StepFault::NoMemory),
             },
             Err(fault) => Err(open_fault(fault)),
@@ -83,7 +89,7 @@ impl Engine {
         line: &[u8],
         out: &mut Vec<u8>,
     ) -> Result<(), StepFault>
-        requires open { AreOpen F.Folder self.old.docs folder.old }
+        requires open { LiesOpen F.Folder self.old folder.old }
         ensures { IsStep F.Folder C.Servers (scene self.old folder.old servers.old)
             (scene self.new folder.new servers.new) line.now out.old.items out.new.items result }
     {
@@ -118,7 +124,7 @@ impl Engine {
         request: Request,
         out: &mut Vec<u8>,
     ) -> Result<(), Halt>
-        requires open { AreOpen F.Folder self.old.docs folder.old }
+        requires open { LiesOpen F.Folder self.old folder.old }
         ensures { Performed F.Folder C.Servers (scene self.old folder.old servers.old)
             (scene self.new folder.new servers.new)
             (Ok request) out.old.items out.new.items result }

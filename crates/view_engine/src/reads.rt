@@ -12,6 +12,7 @@ ghost use Rattle.view_engine.specs.Answer.{info_text};
 ghost use Rattle.view_engine.specs.Calls.{ActsHere, IsReplyLine};
 ghost use Rattle.view_engine.specs.Disks.{AreOpen};
 ghost use Rattle.view_engine.specs.Get.{DoesInfo};
+ghost use Rattle.view_engine.specs.World.{of_history};
 
 use crate::answer::write_info;
 use crate::halt::Halt;
@@ -52,7 +53,7 @@ pub(crate) fn info(alloc: Global, docs: &Docs, out: &mut Vec<u8>) -> Result<(), 
     ensures ok { OnOk result (out.new.items ≡ out.old.items ++ ended
         (info_text (info_of docs.now))) }
     ensures done { (files : FileName → File) (history : List Write) → IsAt docs.now files history
-        → DoesInfo (record { history = history }) (info_text (info_of docs.now)) }
+        → DoesInfo (of_history history) (info_text (info_of docs.now)) }
     ensures silent { OnErr result (out.new.items ≡ out.old.items) }
     ensures line { OnOk result (IsReplyLine (info_text (info_of docs.now))) }
 {

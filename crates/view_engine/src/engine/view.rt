@@ -10,7 +10,7 @@ ghost use Rattle.design_docs.specs.Faults.{HasDesign};
 ghost use Rattle.design_docs.specs.Laws.{entry_of as named};
 ghost use Rattle.view_engine.specs.Answer.{answer};
 ghost use Rattle.view_engine.specs.Calls.{scene, IsReplyLine, Performed};
-ghost use Rattle.view_engine.specs.Disks.{AreOpen, Reads};
+ghost use Rattle.view_engine.specs.Disks.{LiesOpen, Reads};
 ghost use Rattle.view_model.specs.Rows.{emitted_at, emitted_rows};
 ghost use Rattle.view_engine.specs.View as spec;
 ghost use Rattle.view_engine.specs.Planning.{HasPath, PlansView, RefusesView};
@@ -49,7 +49,7 @@ impl Engine {
         name: ViewName,
         out: &mut Vec<u8>,
     ) -> Result<(), Halt>
-        requires open { AreOpen F.Folder self.old.docs folder.old }
+        requires open { LiesOpen F.Folder self.old folder.old }
         ensures { Performed F.Folder C.Servers (scene self.old folder.old servers.old)
             (scene self.new folder.new servers.new)
             (Ok (Request.View name None)) out.old.items out.new.items result }

@@ -15,25 +15,26 @@ use Rattle.view_engine.proofs.Performing.{unbuilt}
 use Rattle.view_engine.proofs.Reading.{read_done}
 use Rattle.view_engine.proofs.ServerFaults.{unlike_info}
 use Rattle.view_engine.proofs.Stored.{spent_here}
+use Rattle.view_engine.proofs.Whole.{documents_open}
 use Rattle.view_engine.proofs.engine.Engine.perform.Goals as goal
 
 pub returns-in-Put : goal.returns-in-Put
-returns-in-Put g c = acted c.in-Put.is c.put.ensures.acts
+returns-in-Put g c = acted c.in-Put.is c.requires.open c.put.ensures.acts
 
 pub returns-in-Delete : goal.returns-in-Delete
-returns-in-Delete g c = acted c.in-Delete.is c.delete.ensures.acts
+returns-in-Delete g c = acted c.in-Delete.is c.requires.open c.delete.ensures.acts
 
 pub returns-in-Get : goal.returns-in-Get
-returns-in-Get g c = acted (c.in-Get.is ∙ ap Get (sym c.as_str.ensures)) c.get.ensures.acts
+returns-in-Get g c = acted (c.in-Get.is ∙ ap Get (sym c.as_str.ensures)) c.requires.open c.get.ensures.acts
 
 pub returns-in-Ok : goal.returns-in-Ok
 returns-in-Ok g c =
     let disk = g.F.Folder.disk c.args.folder.now in
-    acted c.in-Info.is (read_done c.requires.open (told_refl disk MovesNone none_refl) (omega arith) tt (info_text (info_of c.args.self.now.docs)) c.in-Ok.ensures.line (λ other. unlike_info (info_of c.args.self.now.docs)) c.in-Ok.ensures.ok
+    acted c.in-Info.is c.requires.open (read_done (documents_open _ _ c.requires.open) (told_refl disk MovesNone none_refl) (omega arith) tt (info_text (info_of c.args.self.now.docs)) c.in-Ok.ensures.line (λ other. unlike_info (info_of c.args.self.now.docs)) c.in-Ok.ensures.ok
     (λ world. told_all disk _ (λ d at. (c.info.ensures.done d.now world.history at, refl))))
 
 pub returns-in-Info : goal.returns-in-Info
-returns-in-Info g c = acted c.in-Info.is (spent_here c.requires.open c.in-Err.ensures.silent refl)
+returns-in-Info g c = acted c.in-Info.is c.requires.open (spent_here (documents_open _ _ c.requires.open) c.in-Err.ensures.silent refl)
 
 pub returns-in-View : goal.returns-in-View
 returns-in-View g c =

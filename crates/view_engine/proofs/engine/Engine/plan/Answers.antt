@@ -16,6 +16,7 @@ use Rattle.view_engine.specs.ViewPlan.{source_at, IsPlan}
 use Rattle.view_engine.proofs.Reading.{read_of_get}
 use Rattle.view_engine.proofs.Plans.{stored_design, planned, refused_language, refused_same, refused_view}
 use Rattle.view_engine.proofs.engine.Engine.plan.Goals as goal
+use Rattle.view_engine.specs.World.{of_history}
 
 pub returns-in-Err-clause-reads : goal.returns-in-Err-clause-reads
 returns-in-Err-clause-reads g c = rw c.from.ensures (read_of_get c.as_str-2.result.now c.in-Err.fault c.in-Err.ensures.disk c.in-Err.ensures.cause c.in-Err.ensures.deleted.1 c.in-Err.ensures.damaged c.in-Err.ensures.sound c.in-Err.ensures.faults)
@@ -34,8 +35,8 @@ returns-in_default-clause-refused g c = λ refusal is_refusal history.
     c.in_default.ensures.named ∙ (λ i. lookup (λ key. bytes_eq key (c.as_str-3.ensures i)) (map named (c.as_slice.ensures i))) in
     told_now (g.F.Folder.disk c.args.folder.now)
     (λ d. IsAt docs d.now history → live_document history id ≡ Some document)
-    (λ d. IsAt docs d.now history → view_refusal languages (record { history = history }) name ≡ Some refusal)
-    (λ d live at. refused_same languages (record { history = history }) name MissingNamedView refusal same
+    (λ d. IsAt docs d.now history → view_refusal languages (of_history history) name ≡ Some refusal)
+    (λ d live at. refused_same languages (of_history history) name MissingNamedView refusal same
     (refused_view languages history name id document design is (live at) (stored_design name id document is c.in-Ok.ensures.body) c.in_ok-design.ensures none))
     (c.in-Ok.ensures.document history)
 
@@ -55,8 +56,8 @@ returns-in-Some-path_of-clause-plan g c = λ history.
     ∙ (λ i. lookup (λ key. bytes_eq key (c.as_str-3.ensures i)) (map named (c.as_slice.ensures i))) in
     told_now (g.F.Folder.disk c.args.folder.now)
     (λ d. IsAt docs d.now history → live_document history id ≡ Some document)
-    (λ d. IsAt docs d.now history → (path : List ℕ) → path_in languages design.language ≡ Some path → IsPlan languages (record { history = history }) name c.in_ok-id.id design place path)
-    (λ d live at path known. subst (λ i. IsPlan languages (record { history = history }) name i design place path) c.as_str-2.ensures
+    (λ d. IsAt docs d.now history → (path : List ℕ) → path_in languages design.language ≡ Some path → IsPlan languages history name c.in_ok-id.id design place path)
+    (λ d live at path known. subst (λ i. IsPlan languages history name i design place path) c.as_str-2.ensures
     (planned languages history name id document design is (live at) (stored_design name id document is c.in-Ok.ensures.body) c.in_ok-design.ensures place there path known))
     (c.in-Ok.ensures.document history)
 
@@ -91,7 +92,7 @@ returns-in-None-clause-refused g c = λ refusal is_refusal history.
     let none : None ≡ path_in languages design.language = c.in-None.ensures ∙ ap (path_in languages) c.as_str-4.ensures in
     told_now (g.F.Folder.disk c.args.folder.now)
     (λ d. IsAt docs d.now history → live_document history id ≡ Some document)
-    (λ d. IsAt docs d.now history → view_refusal languages (record { history = history }) name ≡ Some refusal)
-    (λ d live at. refused_same languages (record { history = history }) name (UnknownLanguage design.language) refusal same
+    (λ d. IsAt docs d.now history → view_refusal languages (of_history history) name ≡ Some refusal)
+    (λ d live at. refused_same languages (of_history history) name (UnknownLanguage design.language) refusal same
     (refused_language languages history name id document design is (live at) (stored_design name id document is c.in-Ok.ensures.body) c.in_ok-design.ensures place there none))
     (c.in-Ok.ensures.document history)

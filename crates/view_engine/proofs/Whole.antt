@@ -1,0 +1,99 @@
+-- What is kept of the documents is kept of the world, where no file of an index changes.
+use Rattle.std.proofs.Common.{◌≡◌, ◌∙◌, ℕ, List, Option, None, Result, inl, inr, sym, subst}
+use Rattle.view_ports.specs.Disk.{Disk, Framed, IfTold, IsImageOf, LeavesOnly, MovesNone, Tells}
+use Rattle.view_ports.specs.File.{File}
+use Rattle.view_ports.specs.declared.file_name.FileName.{FileName}
+use Rattle.view_ports.specs.declared.file_name.Stem.TheVariants.{Docs as DocsStem, View}
+use Rattle.view_ports.specs.declared.folder.Folder.{Ghosts as Folders}
+use Rattle.view_ports.proofs.DiskRuns.{none_same}
+use Rattle.view_ports.proofs.Moments.{weaker}
+use Rattle.view_ports.proofs.Told.{told_given, told_now, told_pair, told_after}
+use Rattle.doc_file.specs.declared.docs.Docs.{Docs}
+use Rattle.doc_file.specs.Docs.{IsAt as AreAt, IsDocsFile, IsOpen as AreDocumentsOpen}
+use Rattle.doc_file.proofs.Stores.{image_now}
+use Rattle.view_groups.specs.declared.groups.Groups.{Groups}
+use Rattle.view_groups.specs.Cleans.{IsIndexFile}
+use Rattle.view_groups.specs.Groups.{AreAt as AreIndexesAt, AreOpen as AreIndexesOpen}
+use Rattle.view_groups.specs.Pictures.{AreHeld, Pictures, StandFor}
+use Rattle.view_groups.proofs.Standing.{images_stand, others_matter_not, settled_stand}
+use Rattle.view_engine.specs.declared.engine.Engine.{Engine}
+use Rattle.view_engine.specs.declared.refusal.Refusal.{Refusal}
+use Rattle.view_engine.specs.declared.request.Request.{Request}
+use Rattle.view_engine.specs.Disks.{KeepsDisk, KeepsDocuments, LiesOpen}
+use Rattle.view_engine.specs.Halts.{DocumentsStandAround, MovesDocuments}
+use Rattle.view_engine.specs.World.{World}
+use Rattle.view_engine.specs.Worlds.{IsAtWorld, IsOpen, StandsAround, StandsFor}
+
+-- a file of an index is none of the documents
+pub apart : (name : FileName) → IsIndexFile name → IsDocsFile name → ⊥
+apart name (sig, of_view) of_docs = let same : View sig ≡ DocsStem = sym of_view ∙ of_docs in cc
+
+-- files of which only those of the documents change
+module _ (a b : Disk FileName) (moves : MovesDocuments (λ image. Unit {0}) a b) where
+  same_files : (name : FileName) → IsIndexFile name → b.now name ≡ a.now name
+  same_files name is = moves.others name (apart name is)
+
+  pub indexes_at : (groups : Groups) (pictures : Pictures) → AreIndexesAt groups a.now pictures → AreIndexesAt groups b.now pictures
+  indexes_at groups pictures at = (others_matter_not groups a.now b.now pictures same_files).0 at
+
+  pub indexes_open : (groups : Groups) → AreIndexesOpen groups a.now → AreIndexesOpen groups b.now
+  indexes_open groups is_open = (others_matter_not groups a.now b.now (λ sig. None) same_files).1 is_open
+
+-- an image in which only files of the documents may be others
+module _ (files : FileName → File) (pictures : Pictures) (held : AreHeld files pictures) (P : (FileName → List ℕ) → Type 0) (image : FileName → List ℕ) (framed : Framed IsDocsFile files P image) where
+  pub pictures_stand : StandFor image pictures
+  pictures_stand = λ sig. let here = held sig in (here.0, settled_stand sig here.0 files image (pictures sig) here.1 (λ n of_view. framed.outside n (apart n (sig, of_view))))
+
+around : (world : World) (request : Result Request Refusal) (files : FileName → File) → AreHeld files world.pictures → (image : FileName → List ℕ) → Framed IsDocsFile files (DocumentsStandAround world request) image → StandsAround world request image
+around world request files held image framed = by_side framed.inside
+  where
+    indexes : StandFor image world.pictures
+    indexes = pictures_stand files world.pictures held (DocumentsStandAround world request) image framed
+
+    by_side : DocumentsStandAround world request image → StandsAround world request image
+    by_side (inl before) = inl (record { documents = before; indexes = indexes })
+    by_side (inr (write, is, after)) = inr (write, is, record { documents = after; indexes = indexes })
+
+-- each image that a crash may leave now
+pub image_stands : (engine : Engine) (files : FileName → File) (world : World) → IsAtWorld engine files world → (image : FileName → List ℕ) → IsImageOf files image → StandsFor image world
+image_stands engine files world at image is = record {
+  documents = image_now engine.docs files at.documents.is_open world.history at.documents image is;
+  indexes = images_stand files world.pictures image at.indexes.held is;
+}
+
+module _ {F : Type 0} {f : Folders F} {engine engine' : Engine} {old new : F} where
+  module _ {request : Result Request Refusal} {GivenUp GoesOn : Type 0} (groups : engine'.groups ≡ engine.groups) where
+    -- what is kept of the documents is kept of the world
+    pub kept_whole : LiesOpen f engine old → KeepsDocuments f engine.docs engine'.docs old new request GivenUp GoesOn → KeepsDisk f engine engine' old new request GivenUp GoesOn
+    kept_whole is_open keeps = record {
+      documents = keeps;
+      moments = λ world at. told_given (f.disk old) (f.disk new) (λ d. IsAtWorld engine d.now world) (MovesDocuments (DocumentsStandAround world request)) (LeavesOnly (StandsAround world request))
+          (λ a b here moves. weaker (Framed IsDocsFile a.now (DocumentsStandAround world request)) (StandsAround world request) a b (λ image framed. around world request a.now here.indexes.held image framed) moves.moments) at
+          (keeps.moved world (told_now (f.disk old) (λ d. IsAtWorld engine d.now world) (λ d. AreAt engine.docs d.now world.history) (λ d here. here.documents) at));
+      unwritten = λ given world at. told_given (f.disk old) (f.disk new) (λ d. IsAtWorld engine d.now world) MovesNone (LeavesOnly (λ image. StandsFor image world))
+          (λ a b here none. weaker (Framed (λ n. ⊥) a.now (λ image. Unit {0})) (λ image. StandsFor image world) a b
+          (λ image framed. image_stands engine a.now world here image (λ name. framed.outside name (λ never. never))) none.moments) at (keeps.unmoved given);
+      is_open = λ goes. told_pair (f.disk new) (λ d. AreDocumentsOpen engine'.docs d.now) (λ d. AreIndexesOpen engine.groups d.now) (λ d. IsOpen engine' d.now)
+          (λ d here there. record { documents = here; indexes = subst (λ (g : Groups). AreIndexesOpen g d.now) (sym groups) there }) (keeps.is_open goes)
+          (told_after (f.disk old) (f.disk new) (λ d. IsOpen engine d.now) (λ d. AreIndexesOpen engine.groups d.now) (MovesDocuments (λ image. Unit {0}))
+          (λ a b here moves. indexes_open a b moves engine.groups here.indexes) is_open keeps.own);
+    }
+
+-- the documents of an engine that lies open do
+pub documents_open : (disk : Option (Disk FileName)) (engine : Engine) → IfTold disk (λ d. IsOpen engine d.now) → IfTold disk (λ d. AreDocumentsOpen engine.docs d.now)
+documents_open disk engine = told_now disk (λ d. IsOpen engine d.now) (λ d. AreDocumentsOpen engine.docs d.now) (λ d here. here.documents)
+
+-- and those of one that is at a world
+pub documents_at : (disk : Option (Disk FileName)) (engine : Engine) (world : World) → IfTold disk (λ d. IsAtWorld engine d.now world) → IfTold disk (λ d. AreAt engine.docs d.now world.history)
+documents_at disk engine world = told_now disk (λ d. IsAtWorld engine d.now world) (λ d. AreAt engine.docs d.now world.history) (λ d here. here.documents)
+
+-- where no file changed, an engine with these documents and indexes is at the world still
+pub world_none : (engine engine' : Engine) (old new : Option (Disk FileName)) → engine'.docs ≡ engine.docs → engine'.groups ≡ engine.groups → Tells old new MovesNone → (world : World) → IfTold old (λ d. IsAtWorld engine d.now world) → IfTold new (λ d. IsAtWorld engine' d.now world)
+world_none engine engine' old new docs groups moves world told =
+    told_after old new (λ d. IsAtWorld engine d.now world) (λ d. IsAtWorld engine' d.now world) MovesNone
+    (λ a b here none.
+    let files : b.now ≡ a.now = λ i. λ name. none_same a b none name i in
+    subst (λ (fs : FileName → File). IsAtWorld engine' fs world) (sym files) (record {
+      documents = subst (λ (d : Docs). AreAt d a.now world.history) (sym docs) here.documents;
+      indexes = subst (λ (g : Groups). AreIndexesAt g a.now world.pictures) (sym groups) here.indexes;
+    })) told moves
