@@ -1,5 +1,5 @@
 -- The index of a design is opened, and then brought up to date.
-use Rattle.std.specs.Prelude.{◌≡◌, ◌≢◌, ◌⊎◌, ◌<◌, ◌≤◌, ℕ, List, length, Option, Some, Result, Ok, Err, IfErr, IfOk, OnOk, All, slice_get, slice_index_or, slice_set, refl}
+use Rattle.std.specs.Prelude.{◌≡◌, ◌≢◌, ◌⊎◌, ◌<◌, ℕ, List, length, Option, Some, Result, Ok, Err, IfErr, IfOk, OnOk, All, slice_get, slice_index_or, slice_set, refl}
 use Rattle.std.proofs.Common.{ap, sym, ◌∙◌, subst, inl, inr, ⊎_elim, arith}
 use Rattle.std.proofs.lemmas.Bool.{cases_eq, cases_lt}
 use Rattle.std.proofs.lemmas.List.{get_or-set_other, get_or-set_same, length-set}
@@ -14,21 +14,21 @@ use Rattle.view_ports.specs.declared.file_name.Stem.TheVariants.{Docs as DocsSte
 use Rattle.view_ports.specs.declared.folder.Folder.{Ghosts as Folders}
 use Rattle.view_ports.specs.declared.servers.Servers.{Ghosts as Servers}
 use Rattle.view_ports.proofs.DiskRuns.{moves_none, moves_then, moves_wider}
-use Rattle.view_ports.proofs.Told.{told_after, told_all, told_given, told_map, told_now, told_still, told_then}
-use Rattle.gate_file.specs.declared.fault.GateFault.TheVariants.{DiskFault, Damaged}
+use Rattle.view_ports.proofs.Told.{told_after, told_all, told_back, told_given, told_map, told_now, told_still, told_then}
+use Rattle.gate_file.specs.declared.fault.GateFault.TheVariants.{DiskFault, Damaged, Full, NoMemory as OutOfMemory}
 use Rattle.gate_file.specs.GateFile.{commits_of, name_of, root_of}
 use Rattle.gate_file.proofs.Beside.{open_beside}
 use Rattle.gate_file.proofs.Stretches.{told_end}
 use Rattle.design_docs.specs.declared.design.Design.{Design}
 use Rattle.doc_file.specs.declared.docs.Docs.{Docs}
-use Rattle.doc_file.specs.Docs.{entries_of, file_of as documents_file, seq_of as documents_seq, IsAt as AreDocumentsAt}
+use Rattle.doc_file.specs.Changes.{IsSpoiledAfter}
+use Rattle.doc_file.specs.Docs.{bytes_in, entries_of, file_of as documents_file, seq_of as documents_seq, IsAt as AreDocumentsAt, IsDocsFile, IsLoaded as AreLoaded}
 use Rattle.doc_file.specs.Held.{HoldsRoot, KeepsEach}
 use Rattle.doc_file.specs.History.{Write}
 use Rattle.child_pool.specs.PoolCalls.{path_for}
 use Rattle.child_pool.specs.Pools.{HasItsChildren}
-use Rattle.view_model.specs.Update.{IsUpdated}
+use Rattle.json_terms.specs.Json.{Json}
 use Rattle.view_ports.specs.Calls.{Call}
-use Rattle.view_ports.specs.Functions.{source_limit}
 use Rattle.child_pool.specs.declared.doc_rows.DocRowLists.{DocRowLists}
 use Rattle.child_pool.specs.declared.pool.Pool.{Pool}
 use Rattle.child_pool.specs.declared.pool_fault.PoolFault.{PoolFault}
@@ -38,26 +38,38 @@ use Rattle.view_index.specs.declared.fault.IndexFault.{IndexFault}
 use Rattle.view_index.specs.declared.fault.IndexFault.TheVariants as fault_of
 use Rattle.view_index.specs.declared.index.Index.{Index}
 use Rattle.view_index.specs.Calls.{stem_of, IsAt, IsOpen}
-use Rattle.view_index.specs.Held.{or_empty, IsFileOf, Stands}
+use Rattle.view_index.specs.Held.{or_empty, IsDamagedAt, IsFileOf, Stands}
 use Rattle.view_index.specs.Index.{seq_of, views_of}
+use Rattle.view_index.specs.Opens.{FindsDamage, IsOpenFault}
 use Rattle.view_updater.specs.declared.fault.UpdateFault.{UpdateFault}
 use Rattle.view_updater.specs.declared.fault.UpdateFault.TheVariants.{Docs as OfDocuments, Index as OfIndex, NoMemory, Pool as OfPool}
 use Rattle.view_updater.specs.Faults.{by_index, by_pool}
-use Rattle.view_updater.specs.Updates.{side as side_of_index, EndsAt as EndsIndex, HasAskedFor, IsBreak, IsLost, IsMadeBy as IsMadeOf, IsMetAs, IsOfIndex}
+use Rattle.view_updater.specs.Updates.{documents_since, side as side_of_index, EndsAt as EndsIndex, HasAskedFor, IsBodyDamaged, IsBreak, IsFileFault, IsIdleEnd, IsLost, IsMade, IsMadeBy as IsMadeOf, IsMetAs, IsOfIndex}
 use Rattle.view_updater.proofs.Ends.{index_of_no_documents, index_of_no_pool, index_stored}
 use Rattle.view_groups.specs.declared.groups.Groups.{Groups}
-use Rattle.view_groups.specs.Brings.{side, Brings, EndsAt, IsIdle, IsMadeBy, MayLeave, Side}
+use Rattle.view_groups.specs.Brings.{side, Brings, EndsAt, HasAsked, IsGroupFault, IsIdle, IsMadeBy, MayLeave, Side}
 use Rattle.view_groups.specs.Groups.{open_of, AreAt, AreOpen, IsGroup}
-use Rattle.view_groups.specs.Openings.{EndsOpen, IsFit, OpensGroup}
-use Rattle.view_groups.specs.Pictures.{Pictures}
+use Rattle.view_groups.specs.Openings.{EndsOpen, IsFit, IsWithin, OpensGroup}
+use Rattle.view_groups.specs.Pictures.{Pictures, StandsOf}
 use Rattle.view_groups.specs.Reached.{picture_for, sig_of, views_in, IsReached, StandsAround}
 use Rattle.view_groups.specs.Updating.{UpdatesAt}
 use Rattle.view_groups.proofs.Closing.{other_at, set_at, set_held, set_there, unset, AreSetAt}
-use Rattle.view_groups.proofs.Opening.{at_holds, holds_views}
+use Rattle.view_groups.proofs.Opening.{at_holds, damaged_of}
 use Rattle.view_groups.proofs.Standing.{open_still, settled_stand}
 use Rattle.view_groups.proofs.Telling.{told_never}
 
 -- ---- documents, and results
+
+-- the bytes of the documents' file stay where files of indexes change, and so does what they hold
+own_still : (docs : Docs) (files files' : FileName → File) → ((n : FileName) → n.stem ≡ DocsStem → files' n ≡ files n) → IsDocsFile (name_of (documents_file docs)) → bytes_in docs files' ≡ bytes_in docs files
+own_still docs files files' same own = ap (λ (file : File). file.seen) (same (name_of (documents_file docs)) own)
+
+loaded_still : (docs : Docs) (files files' : FileName → File) → ((n : FileName) → n.stem ≡ DocsStem → files' n ≡ files n) → IsDocsFile (name_of (documents_file docs)) → AreLoaded docs files → AreLoaded docs files'
+loaded_still docs files files' same own loaded =
+    subst (λ (bytes : List ℕ). HoldsRoot (root_of (documents_file docs)) (commits_of (documents_file docs)) bytes (documents_seq docs) (entries_of docs)) (sym (own_still docs files files' same own)) loaded
+
+body_before : (docs : Docs) (files files' : FileName → File) (name : FileName) (at : ℕ) → ((n : FileName) → n.stem ≡ DocsStem → files' n ≡ files n) → IsDocsFile (name_of (documents_file docs)) → IsBodyDamaged docs files' name at → IsBodyDamaged docs files name at
+body_before docs files files' name at same own damage = (damage.0, damage.1, subst (λ (bytes : List ℕ). IsSpoiledAfter docs bytes damage.1 at) (own_still docs files files' same own) damage.2)
 
 -- the documents stay where files of indexes change
 documents_still : (docs : Docs) (files files' : FileName → File) (history : List Write) → ((n : FileName) → n.stem ≡ DocsStem → files' n ≡ files n) → AreDocumentsAt docs files history → AreDocumentsAt docs files' history
@@ -73,6 +85,12 @@ documents_still docs files files' history same at =
       each = subst (λ (file : File). KeepsEach history file.seen (entries_of docs)) (sym own) at.each;
       stored = at.stored;
     }
+
+abbrev refused : UpdateFault → Result ℕ UpdateFault
+refused fault = Err fault
+
+abbrev unopened : IndexFault → Result ℕ IndexFault
+unopened fault = Err fault
 
 abbrev pub placed : ℕ → Result (Unit {0}) UpdateFault → Result ℕ UpdateFault
 placed place (Ok done) = Ok place
@@ -97,6 +115,13 @@ break_placed place (Err (OfDocuments fault)) broken = broken
 break_placed place (Err (OfIndex fault)) broken = broken
 break_placed place (Err (OfPool fault)) broken = broken
 
+idle_placed : (place : ℕ) (result : Result (Unit {0}) UpdateFault) → IsIdleEnd result → IsIdleEnd (placed place result)
+idle_placed place (Ok done) idle = idle
+idle_placed place (Err NoMemory) idle = idle
+idle_placed place (Err (OfDocuments fault)) idle = idle
+idle_placed place (Err (OfIndex fault)) idle = idle
+idle_placed place (Err (OfPool fault)) idle = idle
+
 met_placed : (place : ℕ) (mapped : Result DocRowLists PoolFault) (result : Result (Unit {0}) UpdateFault) → IsMetAs mapped result → IsMetAs mapped (placed place result)
 met_placed place (Ok lists) (Ok done) met = λ fault is. let no : ⊥ = cc in absurd no
 met_placed place (Ok lists) (Err e) met = λ fault is.
@@ -107,11 +132,44 @@ met_placed place (Ok lists) (Err e) met = λ fault is.
 met_placed place (Err fault) (Ok done) met = let no : ⊥ = cc in absurd no
 met_placed place (Err fault) (Err e) met = let same : e ≡ by_pool fault = cc in ap (λ x. Err x) same
 
-asked_placed : {C : Type 0} (s : Servers C) (servers servers' : C) (pool pool' : Pool) (design : Design) (seq : ℕ) (place : ℕ) (history : List Write) (result : Result (Unit {0}) UpdateFault)
-    → HasAskedFor s servers servers' pool pool' design seq history result → HasAskedFor s servers servers' pool pool' design seq history (placed place result)
-asked_placed s servers servers' pool pool' design seq place history result (inl asked) = inl (asked.0, met_placed place asked.0 result asked.1, asked.2)
-asked_placed s servers servers' pool pool' design seq place history result (inr broken) =
+asked_placed : {C : Type 0} (s : Servers C) (servers servers' : C) (pool pool' : Pool) (design : Design) (documents : List (List (List ℕ × Json))) (place : ℕ) (result : Result (Unit {0}) UpdateFault)
+    → HasAskedFor s servers servers' pool pool' design documents result → HasAskedFor s servers servers' pool pool' design documents (placed place result)
+asked_placed s servers servers' pool pool' design documents place result (inl asked) = inl (record { mapped = asked.mapped; met = met_placed place asked.mapped result asked.met; maps = asked.maps; idle = asked.idle; some = asked.some })
+asked_placed s servers servers' pool pool' design documents place result (inr broken) =
     inr (record { done = broken.done; left = broken.left; all = broken.all; lists = broken.lists; mapped = broken.mapped; cause = break_placed place result broken.cause })
+
+-- faults of files are the same for the update of an open index, which is never damaged
+file_kept : (fault : UpdateFault) → IsFileFault fault → IsGroupFault fault
+file_kept NoMemory file = file
+file_kept (OfPool fault) file = file
+file_kept (OfDocuments fault) file = file
+file_kept (OfIndex (fault_of.Store DiskFault)) file = tt
+file_kept (OfIndex (fault_of.Store (Full name size))) file = tt
+file_kept (OfIndex (fault_of.Store (Damaged name at))) file = tt
+file_kept (OfIndex (fault_of.Store OutOfMemory)) file = absurd file
+file_kept (OfIndex (fault_of.Summer pool)) file = absurd file
+file_kept (OfIndex fault_of.NoMemory) file = absurd file
+
+file_placed : (place : ℕ) (result : Result (Unit {0}) UpdateFault) → IfErr result IsFileFault → IfErr (placed place result) IsGroupFault
+file_placed place (Ok done) file = tt
+file_placed place (Err fault) file = file_kept fault file
+
+-- where an index could not be opened, nothing was asked, and the fault is one of its file
+open_idle : (fault : IndexFault) → IsIdleEnd (refused (by_index fault))
+open_idle (fault_of.Store gate) = tt
+open_idle (fault_of.Summer pool) = tt
+open_idle fault_of.NoMemory = tt
+
+open_file : (fault : IndexFault) → IsOpenFault fault → IsGroupFault (by_index fault)
+open_file fault (inl disk) = subst (λ (e : IndexFault). IsGroupFault (by_index e)) (sym disk) tt
+open_file fault (inr (inl want)) = subst (λ (e : IndexFault). IsGroupFault (by_index e)) (sym want) tt
+open_file fault (inr (inr damage)) = subst (λ (e : IndexFault). IsGroupFault (by_index e)) (sym damage.2) tt
+
+-- no file is full as it is opened
+open_room : (fault : IndexFault) → IsOpenFault fault → (name : FileName) (size : Option ℕ) → fault ≡ fault_of.Store (Full name size) → ⊥
+open_room fault (inl disk) name size is = cc
+open_room fault (inr (inl want)) name size is = cc
+open_room fault (inr (inr damage)) name size is = let other = damage.2 in cc
 
 module _ {F C : Type 0} (f : Folders F) (s : Servers C) (docs : Docs) (design : Design) (groups : Groups) (folder : F) (servers : C) (pool : Pool) where
   abbrev own : List ℕ
@@ -121,15 +179,28 @@ module _ {F C : Type 0} (f : Folders F) (s : Servers C) (docs : Docs) (design : 
   given = side folder servers pool groups
 
   -- the documents tell the newest write
-  fit_of : (newest : ℕ) → newest ≡ documents_seq docs → (history : List Write) (pictures : Pictures) (files : FileName → File) → IsReached docs groups design history pictures files → AreAt groups files pictures × IsFit (sig_of design) (views_in design) newest pictures
-  fit_of newest is history pictures files reached =
+  within_of : (newest : ℕ) → newest ≡ documents_seq docs → (history : List Write) (pictures : Pictures) (files : FileName → File) → IsReached docs groups design history pictures files → AreAt groups files pictures × IsWithin (sig_of design) (views_in design) newest pictures
+  within_of newest is history pictures files reached =
       let count = reached.documents.count in
-      (reached.indexes, record { within = omega (arith, reached.within, is, count); shaped = reached.shaped })
+      (reached.indexes, omega (arith, reached.within, is, count))
 
-  now_stands : (history : List Write) (pictures : Pictures) (files : FileName → File) (image : FileName → List ℕ) → IsReached docs groups design history pictures files → ((n : FileName) → n.stem ≡ View (sig_of design) → IsImage (files n) (image n)) → Stands (View (sig_of design)) (views_in design) image (pictures (sig_of design))
+  fit_of : (newest : ℕ) → newest ≡ documents_seq docs → (history : List Write) (pictures : Pictures) (files : FileName → File) → IsReached docs groups design history pictures files → length (picture_for design pictures).rows ≡ views_in design
+      → AreAt groups files pictures × IsFit (sig_of design) (views_in design) newest pictures
+  fit_of newest is history pictures files reached shaped =
+      let known = within_of newest is history pictures files reached in
+      (known.0, record { within = known.1; shaped = shaped })
+
+  now_stands : (history : List Write) (pictures : Pictures) (files : FileName → File) (image : FileName → List ℕ) → IsReached docs groups design history pictures files → ((n : FileName) → n.stem ≡ View (sig_of design) → IsImage (files n) (image n)) → StandsOf (sig_of design) image (pictures (sig_of design))
   now_stands history pictures files image reached is =
       let here = reached.indexes.held (sig_of design) in
-      settled_stand (sig_of design) (views_in design) files image (pictures (sig_of design)) (holds_views (View (sig_of design)) here.0 (views_in design) files (pictures (sig_of design)) reached.shaped here.1) is
+      (here.0, settled_stand (sig_of design) here.0 files image (pictures (sig_of design)) here.1 is)
+
+  -- what is damaged of the index of the design, and of the documents
+  abbrev IsSpoiled : (FileName → File) → FileName → ℕ → Type 0
+  IsSpoiled files name at = IsDamagedAt (View (sig_of design)) (views_in design) files name at × IsFileOf (View (sig_of design)) name
+
+  abbrev FindsBody : (FileName → File) → {T : Type 0} → Result T UpdateFault → Type 0
+  FindsBody files result = IsDocsFile (name_of (documents_file docs)) → AreLoaded docs files → (name : FileName) (at : ℕ) → result ≡ Err (OfDocuments (Damaged name at)) → IsBodyDamaged docs files name at
 
   -- ---- no memory for the signature
 
@@ -138,8 +209,14 @@ module _ {F C : Type 0} (f : Folders F) (s : Servers C) (docs : Docs) (design : 
     stands = λ history pictures reached. told_still (f.disk folder) _ _
         (λ d k. moves_none (IsFileOf (View (sig_of design))) (StandsAround design pictures (MayLeave f s docs design given given history pictures (Err NoMemory))) (EndsAt f s docs design given given history pictures (Err NoMemory)) d
         (λ image is. inl (now_stands history pictures d.now image k (λ n of_pair. is n))) (λ kept. k.indexes)) reached;
-    asks = λ history pictures. told_all (f.disk folder) _ (λ d k. inl ((refl, refl), tt));
-    sound = λ history pictures. told_all (f.disk folder) _ (λ d k name at. (λ is. cc, λ is. cc));
+    asks = λ history pictures. told_all (f.disk folder) _ (λ d k. inl ((refl, refl), (tt, tt)));
+    asked = inl ((refl, refl), tt);
+    sound = λ history pictures. told_all (f.disk folder) _ (λ d k shaped name at. (λ is. cc, λ is. cc));
+    read = λ history. told_all (f.disk folder) (λ d. AreDocumentsAt docs d.now history → (name : FileName) (at : ℕ) → refused NoMemory ≢ Err (OfDocuments (Damaged name at))) (λ d k name at is. cc);
+    file = tt;
+    full = λ name size is. let no : ⊥ = cc in absurd no;
+    spoiled = told_all (f.disk folder) (λ d. (name : FileName) (at : ℕ) → refused NoMemory ≡ Err (OfIndex (fault_of.Store (Damaged name at))) → IsSpoiled d.now name at) (λ d name at is. let no : ⊥ = cc in absurd no);
+    body = told_all (f.disk folder) (λ d. FindsBody d.now (refused NoMemory)) (λ d own loaded name at is. let no : ⊥ = cc in absurd no);
     others = told_still (f.disk folder) (λ d. AreOpen groups d.now) _
         (λ d here. moves_none (IsFileOf (View (sig_of design))) (λ image. Unit {0}) (λ files. IsLost {T = ℕ} (Err NoMemory) ⊎ AreOpen groups files) d (λ image is. tt) (inr here)) are;
     place = tt;
@@ -163,16 +240,28 @@ module _ {F C : Type 0} (f : Folders F) (s : Servers C) (docs : Docs) (design : 
       pub brings_refused : (result : Result ℕ UpdateFault) → result ≡ Err (by_index fault) → Brings f s docs design (side folder servers pool groups) (side mid servers pool mid_groups) result
       brings_refused result failed = subst (λ r. Brings f s docs design (side folder servers pool groups) (side mid servers pool mid_groups) r) (sym failed) (record {
         stands = λ history pictures reached. told_map (f.disk folder) (f.disk mid) _ _
-            (λ a b moved. moves_wider (IsFileOf (View (sig_of design))) (IsFileOf (View (sig_of design))) (λ image. Stands (View (sig_of design)) (views_in design) image (pictures (sig_of design)))
+            (λ a b moved. moves_wider (IsFileOf (View (sig_of design))) (IsFileOf (View (sig_of design))) (λ image. StandsOf (sig_of design) image (pictures (sig_of design)))
             (StandsAround design pictures (MayLeave f s docs design given (side mid servers pool mid_groups) history pictures (Err (by_index fault)))) (EndsOpen (sig_of design) (views_in design) newest mid_groups pictures (Err fault))
             (EndsAt f s docs design given (side mid servers pool mid_groups) history pictures (Err (by_index fault))) a b (λ n is. is) (λ image framed. inl framed.inside)
             (λ others ended. ends_refused history pictures b.now fault ended) moved)
-            (opens.stands pictures (told_now (f.disk folder) _ _ (λ d k. fit_of newest newest_is history pictures d.now k) reached));
-        asks = λ history pictures. told_all (f.disk folder) _ (λ d k. inl ((refl, refl), tt));
-        sound = λ history pictures. told_now (f.disk folder) _ _ (λ d never k name at. (
+            (opens.stands pictures (told_now (f.disk folder) _ _ (λ d k. within_of newest newest_is history pictures d.now k) reached));
+        asks = λ history pictures. told_all (f.disk folder) _ (λ d k. inl ((refl, refl), (open_idle fault, tt)));
+        asked = inl ((refl, refl), open_idle fault);
+        sound = λ history pictures. told_now (f.disk folder) _ _ (λ d never k shaped name at. (
           λ is. index_of_no_documents fault (Damaged name at) (let same : by_index fault ≡ OfDocuments (Damaged name at) = cc in same),
-          λ is. never (fit_of newest newest_is history pictures d.now k) name at (ap (λ e. Err e) (index_stored fault (Damaged name at) (let same : by_index fault ≡ OfIndex (fault_of.Store (Damaged name at)) = cc in same))),
+          λ is. never (fit_of newest newest_is history pictures d.now k shaped) name at (ap (λ e. Err e) (index_stored fault (Damaged name at) (let same : by_index fault ≡ OfIndex (fault_of.Store (Damaged name at)) = cc in same))),
         )) (opens.sound pictures);
+        read = λ history. told_all (f.disk folder) (λ d. AreDocumentsAt docs d.now history → (name : FileName) (at : ℕ) → refused (by_index fault) ≢ Err (OfDocuments (Damaged name at)))
+            (λ d k name at is. index_of_no_documents fault (Damaged name at) (let same : by_index fault ≡ OfDocuments (Damaged name at) = cc in same));
+        file = open_file fault opens.faults;
+        full = λ name size is. absurd (open_room fault opens.faults name size (index_stored fault (Full name size) (let same : by_index fault ≡ OfIndex (fault_of.Store (Full name size)) = cc in same)));
+        spoiled = told_now (f.disk folder) (λ d. FindsDamage (IsDamagedAt (View (sig_of design)) (views_in design) d.now) (unopened fault))
+            (λ d. (name : FileName) (at : ℕ) → refused (by_index fault) ≡ Err (OfIndex (fault_of.Store (Damaged name at))) → IsSpoiled d.now name at)
+            (λ d found name at is.
+            let damage = found name at (ap unopened (index_stored fault (Damaged name at) (let same : by_index fault ≡ OfIndex (fault_of.Store (Damaged name at)) = cc in same))) in
+            (damage, damaged_of (View (sig_of design)) (views_in design) d.now name at damage)) opens.damaged;
+        body = told_all (f.disk folder) (λ d. FindsBody d.now (refused (by_index fault)))
+            (λ d own loaded name at is. absurd (index_of_no_documents fault (Damaged name at) (let same : by_index fault ≡ OfDocuments (Damaged name at) = cc in same)));
         others = told_map (f.disk folder) (f.disk mid) _ _
             (λ a b told. moves_wider (IsFileOf (View (sig_of design))) (IsFileOf (View (sig_of design))) (λ image. Unit {0}) (λ image. Unit {0}) (λ files. Unit {0}) (λ files. IsLost {T = ℕ} (Err (by_index fault)) ⊎ AreOpen mid_groups files) a b
             (λ n is. is) (λ image framed. tt) (λ others ended. inr told.1) told.0)
@@ -249,7 +338,7 @@ module _ {F C : Type 0} (f : Folders F) (s : Servers C) (docs : Docs) (design : 
 
       abbrev IsBegun : List Write → Pictures → Disk FileName → Disk FileName → Type 0
       IsBegun history pictures a b = IsReached docs groups design history pictures a.now
-          × Moves (IsFileOf (View (sig_of design))) (λ image. Stands (View (sig_of design)) (views_in design) image (pictures (sig_of design))) (λ files. AreDocumentsAt docs files history × AreAt mid_groups files pictures) a b
+          × Moves (IsFileOf (View (sig_of design))) (λ image. StandsOf (sig_of design) image (pictures (sig_of design))) (λ files. AreDocumentsAt docs files history × AreAt mid_groups files pictures) a b
 
       begun : (history : List Write) (pictures : Pictures) → IfTold (f.disk folder) (λ d. IsReached docs groups design history pictures d.now) → Tells (f.disk folder) (f.disk mid) (IsBegun history pictures)
       begun history pictures reached = told_given (f.disk folder) (f.disk mid) (λ d. IsReached docs groups design history pictures d.now) _ (IsBegun history pictures)
@@ -261,7 +350,7 @@ module _ {F C : Type 0} (f : Folders F) (s : Servers C) (docs : Docs) (design : 
               ended = (documents_still docs a.now b.now history (λ n of_docs. moved.others n (λ of_view. let no : ⊥ = cc in no)) k.documents, moved.ended);
             },
           ))
-          reached (opens.stands pictures (told_now (f.disk folder) _ _ (λ d k. fit_of newest newest_is history pictures d.now k) reached))
+          reached (opens.stands pictures (told_now (f.disk folder) _ _ (λ d k. within_of newest newest_is history pictures d.now k) reached))
 
       there : (history : List Write) (pictures : Pictures) → IfTold (f.disk folder) (λ d. IsReached docs groups design history pictures d.now) → IfTold (f.disk mid) (IsThere history pictures)
       there history pictures reached = told_after (f.disk folder) (f.disk mid) (λ d. IsReached docs groups design history pictures d.now) (IsThere history pictures) (IsBegun history pictures) (λ a b k moved. moved.1.ended) reached (begun history pictures reached)
@@ -270,7 +359,7 @@ module _ {F C : Type 0} (f : Folders F) (s : Servers C) (docs : Docs) (design : 
 
       abbrev Next : ℕ → List Write → Pictures → Picture → Type 0
       Next n history pictures next = (path : List ℕ) (calls : List Call) → s.may_follow servers calls → path_for pool design ≡ Some path → HasItsChildren pool calls
-          → IsUpdated (s.functions path) (s.honest path × (views_in design ≤ source_limit)) design.views history (or_empty n (pictures (sig_of design))) next
+          → IsMade s design path history (or_empty n (pictures (sig_of design))) next
 
       abbrev Ends : ℕ → List Write → Pictures → Result (Unit {0}) UpdateFault → (FileName → File) → Type 0
       Ends n history pictures (Ok done) files = (next : Option Picture) × IsAt at.after files next × Next n history pictures (or_empty n next)
@@ -333,7 +422,7 @@ module _ {F C : Type 0} (f : Folders F) (s : Servers C) (docs : Docs) (design : 
       around_placed : (history : List Write) (pictures : Pictures) (image : FileName → List ℕ)
           → Stands (View (sig_of design)) (views_in design) image (pictures (sig_of design)) ⊎ ((next : Picture) × Next (views_in design) history pictures next × Made next × Stands (View (sig_of design)) (views_in design) image (Some next))
           → StandsAround design pictures (MayLeave f s docs design given left history pictures (placed place result)) image
-      around_placed history pictures image (inl stands) = inl stands
+      around_placed history pictures image (inl stands) = inl (views_in design, stands)
       around_placed history pictures image (inr (next, is, made, stands)) = inr (next, (is, made_placed result next made), stands)
 
       stands : (history : List Write) (pictures : Pictures) → IfTold (f.disk folder) (λ d. IsReached docs groups design history pictures d.now)
@@ -343,26 +432,56 @@ module _ {F C : Type 0} (f : Folders F) (s : Servers C) (docs : Docs) (design : 
           let known : (FileName → File) → Type 0 = λ files. AreDocumentsAt docs files history × AreAt mid_groups files pictures in
           told_then (f.disk folder) (f.disk mid) (f.disk new) (IsBegun history pictures) (Moves (IsFileOf (View (sig_of design))) (λ image. Stands (View (sig_of design)) (views_in design) image (pictures (sig_of design)) ⊎ ((next : Picture) × Next (views_in design) history pictures next × Made next × Stands (View (sig_of design)) (views_in design) image (Some next))) (Ends (views_in design) history pictures result))
           (Moves (IsFileOf (View (sig_of design))) around (EndsAt f s docs design given left history pictures (placed place result)))
-          (λ a b c first second. moves_then (IsFileOf (View (sig_of design))) (λ image. Stands (View (sig_of design)) (views_in design) image (pictures (sig_of design))) _ around known (Ends (views_in design) history pictures result)
+          (λ a b c first second. moves_then (IsFileOf (View (sig_of design))) (λ image. StandsOf (sig_of design) image (pictures (sig_of design))) _ around known (Ends (views_in design) history pictures result)
           (EndsAt f s docs design given left history pictures (placed place result)) a b c
           (λ image before. inl before) (λ was image either. around_placed history pictures image either) (λ was done. ends_at history pictures b.now c.now was.1 second.others result done) first.1 second)
           (begun history pictures reached) (moving history pictures (there history pictures reached))
 
       asked : (history : List Write) (pictures : Pictures) (files : FileName → File) → AreAt mid_groups files pictures
-          → (((servers' ≡ servers) × (pool' ≡ pool)) × OnOk result (seq_of at.before ≡ length history)) ⊎ HasAskedFor s servers servers' pool pool' design (seq_of at.before) history result
-          → (IsIdle f s docs design given left × OnOk (placed place result) ((picture_for design pictures).seq ≡ length history)) ⊎ HasAskedFor s servers servers' pool pool' design (picture_for design pictures).seq history (placed place result)
+          → (((servers' ≡ servers) × (pool' ≡ pool)) × (IsIdleEnd result × OnOk result (seq_of at.before ≡ length history))) ⊎ HasAskedFor s servers servers' pool pool' design (documents_since (seq_of at.before) history) result
+          → (IsIdle f s docs design given left × (IsIdleEnd (placed place result) × OnOk (placed place result) ((picture_for design pictures).seq ≡ length history)))
+          ⊎ HasAsked f s docs design given left (documents_since (picture_for design pictures).seq history) (placed place result)
       asked history pictures files was either =
           let seq_is : seq_of at.before ≡ (picture_for design pictures).seq = ap (λ (p : Picture). p.seq) (before_at files pictures was).last ∙ ap (λ n. (or_empty n (pictures (sig_of design))).seq) at.there.number in
           ⊎_elim
-          (λ idle. inl (idle.0, ok_placed place result ((picture_for design pictures).seq ≡ length history) (subst (λ (n : ℕ). OnOk result (n ≡ length history)) seq_is idle.1)))
-          (λ some. inr (asked_placed s servers servers' pool pool' design (picture_for design pictures).seq place history result (subst (λ (n : ℕ). HasAskedFor s servers servers' pool pool' design n history result) seq_is some)))
+          (λ idle. inl (
+            idle.0,
+            (
+              idle_placed place result idle.1.0,
+              ok_placed place result ((picture_for design pictures).seq ≡ length history) (subst (λ (n : ℕ). OnOk result (n ≡ length history)) seq_is idle.1.1),
+            ),
+          ))
+          (λ some. inr (asked_placed s servers servers' pool pool' design (documents_since (picture_for design pictures).seq history) place result
+          (subst (λ (n : ℕ). HasAskedFor s servers servers' pool pool' design (documents_since n history) result) seq_is some)))
           either
+
+      asked_some : (((servers' ≡ servers) × (pool' ≡ pool)) × IsIdleEnd result) ⊎ ((documents : List (List (List ℕ × Json))) × HasAskedFor s servers servers' pool pool' design documents result)
+          → (IsIdle f s docs design given left × IsIdleEnd (placed place result)) ⊎ ((documents : List (List (List ℕ × Json))) × HasAsked f s docs design given left documents (placed place result))
+      asked_some (inl idle) = inl (idle.0, idle_placed place result idle.1)
+      asked_some (inr some) = inr (some.0, asked_placed s servers servers' pool pool' design some.0 place result some.1)
 
       -- what is known once it is open is known before
       known_before : (history : List Write) (pictures : Pictures) (N : Type 0) → IfTold (f.disk mid) (λ d. IsThere history pictures d → N) → IfTold (f.disk folder) (λ d. IsReached docs groups design history pictures d.now → N)
       known_before history pictures N after = told_never {X = Unit {0}} (f.disk folder) (f.disk mid) (λ d. IsReached docs groups design history pictures d.now) (λ u a b. IsBegun history pictures a b) (λ u d. IsThere history pictures d) N
           (λ a b u first. first.1.ended) (λ u. after)
           (λ reached. told_map (f.disk folder) (f.disk mid) (IsBegun history pictures) (λ a b. (u : Unit {0}) × IsBegun history pictures a b) (λ a b first. (tt, first)) (begun history pictures reached))
+
+      -- the documents' files stay as it is opened
+      documents_kept : Tells (f.disk folder) (f.disk mid) (λ a b. (n : FileName) → n.stem ≡ DocsStem → b.now n ≡ a.now n)
+      documents_kept = told_map (f.disk folder) (f.disk mid) (Moves (IsFileOf (View (sig_of design))) (λ image. Unit {0}) (λ files. Unit {0})) (λ a b. (n : FileName) → n.stem ≡ DocsStem → b.now n ≡ a.now n)
+          (λ a b moved n of_docs. moved.others n (λ of_view. let no : ⊥ = cc in no)) opens.others
+
+      read_before : (history : List Write) → IfTold (f.disk mid) (λ d. AreDocumentsAt docs d.now history → (name : FileName) (k : ℕ) → result ≢ Err (OfDocuments (Damaged name k)))
+          → IfTold (f.disk folder) (λ d. AreDocumentsAt docs d.now history → (name : FileName) (k : ℕ) → placed place result ≢ Err (OfDocuments (Damaged name k)))
+      read_before history after = told_back (f.disk folder) (f.disk mid) (λ d. AreDocumentsAt docs d.now history → (name : FileName) (k : ℕ) → placed place result ≢ Err (OfDocuments (Damaged name k)))
+          (λ d. AreDocumentsAt docs d.now history → (name : FileName) (k : ℕ) → result ≢ Err (OfDocuments (Damaged name k))) (λ a b. (n : FileName) → n.stem ≡ DocsStem → b.now n ≡ a.now n)
+          (λ a b same never here name k is. never (documents_still docs a.now b.now history same here) name k (unplaced place result (OfDocuments (Damaged name k)) is)) documents_kept after
+
+      found_before : IfTold (f.disk mid) (λ d. AreLoaded docs d.now → (name : FileName) (k : ℕ) → result ≡ Err (OfDocuments (Damaged name k)) → IsBodyDamaged docs d.now name k) → IfTold (f.disk folder) (λ d. FindsBody d.now (placed place result))
+      found_before after = told_back (f.disk folder) (f.disk mid) (λ d. FindsBody d.now (placed place result))
+          (λ d. AreLoaded docs d.now → (name : FileName) (k : ℕ) → result ≡ Err (OfDocuments (Damaged name k)) → IsBodyDamaged docs d.now name k) (λ a b. (n : FileName) → n.stem ≡ DocsStem → b.now n ≡ a.now n)
+          (λ a b same found own loaded name k is.
+          body_before docs a.now b.now name k same own (found (loaded_still docs a.now b.now same own loaded) name k (unplaced place result (OfDocuments (Damaged name k)) is))) documents_kept after
 
       abbrev Opened : Disk FileName → Disk FileName → Type 0
       Opened a b = Moves (IsFileOf (View (sig_of design))) (λ image. Unit {0}) (λ files. Unit {0}) a b × AreOpen mid_groups b.now
@@ -391,8 +510,15 @@ module _ {F C : Type 0} (f : Folders F) (s : Servers C) (docs : Docs) (design : 
       brought = record {
         stands = stands;
         asks = λ history pictures. known_before history pictures _ (told_now (f.disk mid) _ _ (λ d asks known. asked history pictures d.now known.1 (asks known.0)) (at.updates.asks history));
-        sound = λ history pictures. told_now (f.disk folder) _ _ (λ d never reached name k. (λ is. never reached name k (unplaced place result (OfDocuments (Damaged name k)) is), λ is. at.updates.whole name k (unplaced place result (OfIndex (fault_of.Store (Damaged name k))) is)))
+        asked = asked_some at.updates.asked;
+        sound = λ history pictures. told_now (f.disk folder) _ _ (λ d never reached shaped name k. (λ is. never reached name k (unplaced place result (OfDocuments (Damaged name k)) is), λ is. at.updates.whole name k (unplaced place result (OfIndex (fault_of.Store (Damaged name k))) is)))
             (known_before history pictures ((name : FileName) (k : ℕ) → result ≢ Err (OfDocuments (Damaged name k))) (told_now (f.disk mid) _ _ (λ d never known. never known.0) (at.updates.sound history)));
+        read = λ history. read_before history (at.updates.sound history);
+        file = file_placed place result at.updates.file;
+        full = λ name size is. at.updates.full name size (unplaced place result (OfIndex (fault_of.Store (Full name size))) is) ∙ at.there.named;
+        spoiled = told_all (f.disk folder) (λ d. (name : FileName) (k : ℕ) → placed place result ≡ Err (OfIndex (fault_of.Store (Damaged name k))) → IsSpoiled d.now name k)
+            (λ d name k is. absurd (at.updates.whole name k (unplaced place result (OfIndex (fault_of.Store (Damaged name k))) is)));
+        body = found_before at.updates.damaged;
         others = others_stay;
         place = place_is result;
         cause = rising result at.updates.cause;

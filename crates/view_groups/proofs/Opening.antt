@@ -1,8 +1,8 @@
 -- The index of a signature is opened among the others.
-use Rattle.std.specs.Prelude.{◌≡◌, ◌≢◌, ◌⊎◌, ℕ, List, [], ◌∷◌, ◌++◌, length, Option, Some, None, Result, Ok, Err, IfOk, All, Contains, slice_get, refl}
+use Rattle.std.specs.Prelude.{◌≡◌, ◌≢◌, ◌⊎◌, ℕ, List, [], ◌∷◌, ◌++◌, length, true, false, Option, Some, None, Result, Ok, Err, IfOk, All, Contains, slice_get, refl}
 use Rattle.std.proofs.Common.{ap, sym, ◌∙◌, subst, inl, inr, ⊎_elim, arith}
 use Rattle.std.proofs.lemmas.List.{get_or_push, length_push}
-use Rattle.std.proofs.lemmas.List.Elements.{All-contains_itself, All-push, All-same}
+use Rattle.std.proofs.lemmas.List.Elements.{All-cons, All-contains_itself, All-head, All-nil, All-push, All-same, All-tail}
 use Rattle.std.proofs.lemmas.Option.{slice_get-get_or}
 use Rattle.view_ports.specs.Disk.{Disk, IfTold, Moves, Tells}
 use Rattle.view_ports.specs.File.{File}
@@ -11,42 +11,33 @@ use Rattle.view_ports.specs.declared.file_name.Stem.{Stem}
 use Rattle.view_ports.specs.declared.file_name.Stem.TheVariants.{View}
 use Rattle.view_ports.specs.declared.folder.Folder.{Ghosts as Folders}
 use Rattle.view_ports.proofs.DiskRuns.{moves_none, moves_wider}
-use Rattle.view_ports.proofs.Told.{told_after, told_all, told_both, told_given, told_map, told_now, told_refl, told_still}
+use Rattle.view_ports.proofs.Told.{told_after, told_all, told_both, told_map, told_now, told_refl, told_still}
 use Rattle.gate_file.specs.declared.fault.GateFault.TheVariants.{Damaged}
 use Rattle.gate_file.specs.declared.root.Root.{Root}
+use Rattle.gate_file.specs.GateFile.{name_of, root_of}
+use Rattle.gate_file.specs.Open.{opened, side_of, slots_of}
+use Rattle.gate_file.specs.RootPlace.{IsPlaceOf}
 use Rattle.gate_file.proofs.Published.{open_holds}
 use Rattle.gate_file.proofs.Stretches.{told_end}
+use Rattle.gate_file.proofs.Taken.{is_of_pair}
 use Rattle.view_model.specs.Picture.{Picture}
 use Rattle.view_index.specs.declared.fault.IndexFault.{IndexFault}
 use Rattle.view_index.specs.declared.fault.IndexFault.TheVariants.{NoMemory, Store, Summer}
 use Rattle.view_index.specs.declared.index.Index.{Index}
 use Rattle.view_index.specs.Calls.{stem_of, IsAt, IsOpen}
-use Rattle.view_index.specs.Held.{or_empty, up_to, HoldsIndex, HoldsPicture, IsFileOf, Stands}
+use Rattle.view_index.specs.Held.{up_to, HoldsIndex, HoldsPicture, IsDamagedAt, IsFileOf, Stands}
 use Rattle.view_index.specs.Index.{file_of, views_of}
 use Rattle.view_index.specs.Opens.{FindsDamage, IsFound, IsOpenFault, Opens}
 use Rattle.view_index.proofs.Carried.{picture_of_root}
 use Rattle.view_index.proofs.Emptying.{up_to_kept}
+use Rattle.view_index.proofs.Loaded.{holds_views}
 use Rattle.view_groups.specs.declared.groups.Groups.{Groups}
 use Rattle.view_groups.specs.Groups.{open_of, AreAt, AreOpen, IsClosed, IsGroup}
-use Rattle.view_groups.specs.Openings.{EndsOpen, IsFit, OpensGroup}
-use Rattle.view_groups.specs.Pictures.{Pictures}
+use Rattle.view_groups.specs.Openings.{EndsOpen, IsFit, IsWithin, OpensGroup}
+use Rattle.view_groups.specs.Pictures.{Pictures, StandsOf}
 use Rattle.view_groups.proofs.Closing.{closed_at, closed_each, closed_open, set_held, unset}
 use Rattle.view_groups.proofs.Standing.{settled_stand}
-
--- ---- the number of views
-
-other_views : (few views : ℕ) (root : Option Root) (bytes : List ℕ) (picture : Option Picture) → length (or_empty views picture).rows ≡ views → HoldsPicture few root bytes picture → HoldsPicture views root bytes picture
-other_views few views None bytes None shaped holds = tt
-other_views few views None bytes (Some picture) shaped holds = absurd holds
-other_views few views (Some root) bytes None shaped holds = absurd holds
-other_views few views (Some root) bytes (Some picture) shaped holds = subst (λ n. HoldsPicture n (Some root) bytes (Some picture)) (sym (holds.0).content.number ∙ shaped) holds
-
--- a picture tells of how many views it is, and none is of any number
-pub holds_views : (stem : Stem) (few views : ℕ) (files : FileName → File) (picture : Option Picture) → length (or_empty views picture).rows ≡ views → HoldsIndex stem few files picture → HoldsIndex stem views files picture
-holds_views stem few views files picture shaped holds = record {
-  whole = holds.whole;
-  stands = record { fit = holds.stands.fit; apart = holds.stands.apart; stands = other_views few views _ _ picture shaped holds.stands.stands };
-}
+use Rattle.view_groups.proofs.Telling.{told_from}
 
 -- the files of an index that is at a picture hold it
 pub at_holds : (own : List ℕ) (views : ℕ) (index : Index) (files : FileName → File) (picture : Option Picture) → stem_of index ≡ View own → views_of index ≡ views → IsAt index files picture → HoldsIndex (View own) views files picture
@@ -54,15 +45,44 @@ at_holds own views index files picture named number at =
     subst (λ (s : Stem). HoldsIndex s views files picture) named
     (subst (λ (n : ℕ). HoldsIndex (stem_of index) n files picture) number (open_holds (stem_of index) (file_of index) files at.is_open (HoldsPicture (views_of index)) (picture_of_root (views_of index)) picture at.holds))
 
+-- what is damaged of an index is one of its files
+pub damaged_of : (stem : Stem) (views : ℕ) (files : FileName → File) (name : FileName) (at : ℕ) → IsDamagedAt stem views files name at → IsFileOf stem name
+damaged_of stem views files name at (inl slot) =
+    let P : FileName × ℕ → Type 0 = λ place. IsFileOf stem place.0 in
+    let last = All-cons P (side_of stem true, 4096) [] refl (All-nil P) in
+    let third = All-cons P (side_of stem true, 0) ((side_of stem true, 4096) ∷ []) refl last in
+    let second = All-cons P (side_of stem false, 4096) ((side_of stem true, 0) ∷ (side_of stem true, 4096) ∷ []) refl third in
+    let slots : All P (slots_of stem) = All-cons P (side_of stem false, 0) ((side_of stem false, 4096) ∷ (side_of stem true, 0) ∷ (side_of stem true, 4096) ∷ []) refl second in
+    All-at P slot.before (name, at) slot.after (subst (All P) slot.split slots)
+  where
+    All-at : (P : FileName × ℕ → Type 0) (before : List (FileName × ℕ)) (place : FileName × ℕ) (after : List (FileName × ℕ)) → All P (before ++ place ∷ after) → P place
+    All-at P [] place after all = All-head P place after all
+    All-at P (x ∷ xs) place after all = All-at P xs place after (All-tail P x (xs ++ place ∷ after) all)
+damaged_of stem views files name at (inr damage) = of_root (root_of (opened stem files)) (damage.1).place
+  where
+    of_root : (root : Option Root) → IsPlaceOf root (name_of (opened stem files)) name at → IsFileOf stem name
+    of_root None place = absurd place
+    of_root (Some root) place = ap (λ (n : FileName). n.stem) place.0 ∙ is_of_pair stem (λ n. (files n).seen)
+
+abbrev placed : ℕ → Result ℕ IndexFault
+placed place = Ok place
+
+abbrev unplaced : IndexFault → Result ℕ IndexFault
+unplaced fault = Err fault
+
+abbrev unopened : IndexFault → Result Index IndexFault
+unopened fault = Err fault
+
 module _ {F : Type 0} (f : Folders F) (own : List ℕ) (views newest : ℕ) where
   -- ---- it was open
 
   pub already : (groups : Groups) (folder : F) (place : ℕ) (index : Index) → IsGroup groups place own views index → OpensGroup own views newest f groups groups folder folder (Ok place)
   already groups folder place index group = record {
     stands = λ pictures known. told_still (f.disk folder) _ _
-        (λ d k. let here = k.0.held own in moves_none (IsFileOf (View own)) (λ image. Stands (View own) views image (pictures own)) (EndsOpen own views newest groups pictures (Ok place)) d
-        (λ image is. settled_stand own views d.now image (pictures own) (holds_views (View own) here.0 views d.now (pictures own) k.1.shaped here.1) (λ n of_pair. is n)) k.0) known;
+        (λ d k. let here = k.0.held own in moves_none (IsFileOf (View own)) (λ image. StandsOf own image (pictures own)) (EndsOpen own views newest groups pictures (Ok place)) d
+        (λ image is. (here.0, settled_stand own here.0 d.now image (pictures own) here.1 (λ n of_pair. is n))) k.0) known;
     sound = λ pictures. told_all (f.disk folder) _ (λ d known name at failed. cc);
+    damaged = told_all (f.disk folder) (λ d. FindsDamage (IsDamagedAt (View own) views d.now) (placed place)) (λ d name at failed. let no : ⊥ = cc in absurd no);
     others = told_refl (f.disk folder) _ (λ d. moves_none (IsFileOf (View own)) (λ image. Unit {0}) (λ files. Unit {0}) d (λ image is. tt) tt);
     is_open = λ are. are;
     place = (index, group);
@@ -74,12 +94,13 @@ module _ {F : Type 0} (f : Folders F) (own : List ℕ) (views newest : ℕ) wher
 
   pub after_close : (groups mid groups' : Groups) (old new : F) (result : Result ℕ IndexFault) → IsClosed (View own) groups mid → OpensGroup own views newest f mid groups' old new result → OpensGroup own views newest f groups groups' old new result
   after_close groups mid groups' old new result closed opens =
-      let still : (pictures : Pictures) (d : Disk FileName) → AreAt groups d.now pictures × IsFit own views newest pictures → AreAt mid d.now pictures × IsFit own views newest pictures = λ pictures d known.
-      let here = known.0.held own in
-      (closed_at own d.now pictures pictures (pictures own) (unset own pictures) d.now (λ n other. refl) groups mid closed here.0 known.0 here.1, known.1) in
+      let still : (pictures : Pictures) (d : Disk FileName) → AreAt groups d.now pictures → AreAt mid d.now pictures = λ pictures d at.
+      let here = at.held own in
+      closed_at own d.now pictures pictures (pictures own) (unset own pictures) d.now (λ n other. refl) groups mid closed here.0 at here.1 in
       record {
-        stands = λ pictures known. opens.stands pictures (told_now (f.disk old) _ _ (λ d k. still pictures d k) known);
-        sound = λ pictures. told_now (f.disk old) _ _ (λ d never known. never (still pictures d known)) (opens.sound pictures);
+        stands = λ pictures known. opens.stands pictures (told_now (f.disk old) _ _ (λ d k. (still pictures d k.0, k.1)) known);
+        sound = λ pictures. told_now (f.disk old) _ _ (λ d never known. never (still pictures d known.0, known.1)) (opens.sound pictures);
+        damaged = opens.damaged;
         others = opens.others;
         is_open = λ are. opens.is_open (told_now (f.disk old) _ _ (λ d here. closed_open own d.now d.now (λ n other. refl) groups mid closed here) are);
         place = opens.place;
@@ -91,7 +112,7 @@ module _ {F : Type 0} (f : Folders F) (own : List ℕ) (views newest : ℕ) wher
 
   module _ (groups : Groups) (none : All (λ index. stem_of index ≢ View own) (open_of groups)) (old new : F) where
     abbrev Known : Pictures → Disk FileName → Type 0
-    Known pictures d = AreAt groups d.now pictures × IsFit own views newest pictures
+    Known pictures d = AreAt groups d.now pictures × IsWithin own views newest pictures
 
     closed_by : (groups' : Groups) → open_of groups' ≡ open_of groups → IsClosed (View own) groups groups'
     closed_by groups' same = record {
@@ -100,50 +121,65 @@ module _ {F : Type 0} (f : Folders F) (own : List ℕ) (views newest : ℕ) wher
     }
 
     module _ (opened : Result Index IndexFault) (opens : Opens f (View own) views newest old new opened) where
-      holds : (pictures : Pictures) → IfTold (f.disk old) (Known pictures) → IfTold (f.disk old) (λ d. HoldsIndex (View own) views d.now (pictures own))
-      holds pictures known = told_now (f.disk old) (Known pictures) _ (λ d k. let here = k.0.held own in holds_views (View own) here.0 views d.now (pictures own) k.1.shaped here.1) known
+      -- where the files held the picture of so many views
+      abbrev Around : ℕ → Pictures → Disk FileName → Disk FileName → Type 0
+      Around held pictures a b = Moves (IsFileOf (View own)) (λ image. Stands (View own) held image (pictures own) ⊎ Stands (View own) held image (up_to newest (pictures own)))
+          (λ files. IfOk opened (λ index. IsAt index files (up_to newest (pictures own)))) a b
 
       abbrev IsMoved : Pictures → Disk FileName → Disk FileName → Type 0
-      IsMoved pictures a b = Known pictures a × Moves (IsFileOf (View own)) (λ image. Stands (View own) views image (pictures own)) (λ files. IfOk opened (λ index. IsAt index files (pictures own))) a b
+      IsMoved pictures a b = Known pictures a × Moves (IsFileOf (View own)) (λ image. StandsOf own image (pictures own)) (λ files. IfOk opened (λ index. IsAt index files (pictures own))) a b
+
+      narrowed : (held : ℕ) (pictures : Pictures) (a b : Disk FileName) → Known pictures a → Around held pictures a b → IsMoved pictures a b
+      narrowed held pictures a b known moves =
+          let kept = up_to_kept views newest (pictures own) known.1 in (
+            known,
+            moves_wider (IsFileOf (View own)) (IsFileOf (View own)) (λ image. Stands (View own) held image (pictures own) ⊎ Stands (View own) held image (up_to newest (pictures own))) (λ image. StandsOf own image (pictures own))
+                (λ files. IfOk opened (λ index. IsAt index files (up_to newest (pictures own)))) (λ files. IfOk opened (λ index. IsAt index files (pictures own))) a b (λ n is. is)
+                (λ image framed. (held, ⊎_elim (λ stands. stands) (λ stands. subst (λ p. Stands (View own) held image p) kept stands) framed.inside))
+                (λ others ended. subst (λ (p : Option Picture). IfOk opened (λ index. IsAt index b.now p)) kept ended) moves,
+          )
 
       moved : (pictures : Pictures) → IfTold (f.disk old) (Known pictures) → Tells (f.disk old) (f.disk new) (IsMoved pictures)
-      moved pictures known = told_given (f.disk old) (f.disk new) (Known pictures) _ (IsMoved pictures)
-          (λ a b k moves.
-          let kept = up_to_kept views newest (pictures own) k.1.within in (
-            k,
-            moves_wider (IsFileOf (View own)) (IsFileOf (View own)) (λ image. Stands (View own) views image (pictures own) ⊎ Stands (View own) views image (up_to newest (pictures own))) (λ image. Stands (View own) views image (pictures own))
-                (λ files. IfOk opened (λ index. IsAt index files (up_to newest (pictures own)))) (λ files. IfOk opened (λ index. IsAt index files (pictures own))) a b (λ n is. is)
-                (λ image framed. ⊎_elim (λ stands. stands) (λ stands. subst (λ p. Stands (View own) views image p) kept stands) framed.inside)
-                (λ others ended. subst (λ (p : Option Picture). IfOk opened (λ index. IsAt index b.now p)) kept ended) moves,
-          ))
-          known (opens.stands (pictures own) (holds pictures known))
+      moved pictures known = told_from (f.disk old) (f.disk new) (Known pictures) (λ held d. HoldsIndex (View own) held d.now (pictures own)) (λ held. Around held pictures) (IsMoved pictures) _
+          (λ a k. k.0.held own) (λ held holds. opens.stands held (pictures own) holds) (λ a b held k holds moves. narrowed held pictures a b k moves) opens.others known
 
-      sound_for : (pictures : Pictures) → IfTold (f.disk old) (λ d. Known pictures d → FindsDamage (λ name at. ⊥) opened)
+      sound_for : (pictures : Pictures) → IfTold (f.disk old) (λ d. AreAt groups d.now pictures × IsFit own views newest pictures → FindsDamage (λ name at. ⊥) opened)
       sound_for pictures = told_now (f.disk old) _ _ (λ d never known. let here = known.0.held own in never (holds_views (View own) here.0 views d.now (pictures own) known.1.shaped here.1)) (opens.sound (pictures own))
 
     module _ (fault : IndexFault) (opens : Opens f (View own) views newest old new (Err fault)) where
       -- after a refusal
       ends_refused : (pictures : Pictures) (reason : IndexFault) → IsOpenFault reason → (a b : Disk FileName) → IsMoved (Err fault) opens pictures a b
-          → (reason ≡ NoMemory → HoldsIndex (View own) views b.now (pictures own) ⊎ HoldsIndex (View own) views b.now (up_to newest (pictures own))) → EndsOpen own views newest groups pictures (Err reason) b.now
+          → (reason ≡ NoMemory → (held : ℕ) × HoldsIndex (View own) held b.now (pictures own)) → EndsOpen own views newest groups pictures (Err reason) b.now
       ends_refused pictures (Store gate) faults a b moves wanting = tt
       ends_refused pictures (Summer pool) faults a b moves wanting = absurd (⊎_elim (λ disk. let no : ⊥ = cc in no) (λ rest. ⊎_elim (λ want. let no : ⊥ = cc in no) (λ damage. let was = damage.2 in let no : ⊥ = cc in no) rest) faults)
       ends_refused pictures NoMemory faults a b moves wanting =
-          let kept = up_to_kept views newest (pictures own) moves.0.1.within in
-          let here : HoldsIndex (View own) views b.now (pictures own) = ⊎_elim (λ is. is) (λ is. subst (λ p. HoldsIndex (View own) views b.now p) kept is) (wanting refl) in
-          closed_at own a.now pictures pictures (pictures own) (unset own pictures) b.now moves.1.others groups groups (closed_by groups refl) views moves.0.0 here
+          let here = wanting refl in
+          closed_at own a.now pictures pictures (pictures own) (unset own pictures) b.now moves.1.others groups groups (closed_by groups refl) here.0 moves.0.0 here.1
 
-      wanted : (pictures : Pictures) (reason : IndexFault) → fault ≡ reason → IfTold (f.disk old) (Known pictures)
-          → IfTold (f.disk new) (λ d. reason ≡ NoMemory → HoldsIndex (View own) views d.now (pictures own) ⊎ HoldsIndex (View own) views d.now (up_to newest (pictures own)))
-      wanted pictures NoMemory is known = told_now (f.disk new) _ _ (λ d here same. here) (opens.wanting (pictures own) (holds (Err fault) opens pictures known) (ap (λ e. Err e) is))
-      wanted pictures (Store gate) is known = told_all (f.disk new) _ (λ d same. let no : ⊥ = cc in absurd no)
-      wanted pictures (Summer pool) is known = told_all (f.disk new) _ (λ d same. let no : ⊥ = cc in absurd no)
+      wanted : (held : ℕ) (pictures : Pictures) (reason : IndexFault) → fault ≡ reason → IfTold (f.disk old) (λ d. HoldsIndex (View own) held d.now (pictures own))
+          → IfTold (f.disk new) (λ d. reason ≡ NoMemory → HoldsIndex (View own) held d.now (pictures own) ⊎ HoldsIndex (View own) held d.now (up_to newest (pictures own)))
+      wanted held pictures NoMemory is holds = told_now (f.disk new) _ _ (λ d here same. here) (opens.wanting held (pictures own) holds (ap (λ e. Err e) is))
+      wanted held pictures (Store gate) is holds = told_all (f.disk new) _ (λ d same. let no : ⊥ = cc in absurd no)
+      wanted held pictures (Summer pool) is holds = told_all (f.disk new) _ (λ d same. let no : ⊥ = cc in absurd no)
+
+      -- want of memory leaves the picture
+      left : (pictures : Pictures) → IfTold (f.disk old) (Known pictures) → Tells (f.disk old) (f.disk new) (λ a b. fault ≡ NoMemory → (held : ℕ) × HoldsIndex (View own) held b.now (pictures own))
+      left pictures known = told_from (f.disk old) (f.disk new) (Known pictures) (λ held d. HoldsIndex (View own) held d.now (pictures own))
+          (λ held a b. Moves (IsFileOf (View own)) (λ image. Unit {0}) (λ files. Unit {0}) a b × (fault ≡ NoMemory → HoldsIndex (View own) held b.now (pictures own) ⊎ HoldsIndex (View own) held b.now (up_to newest (pictures own))))
+          _ _ (λ a k. k.0.held own) (λ held holds. told_end (f.disk old) (f.disk new) _ _ opens.others (wanted held pictures fault refl holds))
+          (λ a b held k holds told want.
+          let kept = up_to_kept views newest (pictures own) k.1 in
+          (held, ⊎_elim (λ is. is) (λ is. subst (λ p. HoldsIndex (View own) held b.now p) kept is) (told.1 want)))
+          opens.others known
 
       pub refused_open : OpensGroup own views newest f groups groups old new (Err fault)
       refused_open = record {
-        stands = λ pictures known. told_map (f.disk old) (f.disk new) _ _
-            (λ a b told. record { moments = told.0.1.moments; others = told.0.1.others; ended = ends_refused pictures fault opens.faults a b told.0 told.1 })
-            (told_end (f.disk old) (f.disk new) (IsMoved (Err fault) opens pictures) _ (moved (Err fault) opens pictures known) (wanted pictures fault refl known));
+        stands = λ pictures known. told_both (f.disk old) (f.disk new) (IsMoved (Err fault) opens pictures) (λ a b. fault ≡ NoMemory → (held : ℕ) × HoldsIndex (View own) held b.now (pictures own)) _
+            (λ a b moves want. record { moments = moves.1.moments; others = moves.1.others; ended = ends_refused pictures fault opens.faults a b moves want })
+            (moved (Err fault) opens pictures known) (left pictures known);
         sound = λ pictures. told_now (f.disk old) _ _ (λ d never known name at failed. never known name at (let same : fault ≡ Store (Damaged name at) = cc in ap (λ e. Err e) same)) (sound_for (Err fault) opens pictures);
+        damaged = told_now (f.disk old) (λ d. FindsDamage (IsDamagedAt (View own) views d.now) (unopened fault)) (λ d. FindsDamage (IsDamagedAt (View own) views d.now) (unplaced fault))
+            (λ d found name at failed. found name at (ap unopened (let same : fault ≡ Store (Damaged name at) = cc in same))) opens.damaged;
         others = opens.others;
         is_open = λ are. told_after (f.disk old) (f.disk new) _ (λ d. AreOpen groups d.now) _ (λ a b here moves. closed_open own a.now b.now moves.others groups groups (closed_by groups refl) here) are opens.others;
         place = tt;
@@ -164,6 +200,7 @@ module _ {F : Type 0} (f : Folders F) (own : List ℕ) (views newest : ℕ) wher
             })
             (moved (Ok index) opens pictures known);
         sound = λ pictures. told_all (f.disk old) _ (λ d known name at failed. cc);
+        damaged = told_all (f.disk old) (λ d. FindsDamage (IsDamagedAt (View own) views d.now) (unplaced NoMemory)) (λ d name at failed. let no : ⊥ = cc in absurd no);
         others = opens.others;
         is_open = λ are. told_after (f.disk old) (f.disk new) _ (λ d. AreOpen groups' d.now) _ (λ a b here moves. closed_open own a.now b.now moves.others groups groups' (closed_by groups' same) here) are opens.others;
         place = tt;
@@ -194,6 +231,7 @@ module _ {F : Type 0} (f : Folders F) (own : List ℕ) (views newest : ℕ) wher
             })
             (moved (Ok index) opens pictures known);
         sound = λ pictures. told_all (f.disk old) _ (λ d known name at failed. cc);
+        damaged = told_all (f.disk old) (λ d. FindsDamage (IsDamagedAt (View own) views d.now) (placed place)) (λ d name at failed. let no : ⊥ = cc in absurd no);
         others = opens.others;
         is_open = λ are. told_after (f.disk old) (f.disk new) (λ d. AreOpen groups d.now) (λ d. AreOpen groups' d.now)
             (λ a b. Moves (IsFileOf (View own)) (λ image. Unit {0}) (λ files. Unit {0}) a b × IsFound (View own) views newest a.now b.now index)

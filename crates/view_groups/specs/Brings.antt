@@ -1,31 +1,32 @@
 -- Bringing the index of a design up to date, which is opened where it isn't open yet.
 use Rattle.std.specs.Prelude.{◌≡◌, ◌≢◌, ◌⊎◌, ◌≤◌, ℕ, List, length, Result, Ok, Err, IfErr, IfOk, OnOk, Option, Some, None}
+use Rattle.json_terms.specs.Json.{Json}
 use Rattle.view_ports.specs.Calls.{Call}
 use Rattle.view_ports.specs.Disk.{IfTold, Moves, Tells}
 use Rattle.view_ports.specs.Faults.{Rose, RoseBy}
 use Rattle.view_ports.specs.File.{File}
-use Rattle.view_ports.specs.Functions.{source_limit}
 use Rattle.view_ports.specs.declared.file_name.FileName.{FileName}
 use Rattle.view_ports.specs.declared.file_name.Stem.TheVariants.{View}
 use Rattle.view_ports.specs.declared.folder.Folder.{Ghosts as Folders}
 use Rattle.view_ports.specs.declared.servers.Servers.{Ghosts as Servers}
-use Rattle.gate_file.specs.declared.fault.GateFault.TheVariants.{DiskFault, Damaged}
+use Rattle.gate_file.specs.declared.fault.GateFault.TheVariants.{DiskFault, Damaged, Full, NoMemory}
+use Rattle.gate_file.specs.GateFile.{name_of}
 use Rattle.design_docs.specs.declared.design.Design.{Design}
 use Rattle.doc_file.specs.declared.docs.Docs.{Docs}
+use Rattle.doc_file.specs.Docs.{file_of, IsAt as AreDocumentsAt, IsDocsFile, IsLoaded as AreLoaded}
 use Rattle.doc_file.specs.History.{Write}
 use Rattle.child_pool.specs.declared.pool.Pool.{Pool}
 use Rattle.child_pool.specs.declared.pool_fault.PoolFault.TheVariants.{ServerFault, UnknownLanguage}
 use Rattle.child_pool.specs.PoolCalls.{path_for, StaysAsMade}
 use Rattle.child_pool.specs.Pools.{HasItsChildren}
 use Rattle.view_model.specs.Picture.{Picture}
-use Rattle.view_model.specs.Update.{IsUpdated}
 use Rattle.view_index.specs.declared.fault.IndexFault.TheVariants.{Store}
 use Rattle.view_index.specs.declared.index.Index.{Index}
-use Rattle.view_index.specs.Held.{or_empty, IsFileOf}
+use Rattle.view_index.specs.Held.{or_empty, IsDamagedAt, IsFileOf}
 use Rattle.view_index.specs.Index.{picture_of}
 use Rattle.view_updater.specs.declared.fault.UpdateFault.{UpdateFault}
 use Rattle.view_updater.specs.declared.fault.UpdateFault.TheVariants.{Docs as OfDocuments, Index as OfIndex, Pool as OfPool}
-use Rattle.view_updater.specs.Updates.{HasAskedFor, IsLost, IsOfIndex}
+use Rattle.view_updater.specs.Updates.{documents_since, HasAskedFor, IsBodyDamaged, IsFileFault, IsIdleEnd, IsLost, IsMade, IsOfIndex}
 use Rattle.view_groups.specs.declared.groups.Groups.{Groups}
 use Rattle.view_groups.specs.Groups.{AreAt, AreOpen, IsGroup}
 use Rattle.view_groups.specs.Pictures.{Pictures}
@@ -41,12 +42,19 @@ pub record Side (F C : Type 0) : Type 0 where
 abbrev pub side : {F C : Type 0} → F → C → Pool → Groups → Side F C
 side folder servers pool groups = record { folder = folder; servers = servers; pool = pool; groups = groups }
 
+-- a fault of the index is one of its file: the disk failed, the file is full, or it is damaged as it is opened; all else is as an update
+-- has it
+abbrev pub IsGroupFault : UpdateFault → Type 0
+IsGroupFault (OfIndex (Store NoMemory)) = ⊥
+IsGroupFault (OfIndex (Store other)) = Unit {0}
+IsGroupFault (OfIndex other) = ⊥
+IsGroupFault other = IsFileFault other
+
 module _ {F C : Type 0} (f : Folders F) (s : Servers C) (docs : Docs) (design : Design) (old new : Side F C) where
-  -- a picture that the update makes: over each list of calls that may have been made, of the path of the design's language; its rows
-  -- are those of an honest path where there are no more views than a design document may have
+  -- a picture that the update makes: over each list of calls that may have been made, of the path of the design's language
   abbrev pub IsNext : List Write → Pictures → Picture → Type 0
   IsNext history pictures next = (path : List ℕ) (calls : List Call) → s.may_follow old.servers calls → path_for old.pool design ≡ Some path → HasItsChildren old.pool calls
-      → IsUpdated (s.functions path) (s.honest path × (views_in design ≤ source_limit)) design.views history (picture_for design pictures) next
+      → IsMade s design path history (picture_for design pictures) next
 
   -- the picture that is made is that of the index after Ok, and may be one of no index only where a fault of the index came
   abbrev pub IsMadeBy : Result ℕ UpdateFault → Picture → Type 0
@@ -77,17 +85,33 @@ module _ {F C : Type 0} (f : Folders F) (s : Servers C) (docs : Docs) (design : 
   abbrev pub IsIdle : Type 0
   IsIdle = (new.servers ≡ old.servers) × (new.pool ≡ old.pool)
 
+  -- these documents were asked for
+  abbrev pub HasAsked : List (List (List ℕ × Json)) → Result ℕ UpdateFault → Type 0
+  HasAsked documents result = HasAskedFor s old.servers new.servers old.pool new.pool design documents result
+
   pub record Brings (result : Result ℕ UpdateFault) : Type 0 where
     -- a crash leaves the picture of the design or an updated one; all other files are as they were
     pub stands : (history : List Write) (pictures : Pictures) → IfTold (f.disk old.folder) (λ d. IsReached docs old.groups design history pictures d.now)
         → Tells (f.disk old.folder) (f.disk new.folder) (Moves (IsFileOf (View (sig_of design))) (StandsAround design pictures (MayLeave history pictures result)) (EndsAt history pictures result))
-    -- the documents that were written since the picture are asked for, and no others
+    -- the documents that were written since the picture are asked for, and no others; where there are none that were written, nothing is
     pub asks : (history : List Write) (pictures : Pictures) → IfTold (f.disk old.folder) (λ d. IsReached docs old.groups design history pictures d.now
-        → (IsIdle × OnOk result ((picture_for design pictures).seq ≡ length history))
-        ⊎ HasAskedFor s old.servers new.servers old.pool new.pool design (picture_for design pictures).seq history result)
-    -- nothing is damaged
+        → (IsIdle × (IsIdleEnd result × OnOk result ((picture_for design pictures).seq ≡ length history))) ⊎ HasAsked (documents_since (picture_for design pictures).seq history) result)
+    -- whatever is told, some documents were asked for, all or the first ones, or nothing was
+    pub asked : (IsIdle × IsIdleEnd result) ⊎ ((documents : List (List (List ℕ × Json))) × HasAsked documents result)
+    -- nothing is damaged where the picture of the design has the rows of as many views as the design
     pub sound : (history : List Write) (pictures : Pictures) → IfTold (f.disk old.folder) (λ d. IsReached docs old.groups design history pictures d.now
+        → length (picture_for design pictures).rows ≡ views_in design
         → (name : FileName) (at : ℕ) → (result ≢ Err (OfDocuments (Damaged name at))) × (result ≢ Err (OfIndex (Store (Damaged name at)))))
+    -- nor are the documents over a history, whatever the indexes are
+    pub read : (history : List Write) → IfTold (f.disk old.folder) (λ d. AreDocumentsAt docs d.now history → (name : FileName) (at : ℕ) → result ≢ Err (OfDocuments (Damaged name at)))
+    -- a fault of the index is one of its file: what is full or damaged is a file of the design's index, which is damaged as it is opened;
+    -- a fault of the documents is one of reading them, and where they are loaded what is damaged is the body of a last write
+    pub file : IfErr result IsGroupFault
+    pub full : (name : FileName) (length : Option ℕ) → result ≡ Err (OfIndex (Store (Full name length))) → IsFileOf (View (sig_of design)) name
+    pub spoiled : IfTold (f.disk old.folder) (λ d. (name : FileName) (at : ℕ) → result ≡ Err (OfIndex (Store (Damaged name at)))
+        → IsDamagedAt (View (sig_of design)) (views_in design) d.now name at × IsFileOf (View (sig_of design)) name)
+    pub body : IfTold (f.disk old.folder) (λ d. IsDocsFile (name_of (file_of docs)) → AreLoaded docs d.now
+        → (name : FileName) (at : ℕ) → result ≡ Err (OfDocuments (Damaged name at)) → IsBodyDamaged docs d.now name at)
     -- whatever the files hold: those of other names are as they were, and the open indexes are as the folder has them
     pub others : Tells (f.disk old.folder) (f.disk new.folder) (Moves (IsFileOf (View (sig_of design))) (λ image. Unit {0})
         (λ files. IsLost result ⊎ AreOpen new.groups files))

@@ -9,16 +9,20 @@ use Rattle.view_index.specs.declared.fault.IndexFault.{IndexFault}
 use Rattle.view_index.specs.declared.fault.IndexFault.TheVariants.{Store}
 use Rattle.view_index.specs.declared.index.Index.{Index}
 use Rattle.view_index.specs.Calls.{IsCounted}
-use Rattle.view_index.specs.Held.{or_empty, IsFileOf, Stands}
+use Rattle.view_index.specs.Held.{or_empty, IsDamagedAt, IsFileOf}
 use Rattle.view_index.specs.Opens.{FindsDamage, IsOpenFault}
 use Rattle.view_groups.specs.declared.groups.Groups.{Groups}
 use Rattle.view_groups.specs.Groups.{AreAt, AreOpen, IsGroup}
-use Rattle.view_groups.specs.Pictures.{Pictures}
+use Rattle.view_groups.specs.Pictures.{Pictures, StandsOf}
 
 module _ (own : List ℕ) (views newest : ℕ) where
-  -- the picture of this signature is no newer than the newest write, and has the rows of so many views
+  -- the picture of this signature is no newer than the newest write
+  abbrev pub IsWithin : Pictures → Type 0
+  IsWithin pictures = (or_empty views (pictures own)).seq ≤ newest
+
+  -- and has the rows of so many views
   pub record IsFit (pictures : Pictures) : Type 0 where
-    pub within : (or_empty views (pictures own)).seq ≤ newest
+    pub within : IsWithin pictures
     pub shaped : length (or_empty views (pictures own)).rows ≡ views
 
   -- so it ends: want of memory leaves the pictures too
@@ -29,11 +33,13 @@ module _ (own : List ℕ) (views newest : ℕ) where
 
   module _ {F : Type 0} (f : Folders F) (groups groups' : Groups) (old new : F) where
     pub record OpensGroup (result : Result ℕ IndexFault) : Type 0 where
-      -- a crash leaves the same pictures, and so does the opening
-      pub stands : (pictures : Pictures) → IfTold (f.disk old) (λ d. AreAt groups d.now pictures × IsFit pictures)
-          → Tells (f.disk old) (f.disk new) (Moves (IsFileOf (View own)) (λ image. Stands (View own) views image (pictures own)) (EndsOpen groups' pictures result))
+      -- a crash leaves the same pictures, of whatever number of views that of this signature is, and so does the opening
+      pub stands : (pictures : Pictures) → IfTold (f.disk old) (λ d. AreAt groups d.now pictures × IsWithin pictures)
+          → Tells (f.disk old) (f.disk new) (Moves (IsFileOf (View own)) (λ image. StandsOf own image (pictures own)) (EndsOpen groups' pictures result))
+      -- nothing is damaged where it is of as many as are asked for
       pub sound : (pictures : Pictures) → IfTold (f.disk old) (λ d. AreAt groups d.now pictures × IsFit pictures → FindsDamage (λ name at. ⊥) result)
-      -- whatever the files hold
+      -- whatever the files hold: what is found damaged was so before
+      pub damaged : IfTold (f.disk old) (λ d. FindsDamage (IsDamagedAt (View own) views d.now) result)
       pub others : Tells (f.disk old) (f.disk new) (Moves (IsFileOf (View own)) (λ image. Unit {0}) (λ files. Unit {0}))
       pub is_open : IfTold (f.disk old) (λ d. AreOpen groups d.now) → IfTold (f.disk new) (λ d. AreOpen groups' d.now)
       pub place : IfOk result (λ place. (index : Index) × IsGroup groups' place own views index)

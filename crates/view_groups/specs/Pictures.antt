@@ -10,9 +10,13 @@ use Rattle.view_index.specs.Held.{HoldsIndex, Stands}
 abbrev pub Pictures : Type 0
 Pictures = List ℕ → Option Picture
 
--- an image of the disk stands for these pictures, each of some number of views
+-- an image of the disk stands for this picture of a signature, of some number of views
+abbrev pub StandsOf : List ℕ → (FileName → List ℕ) → Option Picture → Type 0
+StandsOf sig image picture = (views : ℕ) × Stands (View sig) views image picture
+
+-- and for these pictures, each of some number of views
 abbrev pub StandFor : (FileName → List ℕ) → Pictures → Type 0
-StandFor image pictures = (sig : List ℕ) → (views : ℕ) × Stands (View sig) views image (pictures sig)
+StandFor image pictures = (sig : List ℕ) → StandsOf sig image (pictures sig)
 
 -- nothing of the files of indexes is pending, and they hold these pictures
 abbrev pub AreHeld : (FileName → File) → Pictures → Type 0

@@ -13,7 +13,7 @@ use Rattle.view_index.specs.Held.{or_empty, Stands}
 use Rattle.view_signature.specs.Signature.{digest_of}
 use Rattle.view_groups.specs.declared.groups.Groups.{Groups}
 use Rattle.view_groups.specs.Groups.{AreAt}
-use Rattle.view_groups.specs.Pictures.{Pictures}
+use Rattle.view_groups.specs.Pictures.{Pictures, StandsOf}
 
 -- the signature of a design
 abbrev pub sig_of : Design → List ℕ
@@ -27,20 +27,19 @@ views_in design = length design.views
 abbrev pub picture_for : Design → Pictures → Picture
 picture_for design pictures = or_empty (views_in design) (pictures (sig_of design))
 
--- The documents are at a history, the files hold these pictures, and that of the design isn't newer and has the rows of as many
--- views as the design.
+-- The documents are at a history, the files hold these pictures, and that of the design isn't newer.
 pub record IsReached (docs : Docs) (groups : Groups) (design : Design) (history : List Write) (pictures : Pictures) (files : FileName → File) : Type 0 where
   pub documents : AreDocumentsAt docs files history
   pub indexes : AreAt groups files pictures
   pub within : (picture_for design pictures).seq ≤ length history
-  pub shaped : length (picture_for design pictures).rows ≡ views_in design
 
 -- these are the pictures but for the design's, which is this one
 abbrev pub AreSet : Design → Option Picture → Pictures → Pictures → Type 0
 AreSet design next pictures after = (after (sig_of design) ≡ next) × ((sig : List ℕ) → (sig ≡ sig_of design → ⊥) → after sig ≡ pictures sig)
 
--- an image of the files of the design's index stands for its picture, or for one that `IsNext` has
+-- an image of the files of the design's index stands for its picture, of whatever number of views, or for one that `IsNext` has, of as
+-- many as the design
 abbrev pub StandsAround : Design → Pictures → (Picture → Type 0) → (FileName → List ℕ) → Type 0
 StandsAround design pictures IsNext image =
-    Stands (View (sig_of design)) (views_in design) image (pictures (sig_of design))
+    StandsOf (sig_of design) image (pictures (sig_of design))
     ⊎ ((next : Picture) × IsNext next × Stands (View (sig_of design)) (views_in design) image (Some next))

@@ -1,14 +1,14 @@
 -- An index that is emptied, and what it stands for meanwhile.
-use Rattle.std.specs.Prelude.{◌≡◌, ◌≢◌, ◌⊎◌, ◌<◌, ◌≤◌, ℕ, List, [], true, false, nat_le, Option, Some, None, Result, Ok, Err, OnOk, IfOk, if◌then◌else◌, refl}
+use Rattle.std.specs.Prelude.{◌≡◌, ◌≢◌, ◌⊎◌, ◌<◌, ◌≤◌, ℕ, List, [], true, false, length, nat_le, Option, Some, None, Result, Ok, Err, OnOk, IfOk, if◌then◌else◌, refl}
 use Rattle.std.proofs.Common.{ap, sym, ◌∙◌, subst, inl, inr, ⊎_elim, arith}
 use Rattle.std.proofs.lemmas.Bool.Decides.{nat_tests}
-use Rattle.view_ports.specs.Disk.{Disk, Moves, OthersStay, Tells}
+use Rattle.view_ports.specs.Disk.{Disk, IfTold, Moves, OthersStay, Tells}
 use Rattle.view_ports.specs.File.{File, IsImage, settled}
 use Rattle.view_ports.specs.declared.file_name.FileName.{FileName}
 use Rattle.view_ports.specs.declared.file_name.Stem.{Stem}
 use Rattle.view_ports.proofs.DiskRuns.{moves_then, moves_wider}
 use Rattle.view_ports.proofs.Images.{IsImage-settled}
-use Rattle.view_ports.proofs.Told.{told_both, told_map, told_then}
+use Rattle.view_ports.proofs.Told.{told_given, told_map, told_then}
 use Rattle.gate_file.specs.declared.gate.GateFile.{GateFile}
 use Rattle.gate_file.specs.GateFile.{name_of, root_of}
 use Rattle.gate_file.specs.Open.{side_of}
@@ -24,6 +24,7 @@ use Rattle.view_index.specs.Held.{or_empty, up_to, HoldsIndex, HoldsPicture, IsF
 use Rattle.view_index.specs.Index.{file_of, seq_of, views_of}
 use Rattle.view_index.specs.Opens.{IsLoaded, Shows}
 use Rattle.view_index.proofs.Carried.{picture_of_root}
+use Rattle.view_index.proofs.Loaded.{other_views, rows_held}
 
 -- ---- which pictures are kept
 
@@ -99,29 +100,39 @@ module _ {E : Type 0} (stem : Stem) (views newest : ℕ) (index : Index) (named 
       let seq : seq_of index ≡ (or_empty (views_of index) picture).seq = ap (λ (p : Picture). p.seq) at.last in
       up_to_past (views_of index) newest picture (omega (arith, past, seq))
 
-  -- an index that was opened is cleared
-  pub stands_cleared : (old mid new : Option (Disk FileName)) (picture : Option Picture)
-      → Tells old mid (Moves (IsFileOf stem) (λ image. Stands stem views image picture) (λ files. IsAt index files picture)) → Tells old mid (λ a b. IsLoaded stem views a.now b.now index)
-      → Tells mid new (Empties (name_of (file_of index)) result)
-      → Tells old new (Moves (IsFileOf stem) (λ image. Stands stem views image picture ⊎ Stands stem views image (up_to newest picture)) (λ files. OnOk result (HoldsIndex stem views files None) × (up_to newest picture ≡ None)))
-  stands_cleared old mid new picture first loaded second =
-      told_then old mid new
-      (λ a b. Moves (IsFileOf stem) (λ image. Stands stem views image picture) (λ files. IsAt index files picture) a b × IsLoaded stem views a.now b.now index)
-      (Empties (name_of (file_of index)) result)
-      (Moves (IsFileOf stem) (λ image. Stands stem views image picture ⊎ Stands stem views image (up_to newest picture)) (λ files. OnOk result (HoldsIndex stem views files None) × (up_to newest picture ≡ None)))
-      (λ a b d opens clears.
-      let gone = is_past b.now picture opens.0.ended in
-      let moved : Moves (IsFileOf stem) (λ image. Stands stem views image picture ⊎ Stands stem views image None) (λ files. OnOk result (HoldsIndex stem views files None)) b d =
-      subst (λ (s : Stem). Moves (IsFileOf s) (λ image. Stands s views image picture ⊎ Stands s views image None) (λ files. OnOk result (HoldsIndex s views files None)) b d) named
-      (subst (λ n. Moves (IsFileOf (stem_of index)) (λ image. Stands (stem_of index) n image picture ⊎ Stands (stem_of index) n image None) (λ files. OnOk result (HoldsIndex (stem_of index) n files None)) b d) number
-      (clear_moved index b d picture result opens.0.ended clears)) in
-      moves_then (IsFileOf stem) (λ image. Stands stem views image picture) (λ image. Stands stem views image picture ⊎ Stands stem views image None) (λ image. Stands stem views image picture ⊎ Stands stem views image (up_to newest picture))
-      (λ files. IsAt index files picture) (λ files. OnOk result (HoldsIndex stem views files None)) (λ files. OnOk result (HoldsIndex stem views files None) × (up_to newest picture ≡ None)) a b d
-      (λ image stands. inl stands)
-      (λ at image either. ⊎_elim (λ stands. inl stands) (λ none. inr (subst (λ (p : Option Picture). Stands stem views image p) (sym gone) none)) either)
-      (λ at holds. (holds, gone)) opens.0 moved)
-      (told_both old mid (Moves (IsFileOf stem) (λ image. Stands stem views image picture) (λ files. IsAt index files picture)) (λ a b. IsLoaded stem views a.now b.now index) _ (λ a b one other. (one, other)) first loaded)
-      second
+  -- an index that was opened is cleared, of files that held its picture
+  module _ (held : ℕ) (picture : Option Picture) where
+    abbrev Opening : Disk FileName → Disk FileName → Type 0
+    Opening a b = Moves (IsFileOf stem) (λ image. Stands stem held image picture) (λ files. IsAt index files picture) a b
+
+    abbrev Clearing : Disk FileName → Disk FileName → Type 0
+    Clearing a b = Moves (IsFileOf stem) (λ image. Stands stem held image picture ⊎ Stands stem held image None) (λ files. OnOk result (HoldsIndex stem held files None)) a b
+
+    abbrev pub Cleared : Disk FileName → Disk FileName → Type 0
+    Cleared a b = Moves (IsFileOf stem) (λ image. Stands stem held image picture ⊎ Stands stem held image (up_to newest picture))
+        (λ files. OnOk result (HoldsIndex stem held files None) × (up_to newest picture ≡ None)) a b
+
+    clearing : (a b d : Disk FileName) → HoldsIndex stem held a.now picture → IsAt index b.now picture → Empties (name_of (file_of index)) result b d → Clearing b d
+    clearing a b d holds at clears =
+        let shaped : length (or_empty held picture).rows ≡ held = rows_held held _ _ picture holds.stands.stands in
+        subst (λ (s : Stem). Moves (IsFileOf s) (λ image. Stands s held image picture ⊎ Stands s held image None) (λ files. OnOk result (HoldsIndex s held files None)) b d) named
+        (clear_pair (stem_of index) held (file_of index) b d picture result at.is_open (other_views (views_of index) held (root_of (file_of index)) (own_bytes (file_of index) b.now) picture shaped at.holds) clears)
+
+    cleared_then : (a b d : Disk FileName) → Opening a b → Clearing b d → Cleared a d
+    cleared_then a b d opens clears =
+        let gone = is_past b.now picture opens.ended in
+        moves_then (IsFileOf stem) (λ image. Stands stem held image picture) (λ image. Stands stem held image picture ⊎ Stands stem held image None) (λ image. Stands stem held image picture ⊎ Stands stem held image (up_to newest picture))
+        (λ files. IsAt index files picture) (λ files. OnOk result (HoldsIndex stem held files None)) (λ files. OnOk result (HoldsIndex stem held files None) × (up_to newest picture ≡ None)) a b d
+        (λ image stands. inl stands)
+        (λ at image either. ⊎_elim (λ stands. inl stands) (λ none. inr (subst (λ (p : Option Picture). Stands stem held image p) (sym gone) none)) either)
+        (λ at holds. (holds, gone)) opens clears
+
+    pub stands_cleared : (old mid new : Option (Disk FileName)) → IfTold old (λ d. HoldsIndex stem held d.now picture) → Tells old mid Opening → Tells mid new (Empties (name_of (file_of index)) result) → Tells old new Cleared
+    stands_cleared old mid new holds first second =
+        told_then old mid new (λ a b. HoldsIndex stem held a.now picture × Opening a b) (Empties (name_of (file_of index)) result) Cleared
+        (λ a b d opens clears. cleared_then a b d opens.1 (clearing a b d opens.0 opens.1.ended clears))
+        (told_given old mid (λ d. HoldsIndex stem held d.now picture) Opening (λ a b. HoldsIndex stem held a.now picture × Opening a b) (λ a b known opens. (known, opens)) holds first)
+        second
 
   -- it showed a picture past the newest write, and now there is none
   pub record WasPast (old new : FileName → File) : Type 0 where

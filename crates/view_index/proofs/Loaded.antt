@@ -3,13 +3,17 @@ use Rattle.std.specs.Prelude.{◌≡◌, ◌+◌, ℕ, zero, suc, List, [], ◌�
 use Rattle.std.specs.List.{list_all}
 use Rattle.std.proofs.Common.{ap, sym, ◌∙◌, subst, add-one}
 use Rattle.json_terms.specs.declared.term.Row.{Row}
+use Rattle.view_ports.specs.File.{File}
+use Rattle.view_ports.specs.declared.file_name.FileName.{FileName}
+use Rattle.view_ports.specs.declared.file_name.Stem.{Stem}
 use Rattle.gate_file.specs.declared.root.Root.{Root}
 use Rattle.gate_file.specs.Open.{IsPart}
-use Rattle.index_record.specs.Record.{IsOneRecord, IsRecordOf}
+use Rattle.index_record.specs.Record.{IsContent, IsOneRecord, IsRecordOf}
 use Rattle.view_model.specs.Picture.{Picture}
-use Rattle.view_index.specs.Held.{empty_views, HoldsPicture}
+use Rattle.view_index.specs.Held.{empty_views, or_empty, HoldsIndex, HoldsPicture}
 use Rattle.view_index.specs.Loads.{HasLoaded}
 use Rattle.view_index.specs.Rows.{is_row}
+use Rattle.view_index.proofs.Numbers.{same_number}
 use Rattle.view_index.proofs.Pendings.{shown}
 
 -- ---- without rows
@@ -32,9 +36,9 @@ empty_push views = by views ∙ ap empty_views (sym (add-one views))
 pub loaded_none : (views : ℕ) (bytes : List ℕ) (root : Option Root) → root ≡ None → HasLoaded views root bytes 0 (empty_views views)
 loaded_none views bytes root none = subst (λ o. HasLoaded views o bytes 0 (empty_views views)) (sym none) (record { picture = None; holds = tt; only = only; loaded = refl })
   where
-    only : (other : Option Picture) → HoldsPicture views None bytes other → other ≡ None
-    only None holds = refl
-    only (Some other) holds = absurd holds
+    only : (held : ℕ) (other : Option Picture) → HoldsPicture held None bytes other → other ≡ None
+    only held None holds = refl
+    only held (Some other) holds = absurd holds
 
 -- ---- a record
 
@@ -61,8 +65,31 @@ loaded_some views bytes read (Some root) offset size seq rows is spelled one fit
       loaded = refl;
     }
   where
-    only : IsPart bytes root.offset root.length read → (other : Option Picture) → HoldsPicture views (Some root) bytes other → other ≡ Some (shown seq rows)
-    only there None holds = absurd holds
-    only there (Some other) holds =
-        let whole = one other.seq other.rows (record { content = holds.0.content; is = there.same ∙ sym holds.1.same }) in
+    only : IsPart bytes root.offset root.length read → (held : ℕ) (other : Option Picture) → HoldsPicture held (Some root) bytes other → other ≡ Some (shown seq rows)
+    only there held None holds = absurd holds
+    only there held (Some other) holds =
+        let is = there.same ∙ sym holds.1.same in
+        let number : held ≡ views = same_number held views other.seq seq other.rows rows holds.0.content spelled.content (sym is ∙ spelled.is) in
+        let whole = one other.seq other.rows (record { content = subst (λ n. IsContent n other.seq other.rows) number holds.0.content; is = is }) in
         λ i. Some (shown (whole.0 i) (whole.1 i))
+
+-- ---- of how many views a picture is
+
+-- its rows tell, and none is of any number
+pub rows_held : (held : ℕ) (root : Option Root) (bytes : List ℕ) (picture : Option Picture) → HoldsPicture held root bytes picture → length (or_empty held picture).rows ≡ held
+rows_held held None bytes None holds = length-empty held
+rows_held held None bytes (Some picture) holds = absurd holds
+rows_held held (Some root) bytes None holds = absurd holds
+rows_held held (Some root) bytes (Some picture) holds = (holds.0).content.number
+
+pub other_views : (few views : ℕ) (root : Option Root) (bytes : List ℕ) (picture : Option Picture) → length (or_empty views picture).rows ≡ views → HoldsPicture few root bytes picture → HoldsPicture views root bytes picture
+other_views few views None bytes None shaped holds = tt
+other_views few views None bytes (Some picture) shaped holds = absurd holds
+other_views few views (Some root) bytes None shaped holds = absurd holds
+other_views few views (Some root) bytes (Some picture) shaped holds = subst (λ n. HoldsPicture n (Some root) bytes (Some picture)) (sym (holds.0).content.number ∙ shaped) holds
+
+pub holds_views : (stem : Stem) (few views : ℕ) (files : FileName → File) (picture : Option Picture) → length (or_empty views picture).rows ≡ views → HoldsIndex stem few files picture → HoldsIndex stem views files picture
+holds_views stem few views files picture shaped holds = record {
+  whole = holds.whole;
+  stands = record { fit = holds.stands.fit; apart = holds.stands.apart; stands = other_views few views _ _ picture shaped holds.stands.stands };
+}

@@ -80,28 +80,28 @@ module _ (stem : Stem) (views : ℕ) where
     picture_is : picture_of index ≡ shown (seq_of index) rows
     picture_is = ap (shown (seq_of index)) (ap (map (λ b. b.0)) both_is ∙ rows_unexchanged rows)
 
-    module _ (old new : FileName → File) (gate_is : gate ≡ opened stem old) (is : IsOpened gate old new) (held : HasLoaded views (root_of gate) (own_bytes gate new) (seq_of index) rows) where
+    module _ (old new : FileName → File) (gate_is : gate ≡ opened stem old) (is : IsOpened gate old new) (loaded : HasLoaded views (root_of gate) (own_bytes gate new) (seq_of index) rows) where
       open_there : IsOpen index new
       open_there =
           let pair = opened_open stem gate old new gate_is is in
           subst (λ (g : GateFile). IsOpenPair (name_of g).stem g new) (sym file_is) (subst (λ s. IsOpenPair s gate new) (sym pair.own) pair)
 
-      pub at_loaded : IsAt index new held.picture
+      pub at_loaded : IsAt index new loaded.picture
       at_loaded = record {
         is_open = open_there;
-        holds = subst (λ (g : GateFile). HoldsPicture (views_of index) (root_of g) (own_bytes g new) held.picture) (sym file_is)
-            (subst (λ n. HoldsPicture n (root_of gate) (own_bytes gate new) held.picture) (sym many) held.holds);
-        last = picture_is ∙ held.loaded ∙ ap (λ n. or_empty n held.picture) (sym many);
+        holds = subst (λ (g : GateFile). HoldsPicture (views_of index) (root_of g) (own_bytes g new) loaded.picture) (sym file_is)
+            (subst (λ n. HoldsPicture n (root_of gate) (own_bytes gate new) loaded.picture) (sym many) loaded.holds);
+        last = picture_is ∙ loaded.loaded ∙ ap (λ n. or_empty n loaded.picture) (sym many);
         pending = pending_now;
       }
 
       pub is_loaded : AreFitSlots stem old → IsLoaded stem views old new index
-      is_loaded fit = record { picture = held.picture; shows = record { fit = fit; holds = holds_before gate old new gate_is is held.picture held.holds }; at = at_loaded }
+      is_loaded fit = record { picture = loaded.picture; shows = record { fit = fit; holds = holds_before gate old new gate_is is loaded.picture loaded.holds }; at = at_loaded }
 
-      -- it is at the picture that the files stand for
-      pub at_held : (picture : Option Picture) → HoldsIndex stem views old picture → IsAt index new picture
-      at_held picture stands =
-          let same : picture ≡ held.picture = held.only picture (opened_holds stem gate old new gate_is is (HoldsPicture views) (picture_of_root views) picture stands) in
+      -- it is at the picture that the files stand for, of whatever number of views
+      pub at_held : (held : ℕ) (picture : Option Picture) → HoldsIndex stem held old picture → IsAt index new picture
+      at_held held picture stands =
+          let same : picture ≡ loaded.picture = loaded.only held picture (opened_holds stem gate old new gate_is is (HoldsPicture held) (picture_of_root held) picture stands) in
           subst (IsAt index new) (sym same) at_loaded
 
   -- ---- as the folder tells it

@@ -2,6 +2,7 @@ pub mod Held
 pub mod Faults
 pub mod Ids
 pub mod Rows
+pub mod Parts
 pub mod ViewRows
 pub mod Replaced
 pub mod Changed

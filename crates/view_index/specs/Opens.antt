@@ -52,15 +52,16 @@ pub record IsFound (stem : Stem) (views newest : ℕ) (old new : FileName → Fi
   pub shows : Shows stem views old picture
   pub at : IsAt index new (up_to newest picture)
 
--- The index is opened: it is at what the files showed, and without a picture they have no bytes.
+-- The index is opened: it is at what the files showed, and without a picture they have no bytes. Where nothing of them is pending, a crash
+-- and want of memory leave what they stand for, of whatever number of views.
 module _ {F : Type 0} (f : Folders F) (stem : Stem) (views : ℕ) (old new : F) where
   pub record Loads (result : Result Index IndexFault) : Type 0 where
     pub fresh : IfOk result (IsNew stem views)
     pub found : Tells (f.disk old) (f.disk new) (λ a b. IfOk result (IsLoaded stem views a.now b.now))
-    pub stands : (picture : Option Picture) → IfTold (f.disk old) (λ d. HoldsIndex stem views d.now picture) → Tells (f.disk old) (f.disk new)
-        (Moves (IsFileOf stem) (λ image. Stands stem views image picture) (λ files. IfOk result (λ index. IsAt index files picture)))
-    pub wanting : (picture : Option Picture) → IfTold (f.disk old) (λ d. HoldsIndex stem views d.now picture) → result ≡ Err NoMemory
-        → IfTold (f.disk new) (λ d. HoldsIndex stem views d.now picture)
+    pub stands : (held : ℕ) (picture : Option Picture) → IfTold (f.disk old) (λ d. HoldsIndex stem held d.now picture) → Tells (f.disk old) (f.disk new)
+        (Moves (IsFileOf stem) (λ image. Stands stem held image picture) (λ files. IfOk result (λ index. IsAt index files picture)))
+    pub wanting : (held : ℕ) (picture : Option Picture) → IfTold (f.disk old) (λ d. HoldsIndex stem held d.now picture) → result ≡ Err NoMemory
+        → IfTold (f.disk new) (λ d. HoldsIndex stem held d.now picture)
     pub sound : (picture : Option Picture) → IfTold (f.disk old) (λ d. HoldsIndex stem views d.now picture → FindsDamage (λ name at. ⊥) result)
     pub damaged : IfTold (f.disk old) (λ d. FindsDamage (IsDamagedAt stem views d.now) result)
     pub others : Tells (f.disk old) (f.disk new) (Moves (IsFileOf stem) (λ image. Unit {0}) (λ files. Unit {0}))
@@ -73,13 +74,14 @@ module _ {F : Type 0} (f : Folders F) (stem : Stem) (views newest : ℕ) (old ne
   pub record Opens (result : Result Index IndexFault) : Type 0 where
     pub fresh : IfOk result (IsNew stem views)
     pub found : Tells (f.disk old) (f.disk new) (λ a b. IfOk result (IsFound stem views newest a.now b.now))
-    -- files of which nothing is pending are never damaged, and a crash leaves what they stand for, or nothing of a picture past
-    -- the newest write
-    pub stands : (picture : Option Picture) → IfTold (f.disk old) (λ d. HoldsIndex stem views d.now picture) → Tells (f.disk old) (f.disk new)
-        (Moves (IsFileOf stem) (λ image. Stands stem views image picture ⊎ Stands stem views image (up_to newest picture)) (λ files. IfOk result (λ index. IsAt index files (up_to newest picture))))
+    -- a crash leaves what files stand for of which nothing is pending, of whatever number of views, or nothing of a picture past the
+    -- newest write
+    pub stands : (held : ℕ) (picture : Option Picture) → IfTold (f.disk old) (λ d. HoldsIndex stem held d.now picture) → Tells (f.disk old) (f.disk new)
+        (Moves (IsFileOf stem) (λ image. Stands stem held image picture ⊎ Stands stem held image (up_to newest picture)) (λ files. IfOk result (λ index. IsAt index files (up_to newest picture))))
     -- want of memory leaves such files, of one of these pictures, so that they can be opened again
-    pub wanting : (picture : Option Picture) → IfTold (f.disk old) (λ d. HoldsIndex stem views d.now picture) → result ≡ Err NoMemory
-        → IfTold (f.disk new) (λ d. HoldsIndex stem views d.now picture ⊎ HoldsIndex stem views d.now (up_to newest picture))
+    pub wanting : (held : ℕ) (picture : Option Picture) → IfTold (f.disk old) (λ d. HoldsIndex stem held d.now picture) → result ≡ Err NoMemory
+        → IfTold (f.disk new) (λ d. HoldsIndex stem held d.now picture ⊎ HoldsIndex stem held d.now (up_to newest picture))
+    -- where they are of as many views as are asked for, they are never damaged
     pub sound : (picture : Option Picture) → IfTold (f.disk old) (λ d. HoldsIndex stem views d.now picture → FindsDamage (λ name at. ⊥) result)
     pub damaged : IfTold (f.disk old) (λ d. FindsDamage (IsDamagedAt stem views d.now) result)
     -- files of other names are as they were

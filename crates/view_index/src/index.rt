@@ -31,8 +31,10 @@ pub struct Index {
 
 impl Index {
     ghost use Rattle.std.specs.Prelude.{◌≡◌, [], slice_index_or};
+    ghost use Rattle.std.specs.List.{AllByRecursion};
     ghost use Rattle.gate_file.specs.GateFile.{name_of};
     ghost use Rattle.view_index.specs.Index.{file_of, picture_of, seq_of, views_of};
+    ghost use Rattle.view_index.specs.Parts.{HasParts};
 
     /// The update sequence of the last commit, 0 where there was none. It takes no memory.
     pub fn seq(&self) -> u64
@@ -41,10 +43,11 @@ impl Index {
         self.seq
     }
 
-    /// The rows of a view, in order, as of the last commit. It takes no memory.
+    /// The rows of a view, in order, as of the last commit, each with a key and a value such as a reply may hold. It takes no memory.
     pub fn rows(&self, view: u32) -> &[Row]
         requires { view < views_of self.now }
-        ensures { result.now ≡ slice_index_or (picture_of self.now).rows view [] }
+        ensures rows { result.now ≡ slice_index_or (picture_of self.now).rows view [] }
+        ensures parts { AllByRecursion HasParts result.now }
     {
         self.views.as_slice()[view as usize].rows()
     }

@@ -1,6 +1,7 @@
 -- How an update ends: what the folder and the index are at, and what was asked.
-use Rattle.std.specs.Prelude.{◌≡◌, ◌⊎◌, ◌≤◌, ◌++◌, ℕ, List, map, length, Result, Ok, Err, IfOk, OnOk, Option, Some}
+use Rattle.std.specs.Prelude.{◌≡◌, ◌⊎◌, ◌≤◌, ℕ, List, map, length, Result, Ok, Err, IfOk, OnOk, Option, Some}
 use Rattle.std.proofs.Common.{refl, sym, ap, ◌∙◌, subst, inl, inr}
+use Rattle.json_terms.specs.Json.{Json}
 use Rattle.raw_collation.specs.Sorting.{sorted_rows}
 use Rattle.view_ports.specs.Calls.{Call}
 use Rattle.view_ports.specs.Disk.{IfTold, Moves, MovesNone, Tells}
@@ -22,7 +23,6 @@ use Rattle.child_pool.specs.declared.pool_fault.PoolFault.TheVariants as pool
 use Rattle.child_pool.specs.PoolCalls.{path_for, MapsAll}
 use Rattle.child_pool.specs.Pools.{HasItsChildren}
 use Rattle.view_model.specs.Picture.{Picture}
-use Rattle.view_model.specs.Update.{IsUpdated}
 use Rattle.gate_file.specs.declared.fault.GateFault.{GateFault}
 use Rattle.view_index.specs.declared.fault.IndexFault.{IndexFault}
 use Rattle.view_index.specs.declared.fault.IndexFault.TheVariants as fault_of
@@ -36,11 +36,11 @@ use Rattle.view_index.specs.Replaced.{replaced_views}
 use Rattle.view_index.proofs.Committing.{last_sorted}
 use Rattle.view_updater.specs.declared.fault.UpdateFault.{UpdateFault}
 use Rattle.view_updater.specs.declared.fault.UpdateFault.TheVariants.{Docs as OfDocuments, Index as OfIndex, NoMemory, Pool as OfPool}
-use Rattle.view_updater.specs.Exchanges.{BreaksOff, HasExchanged, TakesIn}
+use Rattle.view_updater.specs.Exchanges.{AsksSome, BreaksOff, HasExchanged, TakesIn}
 use Rattle.view_updater.specs.Faults.{by_index, by_pool}
-use Rattle.view_updater.specs.Updates.{documents_since, side, EndsAt, HasAsked, IsBreak, IsIdle, IsLost, IsMadeBy, IsMetAs, IsNext, IsReached, Side, StandsAround}
+use Rattle.view_updater.specs.Updates.{documents_since, side, EndsAt, HasAsked, IsBreak, IsIdle, IsIdleEnd, IsLost, IsMade, IsMadeBy, IsMetAs, IsNext, IsReached, Side, StandsAround}
 use Rattle.view_updater.proofs.Carrying.{at_still, open_still, same_stem, same_views, stands_now, views_by_picture}
-use Rattle.view_updater.proofs.Nexts.{nothing_updated, rows_updated}
+use Rattle.view_updater.proofs.Nexts.{no_documents_since, nothing_updated, rows_updated}
 
 module _ {F C : Type 0} (f : Folders F) (s : Servers C) (docs : Docs) (design : Design) (old : Side F C) (number : views_of old.index ≡ length design.views) where
   -- ---- nothing was written since
@@ -51,8 +51,10 @@ module _ {F C : Type 0} (f : Folders F) (s : Servers C) (docs : Docs) (design : 
 
     pub idle_next : (new : Side F C) → seq_of old.index ≡ length history → IsNext f s docs design old new history picture (or_empty (views_of old.index) picture)
     idle_next new newest path calls follows known has =
-        subst (λ (p : Picture). IsUpdated (s.functions path) (s.honest path × (length design.views ≤ source_limit)) design.views history p p) at.last
-        (nothing_updated (s.functions path) (s.honest path × (length design.views ≤ source_limit)) design.views history (picture_of old.index) shaped newest (last_sorted old.index files picture at))
+        subst (λ (p : Picture). IsMade s design path history p p) at.last (record {
+          updated = nothing_updated (s.functions path) (s.honest path × (length design.views ≤ source_limit)) design.views history (picture_of old.index) shaped newest (last_sorted old.index files picture at);
+          compile = λ honest some. absurd (some (no_documents_since (seq_of old.index) history newest));
+        })
 
   -- the files and the index are as they were
   pub idle_stands : seq_of old.index ≡ docs.seq → (history : List Write) (picture : Option Picture) → IfTold (f.disk old.folder) (λ d. IsReached docs old.index history picture d.now)
@@ -154,26 +156,23 @@ module _ {F C : Type 0} (f : Folders F) (s : Servers C) (docs : Docs) (design : 
     Exchanged result history = HasExchanged f s docs design from mid history result ⊎ BreaksOff f s docs design from mid history result
 
     abbrev Asked : Result (Unit {0}) UpdateFault → List Write → Type 0
-    Asked result history = (IsIdle f s docs design old left × OnOk result (seq_of old.index ≡ length history)) ⊎ HasAsked f s docs design old left history result
+    Asked result history =
+        (IsIdle f s docs design old left × (IsIdleEnd result × OnOk result (seq_of old.index ≡ length history))) ⊎ HasAsked f s docs design old left (documents_since (seq_of old.index) history) result
 
-    pub asked : (before result : Result (Unit {0}) UpdateFault) → ((mapped : Result DocRowLists PoolFault) → IsMetAs mapped before → IsMetAs mapped result) → (IsBreak before → IsBreak result)
-        → (history : List Write) → IfTold (f.disk old.folder) (λ d. AreAt docs d.now history → Exchanged before history) → IfTold (f.disk old.folder) (λ d. AreAt docs d.now history → Asked result history)
-    asked before result met breaks history =
-        told_now (f.disk old.folder) (λ d. AreAt docs d.now history → Exchanged before history) (λ d. AreAt docs d.now history → Asked result history) (λ d asks here. elim (asks here) [
-          | inl has ↦ inr (inl (
-            has.mapped,
-            met has.mapped has.met,
-            subst (λ (n : ℕ). MapsAll s old.servers mid.servers old.pool design (documents_since n history) mid.pool has.mapped) seq_back has.maps,
-          ))
-          | inr has ↦ inr (inr (record {
-            done = has.done;
-            left = has.left;
-            all = subst (λ (n : ℕ). documents_since n history ≡ has.done ++ has.left) seq_back has.all;
-            lists = has.lists;
-            mapped = has.mapped;
-            cause = breaks has.cause;
-          }))
-        ])
+    -- the same of another result, as is that of the commit
+    module _ (before result : Result (Unit {0}) UpdateFault) (met : (mapped : Result DocRowLists PoolFault) → IsMetAs mapped before → IsMetAs mapped result) (breaks : IsBreak before → IsBreak result) where
+      asked_as : (documents : List (List (List ℕ × Json))) → HasAsked f s docs design old left documents before → HasAsked f s docs design old left documents result
+      asked_as documents (inl has) = inl (record { mapped = has.mapped; met = met has.mapped has.met; maps = has.maps; idle = has.idle; some = has.some })
+      asked_as documents (inr has) = inr (record { done = has.done; left = has.left; all = has.all; lists = has.lists; mapped = has.mapped; cause = breaks has.cause })
+
+      pub asked_over : (history : List Write) → IfTold (f.disk old.folder) (λ d. AreAt docs d.now history → Exchanged before history) → IfTold (f.disk old.folder) (λ d. AreAt docs d.now history → Asked result history)
+      asked_over history =
+          told_now (f.disk old.folder) (λ d. AreAt docs d.now history → Exchanged before history) (λ d. AreAt docs d.now history → Asked result history)
+          (λ d asks here. inr (subst (λ (n : ℕ). HasAsked f s docs design old left (documents_since n history) result) seq_back
+          (asked_as (documents_since (seq_of rolled) history) (elim (asks here) [ inl has ↦ inl has.asked | inr has ↦ inr has ]))))
+
+      pub asked_some : AsksSome f s docs design from mid before → (IsIdle f s docs design old left × IsIdleEnd result) ⊎ ((documents : List (List (List ℕ × Json))) × HasAsked f s docs design old left documents result)
+      asked_some some = inr (some.0, asked_as some.0 some.1)
 
   -- ---- the picture that is committed
 
@@ -189,21 +188,23 @@ module _ {F C : Type 0} (f : Folders F) (s : Servers C) (docs : Docs) (design : 
 
     module _ (path : List ℕ) (calls : List Call) (follows : s.may_follow old.servers calls) (known : path_for old.pool design ≡ Some path) (has : HasItsChildren old.pool calls) where
       next_by : (mapped : Result DocRowLists PoolFault) → IsMetAs mapped well → MapsAll s old.servers mid.servers old.pool design (documents_since (seq_of rolled) history) mid.pool mapped
-          → OnOk well (IfOk mapped (TakesIn f s docs design from mid (changes_after (seq_of rolled) history)))
-          → IsUpdated (s.functions path) (s.honest path × (length design.views ≤ source_limit)) design.views history (picture_of rolled) (next_picture newest mid.index)
+          → OnOk well (IfOk mapped (TakesIn f s docs design from mid (changes_after (seq_of rolled) history))) → IsMade s design path history (picture_of rolled) (next_picture newest mid.index)
       next_by (Err fault) met maps takes = absurd (well_met fault met)
       next_by (Ok lists) met maps takes =
-          rows_updated s.functions s.honest path design.views history (picture_of rolled) (next_picture newest mid.index) lists (views_by_picture rolled ∙ number_back) stored
-          (maps path calls follows known has).holds.1.1.rows newest_is
-          (takes.0 ∙ (λ i. replaced_views (changed_rows (number_back i) (changes_after (seq_of rolled) history) lists) (rows_back i)))
+          let updated = (maps path calls follows known has).holds.1.1 in
+          record {
+            updated = rows_updated s.functions s.honest path design.views history (picture_of rolled) (next_picture newest mid.index) lists (views_by_picture rolled ∙ number_back) stored updated.rows newest_is
+                (takes.0 ∙ (λ i. replaced_views (changed_rows (number_back i) (changes_after (seq_of rolled) history) lists) (rows_back i)));
+            compile = updated.compile;
+          }
 
     next_is : (new : Side F C) → HasExchanged f s docs design from mid history well → IsNext f s docs design old new history picture (next_picture newest mid.index)
     next_is new has path calls follows known children =
-        subst (λ (p : Picture). IsUpdated (s.functions path) (s.honest path × (length design.views ≤ source_limit)) design.views history p (next_picture newest mid.index)) (back.rows ∙ at.last)
-        (next_by path calls follows known children has.mapped has.met has.maps has.takes)
+        subst (λ (p : Picture). IsMade s design path history p (next_picture newest mid.index)) (back.rows ∙ at.last)
+        (next_by path calls follows known children has.asked.mapped has.asked.met has.asked.maps has.takes)
 
   pending_now : (history : List Write) → HasExchanged f s docs design from mid history well → ArePending mid.index
-  pending_now history has = by_mapped has.mapped has.met has.takes
+  pending_now history has = by_mapped has.asked.mapped has.asked.met has.takes
     where
       by_mapped : (mapped : Result DocRowLists PoolFault) → IsMetAs mapped well → OnOk well (IfOk mapped (TakesIn f s docs design from mid (changes_after (seq_of rolled) history))) → ArePending mid.index
       by_mapped (Err fault) met takes = absurd (well_met fault met)

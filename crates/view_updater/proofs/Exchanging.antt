@@ -1,5 +1,5 @@
 -- What an exchange asks for and takes in, page by page.
-use Rattle.std.specs.Prelude.{◌≡◌, ◌⊎◌, ◌+◌, ◌++◌, ◌<◌, ◌≤◌, ◌||◌, ℕ, List, [], length, take, bytes_eq, false, Option, None, Result, Ok, Err}
+use Rattle.std.specs.Prelude.{◌≡◌, ◌≢◌, ◌⊎◌, ◌+◌, ◌++◌, ◌<◌, ◌≤◌, ◌||◌, ℕ, List, [], length, take, bytes_eq, false, Option, None, Result, Ok, Err}
 use Rattle.std.specs.List.{IsDistinct}
 use Rattle.std.proofs.Common.{refl, sym, ap, ◌∙◌, subst, inl, inr, arith, append_assoc, append-nil}
 use Rattle.std.proofs.lemmas.List.{length-append, nil_from_length}
@@ -35,12 +35,12 @@ use Rattle.view_index.specs.Replaced.{ids_of, replaced_views}
 use Rattle.view_updater.specs.declared.fault.UpdateFault.{UpdateFault}
 use Rattle.view_updater.specs.declared.fault.UpdateFault.TheVariants.{Docs as OfDocuments, Index as OfIndex, NoMemory, Pool as OfPool}
 use Rattle.view_updater.specs.declared.updating.Progress.{Progress}
-use Rattle.view_updater.specs.Exchanges.{documents_of, BreaksOff, Exchanges, FollowsPage, HasComeTo, HasExchanged, OnlyReads, TakesIn}
+use Rattle.view_updater.specs.Exchanges.{documents_of, AsksSome, BreaksOff, Exchanges, FollowsPage, HasComeTo, HasExchanged, OnlyReads, TakesIn}
 use Rattle.view_updater.specs.Faults.{by_pool}
-use Rattle.view_updater.specs.Updates.{documents_since, IsBreak, Side}
+use Rattle.view_updater.specs.Updates.{documents_since, HasMapped, IsBreak, Side}
 use Rattle.view_updater.proofs.ChangedSoFar.{taken_all}
 use Rattle.view_updater.proofs.OnlyReading.{known_before, reads_then}
-use Rattle.view_updater.proofs.Pages.{documents-append, mapped-append, nothing_replaced, page_distinct, page_replaced, some-append}
+use Rattle.view_updater.proofs.Pages.{documents-append, front_none, mapped-append, nothing_replaced, page_distinct, page_replaced, some-append}
 
 abbrev pub refusal : UpdateFault → Result (Unit {0}) UpdateFault
 refusal fault = Err fault
@@ -48,14 +48,22 @@ refusal fault = Err fault
 abbrev pub done : Result (Unit {0}) UpdateFault
 done = Ok tt
 
+-- which is met by no fault of the pool
+done_met : (fault : PoolFault) → done ≡ Err (by_pool fault) → done ≡ Err NoMemory
+done_met fault is = cc
+
 module _ {F C : Type 0} (f : Folders F) (s : Servers C) (docs : Docs) (design : Design) (old new : Side F C) where
   -- over a history these writes were written since, and behind them those after a number
   abbrev Goes : List (ℕ × Write) → ℕ → Type 0
   Goes changes after = (history : List Write) → IfTold (f.disk old.folder) (λ d. AreAt docs d.now history → changes_after (seq_of old.index) history ≡ changes ++ changes_after after history)
 
-  abbrev Asks : Result (Unit {0}) UpdateFault → Type 0
-  Asks result = (history : List Write) → IfTold (f.disk old.folder) (λ d. AreAt docs d.now history
+  abbrev AsksOver : Result (Unit {0}) UpdateFault → Type 0
+  AsksOver result = (history : List Write) → IfTold (f.disk old.folder) (λ d. AreAt docs d.now history
       → HasExchanged f s docs design old new history result ⊎ BreaksOff f s docs design old new history result)
+
+  -- what was asked, over each history, and whatever is told
+  abbrev Asks : Result (Unit {0}) UpdateFault → Type 0
+  Asks result = AsksOver result × AsksSome f s docs design old new result
 
   documents_then : (history : List Write) (changes : List (ℕ × Write)) (after : ℕ) → changes_after (seq_of old.index) history ≡ changes ++ changes_after after history
       → documents_since (seq_of old.index) history ≡ documents_of changes ++ documents_of (changes_after after history)
@@ -63,8 +71,8 @@ module _ {F C : Type 0} (f : Folders F) (s : Servers C) (docs : Docs) (design : 
 
   module _ (changes : List (ℕ × Write)) (after : ℕ) (goes : Goes changes after) where
     -- the documents of these were mapped, and then something else failed
-    pub asks_first : (fault : UpdateFault) (lists : DocRowLists) → IsBreak (refusal fault) → FirstAreMapped s old.servers new.servers old.pool new.pool design (documents_of changes) lists → Asks (refusal fault)
-    asks_first fault lists cause mapped history =
+    first_over : (fault : UpdateFault) (lists : DocRowLists) → IsBreak (refusal fault) → FirstAreMapped s old.servers new.servers old.pool new.pool design (documents_of changes) lists → AsksOver (refusal fault)
+    first_over fault lists cause mapped history =
         told_now (f.disk old.folder) (λ d. AreAt docs d.now history → changes_after (seq_of old.index) history ≡ changes ++ changes_after after history)
         (λ d. AreAt docs d.now history → HasExchanged f s docs design old new history (refusal fault) ⊎ BreaksOff f s docs design old new history (refusal fault))
         (λ d is here. inr (record {
@@ -76,35 +84,81 @@ module _ {F C : Type 0} (f : Folders F) (s : Servers C) (docs : Docs) (design : 
           cause = cause;
         })) (goes history)
 
+    pub asks_first : (fault : UpdateFault) (lists : DocRowLists) → IsBreak (refusal fault) → FirstAreMapped s old.servers new.servers old.pool new.pool design (documents_of changes) lists → Asks (refusal fault)
+    asks_first fault lists cause mapped = (
+      first_over fault lists cause mapped,
+      (
+        documents_of changes,
+        inr (record {
+          done = documents_of changes;
+          left = [];
+          all = sym (append-nil (documents_of changes));
+          lists = lists;
+          mapped = mapped;
+          cause = cause;
+        }),
+      ),
+    )
+
     -- one of them was refused
-    pub asks_refused : (fault : PoolFault) → ((left : List (List (List ℕ × Json))) → MapsAll s old.servers new.servers old.pool design (documents_of changes ++ left) new.pool (Err fault)) → Asks (refusal (by_pool fault))
-    asks_refused fault refuses history =
+    refused_over : (fault : PoolFault) → documents_of changes ≢ [] → ((left : List (List (List ℕ × Json))) → MapsAll s old.servers new.servers old.pool design (documents_of changes ++ left) new.pool (Err fault)) → AsksOver (refusal (by_pool fault))
+    refused_over fault some refuses history =
         told_now (f.disk old.folder) (λ d. AreAt docs d.now history → changes_after (seq_of old.index) history ≡ changes ++ changes_after after history)
         (λ d. AreAt docs d.now history → HasExchanged f s docs design old new history (refusal (by_pool fault)) ⊎ BreaksOff f s docs design old new history (refusal (by_pool fault)))
         (λ d is here. inl (record {
-          mapped = Err fault;
-          met = refl;
-          maps = subst (λ (ds : List (List (List ℕ × Json))). MapsAll s old.servers new.servers old.pool design ds new.pool (Err fault)) (sym (documents_then history changes after (is here)))
-              (refuses (documents_of (changes_after after history)));
+          asked = record {
+            mapped = Err fault;
+            met = refl;
+            maps = subst (λ (ds : List (List (List ℕ × Json))). MapsAll s old.servers new.servers old.pool design ds new.pool (Err fault)) (sym (documents_then history changes after (is here)))
+                (refuses (documents_of (changes_after after history)));
+            idle = tt;
+            some = λ none. some (front_none (documents_of changes) (documents_of (changes_after after history)) (sym (documents_then history changes after (is here)) ∙ none));
+          };
           takes = tt;
         })) (goes history)
 
-  -- all that were written since were taken in
-  pub asks_all : (progress : Progress) (changes : List (ℕ × Write)) (lists : DocRowLists) → HasComeTo f s docs design old new progress changes lists
-      → ((history : List Write) → IfTold (f.disk old.folder) (λ d. AreAt docs d.now history → changes_after progress.after history ≡ [])) → Asks done
-  asks_all progress changes lists come last history =
-      told_pair (f.disk old.folder) (λ d. AreAt docs d.now history → (changes_after (seq_of old.index) history ≡ changes ++ changes_after progress.after history) × TakesIn f s docs design old new changes lists)
-      (λ d. AreAt docs d.now history → changes_after progress.after history ≡ [])
-      (λ d. AreAt docs d.now history → HasExchanged f s docs design old new history done ⊎ BreaksOff f s docs design old new history done)
-      (λ d takes none here.
-      let whole : changes_after (seq_of old.index) history ≡ changes = (takes here).0 ∙ ap (λ l. changes ++ l) (none here) ∙ append-nil changes in
-      inl (record {
-        mapped = Ok lists;
-        met = λ fault is. cc;
-        maps = subst (λ (ds : List (List (List ℕ × Json))). MapsAll s old.servers new.servers old.pool design ds new.pool (Ok lists)) (ap documents_of (sym whole))
-            (first_whole s design old.servers new.servers old.pool new.pool (documents_of changes) lists come.mapped);
-        takes = subst (λ (cs : List (ℕ × Write)). TakesIn f s docs design old new cs lists) (sym whole) (takes here).1;
-      })) (come.takes history) (last history)
+    pub asks_refused : (fault : PoolFault) → documents_of changes ≢ [] → ((left : List (List (List ℕ × Json))) → MapsAll s old.servers new.servers old.pool design (documents_of changes ++ left) new.pool (Err fault)) → Asks (refusal (by_pool fault))
+    asks_refused fault some refuses = (
+      refused_over fault some refuses,
+      (
+        documents_of changes,
+        inl (record {
+          mapped = Err fault;
+          met = refl;
+          maps = subst (λ (ds : List (List (List ℕ × Json))). MapsAll s old.servers new.servers old.pool design ds new.pool (Err fault)) (append-nil (documents_of changes)) (refuses []);
+          idle = tt;
+          some = some;
+        }),
+      ),
+    )
+
+  module _ (progress : Progress) (changes : List (ℕ × Write)) (lists : DocRowLists) (come : HasComeTo f s docs design old new progress changes lists) where
+    -- all documents were mapped
+    abbrev maps_these : (documents : List (List (List ℕ × Json))) → documents ≡ documents_of changes → HasMapped s old.servers new.servers old.pool new.pool design documents done
+    maps_these documents are = record {
+      mapped = Ok lists;
+      met = done_met;
+      maps = subst (λ (ds : List (List (List ℕ × Json))). MapsAll s old.servers new.servers old.pool design ds new.pool (Ok lists)) (sym are)
+          (first_whole s design old.servers new.servers old.pool new.pool (documents_of changes) lists come.mapped);
+      idle = λ none. let still = come.mapped.idle (sym are ∙ none) in (still.0, still.1);
+      some = tt;
+    }
+
+    -- all that were written since were taken in
+    all_over : ((history : List Write) → IfTold (f.disk old.folder) (λ d. AreAt docs d.now history → changes_after progress.after history ≡ [])) → AsksOver done
+    all_over last history =
+        told_pair (f.disk old.folder) (λ d. AreAt docs d.now history → (changes_after (seq_of old.index) history ≡ changes ++ changes_after progress.after history) × TakesIn f s docs design old new changes lists)
+        (λ d. AreAt docs d.now history → changes_after progress.after history ≡ [])
+        (λ d. AreAt docs d.now history → HasExchanged f s docs design old new history done ⊎ BreaksOff f s docs design old new history done)
+        (λ d takes none here.
+        let whole : changes_after (seq_of old.index) history ≡ changes = (takes here).0 ∙ ap (λ l. changes ++ l) (none here) ∙ append-nil changes in
+        inl (record {
+          asked = maps_these (documents_since (seq_of old.index) history) (ap documents_of whole);
+          takes = subst (λ (cs : List (ℕ × Write)). TakesIn f s docs design old new cs lists) (sym whole) (takes here).1;
+        })) (come.takes history) (last history)
+
+    pub asks_all : ((history : List Write) → IfTold (f.disk old.folder) (λ d. AreAt docs d.now history → changes_after progress.after history ≡ [])) → Asks done
+    asks_all last = (all_over last, (documents_of changes, inl (maps_these (documents_of changes) refl)))
 
 -- ---- before the first page
 
@@ -178,7 +232,8 @@ module _ {F C : Type 0} (f : Folders F) (s : Servers C) (docs : Docs) (design : 
   pub ends_early : (new : Side F C) (fault : UpdateFault) (result : Result (Option Progress) UpdateFault) → result ≡ Err fault → Asks f s docs design old new (refusal fault) → IsSame now.index new.index → picture_of new.index ≡ picture_of now.index
       → OnlyReads f docs now.folder new.folder (refusal fault) → EndsPool s design now.servers new.servers now.pool new.pool fault → FollowsPage f s docs design old new progress.after result
   ends_early new fault result is asks same picture reads ends = subst (FollowsPage f s docs design old new progress.after) (sym is) (record {
-    asks = asks;
+    asks = asks.0;
+    asked = asks.1;
     same = record { file = same.file ∙ come.same.file; seq = same.seq ∙ come.same.seq };
     picture = picture ∙ come.picture;
     reads = reads_then f docs old.folder now.folder come.disk new.folder (refusal fault) come.later reads;
@@ -268,13 +323,16 @@ module _ {F C : Type 0} (f : Folders F) (s : Servers C) (docs : Docs) (design : 
 pub ends_well : {F C : Type 0} (f : Folders F) (s : Servers C) (docs : Docs) (design : Design) (old new : Side F C) (progress : Progress) (changes : List (ℕ × Write)) (lists : DocRowLists)
     → HasComeTo f s docs design old new progress changes lists → ((history : List Write) → IfTold (f.disk old.folder) (λ d. AreAt docs d.now history → changes_after progress.after history ≡ []))
     → OnlyReads f docs old.folder new.folder done → Exchanges f s docs design old new done
-ends_well f s docs design old new progress changes lists come last reads = record {
-  asks = asks_all f s docs design old new progress changes lists come last;
-  same = come.same;
-  picture = come.picture;
-  reads = reads;
-  later = come.mapped.later;
-  keeps = come.mapped.keeps;
-  blames = λ is. cc;
-  unknown = λ is. cc;
-}
+ends_well f s docs design old new progress changes lists come last reads =
+    let asks = asks_all f s docs design old new progress changes lists come last in
+    record {
+      asks = asks.0;
+      asked = asks.1;
+      same = come.same;
+      picture = come.picture;
+      reads = reads;
+      later = come.mapped.later;
+      keeps = come.mapped.keeps;
+      blames = λ is. cc;
+      unknown = λ is. cc;
+    }

@@ -25,6 +25,7 @@ use Rattle.view_model.proofs.Firsts.{changes_none}
 use Rattle.view_index.specs.Changed.{changed_rows}
 use Rattle.view_index.specs.Replaced.{replaced_views}
 use Rattle.view_index.proofs.Updating.{replacements_are_updates, replacements_of_nothing}
+use Rattle.view_updater.specs.Exchanges.{documents_of}
 use Rattle.view_updater.specs.Updates.{documents_since}
 
 abbrev Lists : Type 0
@@ -70,7 +71,11 @@ module _ (functions : Functions) (honest : Type 0) (views : List View) (history 
     rows = rows ∙ replacements_are_updates history old.seq (length views) lists old.rows shaped;
   }
 
--- nothing was written since
+-- where nothing was written since there is no document to be mapped
+pub no_documents_since : (seq : ℕ) (history : List Write) → seq ≡ length history → documents_since seq history ≡ []
+no_documents_since seq history newest = ap documents_of (changes_none seq history (omega (arith, newest)))
+
+-- and the picture stays
 pub nothing_updated : (functions : Functions) (honest : Type 0) (views : List View) (history : List Write) (old : Picture) → length old.rows ≡ length views → old.seq ≡ length history → map sorted_rows old.rows ≡ old.rows
     → IsUpdated functions honest views history old old
 nothing_updated functions honest views history old shaped newest sorted =

@@ -1,6 +1,6 @@
 -- Calls that only read the folder, and their faults.
 use Rattle.std.specs.Prelude.{◌≡◌, ◌≢◌, ◌≤◌, ℕ, List, Result, Ok, Err, IfErr, IsErr, IsErrAnd}
-use Rattle.std.proofs.Common.{ap, sym, ◌∙◌, subst, arith}
+use Rattle.std.proofs.Common.{refl, ap, sym, ◌∙◌, subst, inl, inr, arith}
 use Rattle.std.proofs.lemmas.Result.{err_from_is_err_and}
 use Rattle.view_ports.specs.Causes.{HasCauseIf}
 use Rattle.view_ports.specs.Disk.{IfTold, MovesNone, Tells}
@@ -13,18 +13,21 @@ use Rattle.view_ports.proofs.Told.{told_all, told_back, told_now}
 use Rattle.gate_file.proofs.Looks.{told_none_then}
 use Rattle.gate_file.specs.declared.fault.GateFault.{GateFault}
 use Rattle.gate_file.specs.declared.fault.GateFault.TheVariants.{DiskFault, Damaged}
+use Rattle.gate_file.specs.GateFile.{name_of}
 use Rattle.doc_file.specs.declared.docs.Docs.{Docs}
 use Rattle.doc_file.specs.declared.fault.DocFault.{DocFault}
 use Rattle.doc_file.specs.declared.fault.DocFault.TheVariants as doc
-use Rattle.doc_file.specs.Docs.{IsAt as AreAt}
+use Rattle.doc_file.specs.Changes.{IsSpoiledAfter}
+use Rattle.doc_file.specs.Docs.{bytes_in, file_of, IsAt as AreAt, IsLoaded as AreLoaded}
 use Rattle.doc_file.specs.History.{Write}
+use Rattle.doc_file.specs.Reads.{FindsDamage, IsReadFault}
 use Rattle.child_pool.specs.declared.pool_fault.PoolFault.{PoolFault}
 use Rattle.child_pool.specs.declared.pool_fault.PoolFault.TheVariants as pool
 use Rattle.view_updater.specs.declared.fault.UpdateFault.{UpdateFault}
 use Rattle.view_updater.specs.declared.fault.UpdateFault.TheVariants.{Docs as OfDocuments, Index as OfIndex, NoMemory, Pool as OfPool}
 use Rattle.view_updater.specs.Exchanges.{OnlyReads}
 use Rattle.view_updater.specs.Faults.{by_documents, by_pool}
-use Rattle.view_updater.specs.Updates.{IsBreak, IsOfIndex}
+use Rattle.view_updater.specs.Updates.{IsBodyDamaged, IsBreak, IsFileFault, IsOfIndex}
 
 -- a refusal by this fault
 pub failed_as : {T E : Type 0} (result : Result T E) (fault : E) → IsErr result × IsErrAnd result (λ e. e ≡ fault) → result ≡ Err fault
@@ -39,6 +42,23 @@ of_documents other gate is = cc
 of_no_index : (fault : DocFault) → IsOfIndex (by_documents fault) → ⊥
 of_no_index (doc.Gate fault) is = is
 of_no_index other is = is
+
+-- a read meets a fault of the file, or want of memory
+read_file : (fault : DocFault) → IsReadFault fault → IsFileFault (by_documents fault)
+read_file fault (inl disk) = subst (λ (e : DocFault). IsFileFault (by_documents e)) (sym disk) tt
+read_file fault (inr (inl want)) = subst (λ (e : DocFault). IsFileFault (by_documents e)) (sym want) tt
+read_file fault (inr (inr damaged)) = subst (λ (e : DocFault). IsFileFault (by_documents e)) (sym damaged.2) tt
+
+-- a fault that is none of the index or of the documents
+of_no_file : (fault : UpdateFault) → (IsOfIndex fault → ⊥) → ((gate : GateFault) → fault ≡ OfDocuments gate → ⊥) → IsFileFault fault
+of_no_file NoMemory other never = tt
+of_no_file (OfPool fault) other never = tt
+of_no_file (OfIndex fault) other never = absurd (other tt)
+of_no_file (OfDocuments fault) other never = absurd (never fault refl)
+
+-- what is found damaged is the body of a last write, where the documents are loaded
+abbrev pub FindsBodies : {T : Type 0} → Docs → Result T UpdateFault → (FileName → File) → Type 0
+FindsBodies docs result files = AreLoaded docs files → (name : FileName) (at : ℕ) → result ≡ Err (OfDocuments (Damaged name at)) → IsBodyDamaged docs files name at
 
 abbrev documents_failed : (T : Type 0) → DocFault → Result T DocFault
 documents_failed T fault = Err fault
@@ -62,17 +82,25 @@ done_as T value = Ok value
 
 module _ {F : Type 0} (f : Folders F) (docs : Docs) (old new : F) where
   -- the documents couldn't be read
-  pub read_failed : {S T : Type 0} (fault : DocFault) (result : Result T UpdateFault) → result ≡ Err (by_documents fault) → Tells (f.disk old) (f.disk new) MovesNone
+  pub read_failed : {S T : Type 0} (seq : ℕ) (fault : DocFault) (result : Result T UpdateFault) → result ≡ Err (by_documents fault) → Tells (f.disk old) (f.disk new) MovesNone
       → HasCauseIf (λ e. e ≡ doc.Gate DiskFault) (f.faults old) (f.faults new) (documents_failed S fault)
       → ((history : List Write) → IfTold (f.disk old) (λ d. AreAt docs d.now history → (name : FileName) (at : ℕ) → documents_failed S fault ≡ Err (doc.Gate (Damaged name at)) → ⊥))
+      → IsReadFault fault
+      → IfTold (f.disk old) (λ d. AreLoaded docs d.now → FindsDamage (λ name at. (name ≡ name_of (file_of docs)) × IsSpoiledAfter docs (bytes_in docs d.now) seq at) (documents_failed S fault))
       → OnlyReads f docs old new result
-  read_failed {S = S} {T = T} fault result is disk cause sound = subst (OnlyReads f docs old new) (sym is) (record {
+  read_failed {S = S} {T = T} seq fault result is disk cause sound reads damaged = subst (OnlyReads f docs old new) (sym is) (record {
     disk = disk;
     faults = of_no_index fault;
+    file = read_file fault reads;
     cause = λ told. cause.failed (of_documents fault DiskFault told);
     sound = λ history. told_now (f.disk old) (λ d. AreAt docs d.now history → (name : FileName) (at : ℕ) → documents_failed S fault ≡ Err (doc.Gate (Damaged name at)) → ⊥)
         (λ d. AreAt docs d.now history → (name : FileName) (at : ℕ) → failed T (by_documents fault) ≢ Err (OfDocuments (Damaged name at)))
         (λ d never here name at told. never here name at (ap (documents_failed S) (of_documents fault (Damaged name at) (let same : by_documents fault ≡ OfDocuments (Damaged name at) = cc in same)))) (sound history);
+    damaged = told_now (f.disk old) (λ d. AreLoaded docs d.now → FindsDamage (λ name at. (name ≡ name_of (file_of docs)) × IsSpoiledAfter docs (bytes_in docs d.now) seq at) (documents_failed S fault))
+        (λ d. FindsBodies docs (failed T (by_documents fault)) d.now)
+        (λ d spoiled loaded name at told.
+        let found = spoiled loaded name at (ap (documents_failed S) (of_documents fault (Damaged name at) (let same : by_documents fault ≡ OfDocuments (Damaged name at) = cc in same))) in
+        (found.0, seq, found.1)) damaged;
     later = cause.later;
   })
 
@@ -81,10 +109,13 @@ module _ {F : Type 0} (f : Folders F) (docs : Docs) (old new : F) where
   same_failed {S = S} {T = T} fault result is reads = subst (OnlyReads f docs old new) (sym is) (record {
     disk = reads.disk;
     faults = reads.faults;
+    file = reads.file;
     cause = reads.cause;
     sound = λ history. told_now (f.disk old) (λ d. AreAt docs d.now history → (name : FileName) (at : ℕ) → failed S fault ≢ Err (OfDocuments (Damaged name at)))
         (λ d. AreAt docs d.now history → (name : FileName) (at : ℕ) → failed T fault ≢ Err (OfDocuments (Damaged name at)))
         (λ d never here name at told. never here name at (ap (failed S) (let same : fault ≡ OfDocuments (Damaged name at) = cc in same))) (reads.sound history);
+    damaged = told_now (f.disk old) (λ d. FindsBodies docs (failed S fault) d.now) (λ d. FindsBodies docs (failed T fault) d.now)
+        (λ d found loaded name at told. found loaded name at (ap (failed S) (let same : fault ≡ OfDocuments (Damaged name at) = cc in same))) reads.damaged;
     later = reads.later;
   })
 
@@ -94,9 +125,12 @@ module _ {F : Type 0} (f : Folders F) (docs : Docs) (old new : F) where
   read_then {S = S} {T = T} value fault result is other never reads = subst (OnlyReads f docs old new) (sym is) (record {
     disk = reads.disk;
     faults = other;
+    file = of_no_file fault other never;
     cause = λ told. absurd (never DiskFault told);
     sound = λ history. told_all (f.disk old) (λ d. AreAt docs d.now history → (name : FileName) (at : ℕ) → failed T fault ≢ Err (OfDocuments (Damaged name at)))
         (λ d here name at told. never (Damaged name at) (let same : fault ≡ OfDocuments (Damaged name at) = cc in same));
+    damaged = told_all (f.disk old) (λ d. FindsBodies docs (failed T fault) d.now)
+        (λ d loaded name at told. absurd (never (Damaged name at) (let same : fault ≡ OfDocuments (Damaged name at) = cc in same)));
     later = reads.later;
   })
 
@@ -105,8 +139,10 @@ module _ {F : Type 0} (f : Folders F) (docs : Docs) (old new : F) where
   read_well {S = S} {T = T} value done reads = record {
     disk = reads.disk;
     faults = tt;
+    file = tt;
     cause = tt;
     sound = λ history. told_all (f.disk old) (λ d. AreAt docs d.now history → (name : FileName) (at : ℕ) → done_as T done ≢ Err (OfDocuments (Damaged name at))) (λ d here name at told. cc);
+    damaged = told_all (f.disk old) (λ d. FindsBodies docs (done_as T done) d.now) (λ d loaded name at told. cc);
     later = reads.later;
   }
 
@@ -127,13 +163,23 @@ module _ {F : Type 0} (f : Folders F) (docs : Docs) (old mid : F) (disk : Tells 
       let files : b.now ≡ a.now = λ i name. none_same a b none name i in
       known (subst (λ (fs : FileName → File). AreAt docs fs history) (sym files) here)) disk (told history)
 
+  -- what is found damaged now was so before
+  bodies_before : {T : Type 0} (result : Result T UpdateFault) → IfTold (f.disk mid) (λ d. FindsBodies docs result d.now) → IfTold (f.disk old) (λ d. FindsBodies docs result d.now)
+  bodies_before result found =
+      told_back (f.disk old) (f.disk mid) (λ d. FindsBodies docs result d.now) (λ d. FindsBodies docs result d.now) MovesNone
+      (λ a b none known.
+      let files : b.now ≡ a.now = λ i name. none_same a b none name i in
+      subst (λ (fs : FileName → File). FindsBodies docs result fs) files known) disk found
+
   pub reads_then : {T : Type 0} (new : F) (result : Result T UpdateFault) → f.faults old ≤ f.faults mid → OnlyReads f docs mid new result → OnlyReads f docs old new result
   reads_then new result later reads = record {
     disk = told_none_then (f.disk old) (f.disk mid) (f.disk new) disk reads.disk;
     faults = reads.faults;
+    file = reads.file;
     cause = err_wider result (λ fault. fault ≡ OfDocuments DiskFault → Rose (f.faults mid) (f.faults new)) (λ fault. fault ≡ OfDocuments DiskFault → Rose (f.faults old) (f.faults new))
         (λ fault rose told. let now = rose told in omega (arith, now, later)) reads.cause;
     sound = known_before (λ history. (name : FileName) (at : ℕ) → result ≢ Err (OfDocuments (Damaged name at))) reads.sound;
+    damaged = bodies_before result reads.damaged;
     later = omega (arith, later, reads.later);
   }
 

@@ -45,6 +45,15 @@ distinct_front e (x ∷ xs) ys apart = (all_front (λ y. e x y ≡ false) xs ys 
 pub mapped-append : (changes more : List (ℕ × Write)) → mapped_of (changes ++ more) ≡ mapped_of changes ++ mapped_of more
 mapped-append changes more = filter_map-append (λ (change : ℕ × Write). mapped_by change.1) changes more
 
+-- a list that is empty is of empty parts
+pub front_none : {X : Type 0} (xs ys : List X) → xs ++ ys ≡ [] → xs ≡ []
+front_none [] ys none = refl
+front_none (x ∷ xs) ys none = let clash : ⊥ = cc in absurd clash
+
+pub back_none : {X : Type 0} (xs ys : List X) → xs ++ ys ≡ [] → ys ≡ []
+back_none [] ys none = none
+back_none (x ∷ xs) ys none = let clash : ⊥ = cc in absurd clash
+
 pub documents-append : (changes more : List (ℕ × Write)) → documents_of (changes ++ more) ≡ documents_of changes ++ documents_of more
 documents-append changes more =
     ap (map (λ (entry : List ℕ × Json). document_of entry.1)) (mapped-append changes more)

@@ -11,13 +11,12 @@ use Rattle.design_docs.specs.declared.design.Design.{Design}
 use Rattle.doc_file.specs.declared.docs.Docs.{Docs}
 use Rattle.doc_file.specs.declared.docs.changes.Changes.{Changes}
 use Rattle.doc_file.specs.Changes.{numbered, HasDocument, HasShortId}
-use Rattle.doc_file.specs.Docs.{IsAt as AreAt}
+use Rattle.doc_file.specs.Docs.{IsAt as AreAt, IsLoaded as AreLoaded}
 use Rattle.doc_file.specs.History.{Write, changes_after}
 use Rattle.child_pool.specs.declared.doc_rows.DocRowLists.{DocRowLists}
-use Rattle.child_pool.specs.declared.pool_fault.PoolFault.{PoolFault}
 use Rattle.child_pool.specs.declared.pool_fault.PoolFault.TheVariants.{ServerFault, UnknownLanguage}
 use Rattle.child_pool.specs.Firsts.{has_some, FirstAreMapped}
-use Rattle.child_pool.specs.PoolCalls.{path_for, MapsAll, StaysAsMade}
+use Rattle.child_pool.specs.PoolCalls.{path_for, StaysAsMade}
 use Rattle.query_protocol.specs.CommandLines.{document_of}
 use Rattle.view_model.specs.Since.{mapped_of}
 use Rattle.view_index.specs.Changed.{changed_rows}
@@ -27,15 +26,17 @@ use Rattle.view_index.specs.Replaced.{replaced_views}
 use Rattle.view_updater.specs.declared.fault.UpdateFault.{UpdateFault}
 use Rattle.view_updater.specs.declared.fault.UpdateFault.TheVariants.{Docs as OfDocuments, Pool as OfPool}
 use Rattle.view_updater.specs.declared.updating.Progress.{Progress}
-use Rattle.view_updater.specs.Updates.{documents_since, HasBrokenOff, IsBreak, IsMetAs, IsOfIndex, Side}
+use Rattle.view_updater.specs.Updates.{documents_since, HasAskedFor, HasBrokenOff, HasMapped, IsBodyDamaged, IsBreak, IsFileFault, IsOfIndex, Side}
 
 -- the documents' files are only read, and what may fail there
 module _ {F : Type 0} (f : Folders F) (docs : Docs) (old new : F) where
   pub record OnlyReads {T : Type 0} (result : Result T UpdateFault) : Type 0 where
     pub disk : Tells (f.disk old) (f.disk new) MovesNone
     pub faults : IfErr result (λ fault. IsOfIndex fault → ⊥)
+    pub file : IfErr result IsFileFault
     pub cause : IfErr result (λ fault. fault ≡ OfDocuments DiskFault → Rose (f.faults old) (f.faults new))
     pub sound : (history : List Write) → IfTold (f.disk old) (λ d. AreAt docs d.now history → (name : FileName) (at : ℕ) → result ≢ Err (OfDocuments (Damaged name at)))
+    pub damaged : IfTold (f.disk old) (λ d. AreLoaded docs d.now → (name : FileName) (at : ℕ) → result ≡ Err (OfDocuments (Damaged name at)) → IsBodyDamaged docs d.now name at)
     pub later : f.faults old ≤ f.faults new
 
   -- the next n last writes since a sequence are read
@@ -59,18 +60,21 @@ module _ {F C : Type 0} (f : Folders F) (s : Servers C) (docs : Docs) (design : 
 
   -- all documents that were written since were mapped, with this end, and their rows are exchanged
   pub record HasExchanged (history : List Write) (result : Result (Unit {0}) UpdateFault) : Type 0 where
-    pub mapped : Result DocRowLists PoolFault
-    pub met : IsMetAs mapped result
-    pub maps : MapsAll s old.servers new.servers old.pool design (documents_since (seq_of old.index) history) new.pool mapped
-    pub takes : OnOk result (IfOk mapped (TakesIn (changes_after (seq_of old.index) history)))
+    pub asked : HasMapped s old.servers new.servers old.pool new.pool design (documents_since (seq_of old.index) history) result
+    pub takes : OnOk result (IfOk asked.mapped (TakesIn (changes_after (seq_of old.index) history)))
 
   -- the first of them were mapped, maybe none, and then reading more or making room failed
   abbrev pub BreaksOff : List Write → Result (Unit {0}) UpdateFault → Type 0
-  BreaksOff history result = HasBrokenOff s old.servers new.servers old.pool new.pool design (seq_of old.index) history result
+  BreaksOff history result = HasBrokenOff s old.servers new.servers old.pool new.pool design (documents_since (seq_of old.index) history) result
+
+  -- some documents were asked for, all or the first ones
+  abbrev pub AsksSome : Result (Unit {0}) UpdateFault → Type 0
+  AsksSome result = (documents : List (List (List ℕ × Json))) × HasAskedFor s old.servers new.servers old.pool new.pool design documents result
 
   pub record Exchanges (result : Result (Unit {0}) UpdateFault) : Type 0 where
     pub asks : (history : List Write) → IfTold (f.disk old.folder) (λ d. AreAt docs d.now history
         → HasExchanged history result ⊎ BreaksOff history result)
+    pub asked : AsksSome result
     pub same : IsSame old.index new.index
     pub picture : picture_of new.index ≡ picture_of old.index
     pub reads : OnlyReads f docs old.folder new.folder result

@@ -1,5 +1,5 @@
 -- Bringing an index up to date.
-use Rattle.std.specs.Prelude.{◌≡◌, ◌≢◌, ◌⊎◌, ◌≤◌, ◌++◌, ℕ, List, map, length, Result, Ok, Err, IfErr, OnErr, OnOk, Option, Some, None}
+use Rattle.std.specs.Prelude.{◌≡◌, ◌≢◌, ◌⊎◌, ◌≤◌, ◌++◌, ℕ, List, [], map, length, Result, Ok, Err, IfErr, IfOk, OnErr, OnOk, Option, Some, None}
 use Rattle.json_terms.specs.Json.{Json}
 use Rattle.view_ports.specs.Calls.{Call}
 use Rattle.view_ports.specs.Disk.{IfTold, Moves, Tells}
@@ -9,11 +9,14 @@ use Rattle.view_ports.specs.File.{File}
 use Rattle.view_ports.specs.declared.file_name.FileName.{FileName}
 use Rattle.view_ports.specs.declared.folder.Folder.{Ghosts as Folders}
 use Rattle.view_ports.specs.declared.servers.Servers.{Ghosts as Servers}
-use Rattle.gate_file.specs.declared.fault.GateFault.TheVariants.{DiskFault, Damaged}
+use Rattle.gate_file.specs.declared.fault.GateFault.TheVariants.{DiskFault, Damaged, Full}
+use Rattle.gate_file.specs.GateFile.{name_of}
 use Rattle.design_docs.specs.declared.design.Design.{Design}
+use Rattle.design_docs.specs.Design.{map_sources}
 use Rattle.query_protocol.specs.CommandLines.{document_of}
 use Rattle.doc_file.specs.declared.docs.Docs.{Docs}
-use Rattle.doc_file.specs.Docs.{IsAt as AreAt}
+use Rattle.doc_file.specs.Changes.{IsSpoiledAfter}
+use Rattle.doc_file.specs.Docs.{bytes_in, file_of, IsAt as AreAt, IsLoaded as AreLoaded}
 use Rattle.doc_file.specs.History.{Write, mapped_after}
 use Rattle.child_pool.specs.declared.doc_rows.DocRowLists.{DocRowLists}
 use Rattle.child_pool.specs.declared.pool.Pool.{Pool}
@@ -22,6 +25,7 @@ use Rattle.child_pool.specs.declared.pool_fault.PoolFault.TheVariants.{ServerFau
 use Rattle.child_pool.specs.Firsts.{FirstAreMapped}
 use Rattle.child_pool.specs.PoolCalls.{path_for, MapsAll, StaysAsMade}
 use Rattle.child_pool.specs.Pools.{HasItsChildren}
+use Rattle.child_pool.specs.Sessions.{AllCompile}
 use Rattle.view_model.specs.Picture.{Picture}
 use Rattle.view_model.specs.Update.{IsUpdated}
 use Rattle.view_index.specs.declared.fault.IndexFault.TheVariants.{Store}
@@ -67,6 +71,21 @@ abbrev pub IsLost : {T : Type 0} → Result T UpdateFault → Type 0
 IsLost (Ok done) = ⊥
 IsLost (Err fault) = IsOfIndex fault
 
+-- a fault of the index is one of its file: the disk failed, or the file is full; a fault of the documents comes of a read: the disk
+-- failed, or their file is damaged
+abbrev pub IsFileFault : UpdateFault → Type 0
+IsFileFault (OfIndex (Store DiskFault)) = Unit {0}
+IsFileFault (OfIndex (Store (Full name length))) = Unit {0}
+IsFileFault (OfIndex other) = ⊥
+IsFileFault (OfDocuments DiskFault) = Unit {0}
+IsFileFault (OfDocuments (Damaged name at)) = Unit {0}
+IsFileFault (OfDocuments other) = ⊥
+IsFileFault other = Unit {0}
+
+-- this is the place of the body of a last write in the documents' file, where no document of its id is spelled
+abbrev pub IsBodyDamaged : Docs → (FileName → File) → FileName → ℕ → Type 0
+IsBodyDamaged docs files name at = (name ≡ name_of (file_of docs)) × (seq : ℕ) × IsSpoiledAfter docs (bytes_in docs files) seq at
+
 -- reading the documents failed, or memory ran out
 abbrev pub IsBreak : {T : Type 0} → Result T UpdateFault → Type 0
 IsBreak (Ok done) = ⊥
@@ -74,31 +93,48 @@ IsBreak (Err NoMemory) = Unit {0}
 IsBreak (Err (OfDocuments fault)) = Unit {0}
 IsBreak (Err other) = ⊥
 
-module _ {C : Type 0} (s : Servers C) (servers servers' : C) (pool pool' : Pool) (design : Design) (seq : ℕ) where
-  -- all documents that were written since were mapped, with this end; where they were, the commit may have been refused
-  abbrev pub HasMapped : {T : Type 0} → List Write → Result T UpdateFault → Type 0
-  HasMapped history result = (mapped : Result DocRowLists PoolFault) × IsMetAs mapped result
-      × MapsAll s servers servers' pool design (documents_since seq history) pool' mapped
+-- how an update may end before anything was asked
+abbrev pub IsIdleEnd : {T : Type 0} → Result T UpdateFault → Type 0
+IsIdleEnd (Ok done) = Unit {0}
+IsIdleEnd (Err NoMemory) = Unit {0}
+IsIdleEnd (Err (OfIndex fault)) = Unit {0}
+IsIdleEnd (Err other) = ⊥
 
-  -- the first of the documents that were written since were mapped, maybe none, and then reading more or making room failed
-  pub record HasBrokenOff {T : Type 0} (history : List Write) (result : Result T UpdateFault) : Type 0 where
+module _ {C : Type 0} (s : Servers C) (servers servers' : C) (pool pool' : Pool) (design : Design) (documents : List (List (List ℕ × Json))) where
+  -- all of the documents were mapped, with this end; where they were, the commit may have been refused, and where there were none,
+  -- nothing was done, nor refused
+  pub record HasMapped {T : Type 0} (result : Result T UpdateFault) : Type 0 where
+    pub mapped : Result DocRowLists PoolFault
+    pub met : IsMetAs mapped result
+    pub maps : MapsAll s servers servers' pool design documents pool' mapped
+    pub idle : IfOk mapped (λ lists. documents ≡ [] → (servers' ≡ servers) × (pool' ≡ pool))
+    pub some : IfErr mapped (λ fault. documents ≢ [])
+
+  -- the first of the documents were mapped, maybe none, and then reading more or making room failed
+  pub record HasBrokenOff {T : Type 0} (result : Result T UpdateFault) : Type 0 where
     pub done : List (List (List ℕ × Json))
     pub left : List (List (List ℕ × Json))
-    pub all : documents_since seq history ≡ done ++ left
+    pub all : documents ≡ done ++ left
     pub lists : DocRowLists
     pub mapped : FirstAreMapped s servers servers' pool pool' design done lists
     pub cause : IsBreak result
 
-  -- the documents that were written since a sequence were asked for, all or the first ones
-  abbrev pub HasAskedFor : {T : Type 0} → List Write → Result T UpdateFault → Type 0
-  HasAskedFor history result = HasMapped history result ⊎ HasBrokenOff history result
+  -- the documents were asked for, all or the first ones
+  abbrev pub HasAskedFor : {T : Type 0} → Result T UpdateFault → Type 0
+  HasAskedFor result = HasMapped result ⊎ HasBrokenOff result
+
+module _ {C : Type 0} (s : Servers C) (design : Design) where
+  -- a picture that the servers of a path made of another one: its rows are those of an honest path where there are no more views than a
+  -- design document may have; and on an honest path all sources compile, where a document was mapped
+  pub record IsMade (path : List ℕ) (history : List Write) (picture next : Picture) : Type 0 where
+    pub updated : IsUpdated (s.functions path) (s.honest path × (length design.views ≤ source_limit)) design.views history picture next
+    pub compile : s.honest path → documents_since picture.seq history ≢ [] → AllCompile (s.functions path) (map_sources design.views)
 
 module _ {F C : Type 0} (f : Folders F) (s : Servers C) (docs : Docs) (design : Design) (old new : Side F C) where
-  -- a picture that the update makes: over each list of calls that may have been made, of the path of the design's language; its rows
-  -- are those of an honest path where there are no more views than a design document may have
+  -- a picture that the update makes: over each list of calls that may have been made, of the path of the design's language
   abbrev pub IsNext : List Write → Option Picture → Picture → Type 0
   IsNext history picture next = (path : List ℕ) (calls : List Call) → s.may_follow old.servers calls → path_for old.pool design ≡ Some path → HasItsChildren old.pool calls
-      → IsUpdated (s.functions path) (s.honest path × (length design.views ≤ source_limit)) design.views history (or_empty (views_of old.index) picture) next
+      → IsMade s design path history (or_empty (views_of old.index) picture) next
 
   -- the picture that the update makes is that of the index after Ok, and may be one of no index only where a fault of the index came
   abbrev pub IsMadeBy : Result (Unit {0}) UpdateFault → Picture → Type 0
@@ -120,9 +156,9 @@ module _ {F C : Type 0} (f : Folders F) (s : Servers C) (docs : Docs) (design : 
   abbrev pub IsIdle : Type 0
   IsIdle = (new.servers ≡ old.servers) × (new.pool ≡ old.pool)
 
-  -- the documents that were written since the index's sequence were asked for
-  abbrev pub HasAsked : List Write → Result (Unit {0}) UpdateFault → Type 0
-  HasAsked history result = HasAskedFor s old.servers new.servers old.pool new.pool design (seq_of old.index) history result
+  -- these documents were asked for
+  abbrev pub HasAsked : List (List (List ℕ × Json)) → Result (Unit {0}) UpdateFault → Type 0
+  HasAsked documents result = HasAskedFor s old.servers new.servers old.pool new.pool design documents result
 
   pub record Updates (result : Result (Unit {0}) UpdateFault) : Type 0 where
     -- a crash leaves the picture or an updated one, and after Ok the index is at that; the documents' files are as they were
@@ -130,7 +166,9 @@ module _ {F C : Type 0} (f : Folders F) (s : Servers C) (docs : Docs) (design : 
         → Tells (f.disk old.folder) (f.disk new.folder) (Moves (IsFileOf (stem_of old.index)) (StandsAround history picture result) (EndsAt history picture result))
     -- the documents that were written since are asked for, and no others; where there are none that were written, nothing is
     pub asks : (history : List Write) → IfTold (f.disk old.folder) (λ d. AreAt docs d.now history
-        → (IsIdle × OnOk result (seq_of old.index ≡ length history)) ⊎ HasAsked history result)
+        → (IsIdle × (IsIdleEnd result × OnOk result (seq_of old.index ≡ length history))) ⊎ HasAsked (documents_since (seq_of old.index) history) result)
+    -- whatever is told, some documents were asked for, all or the first ones, or nothing was
+    pub asked : (IsIdle × IsIdleEnd result) ⊎ ((documents : List (List (List ℕ × Json))) × HasAsked documents result)
     -- whatever is told: files of other names are as they were, the index is open still where nothing of it failed, and a refusal leaves
     -- the rows and the sequence of the last commit
     pub others : Tells (f.disk old.folder) (f.disk new.folder) (Moves (IsFileOf (stem_of old.index)) (λ image. Unit {0}) (λ files. IsLost result ⊎ IsOpen new.index files))
@@ -141,6 +179,11 @@ module _ {F C : Type 0} (f : Folders F) (s : Servers C) (docs : Docs) (design : 
     pub sound : (history : List Write) → IfTold (f.disk old.folder) (λ d. AreAt docs d.now history → (name : FileName) (at : ℕ) → result ≢ Err (OfDocuments (Damaged name at)))
     pub whole : (name : FileName) (at : ℕ) → result ≢ Err (OfIndex (Store (Damaged name at)))
     pub later : (f.faults old.folder ≤ f.faults new.folder) × (s.faults old.servers ≤ s.faults new.servers)
+    -- a fault of the index is one of its file, and what is full is a file of the index; a fault of the documents is one of reading
+    -- them, and where they are loaded what is damaged is the body of a last write
+    pub file : IfErr result IsFileFault
+    pub full : (name : FileName) (length : Option ℕ) → result ≡ Err (OfIndex (Store (Full name length))) → name.stem ≡ stem_of old.index
+    pub damaged : IfTold (f.disk old.folder) (λ d. AreLoaded docs d.now → (name : FileName) (at : ℕ) → result ≡ Err (OfDocuments (Damaged name at)) → IsBodyDamaged docs d.now name at)
     -- the pool's languages and width never change; servers are blamed only where two faults were counted, and a language is unknown
     -- only where it has no path
     pub keeps : StaysAsMade old.pool new.pool

@@ -25,7 +25,7 @@ use Rattle.view_updater.specs.Updates.{side, IsBreak}
 use Rattle.view_updater.proofs.Carrying.{same_views}
 use Rattle.view_updater.proofs.Exchanging.{as_made, asks_first, asks_refused, come_on, done, ends_early, ends_well, goes_on, goes_so_far, mapped_then, none_behind, pool_left, pool_refused, refusal}
 use Rattle.view_updater.proofs.Fitting.{bounded_fit}
-use Rattle.view_updater.proofs.Pages.{documents-append}
+use Rattle.view_updater.proofs.Pages.{back_none, documents-append}
 use Rattle.view_updater.proofs.OnlyReading.{break_of, failed_as, pool_of_no_documents, pool_of_no_index, read_then, read_well, reads_then, same_failed}
 use Rattle.view_updater.proofs.updating.exchange_page.Goals as goal
 
@@ -73,6 +73,7 @@ returns-in_err-lists g c = λ old changes lists come.
     ends_early g.F.Folder g.C.Servers docs design old now progress changes lists come new (by_pool fault) result (failed_as result (by_pool fault) c.from_residual-in_err-lists.ensures)
     (asks_refused g.F.Folder g.C.Servers docs design old new (changes ++ page) (last_number progress.after page)
     (goes_on g.F.Folder g.C.Servers docs design old now progress changes lists come page BATCH c.in_ok-page.ensures.all) fault
+    (λ none. let idle = c.in_err-lists.ensures.idle (documents ∙ back_none (documents_of changes) (documents_of page) (sym (documents-append changes page) ∙ none)) in let refused = idle.0 in let clash : ⊥ = cc in clash)
     (λ left. subst (λ (ds : List (List (List ℕ × Json))). MapsAll g.C.Servers old.servers c.map_next.new.servers old.pool design (ds ++ left) c.map_next.new.self (Err fault)) whole (refuses left)))
     (record { file = refl; seq = refl }) refl
     (read_then g.F.Folder docs c.args.folder.now c.read_page.new.folder c.in_ok-page.page (by_pool fault) (refusal (by_pool fault)) refl (pool_of_no_index fault) (pool_of_no_documents fault) c.in_ok-page.ensures.reads)

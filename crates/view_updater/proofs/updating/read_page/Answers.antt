@@ -18,5 +18,6 @@ returns-in_err-changed_since g c =
       bodies = search rules;
       short = search rules;
       breaks = subst (λ r. OnErr r (IsBreak r)) (sym failed) (documents_break Changes fault);
-      reads = read_failed g.F.Folder c.args.docs.now c.args.folder.now c.changed_since.new.folder fault result failed c.changed_since.ensures.disk c.in_err-changed_since.ensures.cause c.in_err-changed_since.ensures.sound;
+      reads = read_failed g.F.Folder c.args.docs.now c.args.folder.now c.changed_since.new.folder c.args.seq fault result failed c.changed_since.ensures.disk c.in_err-changed_since.ensures.cause c.in_err-changed_since.ensures.sound
+          c.in_err-changed_since.ensures.faults c.in_err-changed_since.ensures.damaged;
     }

@@ -1,12 +1,12 @@
 -- The exchange, and the commit over it.
-use Rattle.std.specs.Prelude.{◌≡◌, ◌≢◌, ◌⊎◌, ◌≤◌, ℕ, length, Result, Ok, Err, Some}
+use Rattle.std.specs.Prelude.{◌≡◌, ◌≢◌, ◌⊎◌, ◌≤◌, ℕ, length, Option, Result, Ok, Err, Some}
 use Rattle.std.proofs.Common.{refl, sym, ap, ◌∙◌, subst, inl, inr, arith}
 use Rattle.std.proofs.lemmas.List.{length-map}
 use Rattle.view_ports.specs.Faults.{Rose}
 use Rattle.view_ports.proofs.DiskRuns.{moves_none}
 use Rattle.view_ports.proofs.Told.{told_all, told_still}
 use Rattle.view_ports.specs.declared.file_name.FileName.{FileName}
-use Rattle.gate_file.specs.declared.fault.GateFault.TheVariants.{DiskFault, Damaged}
+use Rattle.gate_file.specs.declared.fault.GateFault.TheVariants.{DiskFault, Damaged, Full}
 use Rattle.child_pool.specs.declared.pool_fault.PoolFault.TheVariants.{ServerFault, UnknownLanguage}
 use Rattle.doc_file.specs.Docs.{seq_of as documents_seq, IsAt as AreAt}
 use Rattle.doc_file.specs.declared.docs.Info.{Info}
@@ -17,15 +17,17 @@ use Rattle.view_index.specs.declared.fault.IndexFault.{IndexFault}
 use Rattle.view_index.specs.declared.fault.IndexFault.TheVariants.{NoMemory, Store}
 use Rattle.view_index.specs.declared.index.Index.{Index}
 use Rattle.gate_file.specs.Calls.{too_long, used_up}
+use Rattle.gate_file.specs.GateFile.{name_of}
 use Rattle.view_index.specs.Index.{both_in, file_of, is_touched, seq_of}
 use Rattle.view_index.specs.ViewRows.{next_rows}
 use Rattle.view_updater.specs.declared.fault.UpdateFault.{UpdateFault}
 use Rattle.view_updater.specs.declared.fault.UpdateFault.TheVariants.{Docs as OfDocuments, Index as OfIndex, Pool as OfPool}
 use Rattle.view_updater.specs.Faults.{by_index}
-use Rattle.view_updater.specs.Updates.{side, EndsAt, IsLost, IsOfIndex, Updates}
+use Rattle.view_updater.specs.Updates.{side, EndsAt, IsFileFault, IsLost, IsOfIndex, Updates}
 use Rattle.view_updater.proofs.Carrying.{same_stem, same_views, views_by_picture}
 use Rattle.view_updater.proofs.Exchanging.{as_made}
-use Rattle.view_updater.proofs.Ends.{asked, commit_met, commit_refused, committed_stands, idle_stands, index_of_no_documents, index_of_no_pool, index_stored, known_next, others_refused, others_then, refused, refused_others, refused_stands, well, IsBack}
+use Rattle.view_updater.proofs.Ends.{asked_over, asked_some, commit_met, commit_refused, committed_stands, idle_stands, index_of_no_documents, index_of_no_pool, index_stored, known_next, others_refused, others_then, refused, refused_others, refused_stands, well, IsBack}
+use Rattle.view_updater.proofs.OnlyReading.{FindsBodies}
 use Rattle.view_updater.proofs.updating.update.Goals as goal
 
 -- the commit went well
@@ -36,12 +38,30 @@ well_index = Ok tt
 rose_later : (a b c : ℕ) → a ≤ b → Rose b c → Rose a c
 rose_later a b c later rose = omega arith
 
+-- how a commit is refused
+abbrev IsOfCommit : Index → IndexFault → Type 0
+IsOfCommit index fault = (fault ≡ Store DiskFault) ⊎ (fault ≡ Store (too_long (file_of index))) ⊎ (fault ≡ Store (used_up (file_of index))) ⊎ (fault ≡ NoMemory)
+
 -- a commit never finds damage
-commit_whole : (index : Index) (fault : IndexFault) → (fault ≡ Store DiskFault) ⊎ (fault ≡ Store (too_long (file_of index))) ⊎ (fault ≡ Store (used_up (file_of index))) ⊎ (fault ≡ NoMemory) → (name : FileName) (at : ℕ) → fault ≡ Store (Damaged name at) → ⊥
+commit_whole : (index : Index) (fault : IndexFault) → IsOfCommit index fault → (name : FileName) (at : ℕ) → fault ≡ Store (Damaged name at) → ⊥
 commit_whole index fault (inl disk) name at is = cc
 commit_whole index fault (inr (inl long)) name at is = cc
 commit_whole index fault (inr (inr (inl spent))) name at is = cc
 commit_whole index fault (inr (inr (inr want))) name at is = cc
+
+-- a fault of its file
+commit_file : (index : Index) (fault : IndexFault) → IsOfCommit index fault → IsFileFault (by_index fault)
+commit_file index fault (inl disk) = subst (λ (e : IndexFault). IsFileFault (by_index e)) (sym disk) tt
+commit_file index fault (inr (inl long)) = subst (λ (e : IndexFault). IsFileFault (by_index e)) (sym long) tt
+commit_file index fault (inr (inr (inl spent))) = subst (λ (e : IndexFault). IsFileFault (by_index e)) (sym spent) tt
+commit_file index fault (inr (inr (inr want))) = subst (λ (e : IndexFault). IsFileFault (by_index e)) (sym want) tt
+
+-- which is full where it is
+commit_full : (index : Index) (fault : IndexFault) → IsOfCommit index fault → (name : FileName) (length : Option ℕ) → fault ≡ Store (Full name length) → name.stem ≡ stem_of index
+commit_full index fault (inl disk) name length is = cc
+commit_full index fault (inr (inl long)) name length is = ap (λ (n : FileName). n.stem) (let same : name ≡ name_of (file_of index) = cc in same)
+commit_full index fault (inr (inr (inl spent))) name length is = ap (λ (n : FileName). n.stem) (let same : name ≡ name_of (file_of index) = cc in same)
+commit_full index fault (inr (inr (inr want))) name length is = cc
 
 pub returns-then-seq-newest : goal.returns-then-seq-newest
 returns-then-seq-newest g c =
@@ -52,7 +72,8 @@ returns-then-seq-newest g c =
     let newest : seq_of c.args.index.now ≡ documents_seq docs = sym c.seq.ensures ∙ c.if-seq-newest.true ∙ ap (λ (info : Info). info.update_seq) c.info-newest.ensures.kept in
     record {
       stands = idle_stands g.F.Folder g.C.Servers docs c.args.design.now old c.requires.number newest;
-      asks = λ history. told_all disk (λ d. AreAt docs d.now history → _) (λ d here. inl ((refl, refl), newest ∙ here.count));
+      asks = λ history. told_all disk (λ d. AreAt docs d.now history → _) (λ d here. inl ((refl, refl), (tt, newest ∙ here.count)));
+      asked = inl ((refl, refl), tt);
       others = told_still disk (λ d. IsOpen c.args.index.now d.now) _
           (λ d is. moves_none (IsFileOf stem) (λ image. Unit {0}) (λ files. IsLost well ⊎ IsOpen c.args.index.now files) d (λ image left. tt) (inr is)) c.requires.index;
       same = (refl, refl);
@@ -60,6 +81,9 @@ returns-then-seq-newest g c =
       cause = tt;
       sound = λ history. told_all disk (λ d. AreAt docs d.now history → (name : FileName) (at : ℕ) → well ≢ Err (OfDocuments (Damaged name at))) (λ d here name at is. cc);
       whole = λ name at is. cc;
+      file = tt;
+      full = λ name length is. cc;
+      damaged = told_all disk (λ d. FindsBodies docs well d.now) (λ d loaded name at is. cc);
       later = (omega arith, omega arith);
       keeps = as_made c.args.pool.now;
       blames = λ is. cc;
@@ -82,13 +106,17 @@ returns-in-Err g c =
     let rows = c.roll_back-in-Err.ensures.picture ∙ c.in-Err.ensures.picture ∙ back.rows in
     record {
       stands = refused_stands g.F.Folder g.C.Servers docs design old c.requires.number new c.in-Err.ensures.reads.disk fault file rows c.roll_back-in-Err.ensures.pending;
-      asks = λ history. asked g.F.Folder g.C.Servers docs design old mid c.requires.number rolled back c.exchange.new.folder last (refused fault) (refused fault) (λ mapped met. met) (λ none. none) history (c.in-Err.ensures.asks history);
+      asks = λ history. asked_over g.F.Folder g.C.Servers docs design old mid c.requires.number rolled back c.exchange.new.folder last (refused fault) (refused fault) (λ mapped met. met) (λ none. none) history (c.in-Err.ensures.asks history);
+      asked = asked_some g.F.Folder g.C.Servers docs design old mid c.requires.number rolled back c.exchange.new.folder last (refused fault) (refused fault) (λ mapped met. met) (λ none. none) c.in-Err.ensures.asked;
       others = refused_others g.F.Folder g.C.Servers docs design old c.requires.number new c.in-Err.ensures.reads.disk (refused fault) file c.requires.index;
       same = (same_stem index last file, same_views index last rows);
       settled = (record { next = c.roll_back-in-Err.ensures.next; pending = c.roll_back-in-Err.ensures.pending }, rows);
       cause = λ told. elim told [ inl is ↦ c.in-Err.ensures.reads.cause is | inr is ↦ absurd (c.in-Err.ensures.reads.faults (subst IsOfIndex (sym is) tt)) ];
       sound = c.in-Err.ensures.reads.sound;
       whole = λ name at is. let same : fault ≡ OfIndex (Store (Damaged name at)) = cc in c.in-Err.ensures.reads.faults (subst IsOfIndex (sym same) tt);
+      file = c.in-Err.ensures.reads.file;
+      full = λ name length is. let same : fault ≡ OfIndex (Store (Full name length)) = cc in absurd (c.in-Err.ensures.reads.faults (subst IsOfIndex (sym same) tt));
+      damaged = c.in-Err.ensures.reads.damaged;
       later = (c.in-Err.ensures.reads.later, c.in-Err.ensures.later);
       keeps = c.in-Err.ensures.keeps;
       blames = c.in-Err.ensures.blames;
@@ -117,7 +145,8 @@ returns-in-Err-commit g c =
     subst (λ (e : UpdateFault). Updates g.F.Folder g.C.Servers docs design old new (refused e)) (sym c.from.ensures) (record {
       stands = commit_refused g.F.Folder g.C.Servers docs design old mid c.requires.number rolled back ex.same.file ex.picture ex.reads.disk committed c.commit.new.folder newest (Err fault) commits newest_is ex.asks
           last c.roll_back-in-Err-commit.ensures.same.file rows c.roll_back-in-Err-commit.ensures.pending fault refl;
-      asks = λ history. asked g.F.Folder g.C.Servers docs design old mid c.requires.number rolled back c.commit.new.folder last well (refused (by_index fault)) (commit_met fault) (λ none. absurd none) history (ex.asks history);
+      asks = λ history. asked_over g.F.Folder g.C.Servers docs design old mid c.requires.number rolled back c.commit.new.folder last well (refused (by_index fault)) (commit_met fault) (λ none. absurd none) history (ex.asks history);
+      asked = asked_some g.F.Folder g.C.Servers docs design old mid c.requires.number rolled back c.commit.new.folder last well (refused (by_index fault)) (commit_met fault) (λ none. absurd none) ex.asked;
       others = others_refused g.F.Folder g.C.Servers docs design old mid c.requires.number rolled back ex.same.file ex.picture ex.reads.disk committed c.commit.new.folder newest (Err fault) commits last
           c.roll_back-in-Err-commit.ensures.same.file c.requires.index fault refl;
       same = (stem, same_views index last rows);
@@ -126,6 +155,11 @@ returns-in-Err-commit g c =
       sound = λ history. told_all (g.F.Folder.disk c.args.folder.now) (λ d. AreAt docs d.now history → (name : FileName) (at : ℕ) → refused (by_index fault) ≢ Err (OfDocuments (Damaged name at)))
           (λ d here name at is. index_of_no_documents fault (Damaged name at) (let same : by_index fault ≡ OfDocuments (Damaged name at) = cc in same));
       whole = λ name at is. let same : by_index fault ≡ OfIndex (Store (Damaged name at)) = cc in commit_whole c.exchange.new.index fault commits.faults name at (index_stored fault (Damaged name at) same);
+      file = commit_file c.exchange.new.index fault commits.faults;
+      full = λ name length is. let same : by_index fault ≡ OfIndex (Store (Full name length)) = cc in
+          commit_full c.exchange.new.index fault commits.faults name length (index_stored fault (Full name length) same) ∙ same_stem index c.exchange.new.index (ex.same.file ∙ back.file);
+      damaged = told_all (g.F.Folder.disk c.args.folder.now) (λ d. FindsBodies docs (refused (by_index fault)) d.now)
+          (λ d loaded name at is. absurd (index_of_no_documents fault (Damaged name at) (let same : by_index fault ≡ OfDocuments (Damaged name at) = cc in same)));
       later = (omega (arith, ex.reads.later, commits.cause.later), ex.later);
       keeps = ex.keeps;
       blames = λ is. absurd (index_of_no_pool fault ServerFault (let same : by_index fault ≡ OfPool ServerFault = cc in same));
@@ -157,13 +191,17 @@ returns g c =
             ended,
             known_next g.F.Folder g.C.Servers docs design old mid c.requires.number rolled back ex.same.file ex.picture ex.reads.disk committed c.commit.new.folder newest well_index commits newest_is ex.asks history picture new was known,
           ));
-      asks = λ history. asked g.F.Folder g.C.Servers docs design old mid c.requires.number rolled back c.commit.new.folder committed well well (λ mapped met. met) (λ none. none) history (ex.asks history);
+      asks = λ history. asked_over g.F.Folder g.C.Servers docs design old mid c.requires.number rolled back c.commit.new.folder committed well well (λ mapped met. met) (λ none. none) history (ex.asks history);
+      asked = asked_some g.F.Folder g.C.Servers docs design old mid c.requires.number rolled back c.commit.new.folder committed well well (λ mapped met. met) (λ none. none) ex.asked;
       others = others_then g.F.Folder g.C.Servers docs design old mid c.requires.number rolled back ex.same.file ex.picture ex.reads.disk committed c.commit.new.folder newest well_index commits committed well (λ files ended. inr ended);
       same = (stem, views);
       settled = tt;
       cause = tt;
       sound = λ history. told_all (g.F.Folder.disk c.args.folder.now) (λ d. AreAt docs d.now history → (name : FileName) (at : ℕ) → well ≢ Err (OfDocuments (Damaged name at))) (λ d here name at is. cc);
       whole = λ name at is. cc;
+      file = tt;
+      full = λ name length is. cc;
+      damaged = told_all (g.F.Folder.disk c.args.folder.now) (λ d. FindsBodies docs well d.now) (λ d loaded name at is. cc);
       later = (omega (arith, ex.reads.later, commits.cause.later), ex.later);
       keeps = ex.keeps;
       blames = λ is. cc;

@@ -46,8 +46,8 @@ returns-in_err-file g c =
     record {
       fresh = search rules;
       found = finds_none stem views c.from_residual.result (IsLoaded stem views) old new _ c.from_residual.ensures.0 c.open.ensures.disk;
-      stands = λ picture holds. stands_failed stem views c.from_residual.result (λ files index. IsAt index files picture) old new picture ends c.from_residual.ensures.0 holds c.open.ensures.disk;
-      wanting = λ picture holds wanted. let no : ⊥ = search rules in absurd no;
+      stands = λ held picture holds. stands_failed stem held c.from_residual.result (λ files index. IsAt index files picture) old new picture ends c.from_residual.ensures.0 holds c.open.ensures.disk;
+      wanting = λ held picture holds wanted. let no : ⊥ = search rules in absurd no;
       sound = λ picture. told_now old _ _
           (λ d damaged holds n at failed. let was : c.open.result ≡ Err (Damaged n at) = search rules in undamaged stem (HoldsPicture views) d.now picture n at holds (damaged n at was)) c.open.ensures.damaged;
       damaged = told_now old _ _ (λ d damaged n at failed. let was : c.open.result ≡ Err (Damaged n at) = search rules in inl (damaged n at was)) c.open.ensures.damaged;
@@ -78,8 +78,8 @@ returns-in_err-record g c =
     record {
       fresh = search rules;
       found = finds_none stem views c.from_residual-in_err-record.result (IsLoaded stem views) old new _ c.from_residual-in_err-record.ensures.0 moved;
-      stands = λ picture holds. stands_failed stem views c.from_residual-in_err-record.result (λ files index. IsAt index files picture) old new picture ends c.from_residual-in_err-record.ensures.0 holds moved;
-      wanting = λ picture holds wanted. holds_after stem views file old new picture c.in_ok-file.ensures.opened moved holds;
+      stands = λ held picture holds. stands_failed stem held c.from_residual-in_err-record.result (λ files index. IsAt index files picture) old new picture ends c.from_residual-in_err-record.ensures.0 holds moved;
+      wanting = λ held picture holds wanted. holds_after stem held file old new picture c.in_ok-file.ensures.opened moved holds;
       sound = λ picture.
           told_pair old (λ d. file ≡ opened stem d.now) (λ d. file ≡ opened stem d.now → HoldsIndex stem views d.now picture → FindsDamage (λ name at. ⊥) c.from_residual-in_err-record.result)
           (λ d. HoldsIndex stem views d.now picture → FindsDamage (λ name at. ⊥) c.from_residual-in_err-record.result)
@@ -122,8 +122,8 @@ returns-in_err-views g c =
     record {
       fresh = search rules;
       found = finds_none stem views c.from_residual-in_err-views.result (IsLoaded stem views) old new _ c.from_residual-in_err-views.ensures.0 moved;
-      stands = λ picture holds. stands_failed stem views c.from_residual-in_err-views.result (λ files index. IsAt index files picture) old new picture ends c.from_residual-in_err-views.ensures.0 holds moved;
-      wanting = λ picture holds wanted. holds_after stem views file old new picture c.in_ok-file.ensures.opened moved holds;
+      stands = λ held picture holds. stands_failed stem held c.from_residual-in_err-views.result (λ files index. IsAt index files picture) old new picture ends c.from_residual-in_err-views.ensures.0 holds moved;
+      wanting = λ held picture holds wanted. holds_after stem held file old new picture c.in_ok-file.ensures.opened moved holds;
       sound = λ picture. told_all old _ (λ d holds n at failed. let no : ⊥ = search rules in no);
       damaged = told_all old _ (λ d n at failed. let no : ⊥ = search rules in absurd no);
       others = others_stay stem views old new (λ old image. WhileOpening stem old image) ends moved;
@@ -164,14 +164,14 @@ returns g c =
           (λ a b known told. is_loaded stem views _ rows c.in_ok-views.ensures number file refl a.now b.now known.1 told.0.ended told.1 known.0)
           (told_pair old (λ d. AreFitSlots stem d.now) (λ d. file ≡ opened stem d.now) (λ d. AreFitSlots stem d.now × (file ≡ opened stem d.now)) (λ d fit is. (fit, is)) c.in_ok-file.ensures.sound c.in_ok-file.ensures.opened)
           both;
-      stands = λ picture holds.
+      stands = λ held picture holds.
           let known : (FileName → File) → (FileName → File) → Type 0 = λ old files. (file ≡ opened stem old) × IsOpened file old files × HasLoaded views (root_of file) (own_bytes file files) c.in_ok-record.record.seq rows in
-          opening_stands stem (HoldsPicture views) (picture_of_root views) old new picture known _
-          (λ a b is ended. at_held stem views _ rows c.in_ok-views.ensures number file refl a.now b.now ended.0 ended.1 ended.2 picture is) holds
+          opening_stands stem (HoldsPicture held) (picture_of_root held) old new picture known _
+          (λ a b is ended. at_held stem views _ rows c.in_ok-views.ensures number file refl a.now b.now ended.0 ended.1 ended.2 held picture is) holds
           (told_given old new (λ d. file ≡ opened stem d.now) (λ a b. Moves (IsFileOf stem) (WhileOpening stem a.now) (ends a.now) a b × HasLoaded views (root_of file) (own_bytes file b.now) c.in_ok-record.record.seq rows)
           (λ a b. Moves (IsFileOf stem) (WhileOpening stem a.now) (known a.now) a b)
           (λ a b file_is told. record { moments = told.0.moments; others = told.0.others; ended = (file_is, told.0.ended, told.1) }) c.in_ok-file.ensures.opened both);
-      wanting = λ picture holds wanted. let no : ⊥ = search rules in absurd no;
+      wanting = λ held picture holds wanted. let no : ⊥ = search rules in absurd no;
       sound = λ picture. told_all old _ (λ d holds n at failed. let no : ⊥ = search rules in no);
       damaged = told_all old _ (λ d n at failed. let no : ⊥ = search rules in absurd no);
       others = others_stay stem views old new (λ old image. WhileOpening stem old image) ends moved;
