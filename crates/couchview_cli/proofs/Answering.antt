@@ -1,16 +1,14 @@
 -- What a step of the engine is to a session.
-use Rattle.std.specs.Prelude.{◌≡◌, ◌≢◌, ◌⊎◌, ◌++◌, ℕ, List, [], ◌∷◌, true, IfErr, Result, Ok, Err}
+use Rattle.std.specs.Prelude.{◌≡◌, ◌≢◌, ◌⊎◌, ◌++◌, ℕ, List, [], true, IfErr, Result, Ok, Err}
 use Rattle.std.proofs.Common.{refl, sym, ap, ◌∙◌, subst, inl, inr}
 use Rattle.std.proofs.lemmas.Result.{IfErr-weaker}
 use Rattle.view_ports.specs.Calls.{Call}
-use Rattle.view_ports.specs.Disk.{IfTold, LeavesOnly, Tells}
+use Rattle.view_ports.specs.Faults.{Rose}
 use Rattle.view_ports.specs.Functions.{Functions}
 use Rattle.view_ports.specs.Lines.{ended}
-use Rattle.view_ports.proofs.Moments.{started, weaker}
-use Rattle.view_ports.proofs.Told.{told_all, told_given, told_map, told_now, told_still}
+use Rattle.view_ports.proofs.Told.{told_all, told_now}
 use Rattle.view_engine.specs.declared.engine.Engine.{Engine}
 use Rattle.view_engine.specs.declared.halt.StepFault.{StepFault}
-use Rattle.view_engine.specs.declared.halt.StepFault.TheVariants.{Damaged, Full}
 use Rattle.view_engine.specs.declared.halt.StepFault.TheVariants as halt
 use Rattle.view_engine.specs.declared.refusal.Refusal.{Refusal}
 use Rattle.view_engine.specs.declared.refusal.Refusal.TheVariants.{NoMemory}
@@ -19,16 +17,14 @@ use Rattle.view_engine.specs.Engine.{Appends as StepAppends, IsAt, Leaves}
 use Rattle.view_engine.specs.Moments.{Moment}
 use Rattle.view_engine.specs.Refusals.{refusal_text, request_of}
 use Rattle.view_engine.specs.Steps.{Answers, Does, MayHaveCalled}
-use Rattle.view_engine.specs.Worlds.{HasRoomAt, IsAtWorld, StandsAround, StandsFor}
-use Rattle.view_engine.proofs.Exclusive.{around_either}
-use Rattle.view_engine.proofs.Worlds.{image_at}
+use Rattle.view_engine.specs.Worlds.{HasRoomAt}
 use Rattle.view_engine.specs.Calls.{IsStep, Scene}
-use Rattle.view_engine.specs.Disks.{IsReason, LiesOpen}
+use Rattle.view_engine.specs.Disks.{IsReasonOf, LiesOpen}
 use Rattle.view_engine.specs.Worlds.{languages as languages_of}
-use Rattle.view_engine.proofs.Stepping.{step_around, step_damaged, step_full, step_full_in, step_kept, step_reads, step_room_left, step_writes, step_sound, step_stopped, step_unwritten}
+use Rattle.view_engine.proofs.Stepping.{step_damaged, step_full, step_full_in, step_kept, step_room_left, step_sound, step_still, step_stopped}
 use Rattle.view_ports.specs.declared.folder.Folder.{Ghosts as Folders}
 use Rattle.view_ports.specs.declared.servers.Servers.{Ghosts as Servers}
-use Rattle.couchview_cli.specs.Session.{Answered, IsAnswered, IsUnanswered, StandsEither}
+use Rattle.couchview_cli.specs.Session.{Answered, IsAnswered, IsUnanswered}
 use Rattle.couchview_cli.proofs.Keeping.{answers_no_memory}
 use Rattle.couchview_cli.proofs.Moving.{Told}
 use Rattle.view_engine.specs.Accepted.{is_ok}
@@ -37,44 +33,28 @@ use Rattle.view_engine.proofs.Rooms.{constant_no_ok, step_room}
 use Rattle.view_engine.proofs.ServerFaults.{appended_fault, constant_no_fault}
 
 module _ (functions : List ℕ → Functions) (honest : List ℕ → Type 0) (languages : List (List ℕ × List ℕ)) (before : Moment) (old new : Told) (may_follow : List Call → Type 0) (faults : ℕ) (engine : Engine) where
-  -- a line that was done: each image stands for the world before or after it
-  moments_done : (earlier : Engine) (line text : List ℕ) (after : Moment) → IfTold old (λ d. IsAtWorld earlier d.now before.world) → IfTold old (λ d. Does functions honest languages before line text after)
-      → (line ≡ [] → new ≡ old) → Tells old new (LeavesOnly (StandsAround before.world (request_of line))) → Tells old new (LeavesOnly (StandsEither before.world after.world))
-  moments_done earlier [] text after at does idle moments =
-      let either = StandsEither before.world after.world in
-      subst (λ (n : Told). Tells old n (LeavesOnly either)) (sym (idle refl))
-      (told_still old (λ d. IsAtWorld earlier d.now before.world) (LeavesOnly either) (λ d is. started either d (λ image here. inl (image_at earlier d.now before.world is image here))) at)
-  moments_done earlier (byte ∷ bytes) text after at does idle moments =
-      let line = byte ∷ bytes in
-      told_given old new (λ d. Does functions honest languages before line text after) (LeavesOnly (StandsAround before.world (request_of line))) (LeavesOnly (StandsEither before.world after.world))
-      (λ a b done leaves. weaker (StandsAround before.world (request_of line)) (StandsEither before.world after.world) a b (λ image stands. around_either functions honest languages before byte bytes text after image done stands) leaves)
-      does moments
-
-  pub answered_done : (earlier : Engine) (line start out : List ℕ) → start ≡ [] → IfTold old (λ d. IsAtWorld earlier d.now before.world)
-      → StepAppends new may_follow faults engine (λ text after. IfTold old (λ d. Does functions honest languages before line text after)) start out
-      → (line ≡ [] → new ≡ old) → Tells old new (LeavesOnly (StandsAround before.world (request_of line)))
+  -- a line that was done
+  pub answered_done : (line start out : List ℕ) → start ≡ [] → StepAppends old new may_follow faults engine before (Does functions honest languages before line) start out
       → Answered functions honest languages old new before line out (IsAt new may_follow faults engine)
-  answered_done earlier line start out empty at done idle moments =
+  answered_done line start out empty done =
+      let left = done.leaves in
       let same : done.text ≡ out = sym (done.appended ∙ ap (λ (front : List ℕ). front ++ done.text) empty) in
       subst (λ (text : List ℕ). Answered functions honest languages old new before line text (IsAt new may_follow faults engine)) same
       (record {
-        after = done.after;
-        answers = told_now old (λ d. Does functions honest languages before line done.text done.after) (λ d. Answers functions honest languages before (record { line = line; text = done.text }) done.after) (λ d does. inl does) done.allowed;
-        moments = moments_done earlier line done.text done.after at done.allowed idle moments;
-        stands = done.is_at;
+        after = left.after;
+        answers = told_now old (λ d. Does functions honest languages before line done.text left.after) (λ d. Answers functions honest languages before (record { line = line; text = done.text }) left.after) (λ d does. inl does) left.allowed;
+        moments = left.moments;
+        stands = left.is_at;
       })
 
   -- a line for which memory ran out
-  pub answered_spent : (line : List ℕ) → line ≢ []
-      → Leaves new may_follow faults engine (λ after. IfTold old (λ d. MayHaveCalled languages before (request_of line) after))
-      → Tells old new (LeavesOnly (λ image. StandsFor image before.world))
+  pub answered_spent : (line : List ℕ) → line ≢ [] → Leaves old new may_follow faults engine before (MayHaveCalled functions honest languages before (request_of line))
       → Answered functions honest languages old new before line (ended (refusal_text NoMemory)) (IsAt new may_follow faults engine)
-  answered_spent line some left moments = record {
+  answered_spent line some left = record {
     after = left.after;
-    answers = told_now old (λ d. MayHaveCalled languages before (request_of line) left.after) (λ d. Answers functions honest languages before (record { line = line; text = ended (refusal_text NoMemory) }) left.after)
+    answers = told_now old (λ d. MayHaveCalled functions honest languages before (request_of line) left.after) (λ d. Answers functions honest languages before (record { line = line; text = ended (refusal_text NoMemory) }) left.after)
         (λ d called. answers_no_memory functions honest languages before line left.after some called) left.allowed;
-    moments = told_map old new (LeavesOnly (λ image. StandsFor image before.world)) (LeavesOnly (StandsEither before.world (left.after).world))
-        (λ a b leaves. weaker (λ image. StandsFor image before.world) (StandsEither before.world (left.after).world) a b (λ image stands. inl stands) leaves) moments;
+    moments = left.moments;
     stands = left.is_at;
   }
 
@@ -84,13 +64,18 @@ spent_refused : (request : Result Request Refusal)
 spent_refused (Ok request) = tt
 spent_refused (Err refusal) = inr refl
 
+-- a fault of the disk is the folder's
+disk_rose : {F : Type 0} (f : Folders F) (engine : Engine) (old new : F) (request : Result Request Refusal) → IsReasonOf f engine old new request halt.DiskFault → Rose (f.faults old) (f.faults new)
+disk_rose f engine old new request (inl why) = why.0
+disk_rose f engine old new request (inr why) = absurd why
+
 module _ {F C : Type 0} {f : Folders F} {s : Servers C} {old new : Scene F C} {line start out : List ℕ} where
   -- a step of the engine that is done is an answer
   pub answered_by : start ≡ [] → IsStep f s old new line start out (Ok tt) → IsAnswered f s old new line out
   answered_by empty step = record {
     answers = λ before at.
-        answered_done s.functions s.honest (languages_of old.engine) before (f.disk old.folder) (f.disk new.folder) (s.may_follow new.servers) (s.faults new.servers) new.engine old.engine line start out empty at.documents
-        (step.does before at) (λ none. ap f.disk (step.idle none)) (step_around step before at);
+        answered_done s.functions s.honest (languages_of old.engine) before (f.disk old.folder) (f.disk new.folder) (s.may_follow new.servers) (s.faults new.servers) new.engine line start out empty
+        (step.does before at);
     room = step_room step empty;
     prints = record {
       none = λ none. step.prints.none none ∙ empty;
@@ -99,7 +84,7 @@ module _ {F C : Type 0} {f : Folders F} {s : Servers C} {old new : Scene F C} {l
           (λ refusal told. inl (told ∙ ap (λ (front : List ℕ). front ++ ended (refusal_text refusal)) empty)) (step.refused some);
     };
     blames = λ is. step.blames (appended_fault line start out empty is);
-    still = step.disk.documents.read;
+    still = step_still step;
     stays = step.stays;
   }
 
@@ -108,27 +93,36 @@ module _ {F C : Type 0} {f : Folders F} {s : Servers C} {old new : Scene F C} {l
   answered_constant step = record {
     answers = λ before at.
         answered_spent s.functions s.honest (languages_of old.engine) before (f.disk old.folder) (f.disk new.folder) (s.may_follow new.servers) (s.faults new.servers) new.engine line step.asked
-        (step.does before at) (step_unwritten step before at);
+        (step.does before at);
     room = λ before at. told_all (f.disk old.folder) (λ d. is_ok (ended (refusal_text NoMemory)) ≡ true → HasRoomAt d.now before.world (request_of line)) (λ d ok. absurd (constant_no_ok ok));
     prints = record { none = λ none. absurd (step.asked none); some = λ some. (refusal_text NoMemory, refusal_line NoMemory, refl); refused = λ some. spent_refused (request_of line) };
     blames = λ is. absurd (constant_no_fault line is);
-    still = step.disk.documents.read;
+    still = step_still step;
     stays = step.stays;
   }
 
   -- after each other fault the line is not answered
   pub unanswered_by : (fault : StepFault) → fault ≢ halt.NoMemory → LiesOpen f old.engine old.folder → IsStep f s old new line start out (Err fault) → IsUnanswered f s old new line fault
   unanswered_by fault other is_open step = record {
-    halts = λ before at. record {
-      moments = step_around step before at;
-      whole = step_sound step before at;
-      full = step_full step before at;
-      room = step_room_left step before at;
-      left = step_stopped step before at other;
+    halts = λ before at.
+        let stopped = step_stopped step before at other in
+        record {
+          moments = stopped.0;
+          whole = step_sound step before at;
+          full = step_full step before at;
+          room = step_room_left step before at;
+          last = (stopped.1).after;
+          called = (stopped.1).allowed;
+          left = (stopped.1).child;
+        };
+    cause = λ is. disk_rose f old.engine old.folder new.folder (request_of line) (subst (IsReasonOf f old.engine old.folder new.folder (request_of line)) is step.why);
+    found = record {
+      halts = other;
+      asks = IfErr-weaker (request_of line) (λ refusal. fault ≡ halt.NoMemory) (λ refusal. ⊥) (λ refusal is. other is) step.refused;
+      damaged = step_damaged is_open step;
+      full = step_full_in is_open step;
     };
-    cause = λ is. (subst (IsReason f _ old.folder new.folder (request_of line)) is step.why).0;
-    found = record { halts = other; asks = IfErr-weaker (request_of line) (λ refusal. fault ≡ halt.NoMemory) (λ refusal. ⊥) (λ refusal is. other is) step.refused; reads = step_reads step; damaged = step_damaged is_open step; writes = step_writes step; full = step_full_in is_open step };
-    still = step.disk.documents.read;
+    still = step_still step;
     kept = step_kept step;
     stays = step.stays;
   }

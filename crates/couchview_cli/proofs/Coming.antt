@@ -1,5 +1,5 @@
 -- A session goes on by the lines that it answers, and comes to an end.
-use Rattle.std.specs.Prelude.{◌≡◌, ◌*◌, ℕ, List, [], ◌∷◌, true, Option}
+use Rattle.std.specs.Prelude.{◌≡◌, ◌*◌, ℕ, List, [], ◌∷◌, true, Option, Result}
 use Rattle.std.proofs.Common.{refl, sym, ◌∙◌, subst, arith}
 use Rattle.view_ports.specs.declared.folder.Folder.{Ghosts as Folders}
 use Rattle.view_ports.specs.declared.servers.Servers.{Ghosts as Servers}
@@ -16,7 +16,10 @@ use Rattle.line_loop.proofs.Seeing.{LeadsTo-kept, LeadsTo-seen}
 use Rattle.view_engine.specs.declared.halt.StepFault.{StepFault}
 use Rattle.view_engine.specs.declared.halt.StepFault.TheVariants.{DiskFault}
 use Rattle.view_engine.specs.declared.engine.Engine.{Engine}
-use Rattle.view_engine.specs.Accepted.{is_ok, EachOk}
+use Rattle.view_engine.specs.Accepted.{is_ok, after_exchange, EachOk}
+use Rattle.view_engine.specs.declared.refusal.Refusal.{Refusal}
+use Rattle.view_engine.specs.declared.request.Request.{Request}
+use Rattle.view_engine.specs.Updating.{IsSound}
 use Rattle.view_engine.specs.World.{World}
 use Rattle.view_engine.specs.Refusals.{request_of}
 use Rattle.view_engine.specs.Calls.{Scene, StandsAt, Stays, scene}
@@ -24,29 +27,30 @@ use Rattle.view_engine.specs.Moments.{Moment}
 use Rattle.view_engine.specs.ServerFaults.{is_server_fault, server_faults}
 use Rattle.view_engine.proofs.ServerFaults.{none_rose, one_more, rose_on}
 use Rattle.view_engine.specs.Steps.{Answers}
-use Rattle.view_engine.specs.Worlds.{at_start, GoesOnFrom, HasRoomAt, StandsFor, languages as languages_of}
-use Rattle.view_engine.proofs.AcceptedWrites.{Answers-accepted}
+use Rattle.view_engine.specs.Worlds.{at_start, HasRoomAt, StandsEither, StandsFor, languages as languages_of}
+use Rattle.view_engine.proofs.AcceptedWrites.{Answers-accepted, each_ok_same}
+use Rattle.view_engine.proofs.Sound.{answers_sound}
 use Rattle.view_engine.proofs.Worlds.{answers_grow, holds_at, images_at, stays_still, stays_still_then}
 use Rattle.couchview_cli.specs.declared.session.Session.{Session}
 use Rattle.couchview_cli.specs.Ends.{Comes}
-use Rattle.couchview_cli.specs.Reading.{HasReplied, IsReplied, NoneWrites, Replies, Told}
+use Rattle.couchview_cli.specs.Reading.{HasReplied, IsReplied, NoneChanges, Replies, Told}
 use Rattle.couchview_cli.specs.Serving.{width, HadRoom}
-use Rattle.couchview_cli.specs.Session.{HasCome, IsAnswered, IsUnanswered, KeepsPorts, Origin, StandsEither, StepsOf, scene_of}
+use Rattle.couchview_cli.specs.Session.{HasCome, IsAnswered, IsUnanswered, KeepsPorts, Origin, StepsOf, scene_of}
 use Rattle.couchview_cli.proofs.Keeping.{Answered-of}
-use Rattle.couchview_cli.proofs.Moving.{moved_line, moved_start, told_first, went_before, went_nowhere, WentOn}
+use Rattle.couchview_cli.proofs.Moving.{GoesSoundly, moved_line, moved_start, told_first, went_before, went_nowhere, WentOn}
 
 module _ {F C : Type 0} (f : Folders F) (s : Servers C) (origin : Origin) where
   -- an engine that was opened is at the opening
   pub come_opened : (now : Scene F C) → languages_of now.engine ≡ origin.languages → StandsAt f s now (at_start origin.opening width origin.faults)
       → Tells origin.disk (f.disk now.folder) (LeavesOnly (λ image. StandsFor image origin.opening)) → HasCome f s origin now (at_start origin.opening width origin.faults)
-  come_opened now languages stands opened = record { languages = languages; stands = stands; moved = moved_start origin (f.disk now.folder) opened }
+  come_opened now languages stands opened = record { languages = languages; stands = stands; moved = moved_start s.functions s.honest origin (f.disk now.folder) opened }
 
   -- what a line that was answered is, as a step from the opening
   pub record HasGone (old new : Scene F C) (before : Moment) (e : Exchange) : Type 0 where
     pub after : Moment
     pub step : StepsOf s.functions s.honest origin before e after
     pub come : HasCome f s origin new after
-    pub grew : IfTold (f.disk old.folder) (λ d. GoesOnFrom before.world after.world)
+    pub grew : IfTold (f.disk old.folder) (λ d. GoesSoundly s.functions s.honest origin.languages before.world after.world)
     pub moments : Tells (f.disk old.folder) (f.disk new.folder) (LeavesOnly (StandsEither before.world after.world))
 
   pub come_line : (old new : Scene F C) (before : Moment) (e : Exchange) → HasCome f s origin old before → IsAnswered f s old new e.line e.text → HasGone old new before e
@@ -54,14 +58,17 @@ module _ {F C : Type 0} (f : Folders F) (s : Servers C) (origin : Origin) where
       let there = Answered-of origin.languages e.line come.languages (answered.answers before come.stands) in
       let Step = Answers s.functions s.honest origin.languages before e there.after in
       let grew =
-      told_now (f.disk old.folder) (λ d. Step) (λ d. GoesOnFrom before.world (there.after).world) (λ d answers. answers_grow s.functions s.honest origin.languages before e there.after answers) there.answers in
+      told_now (f.disk old.folder) (λ d. Step) (λ d. GoesSoundly s.functions s.honest origin.languages before.world (there.after).world)
+      (λ d answers. (answers_grow s.functions s.honest origin.languages before e there.after answers, λ sound. answers_sound s.functions s.honest origin.languages before e there.after answers sound)) there.answers in
+      let Sound = IsSound s.functions s.honest origin.languages in
       record {
         after = there.after;
-        step = told_first origin (f.disk old.folder) (f.disk new.folder) before.world come.moved Step there.answers;
+        step = told_pair origin.disk (λ d. Step) (λ d. Sound origin.opening → Sound before.world) (λ d. Step × (Sound origin.opening → Sound before.world)) (λ d answers sound. (answers, sound))
+            (told_first s.functions s.honest origin (f.disk old.folder) (f.disk new.folder) before.world come.moved Step there.answers) come.moved.sound;
         come = record {
           languages = answered.stays.languages ∙ come.languages;
           stands = there.stands;
-          moved = moved_line origin (f.disk old.folder) (f.disk new.folder) before.world come.moved (there.after).world grew there.moments;
+          moved = moved_line s.functions s.honest origin (f.disk old.folder) (f.disk new.folder) before.world come.moved (there.after).world grew there.moments;
         };
         grew = grew;
         moments = there.moments;
@@ -72,15 +79,15 @@ module _ {F C : Type 0} (f : Folders F) (s : Servers C) (origin : Origin) where
     pub after : Moment
     pub leads : LeadsTo (StepsOf s.functions s.honest origin) before es after
     pub come : HasCome f s origin last after
-    pub went : WentOn (f.disk start.folder) (f.disk last.folder) before.world after.world
-    pub fits : IfTold origin.disk (λ d. EachOk (HadRoom origin.opening (after.world) origin.disk (f.disk last.folder)) before.world es)
+    pub went : WentOn s.functions s.honest origin.languages (f.disk start.folder) (f.disk last.folder) before.world after.world
+    pub fits : IfTold origin.disk (λ d. EachOk (HadRoom s.functions s.honest origin.languages origin.opening (after.world) origin.disk (f.disk last.folder)) before.world es)
 
   pub run_none : (now : Scene F C) (before : Moment) → HasCome f s origin now before → HasRun now now before []
   run_none now before come = record {
     after = before;
     leads = refl;
     come = come;
-    went = went_nowhere (f.disk now.folder) before.world (images_at (f.disk now.folder) (s.may_follow now.servers) (s.faults now.servers) now.engine before come.stands);
+    went = went_nowhere s.functions s.honest origin.languages (f.disk now.folder) before.world (images_at (f.disk now.folder) (s.may_follow now.servers) (s.faults now.servers) now.engine before come.stands);
     fits = told_all origin.disk (λ d. Unit {0}) (λ d. tt);
   }
 
@@ -88,22 +95,28 @@ module _ {F C : Type 0} (f : Folders F) (s : Servers C) (origin : Origin) where
       → (gone : HasGone start mid before e) → HasRun mid last gone.after es → HasRun start last before (e ∷ es)
   run_line start mid last before e es come answered gone rest =
       let disk = f.disk start.folder in
-      let went = went_before disk (f.disk mid.folder) (f.disk last.folder) before.world (gone.after).world (rest.after).world gone.grew gone.moments rest.went in
-      let Room = HadRoom origin.opening (rest.after).world origin.disk (f.disk last.folder) in
+      let went = went_before s.functions s.honest origin.languages disk (f.disk mid.folder) (f.disk last.folder) before.world (gone.after).world (rest.after).world gone.grew gone.moments rest.went in
+      let Room = HadRoom s.functions s.honest origin.languages origin.opening (rest.after).world origin.disk (f.disk last.folder) in
       let had : is_ok e.text ≡ true → Room before.world (request_of e.line) = λ ok. record {
         mid = disk;
+        held = before.world;
+        history = refl;
         until = come.moved.moments;
         holds = holds_at disk (s.may_follow start.servers) (s.faults start.servers) start.engine before come.stands;
         room = told_now disk (λ d. is_ok e.text ≡ true → HasRoomAt d.now before.world (request_of e.line)) (λ d. HasRoomAt d.now before.world (request_of e.line)) (λ d room. room ok) (answered.room before come.stands);
         since = went.moments;
       } in
+      let had_same : (a b : World) (request : Result Request Refusal) → a.history ≡ b.history → Room a request → Room b request = λ a b request same room.
+      record { mid = room.mid; held = room.held; history = room.history ∙ same; until = room.until; holds = room.holds; room = room.room; since = room.since } in
+      let Sound = IsSound s.functions s.honest origin.languages in
       record {
         after = rest.after;
         leads = (gone.after, gone.step, rest.leads);
         come = rest.come;
         went = went;
-        fits = told_pair origin.disk (λ d. Answers s.functions s.honest origin.languages before e gone.after) (λ d. EachOk Room (gone.after).world es) (λ d. EachOk Room before.world (e ∷ es))
-            (λ d answers each. (had, subst (λ (w : World). EachOk Room w es) (Answers-accepted s.functions s.honest origin.languages before e gone.after answers) each)) gone.step rest.fits;
+        fits = told_pair origin.disk (λ d. Answers s.functions s.honest origin.languages before e gone.after × (Sound origin.opening → Sound before.world)) (λ d. EachOk Room (gone.after).world es) (λ d. EachOk Room before.world (e ∷ es))
+            (λ d step each. (had, each_ok_same {P = Room} {Q = Room} (λ a b request same room. had_same a b request same room) (gone.after).world (after_exchange before.world e) es (Answers-accepted s.functions s.honest origin.languages before e gone.after step.0) each))
+            gone.step rest.fits;
       }
 
 module _ {F C : Type 0} (f : Folders F) (s : Servers C) (r : Responds (Session F C) StepFault)
@@ -168,8 +181,8 @@ module _ {F C : Type 0} (f : Folders F) (s : Servers C) (r : Responds (Session F
   replies : (old new : Session F C) (seen : Unit {0}) (e : Exchange) → Unit {0} → Steps r old e new → (after : Unit {0}) × Replies seen e after × Unit {0}
   replies old new seen e known step = (tt, subst (IsReplied e.line) (sym step.1) ((answers old new e.line step.0).1).prints, tt)
 
-  -- where none of them writes a document no file changes
-  still : (start now : Session F C) (es : List Exchange) → LeadsTo (Steps r) start es now → NoneWrites es → Tells (f.disk start.folder.now) (f.disk now.folder.now) MovesNone
+  -- where none of them may change files none changes
+  still : (start now : Session F C) (es : List Exchange) → LeadsTo (Steps r) start es now → NoneChanges es → Tells (f.disk start.folder.now) (f.disk now.folder.now) MovesNone
   still start now [] leads none = subst (λ (session : Session F C). Tells (f.disk start.folder.now) (f.disk session.folder.now) MovesNone) (sym leads) (stays_still (f.disk start.folder.now))
   still start now (e ∷ es) leads none =
       stays_still_then (f.disk start.folder.now) (f.disk (leads.0).folder.now) (f.disk now.folder.now) (((answers start leads.0 e.line leads.1.0).1).still none.0) (still leads.0 now es leads.2 none.1)

@@ -1,9 +1,12 @@
 -- A line is answered as what is kept of it.
-use Rattle.std.specs.Prelude.{◌≡◌, ◌≢◌, ◌⊎◌, ℕ, Option, List, [], true, IfErr}
+use Rattle.std.specs.Prelude.{◌≡◌, ◌≢◌, ◌⊎◌, ℕ, Option, List, [], true, IfErr, Result}
 use Rattle.std.proofs.Common.{refl, sym, ap, ◌∙◌, subst, inl, inr}
 use Rattle.view_ports.specs.Functions.{Functions}
 use Rattle.view_engine.specs.Moments.{Moment}
+use Rattle.view_engine.specs.declared.refusal.Refusal.{Refusal}
 use Rattle.view_engine.specs.declared.refusal.Refusal.TheVariants.{NoMemory}
+use Rattle.view_engine.specs.declared.request.Request.{Request}
+use Rattle.view_groups.specs.Cleans.{IsIndexFile}
 use Rattle.view_engine.specs.Refusals.{request_limit, refusal_text, request_of}
 use Rattle.view_ports.specs.Lines.{ended, kept}
 use Rattle.view_ports.proofs.KeptLines.{kept-cases, kept-nil, kept-none}
@@ -13,13 +16,13 @@ use Rattle.view_ports.specs.declared.file_name.FileName.{FileName}
 use Rattle.view_ports.proofs.Told.{told_now}
 use Rattle.view_engine.specs.declared.halt.StepFault.{StepFault}
 use Rattle.view_engine.specs.declared.halt.StepFault.TheVariants.{DiskFault, Full}
-use Rattle.view_engine.specs.Worlds.{HasRoomAt, IsFullAt, IsFullIn, StandsAround}
+use Rattle.view_engine.specs.Worlds.{HasBodyDamage, HasRoomAt, IsFullAt, IsFullIn, StandsAround}
 use Rattle.view_ports.specs.declared.folder.Folder.{Ghosts as Folders}
 use Rattle.view_ports.specs.declared.servers.Servers.{Ghosts as Servers}
 use Rattle.view_engine.specs.Accepted.{is_ok}
 use Rattle.view_engine.specs.Calls.{Scene}
 use Rattle.view_engine.proofs.RequestLimit.{Answers-cut, request_limit-is, request_of-long}
-use Rattle.view_engine.specs.Disks.{ReadsDocuments}
+use Rattle.view_engine.specs.Disks.{ChangesFiles, IsOfIndex, IsView, ReadsDocuments}
 use Rattle.view_engine.specs.Halts.{Writes}
 use Rattle.view_engine.specs.ServerFaults.{says_server_fault}
 use Rattle.couchview_cli.specs.Reading.{IsFoundOn, IsReplied}
@@ -37,7 +40,7 @@ module _ (functions : List ℕ → Functions) (honest : List ℕ → Type 0) (la
       ]
 
   -- where memory ran out the answer is a constant
-  pub answers_no_memory : (before : Moment) (line : List ℕ) (after : Moment) → line ≢ [] → MayHaveCalled languages before (request_of line) after
+  pub answers_no_memory : (before : Moment) (line : List ℕ) (after : Moment) → line ≢ [] → MayHaveCalled functions honest languages before (request_of line) after
       → Answers functions honest languages before (record { line = line; text = ended (refusal_text NoMemory) }) after
   answers_no_memory before line after some called = inr (some, refl, called)
 
@@ -64,15 +67,19 @@ module _ {functions : List ℕ → Functions} {honest : List ℕ → Type 0} {la
     stands = answered.stands;
   }
 
-module _ {fault : StepFault} {old new : Told} {before : Moment} {HasLeft : Moment → Type 0} where
-  pub IsHalted-kept : (line : List ℕ) → IsHalted fault old new before (kept request_limit line) HasLeft → IsHalted fault old new before line HasLeft
+module _ {functions : List ℕ → Functions} {honest : List ℕ → Type 0} {languages : List (List ℕ × List ℕ)} {fault : StepFault} {old new : Told} {before : Moment} {HasLeft : Moment → Type 0} where
+  pub IsHalted-of : (languages' : List (List ℕ × List ℕ)) (line : List ℕ) → languages ≡ languages' → IsHalted functions honest languages fault old new before line HasLeft
+      → IsHalted functions honest languages' fault old new before line HasLeft
+  IsHalted-of languages' line same halted = subst (λ (ls : List (List ℕ × List ℕ)). IsHalted functions honest ls fault old new before line HasLeft) same halted
+
+  pub IsHalted-kept : (line : List ℕ) → IsHalted functions honest languages fault old new before (kept request_limit line) HasLeft → IsHalted functions honest languages fault old new before line HasLeft
   IsHalted-kept line halted = record {
-    moments = subst (λ r. Tells old new (LeavesOnly (StandsAround before.world r))) (request_kept line) halted.moments;
+    moments = subst (λ r. Tells old new (LeavesOnly (StandsAround functions honest languages before.world r))) (request_kept line) halted.moments;
     whole = halted.whole;
-    full = told_now old (λ d. (name : FileName) (length : Option ℕ) → fault ≡ Full name length → IsFullAt d.now before.world (request_of (kept request_limit line)) name length) (λ d. (name : FileName) (length : Option ℕ) → fault ≡ Full name length → IsFullAt d.now before.world (request_of line) name length)
-        (λ d full name length is. subst (λ r. IsFullAt d.now before.world r name length) (request_kept line) (full name length is)) halted.full;
-    room = told_now old (λ d. fault ≡ DiskFault → HasRoomAt d.now before.world (request_of (kept request_limit line))) (λ d. fault ≡ DiskFault → HasRoomAt d.now before.world (request_of line))
-        (λ d room is. subst (λ r. HasRoomAt d.now before.world r) (request_kept line) (room is)) halted.room;
+    full = subst (λ r. IfTold old (λ d. (name : FileName) (length : Option ℕ) → fault ≡ Full name length → IsFullAt d.now before.world r name length ⊎ IsOfIndex r name)) (request_kept line) halted.full;
+    room = subst (λ r. IfTold old (λ d. fault ≡ DiskFault → HasRoomAt d.now before.world r)) (request_kept line) halted.room;
+    last = halted.last;
+    called = subst (λ r. IfTold old (λ d. MayHaveCalled functions honest languages before r halted.last)) (request_kept line) halted.called;
     left = halted.left;
   }
 
@@ -85,19 +92,16 @@ replied_kept line text replied = record {
       (replied.refused (λ none. some (kept-none request_limit line none)));
 }
 
--- a line writes a document where what is kept of it does, and is not answered as that is not
-still_kept : {P : Type 0} (line : List ℕ) → ((Writes (request_of (kept request_limit line)) → ⊥) → P) → (Writes (request_of line) → ⊥) → P
-still_kept {P} line still = subst (λ request. (Writes request → ⊥) → P) (request_kept line) still
+-- a line's request has a property where that of what is kept of it has, and not where that has not
+unless_kept : {P : Type 0} (Q : Result Request Refusal → Type 0) (line : List ℕ) → ((Q (request_of (kept request_limit line)) → ⊥) → P) → (Q (request_of line) → ⊥) → P
+unless_kept {P} Q line unless = subst (λ request. (Q request → ⊥) → P) (request_kept line) unless
 
 found_kept : {disk : Told} {fault : StepFault} (line : List ℕ) → IsFoundOn disk (kept request_limit line) fault → IsFoundOn disk line fault
 found_kept {disk = disk} line found = record {
   halts = found.halts;
   asks = subst (λ request. IfErr request (λ refusal. ⊥)) (request_kept line) found.asks;
-  reads = λ name at is. subst ReadsDocuments (request_kept line) (found.reads name at is);
-  damaged = found.damaged;
-  writes = λ name length is. subst Writes (request_kept line) (found.writes name length is);
-  full = λ name length is. told_now disk (λ d. IsFullIn d.now (request_of (kept request_limit line)) name length) (λ d. IsFullIn d.now (request_of line) name length)
-      (λ d full. subst (λ request. IsFullIn d.now request name length) (request_kept line) full) (found.full name length is);
+  damaged = λ name at is. subst (λ request. (ReadsDocuments request × IfTold disk (λ d. HasBodyDamage d.now name at)) ⊎ (IsView request × IfTold disk (λ d. IsIndexFile name))) (request_kept line) (found.damaged name at is);
+  full = λ name length is. subst (λ request. (Writes request × IfTold disk (λ d. IsFullIn d.now request name length)) ⊎ IsOfIndex request name) (request_kept line) (found.full name length is);
 }
 
 -- what a responder is given of a line is what is kept of it
@@ -108,9 +112,9 @@ module _ {F C : Type 0} {f : Folders F} {s : Servers C} {old new : Scene F C} (l
   pub answered_whole : (text : List ℕ) → IsAnswered f s old new given text → IsAnswered f s old new line text
   answered_whole text answered =
       let kept_answered : IsAnswered f s old new (kept request_limit line) text = subst (λ (l : List ℕ). IsAnswered f s old new l text) (is_kept line given is) answered in
-      record { answers = λ before at. Answered-kept line (kept_answered.answers before at); room = λ before at. subst (λ request. IfTold (f.disk old.folder) (λ d. is_ok text ≡ true → HasRoomAt d.now before.world request)) (request_kept line) (kept_answered.room before at); prints = replied_kept line text kept_answered.prints; blames = λ fault. kept_answered.blames (ap (λ request. says_server_fault request text) (request_kept line) ∙ fault); still = still_kept line kept_answered.still; stays = answered.stays }
+      record { answers = λ before at. Answered-kept line (kept_answered.answers before at); room = λ before at. subst (λ request. IfTold (f.disk old.folder) (λ d. is_ok text ≡ true → HasRoomAt d.now before.world request)) (request_kept line) (kept_answered.room before at); prints = replied_kept line text kept_answered.prints; blames = λ fault. kept_answered.blames (ap (λ request. says_server_fault request text) (request_kept line) ∙ fault); still = unless_kept ChangesFiles line kept_answered.still; stays = answered.stays }
 
   pub unanswered_whole : (fault : StepFault) → IsUnanswered f s old new given fault → IsUnanswered f s old new line fault
   unanswered_whole fault cut =
       let kept_unanswered : IsUnanswered f s old new (kept request_limit line) fault = subst (λ (l : List ℕ). IsUnanswered f s old new l fault) (is_kept line given is) cut in
-      record { halts = λ before at. IsHalted-kept line (kept_unanswered.halts before at); cause = cut.cause; found = found_kept line kept_unanswered.found; still = still_kept line kept_unanswered.still; kept = cut.kept; stays = cut.stays }
+      record { halts = λ before at. IsHalted-kept line (kept_unanswered.halts before at); cause = cut.cause; found = found_kept line kept_unanswered.found; still = unless_kept ChangesFiles line kept_unanswered.still; kept = λ other. unless_kept IsView line (kept_unanswered.kept other); stays = cut.stays }

@@ -1,12 +1,12 @@
 -- What serving did, from the end of its session.
-use Rattle.std.specs.Prelude.{◌≡◌, ◌<◌, ◌≤◌, ℕ, List, [], Option, Some, None, length}
+use Rattle.std.specs.Prelude.{◌≡◌, ◌<◌, ◌≤◌, ℕ, List, [], ◌∷◌, Option, Some, None, length}
 use Rattle.std.proofs.Common.{refl, sym, ◌∙◌, subst, inl, inr}
 use Rattle.std.proofs.KnownBytes.{Appends-trans}
 use Rattle.std.specs.Io.KnownBytes.{Appends, Consumes, IsAtEnd}
 use Rattle.view_ports.specs.declared.file_name.FileName.{FileName}
 use Rattle.view_ports.specs.declared.run_end.RunEnd.{RunEnd}
 use Rattle.view_ports.specs.Calls.{Call}
-use Rattle.view_ports.specs.Disk.{IfTold, IsImageOf, LeavesOnly, Tells}
+use Rattle.view_ports.specs.Disk.{Disk, IfTold, IsImageOf, LeavesOnly, Tells}
 use Rattle.view_ports.specs.Faults.{Rose}
 use Rattle.view_ports.specs.Exchanges.{Exchange, LeadsTo, text_of}
 use Rattle.view_ports.specs.Functions.{Functions}
@@ -18,8 +18,11 @@ use Rattle.view_engine.specs.declared.halt.StepFault.TheVariants.{Damaged, DiskF
 use Rattle.view_engine.specs.Engine.{HasStopped}
 use Rattle.view_engine.specs.Moments.{Moment}
 use Rattle.view_engine.specs.Accepted.{accepted}
+use Rattle.view_engine.specs.Steps.{Answers, MayHaveCalled}
+use Rattle.view_engine.specs.Updating.{AreShaped}
 use Rattle.view_engine.specs.World.{World}
 use Rattle.view_engine.specs.Worlds.{at_start, StandsAround, StandsFor, width as width_of}
+use Rattle.view_groups.specs.Cleans.{IsIndexFile}
 use Rattle.view_engine.proofs.AcceptedWrites.{LeadsTo-accepted}
 use Rattle.view_engine.proofs.Worlds.{holds_at, images_at}
 use Rattle.couchview_cli.specs.Closing.{Closes}
@@ -30,6 +33,7 @@ use Rattle.view_engine.specs.Calls.{Scene}
 use Rattle.view_engine.specs.Refusals.{request_of}
 use Rattle.couchview_cli.specs.Ends.{CutOff, Ended}
 use Rattle.couchview_cli.specs.Session.{Origin}
+use Rattle.couchview_cli.proofs.Keeping.{IsHalted-of}
 use Rattle.couchview_cli.proofs.Moving.{moved_halted, told_first, Told}
 
 -- where a session began
@@ -41,18 +45,24 @@ pub closes_after : (before mid after : Option (List ℕ)) (text : List ℕ) (fau
 closes_after before mid after text fault status wrote (inl whole) = inl (whole.0, Appends-trans before mid after text _ wrote whole.1)
 closes_after before mid after text fault status wrote (inr failed) = inr (failed.0, ((failed.1).0, (failed.1).1, Appends-trans before mid after text _ wrote (failed.1).2))
 
-leads_accepted : (functions : List ℕ → Functions) (honest : List ℕ → Type 0) (languages : List (List ℕ × List ℕ)) (disk : Told) (start : Moment) (exchanges : List Exchange) (moment : Moment)
-    → LeadsTo (Steps functions honest languages disk) start exchanges moment → IfTold disk (λ d. moment.world ≡ accepted start.world exchanges)
-leads_accepted functions honest languages None start exchanges moment leads = tt
-leads_accepted functions honest languages (Some d) start exchanges moment leads = LeadsTo-accepted functions honest languages start exchanges moment leads
+module _ (functions : List ℕ → Functions) (honest : List ℕ → Type 0) (languages : List (List ℕ × List ℕ)) where
+  leads_answers : (opening : World) (d : Disk FileName) (start : Moment) (exchanges : List Exchange) (moment : Moment) → LeadsTo (Steps functions honest languages opening (Some d)) start exchanges moment
+      → LeadsTo (Answers functions honest languages) start exchanges moment
+  leads_answers opening d start [] moment leads = leads
+  leads_answers opening d start (e ∷ es) moment leads = (leads.0, (leads.1).0, leads_answers opening d leads.0 es moment leads.2)
 
--- each image now stands for the world before the line or the one with its write
-images_around : (old new : Told) (world : World) (line : List ℕ) → Tells old new (LeavesOnly (StandsAround world (request_of line)))
-    → IfTold new (λ d. (image : FileName → List ℕ) → IsImageOf d.now image → StandsAround world (request_of line) image)
-images_around old new world line moments =
-    told_after old new (λ d. Unit {0}) (λ d. (image : FileName → List ℕ) → IsImageOf d.now image → StandsAround world (request_of line) image)
-    (LeavesOnly (StandsAround world (request_of line))) (λ a b known leaves. at_end (StandsAround world (request_of line)) a b leaves)
-    (told_all old (λ d. Unit {0}) (λ d. tt)) moments
+  leads_accepted : (opening : World) (disk : Told) (start : Moment) (exchanges : List Exchange) (moment : Moment) → LeadsTo (Steps functions honest languages opening disk) start exchanges moment
+      → IfTold disk (λ d. (moment.world).history ≡ (accepted start.world exchanges).history)
+  leads_accepted opening None start exchanges moment leads = tt
+  leads_accepted opening (Some d) start exchanges moment leads = LeadsTo-accepted functions honest languages start exchanges moment (leads_answers opening d start exchanges moment leads)
+
+  -- each image now stands for the world before the line or the one that it makes
+  images_around : (old new : Told) (world : World) (line : List ℕ) → Tells old new (LeavesOnly (StandsAround functions honest languages world (request_of line)))
+      → IfTold new (λ d. (image : FileName → List ℕ) → IsImageOf d.now image → StandsAround functions honest languages world (request_of line) image)
+  images_around old new world line moments =
+      let around = StandsAround functions honest languages world (request_of line) in
+      told_after old new (λ d. Unit {0}) (λ d. (image : FileName → List ℕ) → IsImageOf d.now image → around image) (LeavesOnly around) (λ a b known leaves. at_end around a b leaves)
+      (told_all old (λ d. Unit {0}) (λ d. tt)) moments
 
 module _ (languages : List (List ℕ × List ℕ)) (opening : World) where
   module _ {F C : Type 0} (f : Folders F) (s : Servers C) (before : Outside) (left held : Option (List ℕ)) (now stopped : Scene F C)
@@ -79,7 +89,8 @@ module _ (languages : List (List ℕ × List ℕ)) (opening : World) where
           counts = counts;
           writes = ended.wrote;
           runs = ended.run;
-          keeps = leads_accepted s.functions s.honest languages before.disk (at_start opening width before.faults) ended.run.exchanges ended.moment ended.run.leads;
+          keeps = leads_accepted s.functions s.honest languages opening before.disk (at_start opening width before.faults) ended.run.exchanges ended.moment ended.run.leads;
+          sound = ended.has_come.moved.sound;
           fits = ended.fits;
           moments = ended.has_come.moved.moments;
           images = images_at (f.disk now.folder) (s.may_follow now.servers) (s.faults now.servers) now.engine ended.moment stands;
@@ -94,7 +105,7 @@ module _ (languages : List (List ℕ × List ℕ)) (opening : World) where
         → IsCutShort s.functions s.honest languages opening before (after_at stopped.folder) (AreLeft (s.may_follow stopped.servers)) status
     cut_short mid bytes fault status reads counts cause off closes =
         let come = off.has_come in
-        let halted = off.halts.halts off.moment come.stands in
+        let halted = IsHalted-of languages off.line come.languages (off.halts.halts off.moment come.stands) in
         let old = f.disk off.mid.folder in
         let new = f.disk now.folder in
         let begun = origin_of languages opening before in
@@ -114,11 +125,12 @@ module _ (languages : List (List ℕ × List ℕ)) (opening : World) where
           cut = off.cut;
           answered = off.answered;
           leads = off.leads;
-          keeps = leads_accepted s.functions s.honest languages before.disk (at_start opening width before.faults) off.exchanges off.moment off.leads;
+          keeps = leads_accepted s.functions s.honest languages opening before.disk (at_start opening width before.faults) off.exchanges off.moment off.leads;
+          sound = come.moved.sound;
           closes = closes_after before.held mid held (text_of off.exchanges) fault status off.wrote closes;
           halts = off.halts.found.halts;
           cause = cause;
-          whole = told_first begun old new world come.moved ((name : FileName) (at : ℕ) → fault ≡ Damaged name at → ⊥) halted.whole;
+          whole = told_first s.functions s.honest begun old new world come.moved ((name : FileName) (at : ℕ) → fault ≡ Damaged name at → IsIndexFile name × (AreShaped world → ⊥)) halted.whole;
           mid = old;
           until = come.moved.moments;
           holds = holds_at old (s.may_follow off.mid.servers) (s.faults off.mid.servers) off.mid.engine off.moment come.stands;
@@ -127,10 +139,12 @@ module _ (languages : List (List ℕ × List ℕ)) (opening : World) where
           room = halted.room;
           kept = off.halts.kept;
           since = halted.moments;
-          moments = moved_halted begun old new world come.moved off.line halted.moments;
-          images = images_around old new world off.line halted.moments;
+          moments = moved_halted s.functions s.honest begun old new world come.moved off.line halted.moments;
+          images = images_around s.functions s.honest languages old new world off.line halted.moments;
+          last = halted.last;
+          called = told_first s.functions s.honest begun old new world come.moved (MayHaveCalled s.functions s.honest languages off.moment (request_of off.line) halted.last) halted.called;
           faulted = same ∙ halted.left.counts;
-          at_end = are_left off.moment halted.left.follows;
+          at_end = are_left halted.last halted.left.follows;
         })
 
 module _ (functions : List ℕ → Functions) (honest : List ℕ → Type 0) (languages : List (List ℕ × List ℕ)) (opening : World) where

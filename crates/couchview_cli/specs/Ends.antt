@@ -24,7 +24,7 @@ module _ {F C : Type 0} (f : Folders F) (s : Servers C) (origin : Origin) (IsOve
     pub moment : Moment
     pub run : Run (StepsOf s.functions s.honest origin) IsOver (at_start origin.opening width origin.faults) bytes gained end moment
     pub has_come : HasCome f s origin after moment
-    pub fits : HaveRoom origin.opening moment.world origin.disk (f.disk after.folder) run.exchanges
+    pub fits : HaveRoom s.functions s.honest origin.languages origin.opening moment.world origin.disk (f.disk after.folder) run.exchanges
     pub wrote : Appends held now gained
 
   -- a session that read these bytes was cut short in the line in hand; the lines before it are answered
@@ -40,7 +40,7 @@ module _ {F C : Type 0} (f : Folders F) (s : Servers C) (origin : Origin) (IsOve
     pub answered : AreLines IsOver lines rest (lines_of exchanges ++ line ∷ more)
     pub leads : LeadsTo (StepsOf s.functions s.honest origin) (at_start origin.opening width origin.faults) exchanges moment
     pub has_come : HasCome f s origin mid moment
-    pub fits : HaveRoom origin.opening moment.world origin.disk (f.disk mid.folder) exchanges
+    pub fits : HaveRoom s.functions s.honest origin.languages origin.opening moment.world origin.disk (f.disk mid.folder) exchanges
     pub halts : IsUnanswered f s mid after line fault
     pub wrote : Appends held now (text_of exchanges)
 

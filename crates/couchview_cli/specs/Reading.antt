@@ -15,7 +15,8 @@ use Rattle.line_loop.specs.Loops.{HasReadBy}
 use Rattle.view_engine.specs.declared.halt.StepFault.{StepFault}
 use Rattle.view_engine.specs.declared.halt.StepFault.TheVariants.{Damaged, Full, NoMemory}
 use Rattle.view_engine.specs.Calls.{IsReplyLine}
-use Rattle.view_engine.specs.Disks.{ReadsDocuments}
+use Rattle.view_engine.specs.Disks.{ChangesFiles, IsOfIndex, IsView, ReadsDocuments}
+use Rattle.view_groups.specs.Cleans.{IsIndexFile}
 use Rattle.view_engine.specs.Halts.{Writes}
 use Rattle.view_engine.specs.Openings.{IsMovedByOpening}
 use Rattle.view_engine.specs.declared.refusal.Refusal.TheVariants.{NoMemory as OutOfMemory}
@@ -37,30 +38,28 @@ abbrev pub Replies : Unit {0} → Exchange → Unit {0} → Type 0
 Replies before exchange after = IsReplied exchange.line exchange.text
 
 -- a line isn't answered, for this fault: it is a request, and memory didn't run out; one that reads documents met a body that is
--- damaged; and one that writes a document met a full file
+-- damaged; one that writes a document met a full file; and a view met either in a file of an index
 pub record IsFoundOn (disk : Option (Disk FileName)) (line : List ℕ) (fault : StepFault) : Type 0 where
   pub halts : fault ≢ NoMemory
   pub asks : IfErr (request_of line) (λ refusal. ⊥)
-  pub reads : (name : FileName) (at : ℕ) → fault ≡ Damaged name at → ReadsDocuments (request_of line)
-  pub damaged : (name : FileName) (at : ℕ) → fault ≡ Damaged name at → IfTold disk (λ d. HasBodyDamage d.now name at)
-  pub writes : (name : FileName) (length : Option ℕ) → fault ≡ Full name length → Writes (request_of line)
-  pub full : (name : FileName) (length : Option ℕ) → fault ≡ Full name length → IfTold disk (λ d. IsFullIn d.now (request_of line) name length)
+  pub damaged : (name : FileName) (at : ℕ) → fault ≡ Damaged name at → (ReadsDocuments (request_of line) × IfTold disk (λ d. HasBodyDamage d.now name at)) ⊎ (IsView (request_of line) × IfTold disk (λ d. IsIndexFile name))
+  pub full : (name : FileName) (length : Option ℕ) → fault ≡ Full name length → (Writes (request_of line) × IfTold disk (λ d. IsFullIn d.now (request_of line) name length)) ⊎ IsOfIndex (request_of line) name
 
--- none of these lines is a request that writes a document
-abbrev pub NoneWrites : List Exchange → Type 0
-NoneWrites exchanges = AllByRecursion (λ e. Writes (request_of e.line) → ⊥) exchanges
+-- none of these lines is a request that may change files
+abbrev pub NoneChanges : List Exchange → Type 0
+NoneChanges exchanges = AllByRecursion (λ e. ChangesFiles (request_of e.line) → ⊥) exchanges
 
 abbrev pub Told : Type 0
 Told = Option (Disk FileName)
 
 module _ (IsOver : Type 0) (held now : Option (List ℕ)) (bytes : List ℕ) (old new : Told) (faults faults' : ℕ) where
-  -- The lines of these bytes were answered, as a run that came to this end answers them. Where none of them writes a document no
-  -- file changed. The count of the query servers' faults rose by two for each line that was answered `server_fault`.
+  -- The lines of these bytes were answered, as a run that came to this end answers them. Where none of them writes a document or asks
+  -- for a view no file changed. The count of the query servers' faults rose by two for each line that was answered `server_fault`.
   pub record AreReplied (end : RunEnd) : Type 0 where
     pub gained : List ℕ
     pub run : Run Replies IsOver tt bytes gained end tt
     pub wrote : Appends held now gained
-    pub still : NoneWrites run.exchanges → Tells old new MovesNone
+    pub still : NoneChanges run.exchanges → Tells old new MovesNone
     pub twice : RoseBy (2 * server_faults run.exchanges) faults faults'
 
   -- the first lines of them were answered, and the one behind them was not, for this fault
@@ -75,7 +74,7 @@ module _ (IsOver : Type 0) (held now : Option (List ℕ)) (bytes : List ℕ) (ol
     pub leads : LeadsTo Replies tt exchanges tt
     pub wrote : Appends held now (text_of exchanges)
     pub found : IsFoundOn new line fault
-    pub still : NoneWrites exchanges → (Writes (request_of line) → ⊥) → Tells old new MovesNone
+    pub still : NoneChanges exchanges → (ChangesFiles (request_of line) → ⊥) → Tells old new MovesNone
     pub twice : RoseBy (2 * server_faults exchanges) faults faults'
 
   abbrev pub AreRepliedBy : LoopEnd StepFault → Type 0

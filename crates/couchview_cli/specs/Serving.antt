@@ -21,9 +21,12 @@ use Rattle.view_engine.specs.declared.refusal.Refusal.{Refusal}
 use Rattle.view_engine.specs.declared.request.Request.{Request}
 use Rattle.view_engine.specs.World.{World}
 use Rattle.view_engine.specs.Moments.{Moment}
-use Rattle.view_engine.specs.Worlds.{at_start, GoesOnFrom, HasRoomAt, Holds, IsFullAt, StandsAfter, StandsAround, StandsFor}
+use Rattle.view_engine.specs.Disks.{IsOfIndex, IsView}
+use Rattle.view_engine.specs.Updating.{AreShaped, IsSound}
+use Rattle.view_engine.specs.Worlds.{at_start, GoesOnFrom, HasRoomAt, Holds, IsFullAt, StandsAround, StandsFor}
+use Rattle.view_groups.specs.Cleans.{IsIndexFile}
 use Rattle.view_engine.specs.Refusals.{request_of}
-use Rattle.view_engine.specs.Steps.{Answers}
+use Rattle.view_engine.specs.Steps.{Answers, Makes, MayHaveCalled}
 use Rattle.view_engine.specs.Accepted.{accepted, EachOk}
 use Rattle.couchview_cli.specs.Closing.{Closes}
 
@@ -52,36 +55,44 @@ pub record AreLeft (may_follow : List Call → Type 0) (calls : List Call) : Typ
   pub follows : may_follow (added ++ calls)
   pub stopped : (slot : ℕ) → slot < width → child slot (added ++ calls) ≡ None
 
--- an image stands for some first part of the world, which has all that was there at the opening
-abbrev pub StandsSince : World → World → (FileName → List ℕ) → Type 0
-StandsSince opening world image = (first : World) × (GoesOnFrom opening first × GoesOnFrom first world × StandsFor image first)
+module _ (functions : List ℕ → Functions) (honest : List ℕ → Type 0) (languages : List (List ℕ × List ℕ)) where
+  abbrev Sound : World → Type 0
+  Sound = IsSound functions honest languages
 
--- the same, or the image stands for the world with the write of the request in hand
-abbrev pub StandsSinceWith : World → World → List ℕ → (FileName → List ℕ) → Type 0
-StandsSinceWith opening world line image = StandsSince opening world image ⊎ StandsAfter world (request_of line) image
+  -- an image stands for some first part of the world, which has all that was there at the opening, and whose pictures stand where
+  -- those of the opening did
+  abbrev pub StandsSince : World → World → (FileName → List ℕ) → Type 0
+  StandsSince opening world image = (first : World) × (GoesOnFrom opening first × GoesOnFrom first world × StandsFor image first × (Sound opening → Sound first))
 
--- Before a line in a run the disk was `mid`: nothing was pending there, its files held the world, and what the line's request
--- writes passes neither limit of the documents' file among them.
-pub record HadRoom (opening last : World) (old new : Option (Disk FileName)) (world : World) (request : Result Request Refusal) : Type 0 where
-  pub mid : Option (Disk FileName)
-  pub until : Tells old mid (LeavesOnly (StandsSince opening world))
-  pub holds : IfTold mid (λ d. Holds d.now world)
-  pub room : IfTold mid (λ d. HasRoomAt d.now world request)
-  pub since : Tells mid new (LeavesOnly (StandsSince world last))
+  -- the same, or the image stands for the world that the request in hand makes
+  abbrev pub StandsSinceWith : World → World → List ℕ → (FileName → List ℕ) → Type 0
+  StandsSinceWith opening world line image =
+      StandsSince opening world image ⊎ ((after : World) × Makes functions honest languages world (request_of line) after × StandsFor image after × (Sound opening → Sound after))
 
--- from the one disk to the other, each line that was answered `ok` had room for what it wrote
-abbrev pub HaveRoom : World → World → Option (Disk FileName) → Option (Disk FileName) → List Exchange → Type 0
-HaveRoom opening last old new exchanges = IfTold old (λ d. EachOk (HadRoom opening last old new) opening exchanges)
+  -- Before a line in a run the disk was `mid`: nothing was pending there, its files held a world of this history, and what the line's
+  -- request writes passes neither limit of the documents' file among them.
+  pub record HadRoom (opening last : World) (old new : Option (Disk FileName)) (world : World) (request : Result Request Refusal) : Type 0 where
+    pub mid : Option (Disk FileName)
+    pub held : World
+    pub history : held.history ≡ world.history
+    pub until : Tells old mid (LeavesOnly (StandsSince opening held))
+    pub holds : IfTold mid (λ d. Holds d.now held)
+    pub room : IfTold mid (λ d. HasRoomAt d.now held request)
+    pub since : Tells mid new (LeavesOnly (StandsSince held last))
 
--- a step of a run, where the disk is told
-abbrev pub Steps : (List ℕ → Functions) → (List ℕ → Type 0) → List (List ℕ × List ℕ) → Option (Disk FileName) → Moment → Exchange → Moment → Type 0
-Steps functions honest languages disk before exchange after = IfTold disk (λ d. Answers functions honest languages before exchange after)
+  -- from the one disk to the other, each line that was answered `ok` had room for what it wrote
+  abbrev pub HaveRoom : World → World → Option (Disk FileName) → Option (Disk FileName) → List Exchange → Type 0
+  HaveRoom opening last old new exchanges = IfTold old (λ d. EachOk (HadRoom opening last old new) opening exchanges)
+
+  -- a step of a run, where the disk is told: the pictures before it stand where those of the opening did
+  abbrev pub Steps : World → Option (Disk FileName) → Moment → Exchange → Moment → Type 0
+  Steps opening disk before exchange after = IfTold disk (λ d. Answers functions honest languages before exchange after × (Sound opening → Sound before.world))
 
 module _ (functions : List ℕ → Functions) (honest : List ℕ → Type 0) (languages : List (List ℕ × List ℕ)) (opening : World) where
   -- A run that read the bytes that the source lost, that wrote what the sink gained, and that ended with this status. The
-  -- world at its end has the writes of the opening and exactly those that were answered `ok`. Each image since the start
-  -- stands for a first part of it, and each image now for the whole of it. Nothing is pending, and the files hold that world,
-  -- so a later run begins with it.
+  -- world at its end has the writes of the opening and exactly those that were answered `ok`, and its pictures stand where those of
+  -- the opening did. Each image since the start stands for a first part of it, and each image now for the whole of it. Nothing is
+  -- pending, and the files hold that world, so a later run begins with it.
   pub record Finishes (before after : Outside) (AtEnd : List Call → Type 0) (status : ℕ) : Type 0 where
     pub bytes : List ℕ
     pub gained : List ℕ
@@ -91,10 +102,11 @@ module _ (functions : List ℕ → Functions) (honest : List ℕ → Type 0) (la
     pub reads : Consumes before.left after.left bytes
     pub counts : HasRead end (length bytes)
     pub writes : Appends before.held after.held gained
-    pub runs : Run (Steps functions honest languages before.disk) (IsAtEnd after.left) (at_start opening width before.faults) bytes gained end moment
-    pub keeps : IfTold before.disk (λ d. moment.world ≡ accepted opening runs.exchanges)
-    pub fits : HaveRoom opening moment.world before.disk after.disk runs.exchanges
-    pub moments : Tells before.disk after.disk (LeavesOnly (StandsSince opening moment.world))
+    pub runs : Run (Steps functions honest languages opening before.disk) (IsAtEnd after.left) (at_start opening width before.faults) bytes gained end moment
+    pub keeps : IfTold before.disk (λ d. (moment.world).history ≡ (accepted opening runs.exchanges).history)
+    pub sound : IfTold before.disk (λ d. IsSound functions honest languages opening → IsSound functions honest languages moment.world)
+    pub fits : HaveRoom functions honest languages opening moment.world before.disk after.disk runs.exchanges
+    pub moments : Tells before.disk after.disk (LeavesOnly (StandsSince functions honest languages opening moment.world))
     pub images : IfTold after.disk (λ d. (image : FileName → List ℕ) → IsImageOf d.now image → StandsFor image moment.world)
     pub holds : IfTold after.disk (λ d. Holds d.now moment.world)
     pub faulted : after.faults ≡ moment.faults
@@ -103,8 +115,9 @@ module _ (functions : List ℕ → Functions) (honest : List ℕ → Type 0) (la
   -- A run that a fault of the folder cut short: some first lines were answered, each wholly, and then the line in hand was
   -- not. Its request took effect wholly or not at all. The last line that is written names the fault, unless the sink fails.
   -- Want of memory doesn't cut a run short: such a line is answered. `mid` is the disk before the line in hand: nothing is
-  -- pending there, its files hold the world, and a file that is full is one of them. No file changes since but where the disk
-  -- failed, and there the line's write would have passed no limit.
+  -- pending there, its files hold the world, and a file that is full is one of them. No file changes since but in a view, or where the
+  -- disk failed, and there the line's write would have passed no limit. A file that is damaged is one of an index, and none is where the
+  -- pictures have the shape of their designs. `last` is how the query servers were left.
   pub record IsCutShort (before after : Outside) (AtEnd : List Call → Type 0) (status : ℕ) : Type 0 where
     pub bytes : List ℕ
     pub exchanges : List Exchange
@@ -118,28 +131,32 @@ module _ (functions : List ℕ → Functions) (honest : List ℕ → Type 0) (la
     pub counts : length bytes ≤ input_limit
     pub cut : IsCut bytes lines rest
     pub answered : AreLines (IsAtEnd after.left) lines rest (lines_of exchanges ++ line ∷ more)
-    pub leads : LeadsTo (Steps functions honest languages before.disk) (at_start opening width before.faults) exchanges moment
-    pub keeps : IfTold before.disk (λ d. moment.world ≡ accepted opening exchanges)
+    pub leads : LeadsTo (Steps functions honest languages opening before.disk) (at_start opening width before.faults) exchanges moment
+    pub keeps : IfTold before.disk (λ d. (moment.world).history ≡ (accepted opening exchanges).history)
+    pub sound : IfTold before.disk (λ d. IsSound functions honest languages opening → IsSound functions honest languages moment.world)
     pub closes : Closes before.held after.held (text_of exchanges) fault status
     pub halts : fault ≢ NoMemory
     pub cause : fault ≡ DiskFault → Rose before.disk_faults after.disk_faults
-    pub whole : IfTold before.disk (λ d. (name : FileName) (at : ℕ) → fault ≡ Damaged name at → ⊥)
+    pub whole : IfTold before.disk (λ d. (name : FileName) (at : ℕ) → fault ≡ Damaged name at → IsIndexFile name × (AreShaped moment.world → ⊥))
     pub mid : Option (Disk FileName)
-    pub until : Tells before.disk mid (LeavesOnly (StandsSince opening moment.world))
+    pub until : Tells before.disk mid (LeavesOnly (StandsSince functions honest languages opening moment.world))
     pub holds : IfTold mid (λ d. Holds d.now moment.world)
-    pub fits : HaveRoom opening moment.world before.disk mid exchanges
-    pub full : IfTold mid (λ d. (name : FileName) (length : Option ℕ) → fault ≡ Full name length → IsFullAt d.now moment.world (request_of line) name length)
+    pub fits : HaveRoom functions honest languages opening moment.world before.disk mid exchanges
+    pub full : IfTold mid (λ d. (name : FileName) (length : Option ℕ) → fault ≡ Full name length → IsFullAt d.now moment.world (request_of line) name length ⊎ IsOfIndex (request_of line) name)
     pub room : IfTold mid (λ d. fault ≡ DiskFault → HasRoomAt d.now moment.world (request_of line))
-    pub kept : fault ≢ DiskFault → Tells mid after.disk MovesNone
-    pub since : Tells mid after.disk (LeavesOnly (StandsAround moment.world (request_of line)))
-    pub moments : Tells before.disk after.disk (LeavesOnly (StandsSinceWith opening moment.world line))
-    pub images : IfTold after.disk (λ d. (image : FileName → List ℕ) → IsImageOf d.now image → StandsAround moment.world (request_of line) image)
-    pub faulted : after.faults ≡ moment.faults
-    pub at_end : AtEnd moment.calls
+    pub kept : fault ≢ DiskFault → (IsView (request_of line) → ⊥) → Tells mid after.disk MovesNone
+    pub since : Tells mid after.disk (LeavesOnly (StandsAround functions honest languages moment.world (request_of line)))
+    pub moments : Tells before.disk after.disk (LeavesOnly (StandsSinceWith functions honest languages opening moment.world line))
+    pub images : IfTold after.disk (λ d. (image : FileName → List ℕ) → IsImageOf d.now image → StandsAround functions honest languages moment.world (request_of line) image)
+    pub last : Moment
+    pub called : IfTold before.disk (λ d. MayHaveCalled functions honest languages moment (request_of line) last)
+    pub faulted : after.faults ≡ last.faults
+    pub at_end : AtEnd last.calls
 
-  -- a full file cuts it short
-  abbrev pub EndsAtFullFile : Outside → Outside → (List Call → Type 0) → ℕ → Type 0
-  EndsAtFullFile before after AtEnd status = (cut : IsCutShort before after AtEnd status) × (name : FileName) × (length : Option ℕ) × (cut.fault ≡ Full name length)
+  -- a file that is full cuts it short, or an index that is damaged
+  abbrev pub EndsAtFile : Outside → Outside → (List Call → Type 0) → ℕ → Type 0
+  EndsAtFile before after AtEnd status = (cut : IsCutShort before after AtEnd status)
+      × (((name : FileName) × (length : Option ℕ) × (cut.fault ≡ Full name length)) ⊎ ((name : FileName) × (at : ℕ) × (cut.fault ≡ Damaged name at)))
 
   -- the folder could not be opened: nothing was read, and each image stands for the opening
   pub record IsUnopened (before after : Outside) (AtEnd : List Call → Type 0) (status : ℕ) : Type 0 where

@@ -13,13 +13,15 @@ use Rattle.view_ports.specs.Lines.{ended}
 use Rattle.view_engine.specs.declared.refusal.Refusal.TheVariants as refusal
 use Rattle.view_engine.specs.Accepted.{is_ok}
 use Rattle.view_engine.specs.Calls.{KeepsChild, Scene, StandsAt, Stays, scene}
-use Rattle.view_engine.specs.Halts.{Writes}
 use Rattle.view_engine.specs.Refusals.{refusal_text, request_of}
 use Rattle.view_engine.specs.Moments.{Moment}
 use Rattle.view_engine.specs.ServerFaults.{is_server_fault}
-use Rattle.view_engine.specs.Steps.{Answers}
+use Rattle.view_engine.specs.Disks.{ChangesFiles, IsOfIndex, IsView}
+use Rattle.view_engine.specs.Steps.{Answers, MayHaveCalled}
+use Rattle.view_engine.specs.Updating.{AreShaped, IsSound}
+use Rattle.view_groups.specs.Cleans.{IsIndexFile}
 use Rattle.view_engine.specs.World.{World}
-use Rattle.view_engine.specs.Worlds.{at_start, GoesOnFrom, HasRoomAt, IsFullAt, StandsAround, StandsFor, languages as languages_of}
+use Rattle.view_engine.specs.Worlds.{at_start, GoesOnFrom, HasRoomAt, IsFullAt, StandsAround, StandsEither, languages as languages_of}
 use Rattle.couchview_cli.specs.declared.session.Session.{Session}
 use Rattle.couchview_cli.specs.Reading.{IsFoundOn, IsReplied}
 use Rattle.couchview_cli.specs.Serving.{StandsSince, Steps, width}
@@ -31,16 +33,14 @@ pub record Origin : Type 0 where
   pub disk : Option (Disk FileName)
   pub faults : ℕ
 
--- an image stands for the one world or the other
-abbrev pub StandsEither : World → World → (FileName → List ℕ) → Type 0
-StandsEither before after image = StandsFor image before ⊎ StandsFor image after
-
--- from the disk at the opening to the disk now, each image stands for a first part of the world now
-pub record HasMoved (origin : Origin) (disk : Option (Disk FileName)) (world : World) : Type 0 where
-  pub grew : IfTold origin.disk (λ d. GoesOnFrom origin.opening world)
-  pub moments : Tells origin.disk disk (LeavesOnly (StandsSince origin.opening world))
-
 module _ (functions : List ℕ → Functions) (honest : List ℕ → Type 0) where
+  -- From the disk at the opening to the disk now, each image stands for a first part of the world now, whose pictures stand where
+  -- those of the opening did.
+  pub record HasMoved (origin : Origin) (disk : Option (Disk FileName)) (world : World) : Type 0 where
+    pub grew : IfTold origin.disk (λ d. GoesOnFrom origin.opening world)
+    pub sound : IfTold origin.disk (λ d. IsSound functions honest origin.languages origin.opening → IsSound functions honest origin.languages world)
+    pub moments : Tells origin.disk disk (LeavesOnly (StandsSince functions honest origin.languages origin.opening world))
+
   -- a line was answered with a text, and `Stands` holds of the moment after it; each image stands for the world before or after it
   pub record Answered (languages : List (List ℕ × List ℕ)) (old new : Option (Disk FileName)) (before : Moment) (line text : List ℕ) (Stands : Moment → Type 0) : Type 0 where
     pub after : Moment
@@ -49,15 +49,18 @@ module _ (functions : List ℕ → Functions) (honest : List ℕ → Type 0) whe
     pub stands : Stands after
 
   abbrev pub StepsOf : Origin → Moment → Exchange → Moment → Type 0
-  StepsOf origin = Steps functions honest origin.languages origin.disk
+  StepsOf origin = Steps functions honest origin.languages origin.opening origin.disk
 
--- a line was not answered, since the folder failed, or a file is damaged or full: the request took effect wholly or not at all
-pub record IsHalted (fault : StepFault) (old new : Option (Disk FileName)) (before : Moment) (line : List ℕ) (HasLeft : Moment → Type 0) : Type 0 where
-  pub moments : Tells old new (LeavesOnly (StandsAround before.world (request_of line)))
-  pub whole : IfTold old (λ d. (name : FileName) (at : ℕ) → fault ≡ Damaged name at → ⊥)
-  pub full : IfTold old (λ d. (name : FileName) (length : Option ℕ) → fault ≡ Full name length → IsFullAt d.now before.world (request_of line) name length)
-  pub room : IfTold old (λ d. fault ≡ DiskFault → HasRoomAt d.now before.world (request_of line))
-  pub left : HasLeft before
+  -- a line was not answered, since the folder failed, or a file is damaged or full: the request took effect wholly or not at all, and
+  -- may have called query servers. Damage is that of an index alone, and not where the pictures have the shape of their designs.
+  pub record IsHalted (languages : List (List ℕ × List ℕ)) (fault : StepFault) (old new : Option (Disk FileName)) (before : Moment) (line : List ℕ) (HasLeft : Moment → Type 0) : Type 0 where
+    pub moments : Tells old new (LeavesOnly (StandsAround functions honest languages before.world (request_of line)))
+    pub whole : IfTold old (λ d. (name : FileName) (at : ℕ) → fault ≡ Damaged name at → IsIndexFile name × (AreShaped before.world → ⊥))
+    pub full : IfTold old (λ d. (name : FileName) (length : Option ℕ) → fault ≡ Full name length → IsFullAt d.now before.world (request_of line) name length ⊎ IsOfIndex (request_of line) name)
+    pub room : IfTold old (λ d. fault ≡ DiskFault → HasRoomAt d.now before.world (request_of line))
+    pub last : Moment
+    pub called : IfTold old (λ d. MayHaveCalled functions honest languages before (request_of line) last)
+    pub left : HasLeft last
 
 module _ {F C : Type 0} (f : Folders F) (s : Servers C) where
   -- a line was answered with this text, whatever the moment was
@@ -67,23 +70,23 @@ module _ {F C : Type 0} (f : Folders F) (s : Servers C) where
     pub room : (before : Moment) → StandsAt f s old before → IfTold (f.disk old.folder) (λ d. is_ok text ≡ true → HasRoomAt d.now before.world (request_of line))
     pub prints : IsReplied line text
     pub blames : is_server_fault (record { line = line; text = text }) ≡ true → RoseBy 2 (s.faults old.servers) (s.faults new.servers)
-    pub still : (Writes (request_of line) → ⊥) → Tells (f.disk old.folder) (f.disk new.folder) MovesNone
+    pub still : (ChangesFiles (request_of line) → ⊥) → Tells (f.disk old.folder) (f.disk new.folder) MovesNone
     pub stays : Stays f s old new
 
   -- a line was not answered, for this fault
   pub record IsUnanswered (old new : Scene F C) (line : List ℕ) (fault : StepFault) : Type 0 where
-    pub halts : (before : Moment) → StandsAt f s old before → IsHalted fault (f.disk old.folder) (f.disk new.folder) before line (KeepsChild f s new)
+    pub halts : (before : Moment) → StandsAt f s old before → IsHalted s.functions s.honest (languages_of old.engine) fault (f.disk old.folder) (f.disk new.folder) before line (KeepsChild f s new)
     pub cause : fault ≡ DiskFault → Rose (f.faults old.folder) (f.faults new.folder)
     pub found : IsFoundOn (f.disk new.folder) line fault
-    pub still : (Writes (request_of line) → ⊥) → Tells (f.disk old.folder) (f.disk new.folder) MovesNone
-    pub kept : fault ≢ DiskFault → Tells (f.disk old.folder) (f.disk new.folder) MovesNone
+    pub still : (ChangesFiles (request_of line) → ⊥) → Tells (f.disk old.folder) (f.disk new.folder) MovesNone
+    pub kept : fault ≢ DiskFault → (IsView (request_of line) → ⊥) → Tells (f.disk old.folder) (f.disk new.folder) MovesNone
     pub stays : Stays f s old new
 
   -- since the origin a session has come to this moment
   pub record HasCome (origin : Origin) (now : Scene F C) (moment : Moment) : Type 0 where
     pub languages : languages_of now.engine ≡ origin.languages
     pub stands : StandsAt f s now moment
-    pub moved : HasMoved origin (f.disk now.folder) moment.world
+    pub moved : HasMoved s.functions s.honest origin (f.disk now.folder) moment.world
 
   -- it has come to none yet but the opening
   abbrev pub IsAtOrigin : Origin → Scene F C → Type 0

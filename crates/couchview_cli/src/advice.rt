@@ -13,11 +13,12 @@ pub fn advice(status: u8) -> Option<&'static str> {
         ),
         7 => Some(
             "a file is damaged, at the offset that the last line names, and the run ended: copy the whole folder before \
-            you try anything, and go back to a backup of the whole folder",
+            you try anything, and go back to a backup of the whole folder; of an index, whose files have names of 32 \
+            digits, both files may be removed, and the next view builds it anew",
         ),
         9 => Some(
-            "the file of the documents is full, and the run ended; it can still be read: put the documents into a new \
-            folder",
+            "a file is full, and the run ended; that of the documents can still be read: put them into a new folder; of an \
+            index, whose files have names of 32 digits, both files may be removed, and the next view builds it anew",
         ),
         _ => None,
     }

@@ -11,7 +11,7 @@ ghost use Rattle.view_engine.specs.Worlds.{Holds};
 ghost use Rattle.couchview_cli.specs.Command.{AreLanguages, IsApart, IsServe, ShowsUsage, languages_named, usage_line};
 ghost use Rattle.couchview_cli.specs.Command as spec;
 ghost use Rattle.couchview_cli.specs.Reading.{AnswersLines};
-ghost use Rattle.couchview_cli.specs.Serving.{outside, AreLeft, EndsAtFullFile, IsShort, Serves, StopsAtLimit};
+ghost use Rattle.couchview_cli.specs.Serving.{outside, AreLeft, EndsAtFile, IsShort, Serves, StopsAtLimit};
 
 use crate::built_in::is_built_in;
 use crate::serve::serve;
@@ -164,13 +164,13 @@ pub fn couchview<S: Source, K: Sink, F: Folder, C: Servers>(
     ensures disk_count { F.faults folder.old ≤ F.faults folder.new }
     ensures server_count { C.faults servers.old ≤ C.faults servers.new }
 
-    // Where no port fails and no full file ends the run, input that is short enough is read to its end.
+    // Where no port fails, and no full file or damaged index ends the run, input that is short enough is read to its end.
     ensures complete { IsServe words.now → (opening : World)
         → IfTold (F.disk folder.old) (λ d. Holds d.now opening) → IsShort (S.left source.old)
         → ¬ Rose (S.faults source.old) (S.faults source.new)
         → ¬ Rose (K.faults sink.old) (K.faults sink.new)
         → ¬ Rose (F.faults folder.old) (F.faults folder.new)
-        → ¬ EndsAtFullFile C.functions C.honest (languages_named words.now) opening
+        → ¬ EndsAtFile C.functions C.honest (languages_named words.now) opening
         (outside S.Source K.Sink F.Folder C.Servers source.old sink.old folder.old servers.old)
         (outside S.Source K.Sink F.Folder C.Servers source.new sink.new folder.new servers.new)
         (AreLeft (C.may_follow servers.new)) result

@@ -1,18 +1,23 @@
 -- A request on the documents alone, as the engine performs it.
 use Rattle.std.specs.Prelude.{OnOk}
-use Rattle.std.proofs.Common.{◌≡◌, ◌≢◌, ℕ, List, Option, Some, None, inl, inr, Result, Ok, Err, refl, sym, ap, subst, arith}
+use Rattle.std.proofs.Common.{◌≡◌, ◌≢◌, ◌≤◌, ◌∙◌, ℕ, List, length, Option, Some, None, inl, inr, Result, Ok, Err, refl, sym, ap, subst, arith}
+use Rattle.std.proofs.lemmas.Result.{IfErr-weaker}
+use Rattle.json_terms.specs.Json.{members_of, object}
 use Rattle.view_ports.specs.Functions.{Functions}
 use Rattle.view_ports.specs.Lines.{ended}
 use Rattle.view_ports.specs.declared.folder.Folder.{Ghosts as Folders}
 use Rattle.view_ports.specs.declared.servers.Servers.{Ghosts as Servers}
-use Rattle.view_ports.proofs.Told.{told_all, told_now}
+use Rattle.view_ports.proofs.DiskRuns.{none_refl}
+use Rattle.view_ports.proofs.Told.{told_all, told_given, told_now, told_pair, told_refl}
 use Rattle.child_pool.specs.declared.pool.Pool.{Pool}
 use Rattle.child_pool.specs.Pools.{languages_of}
-use Rattle.view_ports.specs.Disk.{Disk, IfTold, Tells}
+use Rattle.view_ports.specs.Disk.{Disk, IfTold, LeavesOnly, MovesNone, Tells}
 use Rattle.view_ports.specs.declared.file_name.FileName.{FileName}
 use Rattle.doc_file.specs.declared.docs.Docs.{Docs}
 use Rattle.doc_file.specs.Docs.{IsAt as AreAt}
+use Rattle.doc_file.specs.History.{Write}
 use Rattle.view_groups.specs.declared.groups.Groups.{Groups}
+use Rattle.view_groups.specs.Pictures.{Pictures}
 use Rattle.view_groups.specs.Groups.{AreAt as AreIndexesAt}
 use Rattle.view_engine.specs.declared.engine.Engine.{Engine}
 use Rattle.view_engine.specs.declared.halt.Halt.{Halt}
@@ -22,16 +27,18 @@ use Rattle.view_engine.specs.declared.refusal.Refusal.{Refusal}
 use Rattle.view_engine.specs.declared.refusal.Refusal.TheVariants.{ServerFault}
 use Rattle.view_engine.specs.declared.request.Request.{Request}
 use Rattle.view_engine.specs.declared.request.Request.TheVariants.{Put, Delete, Get, Info}
-use Rattle.view_engine.specs.Calls.{scene, ActsHere, AppendsReplyTo, DoesBy, DoesHere, DoesHereBy, IsRefusedHere, Performed, RefusesUnread, Scene}
-use Rattle.view_engine.specs.Disks.{LiesOpen}
-use Rattle.view_engine.specs.Halts.{MovesDocuments}
-use Rattle.view_engine.specs.Worlds.{IsAtWorld}
+use Rattle.view_engine.specs.Calls.{scene, ActsHere, AppendsReplyTo, CrashesAround, DoesBy, DoesHere, DoesHereBy, IsRefusedHere, KeepsChild, LeavesChild, LeavesMoment, LeavesWorld, Performed, RefusesUnread, Scene, StandsAt}
+use Rattle.view_engine.specs.Delete.{delete_write}
+use Rattle.view_engine.specs.Disks.{HasGivenUp, IfStopped, IsReason, IsReasonOf, KeepsDocuments, LiesOpen, MayGoOn}
+use Rattle.view_engine.specs.Halts.{DocumentsStandAround, MovesDocuments}
+use Rattle.view_engine.specs.Put.{put_write}
+use Rattle.view_engine.specs.Worlds.{IsAtWorld, StandsAround, StandsEither, StandsFor}
 use Rattle.view_engine.specs.Moments.{Moment, with_world}
 use Rattle.view_engine.specs.Refusals.{refusal_text}
-use Rattle.view_engine.specs.Steps.{DoesRequest, DoesRequestText, IsRefusedAs, MayHaveCalled, Performs}
-use Rattle.view_engine.specs.World.{World}
-use Rattle.view_engine.proofs.OnDisk.{documents_still}
-use Rattle.view_engine.proofs.Whole.{documents_at, documents_open, indexes_at, kept_whole}
+use Rattle.view_engine.specs.Steps.{DoesRequest, DoesRequestText, IsRefusedAs, IsWrite, Makes, MayHaveCalled, Performs}
+use Rattle.view_engine.specs.World.{World, NoneIsNewer, written}
+use Rattle.view_engine.proofs.OnDisk.{documents_reason, documents_still}
+use Rattle.view_engine.proofs.Whole.{documents_at, documents_open, indexes_at, kept_whole, leaves_around, told_leaves_before, told_leaves_none}
 use Rattle.view_engine.proofs.Performing.{none_called}
 use Rattle.view_engine.proofs.ServerFaults.{err_unblamed}
 
@@ -51,73 +58,158 @@ module _ (functions : List ℕ → Functions) (honest : List ℕ → Type 0) (la
   refused_here other world refusal is = absurd is
 
   -- a moment at the same world
-  same_called : (request : Request) (before : Moment) (after : World) → after ≡ before.world → MayHaveCalled languages before (Ok request) (with_world before after)
+  same_called : (request : Request) (before : Moment) (after : World) → after ≡ before.world → MayHaveCalled functions honest languages before (Ok request) (with_world before after)
   same_called request before after same =
-      subst (λ (world : World). MayHaveCalled languages before (Ok request) (with_world before world)) (sym same) (none_called languages before (Ok request))
+      subst (λ (world : World). MayHaveCalled functions honest languages before (Ok request) (with_world before world)) (sym same) (none_called functions honest languages before (Ok request))
 
--- what a request on the documents does leaves the pictures as they were
-same_pictures : (request : Request) (world : World) (reply : List ℕ) (after : World) → DoesHere world request reply after → after.pictures ≡ world.pictures
-same_pictures (Put document) world reply after does = ap (λ (w : World). w.pictures) does.wrote
-same_pictures (Delete id given) world reply after does = ap (λ (w : World). w.pictures) does.wrote
-same_pictures (Get id) world reply after does = ap (λ (w : World). w.pictures) does.1
-same_pictures Info world reply after does = ap (λ (w : World). w.pictures) does.1
-same_pictures other world reply after does = absurd does
+  -- the world with an accepted write is one that the request makes
+  write_makes : (world : World) (request : Result Request Refusal) (write : Write) → IsWrite world request write → Makes functions honest languages world request (written world write)
+  write_makes world (Ok (Put document)) write is = (write, is, refl)
+  write_makes world (Ok (Delete id given)) write is = (write, is, refl)
+  write_makes world other write is = absurd is
 
-module _ {F C : Type 0} (f : Folders F) (s : Servers C) (docs docs' : Docs) (pool : Pool) (groups : Groups) (old new : F) (servers : C) (out out' : List ℕ) (own : Tells (f.disk old) (f.disk new) (MovesDocuments (λ image. Unit {0}))) where
+-- after a request on the documents the pictures are as they were, and no write is lost
+abbrev GrowsAlone : World → World → Type 0
+GrowsAlone world after = (after.pictures ≡ world.pictures) × (length world.history ≤ length after.history)
+
+grows_by : (world : World) (write : Write) (after : World) → after ≡ written world write → GrowsAlone world after
+grows_by world write after wrote = subst (GrowsAlone world) (sym wrote) (refl, omega arith)
+
+grows_none : (world after : World) → after ≡ world → GrowsAlone world after
+grows_none world after same = subst (GrowsAlone world) (sym same) (refl, omega arith)
+
+does_grow : (request : Request) (world : World) (reply : List ℕ) (after : World) → DoesHere world request reply after → GrowsAlone world after
+does_grow (Put document) world reply after does = grows_by world (put_write world (object (members_of document))) after does.wrote
+does_grow (Delete id given) world reply after does = grows_by world (delete_write world id) after does.wrote
+does_grow (Get id) world reply after does = grows_none world after does.1
+does_grow Info world reply after does = grows_none world after does.1
+does_grow other world reply after does = absurd does
+
+-- and the world is the one with the request's write, where it has one
+does_write : (request : Request) (world : World) (reply : List ℕ) (after : World) (write : Write) → DoesHere world request reply after → IsWrite world (Ok request) write → written world write ≡ after
+does_write (Put document) world reply after write does is = ap (written world) (is.1).2 ∙ sym does.wrote
+does_write (Delete id given) world reply after write does is = ap (written world) (is.1).2 ∙ sym does.wrote
+does_write other world reply after write does is = absurd is
+
+within_grown : (world after : World) → GrowsAlone world after → NoneIsNewer world → NoneIsNewer after
+within_grown world after grown within = λ sig picture has.
+    let low = within sig picture (ap (λ (pictures : Pictures). pictures sig) (sym grown.0) ∙ has) in
+    omega (arith, low, grown.1)
+
+module _ {F C : Type 0} (f : Folders F) (s : Servers C) (docs docs' : Docs) (pool : Pool) (groups : Groups) (old new : F) (servers : C) (out out' : List ℕ) where
   abbrev before_it : Engine
   before_it = record { docs = docs; pool = pool; groups = groups }
 
   abbrev after_it : Engine
   after_it = record { docs = docs'; pool = pool; groups = groups }
 
-  -- the engine is at the world that the documents are at, beside the pictures that were there
-  whole : (world after : World) → IfTold (f.disk old) (λ d. IsAtWorld before_it d.now world) → IfTold (f.disk old) (λ d. after.pictures ≡ world.pictures) → IfTold (f.disk new) (λ d. AreAt docs' d.now after.history)
-      → IfTold (f.disk new) (λ d. IsAtWorld after_it d.now after)
-  whole world after at pictures documents = by_disk (f.disk old) (f.disk new) at pictures own documents
-    where
-      by_disk : (x y : Option (Disk FileName)) → IfTold x (λ d. IsAtWorld before_it d.now world) → IfTold x (λ d. after.pictures ≡ world.pictures) → Tells x y (MovesDocuments (λ image. Unit {0})) → IfTold y (λ d. AreAt docs' d.now after.history)
-          → IfTold y (λ d. IsAtWorld after_it d.now after)
-      by_disk None None here same moves there = tt
-      by_disk None (Some b) here same moves there = absurd moves
-      by_disk (Some a) None here same moves there = tt
-      by_disk (Some a) (Some b) here same moves there = record { documents = there; indexes = subst (AreIndexesAt groups b.now) (sym same) (indexes_at a b moves groups world.pictures here.indexes) }
+  abbrev Stands : World → Type 0
+  Stands world = IfTold (f.disk old) (λ d. IsAtWorld before_it d.now world)
 
-  does_here : (request : Request) (result : Result (Unit {0}) Halt) → DoesHereBy f docs docs' old new request out out' result → DoesBy f s (scene before_it old servers) (scene after_it new servers) (Ok request) out out' result
-  does_here request (Ok value) done = λ before at.
-      let left = done.does before.world (documents_at _ _ before.world at.documents) in
-      record {
-        text = ended done.reply;
-        after = with_world before left.after;
-        is_at = record { documents = whole before.world left.after at.documents (told_now (f.disk old) (λ d. DoesHere before.world request done.reply left.after) (λ d. (left.after).pictures ≡ before.world.pictures) (λ d does. same_pictures request before.world done.reply left.after does) left.allowed) left.is_at; child = record { width = at.child.width; started = at.child.started; child = at.child.child; follows = at.child.follows; counts = at.child.counts } };
-        allowed = told_now (f.disk old) (λ d. DoesHere before.world request done.reply left.after)
-            (λ d. DoesRequestText s.functions s.honest (languages_of pool) before (Ok request) (ended done.reply) (with_world before left.after))
-            (λ d does. (done.reply, inl (performs_here s.functions s.honest (languages_of pool) request before done.reply left.after does), refl)) left.allowed;
-        appended = done.appended;
+  -- the engine is at the world that the documents are at, beside the pictures that were there
+  whole : Tells (f.disk old) (f.disk new) (MovesDocuments (λ image. Unit {0})) → (world after : World) → Stands world → IfTold (f.disk old) (λ d. GrowsAlone world after) → IfTold (f.disk new) (λ d. AreAt docs' d.now after.history)
+      → IfTold (f.disk new) (λ d. IsAtWorld after_it d.now after)
+  whole own world after at grown documents = by_disk (f.disk old) (f.disk new) at grown own documents
+    where
+      by_disk : (x y : Option (Disk FileName)) → IfTold x (λ d. IsAtWorld before_it d.now world) → IfTold x (λ d. GrowsAlone world after) → Tells x y (MovesDocuments (λ image. Unit {0})) → IfTold y (λ d. AreAt docs' d.now after.history)
+          → IfTold y (λ d. IsAtWorld after_it d.now after)
+      by_disk None None here grow moves there = tt
+      by_disk None (Some b) here grow moves there = absurd moves
+      by_disk (Some a) None here grow moves there = tt
+      by_disk (Some a) (Some b) here grow moves there = record {
+        documents = there;
+        indexes = subst (AreIndexesAt groups b.now) (sym grow.0) (indexes_at a b moves groups world.pictures here.indexes);
+        within = within_grown world after grow here.within;
       }
-  does_here request (Err (Refused refusal)) refused = λ before at.
-      let left = refused before.world (documents_at _ _ before.world at.documents) in
+
+  -- a crash leaves the world before a request that is done, or after it
+  moments_done : (request : Request) (reply : List ℕ) (world after : World) → Stands world → IfTold (f.disk old) (λ d. DoesHere world request reply after) → Tells (f.disk old) (f.disk new) (MovesDocuments (DocumentsStandAround world (Ok request)))
+      → Tells (f.disk old) (f.disk new) (LeavesOnly (StandsEither world after))
+  moments_done request reply world after at does =
+      told_given (f.disk old) (f.disk new) (λ d. IsAtWorld before_it d.now world × DoesHere world request reply after) (MovesDocuments (DocumentsStandAround world (Ok request))) (LeavesOnly (StandsEither world after))
+      (λ a b known moves. leaves_around before_it world (Ok request) (StandsEither world after) a b (λ image stands. inl stands)
+      (λ image write is stands. inr (subst (StandsFor image) (does_write request world reply after write known.1 is) stands)) known.0 moves)
+      (told_pair (f.disk old) (λ d. IsAtWorld before_it d.now world) (λ d. DoesHere world request reply after) (λ d. IsAtWorld before_it d.now world × DoesHere world request reply after) (λ d here done. (here, done)) at does)
+
+  -- and of one that failed the world before it, or the one that it makes
+  moments_failed : (request : Request) (world : World) → Stands world → Tells (f.disk old) (f.disk new) (MovesDocuments (DocumentsStandAround world (Ok request)))
+      → Tells (f.disk old) (f.disk new) (LeavesOnly (StandsAround s.functions s.honest (languages_of pool) world (Ok request)))
+  moments_failed request world at =
+      told_given (f.disk old) (f.disk new) (λ d. IsAtWorld before_it d.now world) (MovesDocuments (DocumentsStandAround world (Ok request))) (LeavesOnly (StandsAround s.functions s.honest (languages_of pool) world (Ok request)))
+      (λ a b here moves. leaves_around before_it world (Ok request) (StandsAround s.functions s.honest (languages_of pool) world (Ok request)) a b (λ image stands. inl stands)
+      (λ image write is stands. inr (written world write, write_makes s.functions s.honest (languages_of pool) world (Ok request) write is, stands)) here moves) at
+
+  module _ (request : Request) (before : Moment) (at : StandsAt f s (scene before_it old servers) before) where
+    abbrev Moved : Type 0
+    Moved = Tells (f.disk old) (f.disk new) (MovesDocuments (DocumentsStandAround before.world (Ok request)))
+
+    abbrev DocumentsAt : Type 0
+    DocumentsAt = IfTold (f.disk old) (λ d. AreAt docs d.now before.world.history)
+
+    kept : KeepsChild f s (scene after_it new servers) before
+    kept = record { width = at.child.width; started = at.child.started; child = at.child.child; follows = at.child.follows; counts = at.child.counts }
+
+    -- where no file changed the moment is as it was
+    still_there : (Allows : Moment → Type 0) (Known : World → Type 0) → Tells (f.disk old) (f.disk new) MovesNone → Tells (f.disk old) (f.disk new) (MovesDocuments (λ image. Unit {0}))
+        → ((after : World) → Known after → (after ≡ before.world) × Allows (with_world before after)) → LeavesWorld f docs' old new Known → LeavesMoment f s (scene before_it old servers) (scene after_it new servers) before Allows
+    still_there Allows Known none own allows left = record {
+      after = with_world before left.after;
+      is_at = record {
+        documents = whole own before.world left.after at.documents (told_now (f.disk old) (λ d. Known left.after) (λ d. GrowsAlone before.world left.after) (λ d known. grows_none before.world left.after (allows left.after known).0) left.allowed) left.is_at;
+        child = record { width = at.child.width; started = at.child.started; child = at.child.child; follows = at.child.follows; counts = at.child.counts };
+      };
+      moments = told_leaves_before before_it before.world left.after (f.disk old) (f.disk new) none at.documents;
+      allowed = told_now (f.disk old) (λ d. Known left.after) (λ d. Allows (with_world before left.after)) (λ d known. (allows left.after known).1) left.allowed;
+    }
+
+    stopped_there : Moved → CrashesAround f s (scene before_it old servers) (scene after_it new servers) before (Ok request)
+        × LeavesChild f s (scene before_it old servers) (scene after_it new servers) (MayHaveCalled s.functions s.honest (languages_of pool) before (Ok request))
+    stopped_there moved = (
+      moments_failed request before.world at.documents moved,
       record {
-        after = with_world before left.after;
-        is_at = record { documents = whole before.world left.after at.documents (told_now (f.disk old) (λ d. (left.after ≡ before.world) × IsRefusedHere before.world request refusal) (λ d. (left.after).pictures ≡ before.world.pictures) (λ d is. ap (λ (w : World). w.pictures) is.0) left.allowed) left.is_at; child = record { width = at.child.width; started = at.child.started; child = at.child.child; follows = at.child.follows; counts = at.child.counts } };
-        allowed = told_now (f.disk old) (λ d. (left.after ≡ before.world) × IsRefusedHere before.world request refusal)
-            (λ d. DoesRequest s.functions s.honest (languages_of pool) before (Ok request) (refusal_text refusal) (with_world before left.after)
-            × MayHaveCalled (languages_of pool) before (Ok request) (with_world before left.after))
-            (λ d is. (
-              inr (refusal, refused_here s.functions s.honest (languages_of pool) request before.world refusal is.1, (refl, ap (with_world before) is.0)),
-              same_called s.functions s.honest (languages_of pool) request before left.after is.0,
-            )) left.allowed;
-      }
-  does_here request (Err (Stopped NoMemory)) spent = λ before at.
-      let left = spent before.world (documents_at _ _ before.world at.documents) in
-      record {
-        after = with_world before left.after;
-        is_at = record { documents = whole before.world left.after at.documents (told_now (f.disk old) (λ d. left.after ≡ before.world) (λ d. (left.after).pictures ≡ before.world.pictures) (λ d is. ap (λ (w : World). w.pictures) is) left.allowed) left.is_at; child = record { width = at.child.width; started = at.child.started; child = at.child.child; follows = at.child.follows; counts = at.child.counts } };
-        allowed = told_now (f.disk old) (λ d. left.after ≡ before.world) (λ d. MayHaveCalled (languages_of pool) before (Ok request) (with_world before left.after))
-            (λ d same. same_called s.functions s.honest (languages_of pool) request before left.after same) left.allowed;
-      }
-  does_here request (Err (Stopped DiskFault)) stopped = λ before child. child
-  does_here request (Err (Stopped (Damaged name at))) stopped = λ before child. child
-  does_here request (Err (Stopped (Full name length))) stopped = λ before child. child
+        after = before;
+        child = kept;
+        allowed = told_all (f.disk old) (λ d. MayHaveCalled s.functions s.honest (languages_of pool) before (Ok request) before) (λ d. none_called s.functions s.honest (languages_of pool) before (Ok request));
+      },
+    )
+
+    does_here : (result : Result (Unit {0}) Halt) → KeepsDocuments f docs docs' old new (Ok request) (HasGivenUp result) (MayGoOn result) → DoesHereBy f docs docs' old new request out out' result
+        → DoesBy f s (scene before_it old servers) (scene after_it new servers) before (Ok request) out out' result
+    does_here (Ok value) keeps done =
+        let here : DocumentsAt = documents_at _ _ before.world at.documents in
+        let left = done.does before.world here in
+        record {
+          text = ended done.reply;
+          leaves = record {
+            after = with_world before left.after;
+            is_at = record {
+              documents = whole keeps.own before.world left.after at.documents
+                  (told_now (f.disk old) (λ d. DoesHere before.world request done.reply left.after) (λ d. GrowsAlone before.world left.after) (λ d does. does_grow request before.world done.reply left.after does) left.allowed) left.is_at;
+              child = record { width = at.child.width; started = at.child.started; child = at.child.child; follows = at.child.follows; counts = at.child.counts };
+            };
+            moments = moments_done request done.reply before.world left.after at.documents left.allowed (keeps.moved before.world here);
+            allowed = told_now (f.disk old) (λ d. DoesHere before.world request done.reply left.after)
+                (λ d. DoesRequestText s.functions s.honest (languages_of pool) before (Ok request) (ended done.reply) (with_world before left.after))
+                (λ d does. (done.reply, inl (performs_here s.functions s.honest (languages_of pool) request before done.reply left.after does), refl)) left.allowed;
+          };
+          appended = done.appended;
+        }
+    does_here (Err (Refused refusal)) keeps refused =
+        still_there (λ after. DoesRequest s.functions s.honest (languages_of pool) before (Ok request) (refusal_text refusal) after × MayHaveCalled s.functions s.honest (languages_of pool) before (Ok request) after)
+        (λ after. (after ≡ before.world) × IsRefusedHere before.world request refusal) (keeps.unmoved tt) keeps.own
+        (λ after is. (
+          is.0,
+          (
+            inr (refusal, refused_here s.functions s.honest (languages_of pool) request before.world refusal is.1, (refl, ap (with_world before) is.0)),
+            same_called s.functions s.honest (languages_of pool) request before after is.0,
+          ),
+        )) (refused before.world (documents_at _ _ before.world at.documents))
+    does_here (Err (Stopped NoMemory)) keeps spent =
+        still_there (MayHaveCalled s.functions s.honest (languages_of pool) before (Ok request)) (λ after. after ≡ before.world) (keeps.unmoved tt) keeps.own
+        (λ after same. (same, same_called s.functions s.honest (languages_of pool) request before after same)) (spent before.world (documents_at _ _ before.world at.documents))
+    does_here (Err (Stopped DiskFault)) keeps stopped = stopped_there (keeps.moved before.world (documents_at _ _ before.world at.documents))
+    does_here (Err (Stopped (Damaged name place))) keeps stopped = stopped_there (keeps.moved before.world (documents_at _ _ before.world at.documents))
+    does_here (Err (Stopped (Full name length))) keeps stopped = stopped_there (keeps.moved before.world (documents_at _ _ before.world at.documents))
 
   -- and where it is done its reply line was appended
   prints_here : (request : Request) (result : Result (Unit {0}) Halt) → DoesHereBy f docs docs' old new request out out' result → OnOk result (AppendsReplyTo (Ok request) out out')
@@ -130,14 +222,15 @@ pub acted : {F C : Type 0} {f : Folders F} {s : Servers C} {docs docs' : Docs} {
     → Performed f s (scene (record { docs = docs; pool = pool; groups = groups }) old servers) (scene (record { docs = docs'; pool = pool; groups = groups }) new servers) (Ok request) out out' result
 acted {f = f} {s = s} {docs = docs} {docs' = docs'} {pool = pool} {groups = groups} {old = old} {new = new} {servers = servers} {request = request} {made = made} {out = out} {out' = out'} {result = result} is is_open acts =
     subst (λ (r : Request). Performed f s (scene (record { docs = docs; pool = pool; groups = groups }) old servers) (scene (record { docs = docs'; pool = pool; groups = groups }) new servers) (Ok r) out out' result) (sym is) (record {
-      does = does_here f s docs docs' pool groups old new servers out out' acts.disk.own made result acts.does;
-      prints = prints_here f s docs docs' pool groups old new servers out out' acts.disk.own made result acts.does;
+      does = λ before at. does_here f s docs docs' pool groups old new servers out out' made before at result acts.disk acts.does;
+      prints = prints_here f s docs docs' pool groups old new servers out out' made result acts.does;
       silent = acts.silent;
       refused = tt;
       blames = λ is. absurd (acts.unblamed is);
       fits = acts.fits;
       disk = kept_whole refl is_open acts.disk;
-      why = acts.why;
+      why = IfErr-weaker result (IfStopped (IsReason f docs old new (Ok made))) (IfStopped (IsReasonOf f (record { docs = docs; pool = pool; groups = groups }) old new (Ok made)))
+          (λ halt is. documents_reason f (record { docs = docs; pool = pool; groups = groups }) old new (Ok made) halt is) acts.why;
       stays = record { languages = refl; width = refl; disk_faults = acts.later; server_faults = omega arith };
     })
 
@@ -153,7 +246,8 @@ module _ {F C : Type 0} {f : Folders F} {s : Servers C} {now : Scene F C} {reque
     does = λ before at. record {
       after = before;
       is_at = at;
-      allowed = told_all (f.disk now.folder) (λ d. MayHaveCalled (languages_of now.engine.pool) before request before) (λ d. none_called (languages_of now.engine.pool) before request);
+      moments = told_leaves_none now.engine before.world (f.disk now.folder) (f.disk now.folder) (told_refl (f.disk now.folder) MovesNone none_refl) at.documents;
+      allowed = told_all (f.disk now.folder) (λ d. MayHaveCalled s.functions s.honest (languages_of now.engine.pool) before request before) (λ d. none_called s.functions s.honest (languages_of now.engine.pool) before request);
     };
     prints = tt;
     silent = refl;
@@ -161,7 +255,7 @@ module _ {F C : Type 0} {f : Folders F} {s : Servers C} {now : Scene F C} {reque
     blames = λ never. absurd cc;
     fits = tt;
     disk = kept_whole refl is_open (documents_still (documents_open _ _ is_open));
-    why = tt;
+    why = inl tt;
     stays = record { languages = refl; width = refl; disk_faults = omega arith; server_faults = omega arith };
   }
 
@@ -172,9 +266,10 @@ module _ {F C : Type 0} {f : Folders F} {s : Servers C} {now : Scene F C} {reque
     does = λ before at. record {
       after = before;
       is_at = at;
+      moments = told_leaves_none now.engine before.world (f.disk now.folder) (f.disk now.folder) (told_refl (f.disk now.folder) MovesNone none_refl) at.documents;
       allowed = told_all (f.disk now.folder)
-          (λ d. DoesRequest s.functions s.honest (languages_of now.engine.pool) before request (refusal_text refusal) before × MayHaveCalled (languages_of now.engine.pool) before request before)
-          (λ d. (does before, none_called (languages_of now.engine.pool) before request));
+          (λ d. DoesRequest s.functions s.honest (languages_of now.engine.pool) before request (refusal_text refusal) before × MayHaveCalled s.functions s.honest (languages_of now.engine.pool) before request before)
+          (λ d. (does before, none_called s.functions s.honest (languages_of now.engine.pool) before request));
     };
     prints = tt;
     silent = refl;

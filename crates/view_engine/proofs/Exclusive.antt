@@ -1,9 +1,8 @@
 -- A request has one refusal at most, and isn't both refused and accepted.
-use Rattle.std.proofs.Common.{◌≡◌, ◌⊎◌, ℕ, List, ◌∷◌, Option, Some, None, Result, Ok, inl, inr, refl, sym, ap, ◌∙◌, subst}
+use Rattle.std.proofs.Common.{◌≡◌, ℕ, List, Option, Some, None, inl, inr, refl, sym, ap, ◌∙◌}
 use Rattle.std.specs.Prelude.{option_and_then}
 use Rattle.json_terms.specs.Json.{Json, members_of, object}
 use Rattle.view_ports.specs.Functions.{Functions}
-use Rattle.view_ports.specs.declared.file_name.FileName.{FileName}
 use Rattle.doc_file.specs.declared.fault.DocFault.{DocFault}
 use Rattle.doc_file.specs.declared.fault.DocFault.TheVariants as doc
 use Rattle.doc_file.specs.Accepted.{State}
@@ -11,16 +10,12 @@ use Rattle.doc_file.specs.History.{Write}
 use Rattle.doc_file.specs.Incoming.{IsUnfit, IsWritable}
 use Rattle.doc_file.specs.Writes.{IsAcceptedDelete, IsAcceptedPut, IsRefusedDelete, IsRefusedPut}
 use Rattle.view_engine.specs.declared.refusal.Refusal.{Refusal}
-use Rattle.view_engine.specs.declared.request.Request.{Request}
 use Rattle.view_engine.specs.declared.request.Request.TheVariants.{Delete, Get, Info, Put, View}
-use Rattle.view_engine.specs.Worlds.{StandsAround, StandsFor}
 use Rattle.view_engine.specs.Get.{not_live}
 use Rattle.view_engine.specs.Laws.{IsNotRefusedAndDone, IsRefusedOnce}
-use Rattle.view_engine.specs.Moments.{Moment}
 use Rattle.view_engine.specs.Put.{DoesPut, IsPutRefused}
-use Rattle.view_engine.specs.Refusals.{refused_as, request_of}
-use Rattle.view_engine.specs.Steps.{Does, DoesRequest, IsWrite}
-use Rattle.view_engine.specs.World.{World, written}
+use Rattle.view_engine.specs.Refusals.{refused_as}
+use Rattle.view_engine.specs.World.{World}
 
 unfit_not : (document : Json) (fault : DocFault) → IsUnfit document fault → IsWritable document → ⊥
 unfit_not document doc.BadId unfit fit = unfit fit.id
@@ -144,24 +139,3 @@ module _ (functions : List ℕ → Functions) (honest : List ℕ → Type 0) (la
   is_not_refused_and_done before after (View name None) refusal reply refused done = let clash : Some refusal ≡ None = sym refused ∙ done.accepted in cc
   is_not_refused_and_done before after (View name (Some query)) refusal reply refused done = done
   is_not_refused_and_done before after other refusal reply refused done = done
-
-  -- an accepted write was made
-  request_writes : (before : Moment) (request : Result Request Refusal) (reply : List ℕ) (after : Moment) (write : Write) → DoesRequest functions honest languages before request reply after → IsWrite before.world request write
-      → after.world ≡ written before.world write
-  request_writes before (Ok (Put document)) reply after write (inl acts) is =
-      ap (λ (m : Moment). m.world) acts.2 ∙ (acts.1).wrote ∙ ap (written before.world) (sym ((is.1).2))
-  request_writes before (Ok (Put document)) reply after write (inr refused) is =
-      absurd (not_both_put before.world (object (members_of document)) refused.0 is.0 (is.1).0 refused.1 (is.1).1)
-  request_writes before (Ok (Delete id given)) reply after write (inl acts) is =
-      ap (λ (m : Moment). m.world) acts.2 ∙ (acts.1).wrote ∙ ap (written before.world) (sym ((is.1).2))
-  request_writes before (Ok (Delete id given)) reply after write (inr refused) is =
-      absurd (delete_clash _ given (refused.1).0 (refused.1).1 ((is.1).1).accepted)
-  request_writes before other reply after write does is = absurd is
-
-  -- an image that stands for the history before a line, or with its write, stands for the world before or after it
-  pub around_either : (before : Moment) (byte : ℕ) (bytes text : List ℕ) (after : Moment) (image : FileName → List ℕ) → Does functions honest languages before (byte ∷ bytes) text after
-      → StandsAround before.world (request_of (byte ∷ bytes)) image → StandsFor image before.world ⊎ StandsFor image after.world
-  around_either before byte bytes text after image does (inl stands) = inl stands
-  around_either before byte bytes text after image does (inr made) =
-      let same = request_writes before (request_of (byte ∷ bytes)) does.0 after made.0 does.1 made.1 in
-      inr (subst (StandsFor image) (sym same) made.2)

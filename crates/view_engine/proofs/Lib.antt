@@ -1,7 +1,6 @@
 pub mod LastWrites
 pub mod LiveDocuments
 pub mod Places
-pub mod EmittedRows
 pub mod RequestLimit
 pub mod OtherForms
 pub mod Pieces
@@ -9,7 +8,6 @@ pub mod Around
 pub mod Writing
 pub mod Faults
 pub mod Exclusive
-pub mod MappedSoFar
 pub mod HaltedAs
 pub mod SameFiles
 pub mod Plans
@@ -33,3 +31,12 @@ pub mod ServerFaults
 pub mod Rooms
 pub mod ReplyLines
 pub mod Whole
+pub mod Updated
+pub mod Apart
+pub mod Bringing
+pub mod Asking
+pub mod Planned
+pub mod Beside
+pub mod Sound
+pub mod Reasons
+pub mod Ending

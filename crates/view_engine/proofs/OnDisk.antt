@@ -1,5 +1,5 @@
 -- What a call keeps of the disk that writes nothing, and the causes of the faults of a call that only reads.
-use Rattle.std.proofs.Common.{◌≡◌, ◌≤◌, ℕ, Result, Ok, Option, refl, sym, subst, arith}
+use Rattle.std.proofs.Common.{◌≡◌, ◌≤◌, ℕ, Result, Ok, Option, inl, refl, sym, subst, arith}
 use Rattle.std.proofs.lemmas.Result.{IfErr-weaker}
 use Rattle.view_ports.specs.Disk.{MovesNone, Tells}
 use Rattle.view_ports.specs.Faults.{Rose}
@@ -21,7 +21,7 @@ use Rattle.view_engine.specs.declared.halt.StepFault.TheVariants.{DiskFault, Dam
 use Rattle.view_engine.specs.declared.refusal.Refusal.{Refusal}
 use Rattle.view_engine.specs.declared.request.Request.{Request}
 use Rattle.view_engine.specs.declared.request.Request.TheVariants.{Get, View}
-use Rattle.view_engine.specs.Disks.{AreOpen, IfStopped, IsReadReason, IsReason, KeepsDisk, KeepsDocuments, Reads, ReadsDocuments}
+use Rattle.view_engine.specs.Disks.{AreOpen, IfStopped, IsReadReason, IsReason, IsReasonOf, KeepsDisk, KeepsDocuments, Reads, ReadsDocuments}
 use Rattle.view_engine.specs.Halts.{halted_as, FitsFor, IsDamage}
 use Rattle.view_engine.proofs.Keeping.{moved_none, moved_still, open_none}
 use Rattle.view_engine.proofs.OwnFiles.{own_none, own_still}
@@ -82,9 +82,8 @@ module _ {F : Type 0} {f : Folders F} {docs : Docs} {request : Result Request Re
 pub disk_ends : {F : Type 0} {f : Folders F} {engine engine' : Engine} {old new : F} {request : Result Request Refusal} {GivenUp GoesOn Given Goes : Type 0} → (GivenUp → Given) → (GoesOn → Goes)
     → KeepsDisk f engine engine' old new request Given Goes → KeepsDisk f engine engine' old new request GivenUp GoesOn
 disk_ends given goes keeps = record {
-  documents = documents_ends given goes keeps.documents;
-  moments = keeps.moments;
-  unwritten = λ was. keeps.unwritten (given was);
+  documents = λ other. documents_ends given goes (keeps.documents other);
+  indexes = keeps.indexes;
   is_open = λ was. keeps.is_open (goes was);
 }
 
@@ -141,6 +140,12 @@ module _ {F : Type 0} (f : Folders F) (docs : Docs) where
   read_reason old new (doc.Gate (gate.Full name length)) rose damaged full = absurd (full name length refl)
   read_reason old new (doc.Gate gate.NoMemory) rose damaged full = tt
   read_reason old new doc.NoMemory rose damaged full = tt
+
+-- what is told of a fault of the documents is told of the engine's
+pub documents_reason : {F : Type 0} (f : Folders F) (engine : Engine) (old new : F) (request : Result Request Refusal) (halt : Halt) → IfStopped (IsReason f engine.docs old new request) halt
+    → IfStopped (IsReasonOf f engine old new request) halt
+documents_reason f engine old new request (Refused refusal) why = tt
+documents_reason f engine old new request (Stopped fault) why = inl why
 
 -- two calls that only read, one after the other
 pub reads_then : {F S T : Type 0} {f : Folders F} {docs : Docs} {a b c : F} {first : Result S Halt} {second : Result T Halt} → Reads f docs a b first → Reads f docs b c second → Reads f docs a c second

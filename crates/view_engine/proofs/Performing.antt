@@ -1,6 +1,11 @@
 -- What a request leaves that calls no server: the engine at a moment, and what was appended.
 use Rattle.std.proofs.Common.{◌≡◌, ℕ, List, inl, Result, Ok, Option, None, refl}
+use Rattle.view_ports.specs.Calls.{Call}
+use Rattle.view_ports.specs.Disk.{Disk}
 use Rattle.view_ports.specs.Functions.{Functions}
+use Rattle.view_ports.specs.declared.file_name.FileName.{FileName}
+use Rattle.view_ports.proofs.Told.{told_now}
+use Rattle.view_engine.specs.declared.engine.Engine.{Engine}
 use Rattle.view_engine.specs.declared.request.Request.{Request}
 use Rattle.view_engine.specs.declared.request.Request.TheVariants.{Put, Delete, Get, View, Info}
 use Rattle.view_engine.specs.declared.request.ViewName.{ViewName}
@@ -8,14 +13,25 @@ use Rattle.json_terms.specs.declared.term.Chars.{Chars}
 use Rattle.json_terms.specs.declared.term.Members.{Members}
 use Rattle.view_engine.specs.declared.refusal.Refusal.{Refusal}
 use Rattle.view_engine.specs.declared.refusal.Refusal.TheVariants.{NotBuiltYet}
+use Rattle.view_engine.specs.Engine.{Leaves}
 use Rattle.view_engine.specs.Moments.{Moment}
 use Rattle.view_engine.specs.Steps.{IsRefusedAs, MayHaveCalled}
 use Rattle.view_engine.specs.World.{World}
 
 -- memory may run out before anything was called
-pub none_called : (languages : List (List ℕ × List ℕ)) (before : Moment) (request : Result Request Refusal) → MayHaveCalled languages before request before
-none_called languages before (Ok (View name None)) = inl refl
-none_called languages before other = refl
+pub none_called : (functions : List ℕ → Functions) (honest : List ℕ → Type 0) (languages : List (List ℕ × List ℕ)) (before : Moment) (request : Result Request Refusal) → MayHaveCalled functions honest languages before request before
+none_called functions honest languages before (Ok (View name None)) = inl refl
+none_called functions honest languages before other = refl
+
+-- less is said of what is left
+pub leaves_as : {old disk : Option (Disk FileName)} {may_follow : List Call → Type 0} {faults : ℕ} {engine : Engine} {before : Moment} (P Q : Moment → Type 0) → ((after : Moment) → P after → Q after)
+    → Leaves old disk may_follow faults engine before P → Leaves old disk may_follow faults engine before Q
+leaves_as {old} P Q then left = record {
+  after = left.after;
+  is_at = left.is_at;
+  moments = left.moments;
+  allowed = told_now old (λ d. P left.after) (λ d. Q left.after) (λ d holds. then left.after holds) left.allowed;
+}
 
 module _ (functions : List ℕ → Functions) (honest : List ℕ → Type 0) (languages : List (List ℕ × List ℕ)) where
   -- a request that isn't built yet is refused as such

@@ -21,7 +21,7 @@ use Rattle.view_engine.specs.World.{World, of_history}
 use Rattle.view_engine.specs.Get.{get_refusal, not_live}
 use Rattle.view_engine.specs.Refusals.{first_of}
 use Rattle.view_engine.specs.View.{design_id, no_language, no_path, no_view, view_refusal}
-use Rattle.view_engine.specs.ViewPlan.{IsPlan, source_at}
+use Rattle.view_engine.specs.ViewPlan.{IsPlan, ShowsRows, source_at}
 
 is_design : (name : List ℕ) → is_design_id (design_id name) ≡ true
 is_design name = refl
@@ -70,8 +70,8 @@ module _ (languages : List (List ℕ × List ℕ)) (history : List Write) (name 
         ∙ ap (λ (l : List ℕ). first_of (no_path l (path_in languages l) ∷ [])) (sym of.0)
         ∙ ap (λ (p : Option (List ℕ)). first_of (no_path design.language p ∷ [])) (sym none)
 
-    pub planned : (path : List ℕ) → path_in languages design.language ≡ Some path → IsPlan languages history name id design place path
-    planned path known =
+    pub planned : ShowsRows design.views name.view place → (path : List ℕ) → path_in languages design.language ≡ Some path → IsPlan languages history name id design place path
+    planned shown path known =
         let there_is : path_in languages (language_of document) ≡ Some path = ap (path_in languages) (sym of.0) ∙ known in
         record {
           document = document;
@@ -80,6 +80,8 @@ module _ (languages : List (List ℕ × List ℕ)) (history : List Write) (name 
           path_is = there_is;
           language = of.0;
           views = of.1;
+          term = of.2;
+          shown = shown;
           few = subst (λ (views : List View). length views ≤ 32) (sym of.1) (views_are_few document has);
           id_is = is;
           accepted = served ∙ ap (λ (p : Option (List ℕ)). first_of (no_path (language_of document) p ∷ [])) there_is;

@@ -143,21 +143,3 @@ pub read_of_get : {F T S : Type 0} {f : Folders F} {docs : Docs} {old new : F} (
     → (fault ≡ doc.Missing) ⊎ (fault ≡ doc.Deleted) ⊎ (fault ≡ doc.Gate gate.DiskFault) ⊎ (fault ≡ doc.NoMemory) ⊎ ((name : FileName) × (at : ℕ) × (fault ≡ doc.Gate (gate.Damaged name at)))
     → Reads f {T = S} docs old new (Err (halted_as fault))
 read_of_get {T = T} {f = f} {docs = docs} {old = old} {new = new} id fault none cause deleted damaged sound faults = record { disk = none; why = why_of_get T f docs old new id fault cause deleted damaged sound faults; later = cause.later }
-
-pub read_of_changes : {F T S : Type 0} {f : Folders F} {docs : Docs} {old new : F} (fault : DocFault) → AreOpen f docs old → Tells (f.disk old) (f.disk new) MovesNone
-    → HasCauseIf (λ e. e ≡ doc.Gate gate.DiskFault) (f.faults old) (f.faults new) (failed T fault)
-    → IfTold (f.disk old) (λ d. IsLoaded docs d.now → (n : FileName) (at : ℕ) → failed T fault ≡ Err (doc.Gate (gate.Damaged n at)) → (n ≡ name_of (file_of docs)) × IsSpoiledAfter docs (bytes_in docs d.now) 0 at)
-    → ((history : List Write) → IfTold (f.disk old) (λ d. AreAt docs d.now history → (n : FileName) (at : ℕ) → failed T fault ≡ Err (doc.Gate (gate.Damaged n at)) → ⊥))
-    → (fault ≡ doc.Gate gate.DiskFault) ⊎ (fault ≡ doc.NoMemory) ⊎ ((name : FileName) × (at : ℕ) × (fault ≡ doc.Gate (gate.Damaged name at)))
-    → Reads f {T = S} docs old new (Err (halted_as fault))
-read_of_changes {T = T} {f = f} {docs = docs} {old = old} {new = new} fault is_open none cause damaged sound faults = record {
-  disk = none;
-  why = read_reason f docs old new fault cause.failed (λ n at is. (
-    told_pair (f.disk old) (λ d. IsOpen docs d.now)
-        (λ d. IsLoaded docs d.now → (n : FileName) (at : ℕ) → failed T fault ≡ Err (doc.Gate (gate.Damaged n at)) → (n ≡ name_of (file_of docs)) × IsSpoiledAfter docs (bytes_in docs d.now) 0 at)
-        (λ d. IsDamage docs d.now n at) (λ d opened there. after_damage docs d.now n 0 at (there opened.loaded n at (ap Err is))) is_open damaged,
-    λ world. told_now (f.disk old) (λ d. AreAt docs d.now world.history → (n : FileName) (at : ℕ) → failed T fault ≡ Err (doc.Gate (gate.Damaged n at)) → ⊥) (λ d. AreAt docs d.now world.history → ⊥)
-        (λ d never here. never here n at (ap Err is)) (sound world.history),
-  )) (not_full fault faults);
-  later = cause.later;
-}

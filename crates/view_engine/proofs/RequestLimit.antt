@@ -54,5 +54,5 @@ module _ (functions : List ℕ → Functions) (honest : List ℕ → Type 0) (la
       request_of-long (byte ∷ take request_limit bytes) (omega (arith, length-take request_limit bytes)) ∙ sym (request_of-long (byte ∷ bytes) long) in
       elim cut [
         | inl done ↦ inl (done.0, subst (λ (r : Result Request Refusal). DoesRequest functions honest languages before r done.0 after) same done.1, done.2)
-        | inr gave_up ↦ inr (λ none. absurd (let e : byte ∷ bytes ≡ [] = none in cc), gave_up.1, subst (λ (r : Result Request Refusal). MayHaveCalled languages before r after) same gave_up.2)
+        | inr gave_up ↦ inr (λ none. absurd (let e : byte ∷ bytes ≡ [] = none in cc), gave_up.1, subst (λ (r : Result Request Refusal). MayHaveCalled functions honest languages before r after) same gave_up.2)
       ]

@@ -21,6 +21,9 @@ use Rattle.view_ports.specs.Faults.{RoseBy}
 use Rattle.view_ports.specs.Lines.{ended}
 use Rattle.child_pool.specs.declared.pool_fault.PoolFault.{PoolFault}
 use Rattle.child_pool.specs.declared.pool_fault.PoolFault.TheVariants as pool
+use Rattle.view_index.specs.declared.fault.IndexFault.TheVariants as index
+use Rattle.view_updater.specs.declared.fault.UpdateFault.{UpdateFault}
+use Rattle.view_updater.specs.declared.fault.UpdateFault.TheVariants as update
 use Rattle.view_engine.specs.declared.halt.Halt.{Halt}
 use Rattle.view_engine.specs.declared.halt.Halt.TheVariants.{Refused, Stopped}
 use Rattle.view_engine.specs.declared.halt.StepFault.TheVariants.{NoMemory as OutOfMemory}
@@ -33,7 +36,7 @@ use Rattle.view_engine.specs.Halts.{halted_as}
 use Rattle.view_engine.specs.Refusals.{refusal_text, request_in, request_limit, request_of}
 use Rattle.view_engine.specs.Replies.{accepted_reply}
 use Rattle.view_engine.specs.Requests.{form_of}
-use Rattle.view_engine.specs.ViewPlan.{met_by}
+use Rattle.view_engine.specs.ViewPlan.{met_by, met_by_pool}
 use Rattle.view_engine.specs.ServerFaults.{is_get, is_server_fault, server_fault_line, server_faults, AppendsServerFault}
 
 -- ---- texts
@@ -122,12 +125,20 @@ halted_unblamed (doc.Gate gate.NoMemory) is = cc
 halted_unblamed doc.NoMemory is = cc
 
 -- of the pool's faults one is theirs
-pub met_server_fault : (id : List ℕ) (fault : PoolFault) → met_by id fault ≡ Refused ServerFault → fault ≡ pool.ServerFault
-met_server_fault id pool.ServerFault is = refl
-met_server_fault id (pool.BadReply line) is = absurd cc
-met_server_fault id pool.Compile is = absurd cc
-met_server_fault id pool.NoMemory is = absurd cc
-met_server_fault id pool.UnknownLanguage is = absurd cc
+pub pool_server_fault : (id : List ℕ) (fault : PoolFault) → met_by_pool id fault ≡ Refused ServerFault → fault ≡ pool.ServerFault
+pool_server_fault id pool.ServerFault is = refl
+pool_server_fault id (pool.BadReply line) is = absurd cc
+pool_server_fault id pool.Compile is = absurd cc
+pool_server_fault id pool.NoMemory is = absurd cc
+pool_server_fault id pool.UnknownLanguage is = absurd cc
+
+-- and of an update's that one of the pool
+pub met_server_fault : (id : List ℕ) (fault : UpdateFault) → met_by id fault ≡ Refused ServerFault → fault ≡ update.Pool pool.ServerFault
+met_server_fault id (update.Pool fault) is = ap update.Pool (pool_server_fault id fault is)
+met_server_fault id (update.Docs fault) is = absurd (halted_unblamed (doc.Gate fault) is)
+met_server_fault id (update.Index (index.Store fault)) is = absurd (halted_unblamed (doc.Gate fault) is)
+met_server_fault id (update.Index other) is = absurd cc
+met_server_fault id update.NoMemory is = absurd cc
 
 abbrev failed : Halt → Result (Unit {0}) Halt
 failed halt = Err halt

@@ -1,18 +1,19 @@
 -- A step is the performing of its line's request, told as its halt is told.
 use Rattle.std.specs.Prelude.{IfErr}
-use Rattle.std.proofs.Common.{◌≡◌, ◌≢◌, ◌∙◌, ◌++◌, ℕ, List, [], ◌∷◌, Option, None, Some, Result, Ok, Err, inl, inr, refl, sym, ap, subst, append-nil, arith}
-use Rattle.view_ports.specs.Disk.{Disk, IfTold, LeavesOnly, MovesNone, Tells}
-use Rattle.view_ports.specs.File.{File}
+use Rattle.std.proofs.Common.{◌≡◌, ◌≢◌, ◌⊎◌, ◌∙◌, ◌++◌, ℕ, List, [], ◌∷◌, Option, None, Some, Result, Ok, Err, inl, inr, refl, sym, ap, subst, append-nil, arith}
+use Rattle.view_ports.specs.Disk.{Disk, IfTold, Moves, MovesNone, Tells}
 use Rattle.view_ports.specs.Functions.{Functions}
 use Rattle.view_ports.specs.declared.file_name.FileName.{FileName}
 use Rattle.view_ports.specs.Lines.{ended}
 use Rattle.view_ports.specs.declared.folder.Folder.{Ghosts as Folders}
 use Rattle.view_ports.specs.declared.servers.Servers.{Ghosts as Servers}
-use Rattle.view_ports.proofs.DiskRuns.{none_same}
-use Rattle.view_ports.proofs.Told.{told_all, told_now}
+use Rattle.view_ports.proofs.DiskRuns.{none_refl, none_same}
+use Rattle.view_ports.proofs.Told.{told_after, told_all, told_now, told_pair, told_refl}
 use Rattle.child_pool.specs.Pools.{languages_of}
 use Rattle.doc_file.specs.declared.docs.Docs.{Docs}
-use Rattle.doc_file.specs.Docs.{IsAt as AreAt, IsOpen}
+use Rattle.doc_file.specs.Docs.{IsAt as AreAt, IsDocsFile, IsOpen}
+use Rattle.view_groups.specs.Cleans.{IsIndexFile}
+use Rattle.view_engine.specs.declared.engine.Engine.{Engine}
 use Rattle.view_engine.specs.declared.halt.Halt.{Halt}
 use Rattle.view_engine.specs.declared.halt.Halt.TheVariants.{Refused, Stopped}
 use Rattle.view_engine.specs.declared.halt.StepFault.{StepFault}
@@ -20,35 +21,37 @@ use Rattle.view_engine.specs.declared.halt.StepFault.TheVariants.{DiskFault, Dam
 use Rattle.view_engine.specs.declared.refusal.Refusal.{Refusal}
 use Rattle.view_engine.specs.declared.refusal.Refusal.TheVariants as refusal
 use Rattle.view_engine.specs.declared.request.Request.{Request}
-use Rattle.view_engine.specs.declared.request.Request.TheVariants.{Delete, Put}
-use Rattle.view_engine.specs.Calls.{DoesBy, KeepsChild, IsStep, IsToldAs, Performed, RefusesUnread, Scene, StandsAt, StepsBy}
-use Rattle.view_engine.specs.Disks.{IsReason, LiesOpen, ReadsDocuments}
+use Rattle.view_engine.specs.declared.request.Request.TheVariants.{Delete, Put, View}
+use Rattle.view_engine.specs.Calls.{CrashesAround, DoesBy, IsStep, IsToldAs, LeavesChild, Performed, RefusesUnread, Scene, StandsAt, StepsBy}
+use Rattle.view_engine.specs.Disks.{ChangesFiles, HasIndexDamage, IsOfIndex, IsReasonOf, IsView, LiesOpen, ReadsDocuments}
 use Rattle.view_engine.specs.Halts.{halted_by, FitsFor, IsDamage, IsFullFor, LeavesFiles, WouldWrite, Writes}
 use Rattle.view_engine.specs.Moments.{Moment}
 use Rattle.view_engine.specs.Refusals.{request_of, refusal_text}
 use Rattle.view_engine.specs.Steps.{Does, DoesRequest, DoesRequestText, MayHaveCalled}
+use Rattle.view_engine.specs.Updating.{AreShaped}
 use Rattle.view_engine.specs.World.{World}
-use Rattle.view_engine.specs.Worlds.{HasBodyDamage, HasRoomAt, IsFullAt, IsFullIn, StandsAround, StandsFor}
+use Rattle.view_engine.specs.Worlds.{HasBodyDamage, HasRoomAt, IsAtWorld, IsFullAt, IsFullIn}
 use Rattle.view_engine.proofs.Acting.{refused_at_once, spent_at_once}
+use Rattle.view_engine.proofs.Beside.{damage_beside_indexes, open_beside_indexes}
 use Rattle.view_engine.proofs.Keeping.{open_none}
 use Rattle.view_engine.proofs.OnDisk.{disk_ends, documents_still}
+use Rattle.view_engine.proofs.Performing.{leaves_as}
 use Rattle.view_engine.proofs.ReplyLines.{refusal_line}
 use Rattle.view_engine.proofs.Rooms.{nothing_no_ok, refused_no_ok}
 use Rattle.view_engine.proofs.ServerFaults.{nothing_appended, reply_no_fault, told_is_fault}
-use Rattle.view_engine.proofs.Unmoved.{files_same}
-use Rattle.view_engine.proofs.Whole.{documents_at, documents_open, kept_whole}
+use Rattle.view_engine.proofs.Whole.{apart, documents_at, documents_open, kept_whole, told_leaves_none}
 
 does_text : (functions : List ℕ → Functions) (honest : List ℕ → Type 0) (languages : List (List ℕ × List ℕ)) (before : Moment) (line text : List ℕ) (after : Moment) → line ≢ []
     → DoesRequestText functions honest languages before (request_of line) text after → Does functions honest languages before line text after
 does_text functions honest languages before [] text after some does = absurd (some refl)
 does_text functions honest languages before (byte ∷ bytes) text after some does = does
 
-steps_by : {F C : Type 0} (f : Folders F) (s : Servers C) (old new : Scene F C) (line out mid out' : List ℕ) (fault : StepFault) → DoesBy f s old new (request_of line) out mid (Err (Stopped fault))
-    → StepsBy f s old new line out out' (Err fault)
-steps_by f s old new line out mid out' DiskFault does = does
-steps_by f s old new line out mid out' (Damaged name at) does = does
-steps_by f s old new line out mid out' (Full name length) does = does
-steps_by f s old new line out mid out' NoMemory does = does
+steps_by : {F C : Type 0} (f : Folders F) (s : Servers C) (old new : Scene F C) (before : Moment) (line out mid out' : List ℕ) (fault : StepFault) → DoesBy f s old new before (request_of line) out mid (Err (Stopped fault))
+    → StepsBy f s old new before line out out' (Err fault)
+steps_by f s old new before line out mid out' DiskFault does = does
+steps_by f s old new before line out mid out' (Damaged name at) does = does
+steps_by f s old new before line out mid out' (Full name length) does = does
+steps_by f s old new before line out mid out' NoMemory does = does
 
 -- a request that was done was one
 done_read : (out out' : List ℕ) (request : Result Request Refusal) → RefusesUnread request (Ok tt) → IfErr request (λ refusal. out' ≡ out ++ ended (refusal_text refusal))
@@ -83,9 +86,12 @@ module _ {F C : Type 0} {f : Folders F} {s : Servers C} where
   step_nothing {now} {out} is_open = record {
     does = λ before at. record {
       text = [];
-      after = before;
-      is_at = at;
-      allowed = told_all (f.disk now.folder) (λ d. Does s.functions s.honest (languages_of now.engine.pool) before [] [] before) (λ d. (refl, refl));
+      leaves = record {
+        after = before;
+        is_at = at;
+        moments = told_leaves_none now.engine before.world (f.disk now.folder) (f.disk now.folder) (told_refl (f.disk now.folder) MovesNone none_refl) at.documents;
+        allowed = told_all (f.disk now.folder) (λ d. Does s.functions s.honest (languages_of now.engine.pool) before [] [] before) (λ d. (refl, refl));
+      };
       appended = sym (append-nil out);
     };
     prints = record { none = λ none. refl; some = λ some. absurd (some refl) };
@@ -108,11 +114,8 @@ module _ {F C : Type 0} {f : Folders F} {s : Servers C} where
           let done = performed.does before at in
           record {
             text = done.text;
-            after = done.after;
-            is_at = done.is_at;
-            allowed = told_now (f.disk old.folder) (λ d. DoesRequestText s.functions s.honest (languages_of old.engine.pool) before (request_of line) done.text done.after)
-                (λ d. Does s.functions s.honest (languages_of old.engine.pool) before line done.text done.after)
-                (λ d does. does_text s.functions s.honest (languages_of old.engine.pool) before line done.text done.after some does) done.allowed;
+            leaves = leaves_as (DoesRequestText s.functions s.honest (languages_of old.engine.pool) before (request_of line) done.text) (Does s.functions s.honest (languages_of old.engine.pool) before line done.text)
+                (λ after does. does_text s.functions s.honest (languages_of old.engine.pool) before line done.text after some does) done.leaves;
             appended = done.appended;
           };
       prints = record { none = λ none. absurd (some none); some = λ filled. let printed = performed.prints in (printed.reply, printed.line, printed.appended) };
@@ -131,15 +134,12 @@ module _ {F C : Type 0} {f : Folders F} {s : Servers C} where
     pub step_told : {mid out' : List ℕ} (halt : Halt) (told : Result (Unit {0}) StepFault) → Performed f s old new (request_of line) out mid (Err halt) → IsToldAs halt mid out' told → IsStep f s old new line out out' told
     step_told {mid} {out'} (Refused refusal) (Ok done) performed is = record {
       does = λ before at.
-          let left = performed.does before at in
           record {
             text = ended (refusal_text refusal);
-            after = left.after;
-            is_at = left.is_at;
-            allowed = told_now (f.disk old.folder) (λ d. DoesRequest s.functions s.honest (languages_of old.engine.pool) before (request_of line) (refusal_text refusal) left.after
-                × MayHaveCalled (languages_of old.engine.pool) before (request_of line) left.after)
-                (λ d. Does s.functions s.honest (languages_of old.engine.pool) before line (ended (refusal_text refusal)) left.after)
-                (λ d both. does_text s.functions s.honest (languages_of old.engine.pool) before line (ended (refusal_text refusal)) left.after some (refusal_text refusal, both.0, refl)) left.allowed;
+            leaves = leaves_as (λ after. DoesRequest s.functions s.honest (languages_of old.engine.pool) before (request_of line) (refusal_text refusal) after
+                × MayHaveCalled s.functions s.honest (languages_of old.engine.pool) before (request_of line) after)
+                (Does s.functions s.honest (languages_of old.engine.pool) before line (ended (refusal_text refusal)))
+                (λ after both. does_text s.functions s.honest (languages_of old.engine.pool) before line (ended (refusal_text refusal)) after some (refusal_text refusal, both.0, refl)) (performed.does before at);
             appended = is.0 ∙ ap (λ (o : List ℕ). o ++ ended (refusal_text refusal)) performed.silent;
           };
       prints = record { none = λ none. absurd (some none); some = λ filled. (refusal_text refusal, refusal_line refusal, is.0 ∙ ap (λ (o : List ℕ). o ++ ended (refusal_text refusal)) performed.silent) };
@@ -156,14 +156,9 @@ module _ {F C : Type 0} {f : Folders F} {s : Servers C} where
     step_told {mid} {out'} (Refused refusal) (Err fault) performed is =
         subst (λ (e : StepFault). IsStep f s old new line out out' (Err e)) (sym is.2) (record {
           does = λ before at.
-              let left = performed.does before at in
-              record {
-                after = left.after;
-                is_at = left.is_at;
-                allowed = told_now (f.disk old.folder) (λ d. DoesRequest s.functions s.honest (languages_of old.engine.pool) before (request_of line) (refusal_text refusal) left.after
-                    × MayHaveCalled (languages_of old.engine.pool) before (request_of line) left.after)
-                    (λ d. MayHaveCalled (languages_of old.engine.pool) before (request_of line) left.after) (λ d both. both.1) left.allowed;
-              };
+              leaves_as (λ after. DoesRequest s.functions s.honest (languages_of old.engine.pool) before (request_of line) (refusal_text refusal) after
+              × MayHaveCalled s.functions s.honest (languages_of old.engine.pool) before (request_of line) after)
+              (MayHaveCalled s.functions s.honest (languages_of old.engine.pool) before (request_of line)) (λ after both. both.1) (performed.does before at);
           prints = tt;
           silent = is.1 ∙ performed.silent;
           blames = tt;
@@ -172,12 +167,12 @@ module _ {F C : Type 0} {f : Folders F} {s : Servers C} where
           asked = some;
           idle = λ none. absurd (some none);
           disk = disk_ends (λ given. tt) (λ goes. tt) performed.disk;
-          why = tt;
+          why = inl tt;
           stays = performed.stays;
         })
     step_told {mid} {out'} (Stopped fault) told performed is =
         subst (λ (r : Result (Unit {0}) StepFault). IsStep f s old new line out out' r) (sym is.0) (record {
-          does = steps_by f s old new line out mid out' fault performed.does;
+          does = λ before at. steps_by f s old new before line out mid out' fault (performed.does before at);
           prints = tt;
           silent = is.1 ∙ performed.silent;
           blames = tt;
@@ -205,98 +200,91 @@ for_request {f = f} {s = s} {old = old} {new = new} {out = out} {out' = out'} {r
 
 -- ---- what a caller takes out of a step
 
--- the child after a fault
-kept_child : {F C : Type 0} (f : Folders F) (s : Servers C) (old new : Scene F C) (line out out' : List ℕ) (fault : StepFault) → fault ≢ NoMemory → StepsBy f s old new line out out' (Err fault)
-    → (before : Moment) → KeepsChild f s old before → KeepsChild f s new before
-kept_child f s old new line out out' DiskFault other does = does
-kept_child f s old new line out out' (Damaged name at) other does = does
-kept_child f s old new line out out' (Full name length) other does = does
-kept_child f s old new line out out' NoMemory other does = absurd (other refl)
+-- after a fault that ends the engine
+stopped_by : {F C : Type 0} (f : Folders F) (s : Servers C) (old new : Scene F C) (before : Moment) (line out out' : List ℕ) (fault : StepFault) → fault ≢ NoMemory → StepsBy f s old new before line out out' (Err fault)
+    → CrashesAround f s old new before (request_of line) × LeavesChild f s old new (MayHaveCalled s.functions s.honest (languages_of old.engine.pool) before (request_of line))
+stopped_by f s old new before line out out' DiskFault other does = does
+stopped_by f s old new before line out out' (Damaged name at) other does = does
+stopped_by f s old new before line out out' (Full name length) other does = does
+stopped_by f s old new before line out out' NoMemory other does = absurd (other refl)
 
--- what is said of each place is said of the disk
-told_never : {D : Type 0} (told : Option D) (At : D → Type 0) (P : FileName → ℕ → Type 0) → ((name : FileName) (at : ℕ) → P name at → IfTold told (λ d. At d → ⊥)) → IfTold told At
-    → IfTold told (λ d. (name : FileName) (at : ℕ) → P name at → ⊥)
-told_never None At P never known = tt
-told_never (Some a) At P never known = λ name at is. never name at is known
+-- a damaged place is none of the documents, where these are at a world, but one of an index, and the world's pictures have not the shape of
+-- their designs
+told_sound : (told : Option (Disk FileName)) (Documents Whole : Disk FileName → Type 0) (Shaped : Type 0) (P : FileName → ℕ → Type 0)
+    → ((name : FileName) (at : ℕ) → P name at → IfTold told (λ d. Documents d → ⊥) ⊎ IfTold told (λ d. IsIndexFile name × (Whole d → Shaped → ⊥))) → IfTold told Documents → IfTold told Whole
+    → IfTold told (λ d. (name : FileName) (at : ℕ) → P name at → IsIndexFile name × (Shaped → ⊥))
+told_sound None Documents Whole Shaped P met documents whole = tt
+told_sound (Some a) Documents Whole Shaped P met documents whole = λ name at is. elim (met name at is) [
+  | inl never ↦ absurd (never documents)
+  | inr of_index ↦ (of_index.0, of_index.1 whole)
+]
 
--- a full file is met by a write that is accepted
+-- a full file is met by a write that is accepted, or is one of an index
 told_full : (disk : Option (Disk FileName)) (docs : Docs) (world : World) (request : Result Request Refusal) (P : FileName → Option ℕ → Type 0)
-    → ((name : FileName) (length : Option ℕ) → P name length → IsFullFor docs request name length × WouldWrite docs disk request) → IfTold disk (λ d. AreAt docs d.now world.history)
-    → IfTold disk (λ d. (name : FileName) (length : Option ℕ) → P name length → IsFullAt d.now world request name length)
+    → ((name : FileName) (length : Option ℕ) → P name length → (IsFullFor docs request name length × WouldWrite docs disk request) ⊎ IsOfIndex request name) → IfTold disk (λ d. AreAt docs d.now world.history)
+    → IfTold disk (λ d. (name : FileName) (length : Option ℕ) → P name length → IsFullAt d.now world request name length ⊎ IsOfIndex request name)
 told_full None docs world request P full known = tt
-told_full (Some d) docs world request P full known = λ name length is.
-    let met = full name length is in
-    let made = met.1 world known in
-    record { docs = docs; at = known; full = met.0; write = made.0; accepted = made.1 }
+told_full (Some d) docs world request P full known = λ name length is. elim (full name length is) [
+  | inl met ↦ (let made = met.1 world known in inl (record { docs = docs; at = known; full = met.0; write = made.0; accepted = made.1 }))
+  | inr of_index ↦ inr of_index
+]
 
 -- where the disk failed the request would have passed no limit of the file
 told_room : (disk : Option (Disk FileName)) (docs : Docs) (world : World) (request : Result Request Refusal) (A : Type 0) → (A → FitsFor docs request) → IfTold disk (λ d. AreAt docs d.now world.history)
     → IfTold disk (λ d. A → HasRoomAt d.now world request)
 told_room disk docs world request A fits known = told_now disk (λ d. AreAt docs d.now world.history) (λ d. A → HasRoomAt d.now world request) (λ d at is. record { docs = docs; at = at; fits = fits is }) known
 
-module _ {F C : Type 0} {f : Folders F} {s : Servers C} {old new : Scene F C} {line out out' : List ℕ} where
-  -- at each moment a crash leaves the world before the line or the one with its write
-  pub step_around : {result : Result (Unit {0}) StepFault} → IsStep f s old new line out out' result → (before : Moment) → StandsAt f s old before
-      → Tells (f.disk old.folder) (f.disk new.folder) (LeavesOnly (StandsAround before.world (request_of line)))
-  step_around step before at = step.disk.moments before.world at.documents
+-- why a request met a fault, by its kind
+module _ {F : Type 0} (f : Folders F) (engine : Engine) (old new : F) (request : Result Request Refusal) where
+  abbrev Why : StepFault → Type 0
+  Why = IsReasonOf f engine old new request
 
-  -- and where memory ran out, the world before it
-  pub step_unwritten : IsStep f s old new line out out' (Err NoMemory) → (before : Moment) → StandsAt f s old before
-      → Tells (f.disk old.folder) (f.disk new.folder) (LeavesOnly (λ image. StandsFor image before.world))
-  step_unwritten step before at = step.disk.unwritten tt before.world at.documents
+  -- what is damaged of an index is a file of it
+  of_index : (name : FileName) (at : ℕ) (d : Disk FileName) → HasIndexDamage d.now name at → IsIndexFile name
+  of_index name at d damage = (damage.0, (damage.2).0)
 
-  module _ {fault : StepFault} (step : IsStep f s old new line out out' (Err fault)) (before : Moment) (at : StandsAt f s old before) where
-    -- the engine keeps the child that the calls left
-    pub step_stopped : fault ≢ NoMemory → KeepsChild f s new before
-    step_stopped other = kept_child f s old new line out out' fault other step.does before at.child
+  why_failed : Why DiskFault → FitsFor engine.docs request
+  why_failed (inl why) = why.1
+  why_failed (inr why) = absurd why
 
-    -- no place is damaged
-    pub step_sound : IfTold (f.disk old.folder) (λ d. (name : FileName) (at : ℕ) → fault ≡ Damaged name at → ⊥)
+  why_full : (name : FileName) (length : Option ℕ) → Why (Full name length) → (IsFullFor engine.docs request name length × WouldWrite engine.docs (f.disk old) request) ⊎ IsOfIndex request name
+  why_full name length why = why
+
+  why_unsound : (world : World) (name : FileName) (at : ℕ) → Why (Damaged name at)
+      → IfTold (f.disk old) (λ d. AreAt engine.docs d.now world.history → ⊥) ⊎ IfTold (f.disk old) (λ d. IsIndexFile name × (IsAtWorld engine d.now world → AreShaped world → ⊥))
+  why_unsound world name at (inl why) = inl ((why.1).1 world)
+  why_unsound world name at (inr why) = inr (told_pair (f.disk old) (λ d. HasIndexDamage d.now name at) _ _ (λ d damage never. (of_index name at d damage, never)) why.1 (why.2 world))
+
+  why_damaged : (name : FileName) (at : ℕ) → Why (Damaged name at) → (ReadsDocuments request × IfTold (f.disk old) (λ d. IsDamage engine.docs d.now name at)) ⊎ (IsView request × IfTold (f.disk old) (λ d. IsIndexFile name))
+  why_damaged name at (inl why) = inl (why.0, (why.1).0)
+  why_damaged name at (inr why) = inr (why.0, told_now (f.disk old) (λ d. HasIndexDamage d.now name at) (λ d. IsIndexFile name) (λ d damage. of_index name at d damage) why.1)
+
+module _ {F C : Type 0} {f : Folders F} {s : Servers C} {old new : Scene F C} {line out out' : List ℕ} {fault : StepFault} (step : IsStep f s old new line out out' (Err fault)) where
+  met : {other : StepFault} → fault ≡ other → IsReasonOf f old.engine old.folder new.folder (request_of line) other
+  met is = subst (IsReasonOf f old.engine old.folder new.folder (request_of line)) is step.why
+
+  module _ (before : Moment) (at : StandsAt f s old before) where
+    -- a crash left the world before the line or the one that it makes, and the engine keeps the children that its calls left
+    pub step_stopped : fault ≢ NoMemory → CrashesAround f s old new before (request_of line) × LeavesChild f s old new (MayHaveCalled s.functions s.honest (languages_of old.engine.pool) before (request_of line))
+    step_stopped other = stopped_by f s old new before line out out' fault other (step.does before at)
+
+    -- a damaged place is one of an index, and the world's pictures have not the shape of their designs
+    pub step_sound : IfTold (f.disk old.folder) (λ d. (name : FileName) (at : ℕ) → fault ≡ Damaged name at → IsIndexFile name × (AreShaped before.world → ⊥))
     step_sound =
-        told_never (f.disk old.folder) (λ d. AreAt old.engine.docs d.now before.world.history) (λ name at. fault ≡ Damaged name at)
-        (λ name at is. (subst (IsReason f old.engine.docs old.folder new.folder (request_of line)) is step.why).1.1 before.world) (documents_at _ _ before.world at.documents)
+        told_sound (f.disk old.folder) (λ d. AreAt old.engine.docs d.now before.world.history) (λ d. IsAtWorld old.engine d.now before.world) (AreShaped before.world) (λ name at. fault ≡ Damaged name at)
+        (λ name at is. why_unsound f old.engine old.folder new.folder (request_of line) before.world name at (met is)) (documents_at _ _ before.world at.documents) at.documents
 
     -- where the disk failed there was room for what the line writes
     pub step_room_left : IfTold (f.disk old.folder) (λ d. fault ≡ DiskFault → HasRoomAt d.now before.world (request_of line))
     step_room_left =
         told_room (f.disk old.folder) old.engine.docs before.world (request_of line) (fault ≡ DiskFault)
-        (λ is. (subst (IsReason f old.engine.docs old.folder new.folder (request_of line)) is step.why).1) (documents_at _ _ before.world at.documents)
+        (λ is. why_failed f old.engine old.folder new.folder (request_of line) (met is)) (documents_at _ _ before.world at.documents)
 
-    -- a full file is one with the write of the line
-    pub step_full : IfTold (f.disk old.folder) (λ d. (name : FileName) (length : Option ℕ) → fault ≡ Full name length → IsFullAt d.now before.world (request_of line) name length)
+    -- a full file is one with the write of the line, or one of an index
+    pub step_full : IfTold (f.disk old.folder) (λ d. (name : FileName) (length : Option ℕ) → fault ≡ Full name length → IsFullAt d.now before.world (request_of line) name length ⊎ IsOfIndex (request_of line) name)
     step_full =
         told_full (f.disk old.folder) old.engine.docs before.world (request_of line) (λ name length. fault ≡ Full name length)
-        (λ name length is. subst (IsReason f old.engine.docs old.folder new.folder (request_of line)) is step.why) (documents_at _ _ before.world at.documents)
-
--- a damaged place is one that an engine met which is open over these files, and no file has changed since
-damage_named : (old new : Option (Disk FileName)) (docs : Docs) (name : FileName) (at : ℕ) → IfTold old (λ d. IsOpen docs d.now) → IfTold old (λ d. IsDamage docs d.now name at) → Tells old new MovesNone
-    → IfTold new (λ d. HasBodyDamage d.now name at)
-damage_named None None docs name at is_open damage moves = tt
-damage_named None (Some b) docs name at is_open damage moves = absurd moves
-damage_named (Some a) None docs name at is_open damage moves = tt
-damage_named (Some a) (Some b) docs name at is_open damage moves =
-    let here : HasBodyDamage a.now name at = record { docs = docs; is_open = is_open; damage = damage } in
-    subst (λ (files : FileName → File). HasBodyDamage files name at) (files_same a.now b.now (none_same a b moves)) here
-
-pub step_damaged : {F C : Type 0} {f : Folders F} {s : Servers C} {old new : Scene F C} {line out out' : List ℕ} {fault : StepFault} → LiesOpen f old.engine old.folder → IsStep f s old new line out out' (Err fault)
-    → (name : FileName) (at : ℕ) → fault ≡ Damaged name at → IfTold (f.disk new.folder) (λ d. HasBodyDamage d.now name at)
-step_damaged {f = f} {old = old} {new = new} {line = line} {fault = fault} is_open step name at is =
-    let why = subst (IsReason f old.engine.docs old.folder new.folder (request_of line)) is step.why in
-    let still : LeavesFiles (Stopped fault) = subst (λ (e : StepFault). LeavesFiles (Stopped e)) (sym is) tt in
-    damage_named (f.disk old.folder) (f.disk new.folder) old.engine.docs name at (documents_open _ _ is_open) why.1.0 (step.disk.documents.unmoved still)
-
--- a full file is one of an engine that is open over these files, which are as they were
-full_named : (old new : Option (Disk FileName)) (docs : Docs) (request : Result Request Refusal) (name : FileName) (length : Option ℕ) → IsFullFor docs request name length → IfTold old (λ d. IsOpen docs d.now) → Tells old new MovesNone
-    → IfTold new (λ d. IsFullIn d.now request name length)
-full_named old new docs request name length full is_open moves =
-    told_now new (λ d. IsOpen docs d.now) (λ d. IsFullIn d.now request name length) (λ d opened. record { docs = docs; is_open = opened; full = full }) (open_none docs old new moves is_open)
-
-pub step_full_in : {F C : Type 0} {f : Folders F} {s : Servers C} {old new : Scene F C} {line out out' : List ℕ} {fault : StepFault} → LiesOpen f old.engine old.folder → IsStep f s old new line out out' (Err fault)
-    → (name : FileName) (length : Option ℕ) → fault ≡ Full name length → IfTold (f.disk new.folder) (λ d. IsFullIn d.now (request_of line) name length)
-step_full_in {f = f} {old = old} {new = new} {line = line} {fault = fault} is_open step name length is =
-    let why = subst (IsReason f old.engine.docs old.folder new.folder (request_of line)) is step.why in
-    let still : LeavesFiles (Stopped fault) = subst (λ (e : StepFault). LeavesFiles (Stopped e)) (sym is) tt in
-    full_named (f.disk old.folder) (f.disk new.folder) old.engine.docs (request_of line) name length why.0 (documents_open _ _ is_open) (step.disk.documents.unmoved still)
+        (λ name length is. why_full f old.engine old.folder new.folder (request_of line) name length (met is)) (documents_at _ _ before.world at.documents)
 
 left_files : (fault : StepFault) → fault ≢ DiskFault → LeavesFiles (Stopped fault)
 left_files DiskFault other = other refl
@@ -309,14 +297,65 @@ full_writes docs (Ok (Put document)) name length full = tt
 full_writes docs (Ok (Delete id given)) name length full = tt
 full_writes docs other name length full = absurd full
 
-module _ {F C : Type 0} {f : Folders F} {s : Servers C} {old new : Scene F C} {line out out' : List ℕ} {fault : StepFault} (step : IsStep f s old new line out out' (Err fault)) where
-  -- damage is met by a request that reads documents, and a full file by one that writes one
-  pub step_reads : (name : FileName) (at : ℕ) → fault ≡ Damaged name at → ReadsDocuments (request_of line)
-  step_reads name at is = (subst (IsReason f old.engine.docs old.folder new.folder (request_of line)) is step.why).0
+-- a write is no view
+write_no_view : (request : Result Request Refusal) → Writes request → IsView request → ⊥
+write_no_view (Ok (View name limits)) writes view = writes
+write_no_view other writes view = view
 
-  -- only where the disk failed files have changed
-  pub step_kept : fault ≢ DiskFault → Tells (f.disk old.folder) (f.disk new.folder) MovesNone
-  step_kept other = step.disk.documents.unmoved (left_files fault other)
+-- a request that reads documents is a view or none
+reads_either : (request : Result Request Refusal) → ReadsDocuments request → IsView request ⊎ (IsView request → ⊥)
+reads_either (Ok (View name limits)) reads = inl tt
+reads_either other reads = inr (λ view. view)
 
-  pub step_writes : (name : FileName) (length : Option ℕ) → fault ≡ Full name length → Writes (request_of line)
-  step_writes name length is = full_writes old.engine.docs (request_of line) name length (subst (IsReason f old.engine.docs old.folder new.folder (request_of line)) is step.why).0
+-- a damaged place is one that an engine met which is open over these files, and none of the documents has changed since
+damage_named : (old new : Option (Disk FileName)) (docs : Docs) (name : FileName) (at : ℕ) (R : Disk FileName → Disk FileName → Type 0) → ((a b : Disk FileName) → R a b → (n : FileName) → IsDocsFile n → b.now n ≡ a.now n)
+    → IfTold old (λ d. IsOpen docs d.now) → IfTold old (λ d. IsDamage docs d.now name at) → Tells old new R → IfTold new (λ d. HasBodyDamage d.now name at)
+damage_named old new docs name at R same is_open damage =
+    told_after old new (λ d. IsOpen docs d.now × IsDamage docs d.now name at) (λ d. HasBodyDamage d.now name at) R
+    (λ a b here moves. record { docs = docs; is_open = open_beside_indexes docs a.now b.now (same a b moves) here.0; damage = damage_beside_indexes docs a.now b.now (same a b moves) here.0 name at here.1 })
+    (told_pair old (λ d. IsOpen docs d.now) (λ d. IsDamage docs d.now name at) (λ d. IsOpen docs d.now × IsDamage docs d.now name at) (λ d opened damaged. (opened, damaged)) is_open damage)
+
+-- a full file is one of an engine that is open over these files, which are as they were
+full_named : (old new : Option (Disk FileName)) (docs : Docs) (request : Result Request Refusal) (name : FileName) (length : Option ℕ) → IsFullFor docs request name length → IfTold old (λ d. IsOpen docs d.now) → Tells old new MovesNone
+    → IfTold new (λ d. IsFullIn d.now request name length)
+full_named old new docs request name length full is_open moves =
+    told_now new (λ d. IsOpen docs d.now) (λ d. IsFullIn d.now request name length) (λ d opened. record { docs = docs; is_open = opened; full = full }) (open_none docs old new moves is_open)
+
+module _ {F C : Type 0} {f : Folders F} {s : Servers C} {old new : Scene F C} {line out out' : List ℕ} {fault : StepFault} where
+  -- only where the disk failed, or by a view, files have changed
+  pub step_kept : IsStep f s old new line out out' (Err fault) → fault ≢ DiskFault → (IsView (request_of line) → ⊥) → Tells (f.disk old.folder) (f.disk new.folder) MovesNone
+  step_kept step other no_view = (step.disk.documents no_view).unmoved (left_files fault other)
+
+  module _ (is_open : LiesOpen f old.engine old.folder) (step : IsStep f s old new line out out' (Err fault)) where
+    -- damage is met by a request that reads documents, in one of these, or else in an index
+    pub step_damaged : (name : FileName) (at : ℕ) → fault ≡ Damaged name at
+        → (ReadsDocuments (request_of line) × IfTold (f.disk new.folder) (λ d. HasBodyDamage d.now name at)) ⊎ (IsView (request_of line) × IfTold (f.disk new.folder) (λ d. IsIndexFile name))
+    step_damaged name at is = elim (why_damaged f old.engine old.folder new.folder (request_of line) name at (met step is)) [
+      | inl damage ↦ inl (damage.0, by_kind damage.1 (reads_either (request_of line) damage.0))
+      | inr of_index ↦ inr (of_index.0, told_after (f.disk old.folder) (f.disk new.folder) (λ d. IsIndexFile name) (λ d. IsIndexFile name) _ (λ a b is moves. is) of_index.1 (step.disk.indexes of_index.0))
+    ]
+      where
+        opened : IfTold (f.disk old.folder) (λ d. IsOpen old.engine.docs d.now)
+        opened = documents_open _ _ is_open
+
+        by_kind : IfTold (f.disk old.folder) (λ d. IsDamage old.engine.docs d.now name at) → IsView (request_of line) ⊎ (IsView (request_of line) → ⊥) → IfTold (f.disk new.folder) (λ d. HasBodyDamage d.now name at)
+        by_kind damage (inl view) = damage_named (f.disk old.folder) (f.disk new.folder) old.engine.docs name at (Moves IsIndexFile (λ image. Unit {0}) (λ files. Unit {0}))
+            (λ a b moves n of_docs. moves.others n (λ of_view. apart n of_view of_docs)) opened damage (step.disk.indexes view)
+        by_kind damage (inr no_view) = damage_named (f.disk old.folder) (f.disk new.folder) old.engine.docs name at MovesNone (λ a b moves n of_docs. none_same a b moves n) opened damage
+            (step_kept step (λ failed. let never : DiskFault ≡ Damaged name at = sym failed ∙ is in cc) no_view)
+
+    -- and a full file by one that writes a document, as it would be with that, or else one of an index
+    pub step_full_in : (name : FileName) (length : Option ℕ) → fault ≡ Full name length
+        → (Writes (request_of line) × IfTold (f.disk new.folder) (λ d. IsFullIn d.now (request_of line) name length)) ⊎ IsOfIndex (request_of line) name
+    step_full_in name length is = elim (why_full f old.engine old.folder new.folder (request_of line) name length (met step is)) [
+      | inl full ↦
+          (let writes : Writes (request_of line) = full_writes old.engine.docs (request_of line) name length full.0 in
+          let none = step_kept step (λ failed. let never : DiskFault ≡ Full name length = sym failed ∙ is in cc) (write_no_view (request_of line) writes) in
+          inl (writes, full_named (f.disk old.folder) (f.disk new.folder) old.engine.docs (request_of line) name length full.0 (documents_open _ _ is_open) none))
+      | inr of_index ↦ inr of_index
+    ]
+
+-- a request that is neither a write nor a view changes no file
+pub step_still : {F C : Type 0} {f : Folders F} {s : Servers C} {old new : Scene F C} {line out out' : List ℕ} {result : Result (Unit {0}) StepFault} → IsStep f s old new line out out' result
+    → (ChangesFiles (request_of line) → ⊥) → Tells (f.disk old.folder) (f.disk new.folder) MovesNone
+step_still step never = (step.disk.documents (λ view. never (inr view))).read (λ writes. never (inl writes))

@@ -1,9 +1,10 @@
 -- A view request that is halted before any server is asked.
 use Rattle.std.proofs.Common.{◌≡◌, ℕ, List, Option, None, Some, Ok, refl, inl, inr}
 use Rattle.view_ports.specs.Calls.{Call}
-use Rattle.view_ports.specs.Disk.{Disk, IfTold, MovesNone, Tells}
+use Rattle.view_ports.specs.Disk.{Disk, IfTold, LeavesOnly, MovesNone, Tells}
 use Rattle.view_ports.specs.Functions.{Functions}
 use Rattle.view_ports.specs.declared.file_name.FileName.{FileName}
+use Rattle.view_ports.proofs.Told.{told_given}
 use Rattle.doc_file.specs.History.{Write}
 use Rattle.view_engine.specs.declared.engine.Engine.{Engine}
 use Rattle.view_engine.specs.declared.halt.Halt.{Halt}
@@ -16,7 +17,8 @@ use Rattle.view_engine.specs.Moments.{Moment}
 use Rattle.view_engine.specs.Refusals.{refusal_text}
 use Rattle.view_engine.specs.Steps.{DoesRequest, MayHaveCalled}
 use Rattle.view_engine.specs.View.{view_refusal}
-use Rattle.view_engine.proofs.Whole.{world_none}
+use Rattle.view_engine.specs.Worlds.{IsAtWorld, StandsEither}
+use Rattle.view_engine.proofs.Whole.{leaves_none, world_none}
 use Rattle.view_engine.specs.World.{of_history}
 
 -- the refusal is that of the definition
@@ -32,15 +34,16 @@ told_refused (Some a) docs_at languages history name halt at refused = λ r is. 
 module _ (functions : List ℕ → Functions) (honest : List ℕ → Type 0) (languages : List (List ℕ × List ℕ)) (before : Moment) (name : ViewName) (halt : Halt)
     (x y : Option (Disk FileName)) (may_follow : List Call → Type 0) (faults : ℕ) (engine : Engine) (at : IsAt x may_follow faults engine before) (moves : Tells x y MovesNone) where
   abbrev Halts : Moment → Type 0
-  Halts left = ((r : Refusal) → halt ≡ Refused r → DoesRequest functions honest languages before (Ok (ViewRequest name None)) (refusal_text r) left) × MayHaveCalled languages before (Ok (ViewRequest name None)) left
+  Halts left = ((r : Refusal) → halt ≡ Refused r → DoesRequest functions honest languages before (Ok (ViewRequest name None)) (refusal_text r) left) × MayHaveCalled functions honest languages before (Ok (ViewRequest name None)) left
 
   halts : IsRefusedThere languages before.world.history name halt → Halts before
   halts refused = (λ r is. inr (r, refused r is, (refl, refl)), inl refl)
 
-  pub unasked : IfTold x (λ d. IsRefusedThere languages before.world.history name halt) → Leaves y may_follow faults engine (λ left. IfTold x (λ d. Halts left))
+  pub unasked : IfTold x (λ d. IsRefusedThere languages before.world.history name halt) → Leaves x y may_follow faults engine before Halts
   unasked refused = record {
     after = before;
     is_at = record { documents = world_none engine engine x y refl refl moves before.world at.documents; child = at.child };
+    moments = told_given x y (λ d. IsAtWorld engine d.now before.world) MovesNone (LeavesOnly (StandsEither before.world before.world)) (λ a b here none. leaves_none engine before.world a b none here) at.documents moves;
     allowed = told_halts x refused;
   }
     where

@@ -1,103 +1,64 @@
 -- A view, as its servers answered it.
-use Rattle.std.specs.Prelude.{slice_index_or, sum_by}
-use Rattle.std.proofs.Common.{◌≡◌, ◌≢◌, ◌⊎◌, ◌<◌, ◌≤◌, ◌∙◌, ◌++◌, ℕ, zero, suc, max, min, List, [], ◌∷◌, length, map, Option, None, Some, Result, Ok, Err, refl, sym, ap, subst, inl, inr, arith}
+use Rattle.std.specs.Prelude.{slice_index_or}
+use Rattle.std.proofs.Common.{◌≡◌, ◌≢◌, ◌⊎◌, ◌<◌, ◌≤◌, ◌∙◌, ◌++◌, ℕ, max, min, List, [], ◌∷◌, true, length, map, Option, None, Some, Result, Ok, Err, refl, sym, ap, subst, inl, inr}
+use Rattle.std.specs.Prelude.{if◌then◌else◌}
 use Rattle.std.specs.List.{AllByRecursion}
 use Rattle.std.proofs.lemmas.List.{length-map}
-use Rattle.std.proofs.lemmas.List.Sums.{sum_by-cons}
+use Rattle.std.proofs.lemmas.Slice.Eq.{bytes_eq-Decides}
 use Rattle.json_terms.specs.Json.{Json, number, is_false, is_null, is_true, object, array, string}
+use Rattle.json_terms.specs.Seen.{json}
+use Rattle.json_terms.specs.declared.term.Row.{Row}
 use Rattle.json_terms.proofs.Sames.{members_of-list_of_members}
 use Rattle.view_ports.specs.Calls.{Call}
-use Rattle.view_ports.specs.Disk.{Disk, IfTold, MovesNone, Tells}
 use Rattle.view_ports.specs.Faults.{Rose, RoseBy}
-use Rattle.view_ports.specs.Functions.{Functions, IsMappable, line_limit}
-use Rattle.view_ports.specs.Honest.{rows_of}
-use Rattle.view_ports.specs.Lines.{ended}
+use Rattle.view_ports.specs.Functions.{Functions, IsMappable, source_limit}
 use Rattle.view_ports.specs.Stored.{IsStoredDocument}
-use Rattle.view_ports.specs.declared.file_name.FileName.{FileName}
-use Rattle.view_ports.proofs.Told.{told_now}
-use Rattle.raw_collation.specs.Sorting.{sorted_rows}
 use Rattle.design_docs.specs.declared.design.Design.{Design}
 use Rattle.design_docs.specs.declared.design.View.{View}
-use Rattle.design_docs.specs.Design.{map_sources}
+use Rattle.design_docs.specs.Design.{map_sources, views_of}
 use Rattle.query_protocol.specs.CommandLines.{document_of}
-use Rattle.query_protocol.specs.Replies.{AreFew}
 use Rattle.child_pool.specs.declared.doc_rows.DocRowLists.{DocRowLists}
 use Rattle.child_pool.specs.declared.pool.Pool.{Pool}
 use Rattle.child_pool.specs.declared.pool_fault.PoolFault.{PoolFault}
 use Rattle.child_pool.specs.declared.pool_fault.PoolFault.TheVariants as fault
+use Rattle.child_pool.specs.Firsts.{first_prompts, HasMappedFirst}
 use Rattle.child_pool.specs.Histories.{WentIn, talk}
 use Rattle.child_pool.specs.Jobs.{Job, job_of}
-use Rattle.child_pool.specs.Languages.{path_in}
-use Rattle.child_pool.specs.Mapping.{AreParts, IsPart}
-use Rattle.child_pool.specs.Pools.{HasItsChildren, IsKeptOf, kept_of}
+use Rattle.child_pool.specs.Mapping.{IsPart}
+use Rattle.child_pool.specs.Pools.{IsKeptOf, kept_of}
 use Rattle.child_pool.specs.Prompts.{update_prompts}
+use Rattle.child_pool.specs.Honesty.{SomeSourceFails}
+use Rattle.child_pool.specs.Sessions.{AllCompile}
 use Rattle.child_pool.specs.Talk.{AreCutShortIn, AreTurns, talk_of}
 use Rattle.child_pool.specs.Outcomes.{IsCaused}
 use Rattle.child_pool.specs.Tries.{AllAnswered, Prompt, StopsAt}
-use Rattle.child_pool.specs.Updates.{AfterTries, AfterUpdate, HasUpdated}
+use Rattle.child_pool.specs.Updates.{AfterTries, AfterUpdate}
 use Rattle.child_pool.proofs.Remembered.{kept_is}
-use Rattle.child_pool.proofs.Batches.{honest_lists}
 use Rattle.child_pool.proofs.Honesty.{complains_rightly, no_bad_reply}
-use Rattle.child_pool.proofs.Updated.{stands_stopped}
-use Rattle.doc_file.specs.declared.docs.Docs.{Docs}
-use Rattle.doc_file.specs.Docs.{IsAt as AreAt}
-use Rattle.doc_file.specs.History.{AreStored, IsStoredAs}
+use Rattle.doc_file.specs.History.{IsStoredAs, AreStored, mapped_after}
 use Rattle.doc_file.proofs.CanBeStored.{mapped_are_stored}
-use Rattle.view_engine.specs.declared.halt.Halt.{Halt}
-use Rattle.view_engine.specs.declared.halt.Halt.TheVariants.{Refused, Stopped}
-use Rattle.view_engine.specs.declared.halt.StepFault.TheVariants.{NoMemory}
-use Rattle.view_engine.specs.declared.mapped.Mapped.{Mapped}
+use Rattle.view_index.specs.Held.{empty_views, or_empty}
+use Rattle.view_model.specs.Picture.{Picture, picture_or_none}
+use Rattle.view_model.specs.Rows.{spoiled, view_rows}
+use Rattle.view_model.specs.Standing.{AreSetAt}
+use Rattle.view_model.specs.Update.{IsUpdated}
+use Rattle.view_groups.specs.Reached.{picture_for, sig_of}
+use Rattle.view_signature.specs.Signature.{digest_of, signature_of}
+use Rattle.view_updater.specs.Updates.{documents_since}
 use Rattle.view_engine.specs.declared.request.Request.TheVariants.{View as ViewRequest}
 use Rattle.view_engine.specs.declared.request.ViewName.{ViewName}
 use Rattle.view_engine.specs.declared.refusal.Refusal.{Refusal}
 use Rattle.view_engine.specs.declared.refusal.Refusal.TheVariants as refusal
-use Rattle.view_groups.specs.declared.groups.Groups.{Groups}
-use Rattle.view_engine.specs.declared.engine.Engine.{Engine}
-use Rattle.view_engine.specs.Worlds.{IsAtWorld}
-use Rattle.view_engine.specs.World.{mapped}
+use Rattle.view_engine.specs.declared.halt.Halt.TheVariants.{Refused}
 use Rattle.view_engine.specs.Answer.{answer}
-use Rattle.view_engine.specs.Engine.{Appends, IsAt, Leaves}
-use Rattle.view_engine.specs.Mapped.{AreMapped}
 use Rattle.view_engine.specs.Moments.{Moment}
 use Rattle.view_engine.specs.Refusals.{refusal_text}
-use Rattle.view_model.specs.Rows.{emitted_at, emitted_rows}
-use Rattle.view_engine.specs.Steps.{DoesRequest, DoesRequestText, MayHaveCalled}
-use Rattle.view_engine.specs.View.{DoesView, IsGivenUp, IsJobOf, IsMet, IsServed, PrintsRows, fault_of, prompts_of}
-use Rattle.view_engine.specs.ViewPlan.{IsPlan, met_by, source_at}
-use Rattle.view_engine.proofs.SameFiles.{told_known}
-
--- ---- the emissions of the view's own source
-
-emitted_of_source : (functions : Functions) (sources : List (List ℕ)) (place : ℕ) (document : List (List ℕ × Json)) → place < length sources
-    → slice_index_or (rows_of functions sources document) place [] ≡ functions.map_of (slice_index_or sources place []) document
-emitted_of_source functions [] place document within = absurd (omega arith)
-emitted_of_source functions (s ∷ sources) zero document within = refl
-emitted_of_source functions (s ∷ sources) (suc place) document within = emitted_of_source functions sources place document (omega arith)
-
-emitted_are : (functions : Functions) (sources : List (List ℕ)) (place : ℕ) (documents : List (List (List ℕ × Json))) → place < length sources
-    → emitted_at place (map (rows_of functions sources) documents) ≡ map (functions.map_of (slice_index_or sources place [])) documents
-emitted_are functions sources place [] within = refl
-emitted_are functions sources place (d ∷ documents) within = λ i. emitted_of_source functions sources place d within i ∷ emitted_are functions sources place documents within i
-
--- none of them is longer or deeper than a reply may hold
-parts_at : (rows : List (List (Json × Json))) (place : ℕ) → AreParts rows → AllByRecursion (λ row. IsPart row.0 × IsPart row.1) (slice_index_or rows place [])
-parts_at [] place parts = tt
-parts_at (r ∷ rows) zero parts = parts.0
-parts_at (r ∷ rows) (suc place) parts = parts_at rows place parts.1
-
-emitted_parts : (place : ℕ) (lists : List (List (List (Json × Json)))) → AllByRecursion AreParts lists → AreParts (emitted_at place lists)
-emitted_parts place [] parts = tt
-emitted_parts place (rows ∷ lists) parts = (parts_at rows place parts.0, emitted_parts place lists parts.1)
-
--- nor are they too many
-few_at : (rows : List (List (Json × Json))) (place : ℕ) → sum_by (λ list. length list) rows ≤ line_limit → length (slice_index_or rows place []) ≤ line_limit
-few_at [] place few = omega arith
-few_at (r ∷ rows) zero few = omega (arith, sum_by-cons (λ (list : List (Json × Json)). length list) r rows, few)
-few_at (r ∷ rows) (suc place) few = few_at rows place (omega (arith, sum_by-cons (λ (list : List (Json × Json)). length list) r rows, few))
-
-emitted_few : (place : ℕ) (lists : List (List (List (Json × Json)))) → AllByRecursion AreFew lists → AllByRecursion (λ list. length list ≤ line_limit) (emitted_at place lists)
-emitted_few place [] few = tt
-emitted_few place (rows ∷ lists) few = (few_at rows place few.0, emitted_few place lists few.1)
+use Rattle.view_engine.specs.Steps.{EndsUpdate, MayHaveCalled}
+use Rattle.view_engine.specs.Updating.{picture_in, AreFit, IsBrought, IsSound}
+use Rattle.view_engine.specs.View.{design_id, rows_in, DoesView, IsBrokenOff, IsGivenUp, IsJobOf, IsMet, IsServed, PrintsRows, fault_of, prompts_of}
+use Rattle.view_engine.specs.ViewPlan.{IsPlan, met_by_pool, source_at}
+use Rattle.view_engine.specs.World.{World}
+use Rattle.view_engine.proofs.Updated.{are_spoiled, can_be_answered, rows_are_afresh, rows_at_place}
 
 -- ---- documents that can be stored are those that functions are asked about
 
@@ -114,32 +75,80 @@ all_mappable : (entries : List (List ℕ × Json)) → AllByRecursion (λ entry.
 all_mappable [] all = tt
 all_mappable (entry ∷ entries) all = (mappable entry.1 all.0.stored, all_mappable entries all.1)
 
--- ---- what is known once the request is planned and the documents are read, where the folder tells its disk
+no_documents : (entries : List (List ℕ × Json)) → map (λ entry. document_of entry.1) entries ≡ [] → entries ≡ []
+no_documents [] none = refl
+no_documents (entry ∷ entries) none = let clash : ⊥ = cc in absurd clash
 
-pub record IsKnown (languages : List (List ℕ × List ℕ)) (before : Moment) (name : ViewName) (id : List ℕ) (design : Design) (place : ℕ) (path : List ℕ) (ids : List (List ℕ)) (documents : List (List (List ℕ × Json))) : Type 0 where
+-- ---- the picture of a design, in the words of the indexes and in those of the world
+
+empty_rows : (views : List View) → empty_views (length views) ≡ map (λ view. []) views
+empty_rows [] = refl
+empty_rows (view ∷ views) = ap (λ rows. [] ∷ rows) (empty_rows views)
+
+no_picture : (views : List View) (picture : Option Picture) → or_empty (length views) picture ≡ picture_or_none views picture
+no_picture views None = ap (λ rows. record { seq = 0; rows = rows }) (empty_rows views)
+no_picture views (Some picture) = refl
+
+-- what was set is there
+set_there : (own : List ℕ) (next : Picture) (before after : List ℕ → Option Picture) → AreSetAt own (Some next) before after → after own ≡ Some next
+set_there own next before after set = set own ∙ ap (λ b. if b then Some next else before own) ((bytes_eq-Decides own own).1 refl)
+
+-- ---- what is known once the request is planned, where the folder tells its disk
+
+pub record IsKnown (languages : List (List ℕ × List ℕ)) (before : Moment) (name : ViewName) (id : List ℕ) (design : Design) (place : ℕ) (path : List ℕ) (documents : List (List (List ℕ × Json))) : Type 0 where
   pub plan : IsPlan languages before.world.history name id design place path
-  pub ids_are : ids ≡ map (λ entry. entry.0) (mapped before.world)
-  pub documents_are : documents ≡ map (λ entry. document_of entry.1) (mapped before.world)
-  pub stored : AllByRecursion IsMappable documents
+  pub stored : AreStored before.world.history
+  pub documents_are : documents ≡ documents_since (picture_for design before.world.pictures).seq before.world.history
 
--- what planning and reading say of the disk, that neither changed
-pub known_at : (languages : List (List ℕ × List ℕ)) (before : Moment) (name : ViewName) (id : List ℕ) (design : Design) (place : ℕ) (path : List ℕ) (documents : List (List (List ℕ × Json))) (m : Mapped) (x y : Option (Disk FileName)) (docs : Docs)
-    → documents ≡ m.documents.items → IfTold x (λ d. AreAt docs d.now before.world.history) → Tells x y MovesNone → path_in languages design.language ≡ Some path
-    → IfTold x (λ d. AreAt docs d.now before.world.history → (p : List ℕ) → path_in languages design.language ≡ Some p → IsPlan languages before.world.history name id design place p)
-    → IfTold y (λ d. AreAt docs d.now before.world.history → AreMapped before.world.history m) → IfTold x (λ d. IsKnown languages before name id design place path m.ids.items documents)
-known_at languages before name id design place path documents m x y docs documents_are at moves path_is plans maps =
-    let history = before.world.history in
-    let planned : IfTold x (λ d. AreAt docs d.now history → IsPlan languages before.world.history name id design place path × AreStored history) =
-    told_now x (λ d. AreAt docs d.now history → (p : List ℕ) → path_in languages design.language ≡ Some p → IsPlan languages before.world.history name id design place p)
-    (λ d. AreAt docs d.now history → IsPlan languages before.world.history name id design place path × AreStored history) (λ d is there. (is there path path_is, there.stored)) plans in
-    told_now x (λ d. (IsPlan languages before.world.history name id design place path × AreStored history) × AreMapped history m) (λ d. IsKnown languages before name id design place path m.ids.items documents)
-    (λ d both.
-    let documents_is : documents ≡ map (λ entry. document_of entry.1) (mapped before.world) = documents_are ∙ both.1.documents in
-    record { plan = both.0.0; ids_are = both.1.ids; documents_are = documents_is; stored = subst (AllByRecursion IsMappable) (sym documents_is) (all_mappable (mapped before.world) (mapped_are_stored history both.0.1 0)) })
-    (told_known x y docs history (IsPlan languages before.world.history name id design place path × AreStored history) (AreMapped history m) at moves planned maps)
+module _ (languages : List (List ℕ × List ℕ)) (before : Moment) (name : ViewName) (id : List ℕ) (design : Design) (place : ℕ) (path : List ℕ) (documents : List (List (List ℕ × Json)))
+    (known : IsKnown languages before name id design place path documents) where
+  abbrev document : Json
+  document = known.plan.document
+
+  pub same_signature : sig_of design ≡ signature_of document
+  same_signature = ap digest_of known.plan.term
+
+  pub same_picture : picture_for design before.world.pictures ≡ picture_in before.world document
+  same_picture =
+      no_picture design.views (before.world.pictures (sig_of design))
+      ∙ ap (λ sig. picture_or_none design.views (before.world.pictures sig)) same_signature
+      ∙ ap (λ views. picture_or_none views (before.world.pictures (signature_of document))) known.plan.views
+
+  pub are_mappable : AllByRecursion IsMappable documents
+  are_mappable =
+      subst (AllByRecursion IsMappable) (sym known.documents_are)
+      (all_mappable (mapped_after (picture_for design before.world.pictures).seq before.world.history) (mapped_are_stored before.world.history known.stored (picture_for design before.world.pictures).seq))
+
+  -- where a document is mapped there is one in the history
+  some_mapped : documents ≢ [] → mapped_after (picture_in before.world document).seq before.world.history ≢ []
+  some_mapped some none =
+      some (known.documents_are ∙ ap (λ (p : Picture). documents_since p.seq before.world.history) same_picture ∙ ap (map (λ entry. document_of entry.1)) none)
+
+  none_mapped : mapped_after (picture_in before.world document).seq before.world.history ≢ [] → documents ≢ []
+  none_mapped some none =
+      some (no_documents _ (sym (known.documents_are ∙ ap (λ (p : Picture). documents_since p.seq before.world.history) same_picture) ∙ none))
+
+-- ---- the next picture, as the index shows it
+
+-- the world is as before, but that the design's picture is this one: the documents that were written since were mapped
+pub record IsNextOf (functions : List ℕ → Functions) (honest : List ℕ → Type 0) (before : World) (design : Design) (path : List ℕ) (documents : List (List (List ℕ × Json))) (next : Picture) (after : World) : Type 0 where
+  pub updated : IsUpdated (functions path) (honest path × (length design.views ≤ source_limit)) design.views before.history (picture_for design before.pictures) next
+  pub compile : honest path → documents ≢ [] → AllCompile (functions path) (map_sources design.views)
+  pub history : after.history ≡ before.history
+  pub set : AreSetAt (sig_of design) (Some next) before.pictures after.pictures
+
+narrower : {functions : Functions} {honest wide : Type 0} {views : List View} {history : _} {old next : Picture} → (honest → wide) → IsUpdated functions wide views history old next → IsUpdated functions honest views history old next
+narrower widen updated = record {
+  emitted = updated.emitted;
+  each_view = updated.each_view;
+  each_document = updated.each_document;
+  right = λ is. updated.right (widen is);
+  seq = updated.seq;
+  rows = updated.rows;
+}
 
 module _ (functions : List ℕ → Functions) (honest : List ℕ → Type 0) (languages : List (List ℕ × List ℕ)) (before : Moment) (name : ViewName) (id : List ℕ) (design : Design) (place : ℕ) (path : List ℕ)
-    (within : place < length design.views) (ids : List (List ℕ)) (documents : List (List (List ℕ × Json))) where
+    (within : place < length design.views) (documents : List (List (List ℕ × Json))) where
   abbrev source : List ℕ
   source = source_at design.views place
 
@@ -147,54 +156,79 @@ module _ (functions : List ℕ → Functions) (honest : List ℕ → Type 0) (la
   job = job_of path (map_sources design.views) documents
 
   abbrev Known : Type 0
-  Known = IsKnown languages before name id design place path ids documents
+  Known = IsKnown languages before name id design place path documents
 
-  is_job : Known → IsJobOf languages before.world name job source
+  is_job : (known : Known) → IsJobOf languages before.world name known.plan.document job source
   is_job known = record {
-    design = known.plan.document;
     live = known.plan.live;
     source_is = known.plan.source_is;
     path_is = known.plan.path_is;
     sources = ap map_sources known.plan.views;
-    documents = known.documents_are;
+    documents = known.documents_are ∙ ap (λ (p : Picture). documents_since p.seq before.world.history) (same_picture languages before name id design place path documents known);
   }
 
   few : Known → length (map_sources design.views) ≤ 32
   few known = subst (λ (n : ℕ). n ≤ 32) (sym (length-map design.views (λ (v : View). v.map))) known.plan.few
 
-  there : place < length (map_sources design.views)
-  there = subst (λ (n : ℕ). place < n) (sym (length-map design.views (λ (v : View). v.map))) within
+  -- ---- the next picture
 
-  abbrev printed : List (List (List (Json × Json))) → List ℕ
-  printed lists = answer (sorted_rows (emitted_rows ids (emitted_at place lists)))
+  module _ (next : Picture) (left : World) (known : Known) (made : IsNextOf functions honest before.world design path documents next left) where
+    updated_there : IsUpdated (functions path) (honest path) (views_of known.plan.document) before.world.history (picture_in before.world known.plan.document) next
+    updated_there =
+        subst (λ p. IsUpdated (functions path) (honest path) (views_of known.plan.document) before.world.history p next) (same_picture languages before name id design place path documents known)
+        (subst (λ views. IsUpdated (functions path) (honest path) views before.world.history (picture_for design before.world.pictures) next) known.plan.views
+        (narrower (λ is. (is, known.plan.few)) made.updated))
 
-  prints : (lists : List (List (List (Json × Json)))) (rose : Type 0) (added : List Call) → Known → HasUpdated functions honest job before.width rose lists added → PrintsRows functions honest job source before.world (printed lists)
-  prints lists rose added known has = record {
-    emitted = emitted_at place lists;
-    each = length-map lists (λ (emitted : List (List (Json × Json))). slice_index_or emitted place []) ∙ has.rows.each ∙ ap length known.documents_are
-        ∙ length-map (mapped before.world) (λ (entry : List ℕ × Json). document_of entry.1);
-    parts = emitted_parts place lists has.rows.parts;
-    few = emitted_few place lists has.rows.few;
-    right = λ h. ap (emitted_at place) (honest_lists functions honest job.path job.sources documents lists h (few known) known.stored has.rows.right)
-        ∙ emitted_are (functions job.path) job.sources place documents there;
-    compile = has.compile;
-    prints = ap (λ is. answer (sorted_rows (emitted_rows is (emitted_at place lists)))) known.ids_are;
-  }
+    signed : AreSetAt (signature_of known.plan.document) (Some next) before.world.pictures left.pictures
+    signed = subst (λ sig. AreSetAt sig (Some next) before.world.pictures left.pictures) (same_signature languages before name id design place path documents known) made.set
 
-  module _ (may_follow : List Call → Type 0) (old new : ℕ) (pool : Pool) (counts : old ≡ before.faults) (later : old ≤ new) (old_pool : Pool) (was : old_pool.width ≡ before.width) (keeps : pool.width ≡ old_pool.width) (started : old_pool.started ≡ before.started) where
+    pub is_brought : IsBrought functions honest languages known.plan.document path before.world left
+    is_brought = record {
+      next = next;
+      updated = updated_there;
+      history = made.history;
+      set = signed;
+      answerable = λ is_honest sound fit.
+          can_be_answered functions honest languages before.world (design_id name.design) known.plan.document path refl known.plan.live known.plan.path_is is_honest sound fit next updated_there
+          (λ some. subst (λ views. AllCompile (functions path) (map_sources views)) known.plan.views (made.compile is_honest (none_mapped languages before name id design place path documents known some)));
+    }
+
+    abbrev rows_there : List Row
+    rows_there = slice_index_or next.rows place []
+
+    pub prints : length next.rows ≡ length design.views → AllByRecursion (λ (row : Row). IsPart (json row.key) × IsPart (json row.value)) rows_there
+        → PrintsRows functions honest languages name known.plan.document path source before.world left (answer rows_there)
+    prints each parts = record {
+      rows = rows_there;
+      shown =
+          ap (λ picture. rows_in (views_of known.plan.document) (picture_or_none (views_of known.plan.document) picture).rows name.view) (set_there (signature_of known.plan.document) next before.world.pictures left.pictures signed)
+          ∙ ap (λ views. rows_in views next.rows name.view) (sym known.plan.views)
+          ∙ known.plan.shown next.rows each;
+      parts = parts;
+      afresh = λ is_honest sound fit.
+          ap (λ rows. slice_index_or rows place [])
+          (rows_are_afresh functions honest languages before.world (design_id name.design) known.plan.document path refl known.plan.live known.plan.path_is is_honest sound fit next updated_there)
+          ∙ rows_at_place (functions path) (views_of known.plan.document) before.world.history place (subst (λ (views : List View). place < length views) known.plan.views within)
+          ∙ ap (λ views. view_rows (functions path) (source_at views place) before.world.history) (sym known.plan.views);
+      prints = refl;
+    }
+
+  -- ---- the calls
+
+  module _ (may_follow : List Call → Type 0) (old new : ℕ) (pool : Pool) (counts : old ≡ before.faults) (later : old ≤ new) (old_pool : Pool) (was : old_pool.width ≡ before.width) (started : old_pool.started ≡ before.started) where
     later_there : before.faults ≤ new
     later_there = subst (λ (n : ℕ). n ≤ new) counts later
 
     -- what the pool did, where it has so many children, and the same in the words of the moment
-    abbrev Updates : ℕ → Result DocRowLists PoolFault → Type 0
+    abbrev pub Updates : ℕ → Result DocRowLists PoolFault → Type 0
     Updates children result = WentIn may_follow job children before.calls (λ added now. AfterTries functions honest job old_pool (Rose old new) pool result before.calls added now
         × AfterUpdate functions honest job children (Rose old new) pool result before.calls added now)
 
-    at_moment : (result : Result DocRowLists PoolFault) → Updates old_pool.width result → Updates before.width result
+    pub at_moment : (result : Result DocRowLists PoolFault) → Updates old_pool.width result → Updates before.width result
     at_moment result w = subst (λ (n : ℕ). Updates n result) was w
 
-    abbrev after : List Call → Moment
-    after now = record { world = before.world; width = before.width; started = pool.started; calls = now; faults = new }
+    abbrev pub after : World → List Call → Moment
+    after left now = record { world = left; width = before.width; started = pool.started; calls = now; faults = new }
 
     -- what the pool asked, in the words of the moment
     kept_was : (kept : ℕ) → IsKeptOf old_pool job.path kept → kept ≡ kept_of job.path before.started
@@ -203,8 +237,8 @@ module _ (functions : List ℕ → Functions) (honest : List ℕ → Type 0) (la
     same_prompts : (kept : ℕ) → IsKeptOf old_pool job.path kept → update_prompts job old_pool.width kept ≡ prompts_of job before
     same_prompts kept is = ap (λ (n : ℕ). update_prompts job n kept) was ∙ ap (update_prompts job before.width) (kept_was kept is)
 
-    served : (lists : List (List (List (Json × Json)))) (w : Updates before.width (Ok lists)) → (documents ≡ [] → pool.started ≡ old_pool.started) → IsServed job before (after w.now) w.added
-    served lists w idle =
+    served : (left : World) (lists : List (List (List (Json × Json)))) (w : Updates before.width (Ok lists)) → (documents ≡ [] → pool.started ≡ old_pool.started) → IsServed job before (after left w.now) w.added
+    served left lists w idle =
         let tries = w.holds.0 in
         let is = tries.1 in
         record {
@@ -215,7 +249,7 @@ module _ (functions : List ℕ → Functions) (honest : List ℕ → Type 0) (la
           idle = λ none. idle none ∙ started;
         }
 
-    given_up : (f : PoolFault) (w : Updates before.width (Err f)) → documents ≢ [] → IsGivenUp job before (after w.now) f w.added
+    given_up : (f : PoolFault) (w : Updates before.width (Err f)) → documents ≢ [] → IsGivenUp job before (after before.world w.now) f w.added
     given_up f w some =
         let tries = w.holds.0 in
         let all = tries.2 in
@@ -232,61 +266,131 @@ module _ (functions : List ℕ → Functions) (honest : List ℕ → Type 0) (la
           none_kept = w.holds.1.stopped.forgotten;
         }
 
-    asked : (P : List Call → List Call → Type 0) (w : WentIn may_follow job before.width before.calls P) → IsServed job before (after w.now) w.added ⊎ ((f : PoolFault) × IsGivenUp job before (after w.now) f w.added)
-        → Known → MayHaveCalled languages before (Ok (ViewRequest name None)) (after w.now)
-    asked P w ends known = inr (known.plan.accepted, (job, (source, is_job known, refl, record { added = w.added; is = w.is_now; width = refl; lawful = w.lawful; later = later_there; holds = ends })))
+    -- the first documents alone were mapped
+    abbrev Breaks : ℕ → List (List (List ℕ × Json)) → DocRowLists → Type 0
+    Breaks children done lists = WentIn may_follow job children before.calls (HasMappedFirst functions honest job old_pool done (Rose old new) pool lists)
 
-    answered : (lists : List (List (List (Json × Json)))) (w : Updates before.width (Ok lists)) → (documents ≡ [] → pool.started ≡ old_pool.started) → Known
-        → DoesView functions honest languages before name (printed lists) (after w.now)
-    answered lists w idle known = record {
-      accepted = known.plan.accepted;
-      job = job;
-      source = source;
-      is_job = is_job known;
-      same = refl;
-      called = record {
-        added = w.added;
-        is = w.is_now;
-        width = refl;
-        lawful = w.lawful;
-        later = later_there;
-        holds = inl (record {
-          rows = prints lists (Rose old new) w.added known w.holds.1.1;
-          served = served lists w idle;
-        });
-      };
-    }
+    pub breaks_at_moment : (done : List (List (List ℕ × Json))) (lists : DocRowLists) → Breaks old_pool.width done lists → Breaks before.width done lists
+    breaks_at_moment done lists w = subst (λ (n : ℕ). Breaks n done lists) was w
+
+    broken_off : (done rest : List (List (List ℕ × Json))) (lists : DocRowLists) → documents ≡ done ++ rest → done ≢ [] → (w : Breaks before.width done lists) → IsBrokenOff job before (after before.world w.now) w.added
+    broken_off done rest lists all some w =
+        let tried = w.holds.tried in
+        let kept = tried.0 in
+        record {
+          done = done;
+          left = rest;
+          all = all;
+          some = some;
+          answered =
+              subst (λ (n : ℕ). AllAnswered (Rose before.faults new) (first_prompts job before.width n done) w.added) (kept_was kept tried.1)
+              (subst (λ (n : ℕ). AllAnswered (Rose before.faults new) (first_prompts job n kept done) w.added) was
+              (subst (λ (n : ℕ). AllAnswered (Rose n new) (first_prompts job old_pool.width kept done) w.added) counts tried.2.answered));
+          kept = tried.2.remembers ∙ ap (λ (n : ℕ). Some (record { path = path; count = n })) (ap (λ (n : ℕ). max (min n (length documents)) kept) was ∙ ap (max (min before.width (length documents))) (kept_was kept tried.1));
+        }
+
+    asked : (P : List Call → List Call → Type 0) (left : World) (w : WentIn may_follow job before.width before.calls P) → EndsUpdate job before (after left w.now) w.added
+        → (known : Known) → (left ≡ before.world) ⊎ IsBrought functions honest languages known.plan.document path before.world left
+        → MayHaveCalled functions honest languages before (Ok (ViewRequest name None)) (after left w.now)
+    asked P left w ends known world = inr (
+      known.plan.accepted,
+      record {
+        design = known.plan.document;
+        job = job;
+        source = source;
+        is_job = is_job known;
+        called = record { added = w.added; is = w.is_now; width = refl; lawful = w.lawful; later = later_there; holds = ends };
+        world = world;
+      },
+    )
+
+    -- ---- how it may end
+
+    -- the documents were mapped, and the next picture is there
+    module _ (lists : DocRowLists) (idle : documents ≡ [] → pool.started ≡ old_pool.started) (w : Updates before.width (Ok lists)) where
+      pub answered : (next : Picture) (left : World) (known : Known) → IsNextOf functions honest before.world design path documents next left → length next.rows ≡ length design.views
+          → AllByRecursion (λ (row : Row). IsPart (json row.key) × IsPart (json row.value)) (slice_index_or next.rows place [])
+          → DoesView functions honest languages before name (answer (slice_index_or next.rows place [])) (after left w.now)
+      answered next left known made each parts = record {
+        accepted = known.plan.accepted;
+        design = known.plan.document;
+        job = job;
+        source = source;
+        is_job = is_job known;
+        called = record {
+          added = w.added;
+          is = w.is_now;
+          width = refl;
+          lawful = w.lawful;
+          later = later_there;
+          holds = inl (record {
+            brought = is_brought next left known made;
+            rows = prints next left known made each parts;
+            served = served left lists w idle;
+          });
+        };
+      }
+
+      pub asked_all : (next : Picture) (left : World) (known : Known) → IsNextOf functions honest before.world design path documents next left → MayHaveCalled functions honest languages before (Ok (ViewRequest name None)) (after left w.now)
+      asked_all next left known made = asked _ left w (inl (served left lists w idle)) known (inr (is_brought next left known made))
+
+      pub asked_in_vain : Known → MayHaveCalled functions honest languages before (Ok (ViewRequest name None)) (after before.world w.now)
+      asked_in_vain known = asked _ before.world w (inl (served before.world lists w idle)) known (inl refl)
+
+    -- the first of them were
+    pub asked_some : (done rest : List (List (List ℕ × Json))) (lists : DocRowLists) → documents ≡ done ++ rest → done ≢ [] → (w : Breaks before.width done lists) → Known
+        → MayHaveCalled functions honest languages before (Ok (ViewRequest name None)) (after before.world w.now)
+    asked_some done rest lists all some w known = asked _ before.world w (inr (inr (broken_off done rest lists all some w))) known (inl refl)
+
+    -- the servers gave up
+    module _ (f : PoolFault) (some : documents ≢ []) (twice : f ≡ fault.ServerFault → RoseBy 2 old new) (w : Updates before.width (Err f)) where
+      pub asked_up : Known → MayHaveCalled functions honest languages before (Ok (ViewRequest name None)) (after before.world w.now)
+      asked_up known = asked _ before.world w (inr (inl (f, given_up f w some))) known (inl refl)
 
     -- the fault that a refusal tells
-    told_by : (f : PoolFault) (r : Refusal) → met_by id f ≡ Refused r → f ≡ fault_of r
+    told_by : (f : PoolFault) (r : Refusal) → met_by_pool id f ≡ Refused r → f ≡ fault_of r
     told_by fault.ServerFault r is = let same : refusal.ServerFault ≡ r = cc in ap fault_of same
     told_by (fault.BadReply line) r is = let same : refusal.ServerReply line ≡ r = cc in ap fault_of same
     told_by fault.Compile r is = let same : refusal.CompilationError id ≡ r = cc in ap fault_of same
     told_by fault.NoMemory r is = absurd (let clash : ⊥ = cc in clash)
     told_by fault.UnknownLanguage r is = absurd (let clash : ⊥ = cc in clash)
 
-    met : (f : PoolFault) (added now : List Call) (r : Refusal) → Known → IsCaused functions honest job added before.calls f → (f ≡ fault.ServerFault → RoseBy 2 old new) → met_by id f ≡ Refused r
-        → IsMet functions honest name job before (after now) added r
+    met : (f : PoolFault) (added now : List Call) (r : Refusal) → Known → IsCaused functions honest job added before.calls f → (f ≡ fault.ServerFault → RoseBy 2 old new) → met_by_pool id f ≡ Refused r
+        → IsMet functions honest name job before (after before.world now) added r
     met fault.ServerFault added now r known caused twice is =
         let same : refusal.ServerFault ≡ r = cc in
-        subst (IsMet functions honest name job before (after now) added) same (subst (λ (n : ℕ). RoseBy 2 n new) counts (twice refl))
+        subst (IsMet functions honest name job before (after before.world now) added) same (subst (λ (n : ℕ). RoseBy 2 n new) counts (twice refl))
     met (fault.BadReply line) added now r known caused twice is =
         let same : refusal.ServerReply line ≡ r = cc in
-        subst (IsMet functions honest name job before (after now) added) same (caused, λ h. no_bad_reply functions honest job added before.calls line (record { path = h; few = few known; stored = known.stored }) caused)
+        subst (IsMet functions honest name job before (after before.world now) added) same
+        (caused, λ h. no_bad_reply functions honest job added before.calls line (record { path = h; few = few known; stored = are_mappable languages before name id design place path documents known }) caused)
     met fault.Compile added now r known caused twice is =
         let same : refusal.CompilationError id ≡ r = cc in
-        subst (IsMet functions honest name job before (after now) added) same (known.plan.id_is, caused, λ h. complains_rightly functions honest job added before.calls h caused)
+        subst (IsMet functions honest name job before (after before.world now) added) same (known.plan.id_is, caused, λ h. complains_rightly functions honest job added before.calls h caused)
     met fault.NoMemory added now r known caused twice is = absurd (let clash : ⊥ = cc in clash)
     met fault.UnknownLanguage added now r known caused twice is = absurd caused
 
-    refuses : (f : PoolFault) (r : Refusal) (w : Updates before.width (Err f)) → documents ≢ [] → Known → (f ≡ fault.ServerFault → RoseBy 2 old new)
-        → met_by id f ≡ Refused r → DoesView functions honest languages before name (refusal_text r) (after w.now)
+    -- a complaint of an honest path is right, where the pictures stand
+    complains : (f : PoolFault) (w : Updates before.width (Err f)) (r : Refusal) (other : List ℕ) (known : Known) → documents ≢ [] → met_by_pool id f ≡ Refused r → r ≡ refusal.CompilationError other
+        → honest path → IsSound functions honest languages before.world → AreFit before.world.history
+        → spoiled (functions path) (views_of known.plan.document) before.world.history ≡ true
+    complains fault.ServerFault w r other known some is complaint = let clash : ⊥ = cc in absurd clash
+    complains (fault.BadReply line) w r other known some is complaint = let clash : ⊥ = cc in absurd clash
+    complains fault.Compile w r other known some is complaint = λ is_honest sound fit.
+        are_spoiled functions honest languages before.world (design_id name.design) known.plan.document path refl known.plan.live known.plan.path_is is_honest sound fit
+        (subst (λ views. SomeSourceFails (functions path) (map_sources views)) known.plan.views (complains_rightly functions honest job w.added before.calls is_honest w.holds.1.refused.caused))
+        (some_mapped languages before name id design place path documents known some)
+    complains fault.NoMemory w r other known some is complaint = let clash : ⊥ = cc in absurd clash
+    complains fault.UnknownLanguage w r other known some is complaint = let clash : ⊥ = cc in absurd clash
+
+    pub refuses : (f : PoolFault) (r : Refusal) (w : Updates before.width (Err f)) → documents ≢ [] → Known → (f ≡ fault.ServerFault → RoseBy 2 old new)
+        → met_by_pool id f ≡ Refused r → DoesView functions honest languages before name (refusal_text r) (after before.world w.now)
     refuses f r w some known twice is = record {
       accepted = known.plan.accepted;
+      design = known.plan.document;
       job = job;
       source = source;
       is_job = is_job known;
-      same = refl;
       called = record {
         added = w.added;
         is = w.is_now;
@@ -294,52 +398,12 @@ module _ (functions : List ℕ → Functions) (honest : List ℕ → Type 0) (la
         lawful = w.lawful;
         later = later_there;
         holds = inr (record {
+          same = refl;
           refusal = r;
           met = met f w.added w.now r known w.holds.1.refused.caused twice is;
           prints = refl;
-          given_up = subst (λ (fault : PoolFault). IsGivenUp job before (after w.now) fault w.added) (told_by f r is) (given_up f w some);
+          given_up = subst (λ (fault : PoolFault). IsGivenUp job before (after before.world w.now) fault w.added) (told_by f r is) (given_up f w some);
+          spoils = λ other complaint. complains f w r other known some is complaint;
         });
       };
     }
-
-    -- ---- with the folder, of which no file has changed
-
-    module _ (x z : Option (Disk FileName)) (docs : Docs) (groups : Groups) (world_at : IfTold z (λ d. IsAtWorld (record { docs = docs; pool = pool; groups = groups }) d.now before.world)) (known : IfTold x (λ d. Known)) where
-      abbrev after_it : Engine
-      after_it = record { docs = docs; pool = pool; groups = groups }
-
-      stays_at : (now : List Call) → may_follow now → HasItsChildren pool now → IsAt z may_follow new after_it (after now)
-      stays_at now follows stands = record { documents = world_at; child = record { width = keeps ∙ was; started = refl; child = stands; follows = follows; counts = refl } }
-
-      abbrev Halts : Halt → Moment → Type 0
-      Halts halt left = ((r : Refusal) → halt ≡ Refused r → DoesRequest functions honest languages before (Ok (ViewRequest name None)) (refusal_text r) left) × MayHaveCalled languages before (Ok (ViewRequest name None)) left
-
-      pub done : (lists : List (List (List (Json × Json)))) (was now : List ℕ) → Updates old_pool.width (Ok lists) → (documents ≡ [] → pool.started ≡ old_pool.started)
-          → now ≡ was ++ ended (printed lists)
-          → Appends z may_follow new after_it (λ text left. IfTold x (λ d. DoesRequestText functions honest languages before (Ok (ViewRequest name None)) text left)) was now
-      done lists was now w idle appended = let v = at_moment (Ok lists) w in record {
-        text = ended (printed lists);
-        after = after v.now;
-        is_at = stays_at v.now v.follows v.holds.1.0;
-        allowed = told_now x (λ d. Known) (λ d. DoesRequestText functions honest languages before (Ok (ViewRequest name None)) (ended (printed lists)) (after v.now))
-            (λ d k. (printed lists, inl (answered lists v idle k), refl)) known;
-        appended = appended;
-      }
-
-      pub ran_out : (lists : List (List (List (Json × Json)))) (halt : Halt) → Updates old_pool.width (Ok lists) → (documents ≡ [] → pool.started ≡ old_pool.started) → halt ≡ Stopped NoMemory
-          → Leaves z may_follow new after_it (λ left. IfTold x (λ d. Halts halt left))
-      ran_out lists halt w idle memory = let v = at_moment (Ok lists) w in record {
-        after = after v.now;
-        is_at = stays_at v.now v.follows v.holds.1.0;
-        allowed = told_now x (λ d. Known) (λ d. Halts halt (after v.now))
-            (λ d k. (λ r is. absurd (let clash : ⊥ = cc in clash), asked _ v (inl (served lists v idle)) k)) known;
-      }
-
-      pub refused : (f : PoolFault) (halt : Halt) → Updates old_pool.width (Err f) → documents ≢ [] → (f ≡ fault.ServerFault → RoseBy 2 old new) → halt ≡ met_by id f
-          → Leaves z may_follow new after_it (λ left. IfTold x (λ d. Halts halt left))
-      refused f halt w some twice met_as = let v = at_moment (Err f) w in record {
-        after = after v.now;
-        is_at = stays_at v.now v.follows (stands_stopped pool v.now v.holds.1.stopped);
-        allowed = told_now x (λ d. Known) (λ d. Halts halt (after v.now))
-            (λ d k. (λ r is. inl (refuses f r v some k twice (sym met_as ∙ is)), asked _ v (inr (f, given_up f v some)) k)) known;
-      }

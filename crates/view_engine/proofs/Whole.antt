@@ -1,15 +1,16 @@
 -- What is kept of the documents is kept of the world, where no file of an index changes.
-use Rattle.std.proofs.Common.{◌≡◌, ◌∙◌, ℕ, List, Option, None, Result, inl, inr, sym, subst}
-use Rattle.view_ports.specs.Disk.{Disk, Framed, IfTold, IsImageOf, LeavesOnly, MovesNone, Tells}
+use Rattle.std.proofs.Common.{◌≡◌, ◌⊎◌, ◌∙◌, ℕ, List, Option, None, Result, Ok, inl, inr, sym, subst, arith}
+use Rattle.view_ports.specs.Disk.{Disk, Framed, IfTold, IsImageOf, LeavesOnly, Moves, MovesNone, Tells}
 use Rattle.view_ports.specs.File.{File}
 use Rattle.view_ports.specs.declared.file_name.FileName.{FileName}
 use Rattle.view_ports.specs.declared.file_name.Stem.TheVariants.{Docs as DocsStem, View}
 use Rattle.view_ports.specs.declared.folder.Folder.{Ghosts as Folders}
-use Rattle.view_ports.proofs.DiskRuns.{none_same}
+use Rattle.view_ports.proofs.DiskRuns.{none_same, none_wider}
 use Rattle.view_ports.proofs.Moments.{weaker}
-use Rattle.view_ports.proofs.Told.{told_given, told_now, told_pair, told_after}
+use Rattle.view_ports.proofs.Told.{told_after, told_given, told_map, told_now, told_pair}
 use Rattle.doc_file.specs.declared.docs.Docs.{Docs}
 use Rattle.doc_file.specs.Docs.{IsAt as AreAt, IsDocsFile, IsOpen as AreDocumentsOpen}
+use Rattle.doc_file.specs.History.{Write}
 use Rattle.doc_file.proofs.Stores.{image_now}
 use Rattle.view_groups.specs.declared.groups.Groups.{Groups}
 use Rattle.view_groups.specs.Cleans.{IsIndexFile}
@@ -19,10 +20,12 @@ use Rattle.view_groups.proofs.Standing.{images_stand, others_matter_not, settled
 use Rattle.view_engine.specs.declared.engine.Engine.{Engine}
 use Rattle.view_engine.specs.declared.refusal.Refusal.{Refusal}
 use Rattle.view_engine.specs.declared.request.Request.{Request}
-use Rattle.view_engine.specs.Disks.{KeepsDisk, KeepsDocuments, LiesOpen}
-use Rattle.view_engine.specs.Halts.{DocumentsStandAround, MovesDocuments}
-use Rattle.view_engine.specs.World.{World}
-use Rattle.view_engine.specs.Worlds.{IsAtWorld, IsOpen, StandsAround, StandsFor}
+use Rattle.view_engine.specs.declared.request.Request.TheVariants.{View as ViewRequest}
+use Rattle.view_engine.specs.Disks.{IsView, KeepsDisk, KeepsDocuments, LiesOpen}
+use Rattle.view_engine.specs.Halts.{DocumentsStandAround, MovesDocuments, Writes}
+use Rattle.view_engine.specs.Steps.{IsWrite}
+use Rattle.view_engine.specs.World.{World, NoneIsNewer, written}
+use Rattle.view_engine.specs.Worlds.{IsAtWorld, IsOpen, StandsEither, StandsFor}
 
 -- a file of an index is none of the documents
 pub apart : (name : FileName) → IsIndexFile name → IsDocsFile name → ⊥
@@ -44,35 +47,72 @@ module _ (files : FileName → File) (pictures : Pictures) (held : AreHeld files
   pub pictures_stand : StandFor image pictures
   pictures_stand = λ sig. let here = held sig in (here.0, settled_stand sig here.0 files image (pictures sig) here.1 (λ n of_view. framed.outside n (apart n (sig, of_view))))
 
-around : (world : World) (request : Result Request Refusal) (files : FileName → File) → AreHeld files world.pictures → (image : FileName → List ℕ) → Framed IsDocsFile files (DocumentsStandAround world request) image → StandsAround world request image
-around world request files held image framed = by_side framed.inside
+-- with one more write no picture is newer either
+pub within_longer : (world : World) (write : Write) → NoneIsNewer world → NoneIsNewer (written world write)
+within_longer world write within = λ sig picture has. let low = within sig picture has in omega arith
+
+-- an image that stands for the documents around a write stands for the world around it
+around : (world : World) (request : Result Request Refusal) (files : FileName → File) → AreHeld files world.pictures → NoneIsNewer world → (image : FileName → List ℕ) → Framed IsDocsFile files (DocumentsStandAround world request) image
+    → StandsFor image world ⊎ ((write : Write) × IsWrite world request write × StandsFor image (written world write))
+around world request files held within image framed = by_side framed.inside
   where
     indexes : StandFor image world.pictures
     indexes = pictures_stand files world.pictures held (DocumentsStandAround world request) image framed
 
-    by_side : DocumentsStandAround world request image → StandsAround world request image
-    by_side (inl before) = inl (record { documents = before; indexes = indexes })
-    by_side (inr (write, is, after)) = inr (write, is, record { documents = after; indexes = indexes })
+    by_side : DocumentsStandAround world request image → StandsFor image world ⊎ ((write : Write) × IsWrite world request write × StandsFor image (written world write))
+    by_side (inl before) = inl (record { documents = before; indexes = indexes; within = within })
+    by_side (inr (write, is, after)) = inr (write, is, record { documents = after; indexes = indexes; within = within_longer world write within })
 
 -- each image that a crash may leave now
 pub image_stands : (engine : Engine) (files : FileName → File) (world : World) → IsAtWorld engine files world → (image : FileName → List ℕ) → IsImageOf files image → StandsFor image world
 image_stands engine files world at image is = record {
   documents = image_now engine.docs files at.documents.is_open world.history at.documents image is;
   indexes = images_stand files world.pictures image at.indexes.held is;
+  within = at.within;
 }
+
+-- ---- what a crash leaves
+
+-- where no file changed, of the world that the engine is at, whatever the world after is
+module _ (engine : Engine) (world after : World) where
+  pub leaves_before : (a b : Disk FileName) → MovesNone a b → IsAtWorld engine a.now world → LeavesOnly (StandsEither world after) a b
+  leaves_before a b none at = weaker (Framed (λ n. ⊥) a.now (λ image. Unit {0})) (StandsEither world after) a b
+      (λ image framed. inl (image_stands engine a.now world at image (λ name. framed.outside name (λ never. never)))) none.moments
+
+  pub told_leaves_before : (old new : Option (Disk FileName)) → Tells old new MovesNone → IfTold old (λ d. IsAtWorld engine d.now world) → Tells old new (LeavesOnly (StandsEither world after))
+  told_leaves_before old new none at = told_given old new (λ d. IsAtWorld engine d.now world) MovesNone (LeavesOnly (StandsEither world after)) (λ a b here same. leaves_before a b same here) at none
+
+pub leaves_none : (engine : Engine) (world : World) (a b : Disk FileName) → MovesNone a b → IsAtWorld engine a.now world → LeavesOnly (StandsEither world world) a b
+leaves_none engine world = leaves_before engine world world
+
+pub told_leaves_none : (engine : Engine) (world : World) (old new : Option (Disk FileName)) → Tells old new MovesNone → IfTold old (λ d. IsAtWorld engine d.now world) → Tells old new (LeavesOnly (StandsEither world world))
+told_leaves_none engine world = told_leaves_before engine world world
+
+-- around a request on the documents, what is said of the world before it and of each world with its write
+module _ (engine : Engine) (world : World) (request : Result Request Refusal) where
+  pub leaves_around : (P : (FileName → List ℕ) → Type 0) (a b : Disk FileName) → ((image : FileName → List ℕ) → StandsFor image world → P image)
+      → ((image : FileName → List ℕ) (write : Write) → IsWrite world request write → StandsFor image (written world write) → P image) → IsAtWorld engine a.now world
+      → MovesDocuments (DocumentsStandAround world request) a b → LeavesOnly P a b
+  leaves_around P a b before made at moves = weaker (Framed IsDocsFile a.now (DocumentsStandAround world request)) P a b
+      (λ image framed. by_side image (around world request a.now at.indexes.held at.within image framed)) moves.moments
+    where
+      by_side : (image : FileName → List ℕ) → StandsFor image world ⊎ ((write : Write) × IsWrite world request write × StandsFor image (written world write)) → P image
+      by_side image (inl stands) = before image stands
+      by_side image (inr (write, is, stands)) = made image write is stands
+
+-- a view writes no document
+view_writes_none : (request : Result Request Refusal) → IsView request → Writes request → ⊥
+view_writes_none (Ok (ViewRequest name limits)) view writes = writes
+view_writes_none other view writes = absurd view
 
 module _ {F : Type 0} {f : Folders F} {engine engine' : Engine} {old new : F} where
   module _ {request : Result Request Refusal} {GivenUp GoesOn : Type 0} (groups : engine'.groups ≡ engine.groups) where
-    -- what is kept of the documents is kept of the world
+    -- what is kept of the documents is kept of all files
     pub kept_whole : LiesOpen f engine old → KeepsDocuments f engine.docs engine'.docs old new request GivenUp GoesOn → KeepsDisk f engine engine' old new request GivenUp GoesOn
     kept_whole is_open keeps = record {
-      documents = keeps;
-      moments = λ world at. told_given (f.disk old) (f.disk new) (λ d. IsAtWorld engine d.now world) (MovesDocuments (DocumentsStandAround world request)) (LeavesOnly (StandsAround world request))
-          (λ a b here moves. weaker (Framed IsDocsFile a.now (DocumentsStandAround world request)) (StandsAround world request) a b (λ image framed. around world request a.now here.indexes.held image framed) moves.moments) at
-          (keeps.moved world (told_now (f.disk old) (λ d. IsAtWorld engine d.now world) (λ d. AreAt engine.docs d.now world.history) (λ d here. here.documents) at));
-      unwritten = λ given world at. told_given (f.disk old) (f.disk new) (λ d. IsAtWorld engine d.now world) MovesNone (LeavesOnly (λ image. StandsFor image world))
-          (λ a b here none. weaker (Framed (λ n. ⊥) a.now (λ image. Unit {0})) (λ image. StandsFor image world) a b
-          (λ image framed. image_stands engine a.now world here image (λ name. framed.outside name (λ never. never))) none.moments) at (keeps.unmoved given);
+      documents = λ other. keeps;
+      indexes = λ view. told_map (f.disk old) (f.disk new) MovesNone (Moves IsIndexFile (λ image. Unit {0}) (λ files. Unit {0}))
+          (λ a b none. none_wider IsIndexFile (λ image. Unit {0}) (λ files. Unit {0}) a b (λ image is. tt) (λ same. tt) none) (keeps.read (view_writes_none request view));
       is_open = λ goes. told_pair (f.disk new) (λ d. AreDocumentsOpen engine'.docs d.now) (λ d. AreIndexesOpen engine.groups d.now) (λ d. IsOpen engine' d.now)
           (λ d here there. record { documents = here; indexes = subst (λ (g : Groups). AreIndexesOpen g d.now) (sym groups) there }) (keeps.is_open goes)
           (told_after (f.disk old) (f.disk new) (λ d. IsOpen engine d.now) (λ d. AreIndexesOpen engine.groups d.now) (MovesDocuments (λ image. Unit {0}))
@@ -96,4 +136,5 @@ world_none engine engine' old new docs groups moves world told =
     subst (λ (fs : FileName → File). IsAtWorld engine' fs world) (sym files) (record {
       documents = subst (λ (d : Docs). AreAt d a.now world.history) (sym docs) here.documents;
       indexes = subst (λ (g : Groups). AreIndexesAt g a.now world.pictures) (sym groups) here.indexes;
+      within = here.within;
     })) told moves

@@ -1,6 +1,6 @@
 -- What is known of worlds that go on from one another, and of an engine at a world.
 use Rattle.std.specs.Prelude.{Bool, true, false, if◌then◌else◌}
-use Rattle.std.proofs.Common.{◌≡◌, ◌≤◌, ℕ, MatchOption, List, [], ◌∷◌, ◌++◌, Option, Result, Ok, refl, sym, ap, ◌∙◌, subst, append_assoc}
+use Rattle.std.proofs.Common.{◌≡◌, ◌≤◌, ℕ, MatchOption, List, [], ◌∷◌, ◌++◌, Option, Some, None, Result, Ok, Err, refl, sym, ap, ◌∙◌, subst, append_assoc}
 use Rattle.view_ports.specs.Calls.{Call}
 use Rattle.view_ports.specs.Disk.{Disk, IfTold, IsImageOf, MovesNone, Tells}
 use Rattle.view_ports.specs.Exchanges.{Exchange}
@@ -17,12 +17,12 @@ use Rattle.doc_file.proofs.Stores.{at_holds}
 use Rattle.view_engine.specs.declared.engine.Engine.{Engine}
 use Rattle.view_engine.specs.declared.refusal.Refusal.{Refusal}
 use Rattle.view_engine.specs.declared.request.Request.{Request}
-use Rattle.view_engine.specs.declared.request.Request.TheVariants.{Delete, Put}
-use Rattle.view_engine.specs.Accepted.{after_request, is_ok}
+use Rattle.view_engine.specs.declared.request.Request.TheVariants.{Delete, Put, View}
+use Rattle.view_engine.specs.Accepted.{after_exchange, after_request, is_ok}
 use Rattle.view_engine.specs.Engine.{IsAt}
 use Rattle.view_engine.specs.Moments.{Moment}
 use Rattle.view_engine.specs.Refusals.{request_of}
-use Rattle.view_engine.specs.Steps.{Answers}
+use Rattle.view_engine.specs.Steps.{Answers, Makes}
 use Rattle.view_engine.specs.World.{World}
 use Rattle.view_engine.specs.Worlds.{at_start, GoesOnFrom, Holds, IsAtWorld, IsChildless, StandsFor, width}
 use Rattle.view_engine.proofs.AcceptedWrites.{Answers-accepted}
@@ -36,6 +36,10 @@ same_world world = ([], refl)
 pub goes_on : (a b c : World) → GoesOnFrom a b → GoesOnFrom b c → GoesOnFrom a c
 goes_on a b c first second = (second.0 ++ first.0, second.1 ∙ ap (λ (h : List Write). second.0 ++ h) first.1 ∙ sym (append_assoc second.0 first.0 a.history))
 
+-- a world of another's history goes on from what that goes on from
+grown_as : (before here after : World) → after.history ≡ here.history → GoesOnFrom before here → GoesOnFrom before after
+grown_as before here after same grown = (grown.0, same ∙ grown.1)
+
 -- a step adds a write at most
 request_grows : (world : World) (request : Result Request Refusal) → GoesOnFrom world (after_request world request)
 request_grows world (Ok (Put document)) = (_ ∷ [], refl)
@@ -46,10 +50,19 @@ exchange_grows : (world : World) (b : Bool) (request : Result Request Refusal) �
 exchange_grows world true request = request_grows world request
 exchange_grows world false request = same_world world
 
-pub answers_grow : (functions : List ℕ → Functions) (honest : List ℕ → Type 0) (languages : List (List ℕ × List ℕ)) (before : Moment) (e : Exchange) (after : Moment)
-    → Answers functions honest languages before e after → GoesOnFrom before.world after.world
-answers_grow functions honest languages before e after answers =
-    subst (λ (w : World). GoesOnFrom before.world w) (sym (Answers-accepted functions honest languages before e after answers)) (exchange_grows before.world (is_ok e.text) (request_of e.line))
+module _ (functions : List ℕ → Functions) (honest : List ℕ → Type 0) (languages : List (List ℕ × List ℕ)) where
+  pub answers_grow : (before : Moment) (e : Exchange) (after : Moment) → Answers functions honest languages before e after → GoesOnFrom before.world after.world
+  answers_grow before e after answers =
+      grown_as before.world (after_exchange before.world e) after.world (Answers-accepted functions honest languages before e after answers) (exchange_grows before.world (is_ok e.text) (request_of e.line))
+
+  -- and so does what a request makes
+  pub made_grows : (world : World) (request : Result Request Refusal) (made : World) → Makes functions honest languages world request made → GoesOnFrom world made
+  made_grows world (Ok (View name None)) made makes = ([], (makes.4).history)
+  made_grows world (Ok (View name (Some query))) made makes = absurd makes.1
+  made_grows world (Ok (Put document)) made makes = (makes.0 ∷ [], ap (λ (w : World). w.history) makes.2)
+  made_grows world (Ok (Delete id given)) made makes = (makes.0 ∷ [], ap (λ (w : World). w.history) makes.2)
+  made_grows world (Ok other) made makes = absurd makes.1
+  made_grows world (Err refusal) made makes = absurd makes.1
 
 -- ---- an engine at a world
 
@@ -59,7 +72,7 @@ image_at = image_stands
 
 -- nothing is pending in its files, and they hold the world
 pub world_held : (engine : Engine) (files : FileName → File) (world : World) → IsAtWorld engine files world → Holds files world
-world_held engine files world at = record { documents = at_holds engine.docs files at.documents.is_open world.history at.documents; indexes = at.indexes.held }
+world_held engine files world at = record { documents = at_holds engine.docs files at.documents.is_open world.history at.documents; indexes = at.indexes.held; within = at.within }
 
 module _ (disk : Option (Disk FileName)) (may_follow : List Call → Type 0) (faults : ℕ) (engine : Engine) where
   -- an engine without a child is at the start of its world, where no call was made on the servers

@@ -1,7 +1,7 @@
 -- What a request promises, whole: over the documents alone, over the engine, and as the step of a line.
 use Rattle.std.specs.Prelude.{◌≡◌, ◌≢◌, ◌⊎◌, ◌≤◌, ◌++◌, ℕ, List, [], true, false, Result, Ok, Err, IfErr, OnErr, OnOk, Some}
 use Rattle.json_terms.specs.Json.{object, members_of}
-use Rattle.view_ports.specs.Disk.{IfTold}
+use Rattle.view_ports.specs.Disk.{IfTold, LeavesOnly, Tells}
 use Rattle.view_ports.specs.Faults.{RoseBy}
 use Rattle.view_ports.specs.Lines.{ended, IsLine}
 use Rattle.view_ports.specs.declared.folder.Folder.{Ghosts as Folders}
@@ -20,7 +20,7 @@ use Rattle.view_engine.specs.declared.request.Request.{Request}
 use Rattle.view_engine.specs.declared.request.Request.TheVariants.{Put, Delete, Get, Info}
 use Rattle.view_engine.specs.Accepted.{is_ok}
 use Rattle.view_engine.specs.Delete.{DoesDelete, IsDeleteRefused}
-use Rattle.view_engine.specs.Disks.{HasGivenUp, IfStopped, IsReason, KeepsDisk, KeepsDocuments, MayGoOn, OverWorld}
+use Rattle.view_engine.specs.Disks.{HasGivenUp, IfStopped, IsReason, IsReasonOf, KeepsDisk, KeepsDocuments, MayGoOn, OverWorld}
 use Rattle.view_engine.specs.Engine.{Appends, HasChild, IsAt, Leaves}
 use Rattle.view_engine.specs.Get.{get_refusal, DoesGet, DoesInfo}
 use Rattle.view_engine.specs.Halts.{FitsFor, HasGoneOn, HasLeftFiles}
@@ -30,6 +30,7 @@ use Rattle.view_engine.specs.Refusals.{request_of, refusal_text}
 use Rattle.view_engine.specs.ServerFaults.{AppendsServerFault, is_get}
 use Rattle.view_engine.specs.Steps.{Does, DoesRequest, DoesRequestText, MayHaveCalled}
 use Rattle.view_engine.specs.World.{World}
+use Rattle.view_engine.specs.Worlds.{StandsAround}
 
 -- ---- what is appended
 
@@ -147,30 +148,38 @@ module _ {F C : Type 0} (f : Folders F) (s : Servers C) where
     pub server_faults : s.faults old.servers ≤ s.faults new.servers
 
   module _ (old new : Scene F C) where
-    -- where the disk is told, the engine is left at a moment that the definition allows
-    abbrev pub LeavesMoment : (Moment → Type 0) → Type 0
-    LeavesMoment Allows = Leaves (f.disk new.folder) (s.may_follow new.servers) (s.faults new.servers) new.engine
-        (λ after. IfTold (f.disk old.folder) (λ d. Allows after))
+    abbrev Languages : List (List ℕ × List ℕ)
+    Languages = languages_of old.engine.pool
+
+    -- the engine is left at a moment that the definition allows
+    abbrev pub LeavesMoment : Moment → (Moment → Type 0) → Type 0
+    LeavesMoment before = Leaves (f.disk old.folder) (f.disk new.folder) (s.may_follow new.servers) (s.faults new.servers) new.engine before
 
     -- and so much text is appended
-    abbrev pub AppendsText : (List ℕ → Moment → Type 0) → List ℕ → List ℕ → Type 0
-    AppendsText Allows = Appends (f.disk new.folder) (s.may_follow new.servers) (s.faults new.servers) new.engine
-        (λ text after. IfTold (f.disk old.folder) (λ d. Allows text after))
+    abbrev pub AppendsText : Moment → (List ℕ → Moment → Type 0) → List ℕ → List ℕ → Type 0
+    AppendsText before = Appends (f.disk old.folder) (f.disk new.folder) (s.may_follow new.servers) (s.faults new.servers) new.engine before
+
+    -- its children alone are left as at such a moment
+    pub record LeavesChild (Allows : Moment → Type 0) : Type 0 where
+      pub after : Moment
+      pub child : KeepsChild new after
+      pub allowed : IfTold (f.disk old.folder) (λ d. Allows after)
+
+    -- a crash meanwhile leaves the world before a request, or the one that it makes
+    abbrev pub CrashesAround : Moment → Result Request Refusal → Type 0
+    CrashesAround before request = Tells (f.disk old.folder) (f.disk new.folder) (LeavesOnly (StandsAround s.functions s.honest Languages before.world request))
 
     -- what a request does, by how it ends
-    abbrev pub DoesBy : Result Request Refusal → List ℕ → List ℕ → Result (Unit {0}) Halt → Type 0
-    DoesBy request out out' (Ok done) = (before : Moment) → StandsAt old before
-        → AppendsText (DoesRequestText s.functions s.honest (languages_of old.engine.pool) before request) out out'
-    DoesBy request out out' (Err (Refused refusal)) = (before : Moment) → StandsAt old before
-        → LeavesMoment (λ after. DoesRequest s.functions s.honest (languages_of old.engine.pool) before request (refusal_text refusal) after
-        × MayHaveCalled (languages_of old.engine.pool) before request after)
-    DoesBy request out out' (Err (Stopped NoMemory)) = (before : Moment) → StandsAt old before
-        → LeavesMoment (MayHaveCalled (languages_of old.engine.pool) before request)
-    DoesBy request out out' (Err (Stopped fault)) = (before : Moment) → KeepsChild old before → KeepsChild new before
+    abbrev pub DoesBy : Moment → Result Request Refusal → List ℕ → List ℕ → Result (Unit {0}) Halt → Type 0
+    DoesBy before request out out' (Ok done) = AppendsText before (DoesRequestText s.functions s.honest Languages before request) out out'
+    DoesBy before request out out' (Err (Refused refusal)) =
+        LeavesMoment before (λ after. DoesRequest s.functions s.honest Languages before request (refusal_text refusal) after × MayHaveCalled s.functions s.honest Languages before request after)
+    DoesBy before request out out' (Err (Stopped NoMemory)) = LeavesMoment before (MayHaveCalled s.functions s.honest Languages before request)
+    DoesBy before request out out' (Err (Stopped fault)) = CrashesAround before request × LeavesChild (MayHaveCalled s.functions s.honest Languages before request)
 
     -- a request, done or not
     pub record Performed (request : Result Request Refusal) (out out' : List ℕ) (result : Result (Unit {0}) Halt) : Type 0 where
-      pub does : DoesBy request out out' result
+      pub does : (before : Moment) → StandsAt old before → DoesBy before request out out' result
       -- where it is done a reply line is appended, and else nothing
       pub prints : OnOk result (AppendsReplyTo request out out')
       pub silent : OnErr result (out' ≡ out)
@@ -180,20 +189,18 @@ module _ {F C : Type 0} (f : Folders F) (s : Servers C) where
       -- what is written passes no limit of the file
       pub fits : OnOk result (FitsFor old.engine.docs request)
       pub disk : KeepsDisk f old.engine new.engine old.folder new.folder request (HasGivenUp result) (MayGoOn result)
-      pub why : IfErr result (IfStopped (IsReason f old.engine.docs old.folder new.folder request))
+      pub why : IfErr result (IfStopped (IsReasonOf f old.engine old.folder new.folder request))
       pub stays : Stays old new
 
     -- what a line does
-    abbrev pub StepsBy : List ℕ → List ℕ → List ℕ → Result (Unit {0}) StepFault → Type 0
-    StepsBy line out out' (Ok done) = (before : Moment) → StandsAt old before
-        → AppendsText (Does s.functions s.honest (languages_of old.engine.pool) before line) out out'
-    StepsBy line out out' (Err NoMemory) = (before : Moment) → StandsAt old before
-        → LeavesMoment (MayHaveCalled (languages_of old.engine.pool) before (request_of line))
-    StepsBy line out out' (Err fault) = (before : Moment) → KeepsChild old before → KeepsChild new before
+    abbrev pub StepsBy : Moment → List ℕ → List ℕ → List ℕ → Result (Unit {0}) StepFault → Type 0
+    StepsBy before line out out' (Ok done) = AppendsText before (Does s.functions s.honest Languages before line) out out'
+    StepsBy before line out out' (Err NoMemory) = LeavesMoment before (MayHaveCalled s.functions s.honest Languages before (request_of line))
+    StepsBy before line out out' (Err fault) = CrashesAround before (request_of line) × LeavesChild (MayHaveCalled s.functions s.honest Languages before (request_of line))
 
     -- a line, answered or not
     pub record IsStep (line out out' : List ℕ) (result : Result (Unit {0}) StepFault) : Type 0 where
-      pub does : StepsBy line out out' result
+      pub does : (before : Moment) → StandsAt old before → StepsBy before line out out' result
       pub prints : OnOk result (AnswersLine line out out')
       pub silent : OnErr result (out' ≡ out)
       -- where the reply line is `server_fault` the count of the query servers' faults rose by two, whatever the folder holds
@@ -205,7 +212,7 @@ module _ {F C : Type 0} (f : Folders F) (s : Servers C) where
       pub asked : OnErr result (line ≢ [])
       pub idle : line ≡ [] → new.folder ≡ old.folder
       pub disk : KeepsDisk f old.engine new.engine old.folder new.folder (request_of line) (HasLeftFiles result) (HasGoneOn result)
-      pub why : IfErr result (IsReason f old.engine.docs old.folder new.folder (request_of line))
+      pub why : IfErr result (IsReasonOf f old.engine old.folder new.folder (request_of line))
       pub stays : Stays old new
 
 -- ---- what is told of a halt

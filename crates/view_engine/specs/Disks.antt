@@ -1,6 +1,6 @@
 -- What a request promises of the files and their disk, and why it meets a fault.
-use Rattle.std.specs.Prelude.{◌≤◌, ℕ, List, Result, Ok, Err, IfErr}
-use Rattle.view_ports.specs.Disk.{IfTold, LeavesOnly, MovesNone, Tells}
+use Rattle.std.specs.Prelude.{◌≡◌, ◌⊎◌, ◌≤◌, ℕ, List, Result, Ok, Err, IfErr}
+use Rattle.view_ports.specs.Disk.{IfTold, LeavesOnly, Moves, MovesNone, Tells}
 use Rattle.view_ports.specs.Faults.{Rose}
 use Rattle.view_ports.specs.declared.file_name.FileName.{FileName}
 use Rattle.view_ports.specs.declared.folder.Folder.{Ghosts as Folders}
@@ -12,9 +12,14 @@ use Rattle.view_engine.specs.declared.halt.StepFault.{StepFault}
 use Rattle.view_engine.specs.declared.halt.StepFault.TheVariants.{DiskFault, Damaged, Full, NoMemory}
 use Rattle.view_engine.specs.declared.refusal.Refusal.{Refusal}
 use Rattle.view_engine.specs.declared.request.Request.{Request}
-use Rattle.view_engine.specs.declared.request.Request.TheVariants.{Get, View}
+use Rattle.view_engine.specs.declared.request.Request.TheVariants.{Get, View as ViewRequest}
+use Rattle.view_ports.specs.File.{File}
+use Rattle.view_ports.specs.declared.file_name.Stem.TheVariants.{View}
+use Rattle.view_index.specs.Held.{IsDamagedAt}
 use Rattle.view_engine.specs.declared.engine.Engine.{Engine}
-use Rattle.view_engine.specs.Worlds.{IsAtWorld, IsOpen as IsEngineOpen, StandsAround, StandsFor}
+use Rattle.view_groups.specs.Cleans.{IsIndexFile}
+use Rattle.view_engine.specs.Updating.{AreShaped}
+use Rattle.view_engine.specs.Worlds.{IsAtWorld, IsOpen as IsEngineOpen}
 use Rattle.view_engine.specs.Halts.{DocumentsStandAround, FitsFor, GoesOn, IsDamage, IsFullFor, IsStill, LeavesFiles, MovesDocuments, WouldWrite, Writes}
 use Rattle.view_engine.specs.World.{World}
 
@@ -38,8 +43,25 @@ IfStopped P (Stopped fault) = P fault
 -- a request that reads documents from their file
 abbrev pub ReadsDocuments : Result Request Refusal → Type 0
 ReadsDocuments (Ok (Get id)) = Unit {0}
-ReadsDocuments (Ok (View name limits)) = Unit {0}
+ReadsDocuments (Ok (ViewRequest name limits)) = Unit {0}
 ReadsDocuments other = ⊥
+
+-- a view, which may open the index of its design and bring it up to date
+abbrev pub IsView : Result Request Refusal → Type 0
+IsView (Ok (ViewRequest name limits)) = Unit {0}
+IsView other = ⊥
+
+-- a request that may change files
+abbrev pub ChangesFiles : Result Request Refusal → Type 0
+ChangesFiles request = Writes request ⊎ IsView request
+
+-- at this place a file of some index is damaged, as it is opened with some number of views
+abbrev pub HasIndexDamage : (FileName → File) → FileName → ℕ → Type 0
+HasIndexDamage files name at = (sig : List ℕ) × (views : ℕ) × ((name.stem ≡ View sig) × IsDamagedAt (View sig) views files name at)
+
+-- the file is one of an index, which the request may have opened
+abbrev pub IsOfIndex : Result Request Refusal → FileName → Type 0
+IsOfIndex request name = IsView request × IsIndexFile name
 
 module _ {F : Type 0} (f : Folders F) where
   -- for each world that the documents and the disk, where it is told, are at
@@ -66,20 +88,14 @@ module _ {F : Type 0} (f : Folders F) where
     -- where the engine may go on, its documents are open
     pub is_open : GoesOn → AreOpen docs' new
 
-  -- for each world that an engine and the disk, where it is told, are at
-  abbrev pub OverWholeWorld : Engine → F → (World → Type 0) → Type 0
-  OverWholeWorld engine folder P = (world : World) → IfTold (f.disk folder) (λ d. IsAtWorld engine d.now world) → P world
-
   abbrev pub LiesOpen : Engine → F → Type 0
   LiesOpen engine folder = IfTold (f.disk folder) (λ d. IsEngineOpen engine d.now)
 
-  -- what the disk may hold at each moment of a request, and where the engine is after it
+  -- which files a request changes, whatever the folder holds, and where the engine is after it
   pub record KeepsDisk (engine engine' : Engine) (old new : F) (request : Result Request Refusal) (HasGivenUp GoesOn : Type 0) : Type 0 where
-    pub documents : KeepsDocuments engine.docs engine'.docs old new request HasGivenUp GoesOn
-    -- a crash leaves the world before the request, or the one with the write that the request makes
-    pub moments : OverWholeWorld engine old (λ world. CrashLeaves old new (StandsAround world request))
-    -- where it is given up, a crash leaves the world before it
-    pub unwritten : HasGivenUp → OverWholeWorld engine old (λ world. CrashLeaves old new (λ image. StandsFor image world))
+    -- a request that is no view changes the documents alone, and a view only files of indexes
+    pub documents : (IsView request → ⊥) → KeepsDocuments engine.docs engine'.docs old new request HasGivenUp GoesOn
+    pub indexes : IsView request → Tells (f.disk old) (f.disk new) (Moves IsIndexFile (λ image. Unit {0}) (λ files. Unit {0}))
     -- where the engine may go on, it lies open
     pub is_open : GoesOn → LiesOpen engine' new
 
@@ -99,6 +115,18 @@ module _ {F : Type 0} (f : Folders F) where
   IsReason docs old new request DiskFault = IsReadReason docs old new DiskFault × FitsFor docs request
   IsReason docs old new request (Damaged name at) = ReadsDocuments request × IsReadReason docs old new (Damaged name at)
   IsReason docs old new request NoMemory = Unit {0}
+
+  -- the same of a view, which meets it in a file of an index: it is full, or damaged, and this in no world whose pictures have the shape
+  -- of their designs
+  abbrev pub IsIndexReason : Engine → F → Result Request Refusal → StepFault → Type 0
+  IsIndexReason engine old request (Full name length) = IsOfIndex request name
+  IsIndexReason engine old request (Damaged name at) =
+      IsView request × IfTold (f.disk old) (λ d. HasIndexDamage d.now name at) × ((world : World) → IfTold (f.disk old) (λ d. IsAtWorld engine d.now world → AreShaped world → ⊥))
+  IsIndexReason engine old request other = ⊥
+
+  -- of the documents or of an index
+  abbrev pub IsReasonOf : Engine → F → F → Result Request Refusal → StepFault → Type 0
+  IsReasonOf engine old new request fault = IsReason engine.docs old new request fault ⊎ IsIndexReason engine old request fault
 
   -- a call that only reads
   pub record Reads {T : Type 0} (docs : Docs) (old new : F) (result : Result T Halt) : Type 0 where

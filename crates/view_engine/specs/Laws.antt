@@ -1,5 +1,5 @@
 -- What the definitions say together: those of the history, and those of what a request does.
-use Rattle.std.specs.Prelude.{◌≡◌, ◌++◌, ℕ, List, bytes_eq}
+use Rattle.std.specs.Prelude.{◌≡◌, ◌++◌, ℕ, List, bytes_eq, Result}
 use Rattle.std.specs.Ordering.{nat_cmp}
 use Rattle.std.specs.Cmp.Lexicographic.{slice_cmp}
 use Rattle.std.specs.List.Sorted.{IsStrictlySortedBy}
@@ -11,7 +11,8 @@ use Rattle.view_engine.specs.declared.refusal.Refusal.{Refusal}
 use Rattle.view_engine.specs.declared.request.Request.{Request}
 use Rattle.view_engine.specs.Accepted.{accepted}
 use Rattle.view_engine.specs.Moments.{Moment}
-use Rattle.view_engine.specs.Steps.{IsRefusedAs, Performs}
+use Rattle.view_engine.specs.Steps.{Answers, IsRefusedAs, Makes, Performs}
+use Rattle.view_engine.specs.Updating.{AreFit, AreShaped, IsSound}
 use Rattle.view_engine.specs.World.{World}
 
 -- among the last writes each id has the one that came last
@@ -38,3 +39,16 @@ module _ (functions : List ℕ → Functions) (honest : List ℕ → Type 0) (la
   -- and a request that is refused then isn't done
   abbrev pub IsNotRefusedAndDone : Type 0
   IsNotRefusedAndDone = (before after : Moment) (request : Request) (refusal : Refusal) (reply : List ℕ) → IsRefusedAs functions honest languages before.world request refusal → Performs functions honest languages before request reply after → ⊥
+
+  -- a line that is answered leads from a sound world to a sound one
+  abbrev pub StepsKeepSound : Type 0
+  StepsKeepSound = (before : Moment) (exchange : Exchange) (after : Moment) → Answers functions honest languages before exchange after
+      → IsSound functions honest languages before.world → IsSound functions honest languages after.world
+
+  -- and so does what a request makes
+  abbrev pub MadeWorldsAreSound : Type 0
+  MadeWorldsAreSound = (world : World) (request : Result Request Refusal) (made : World) → Makes functions honest languages world request made → IsSound functions honest languages world → IsSound functions honest languages made
+
+  -- in a sound world each picture has the rows of as many views as its design
+  abbrev pub SoundWorldsAreShaped : Type 0
+  SoundWorldsAreShaped = (world : World) → IsSound functions honest languages world → AreFit world.history → AreShaped world

@@ -1,4 +1,5 @@
 pub mod World
+pub mod Updating
 pub mod Kinds
 pub mod Answer
 pub mod Requests
@@ -14,7 +15,6 @@ pub mod ViewPlan
 pub mod Planning
 pub mod Steps
 pub mod Replies
-pub mod Mapped
 pub mod Halts
 pub mod Worlds
 pub mod Engine

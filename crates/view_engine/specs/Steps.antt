@@ -1,24 +1,28 @@
 -- What a request line does, and what is answered.
 use Rattle.std.specs.Prelude.{◌≡◌, ◌≢◌, ◌⊎◌, ℕ, List, [], ◌∷◌, Some, None, Result, Ok, Err}
-use Rattle.json_terms.specs.Json.{object, members_of}
+use Rattle.json_terms.specs.Json.{Json, object, members_of}
+use Rattle.design_docs.specs.Design.{language_of}
+use Rattle.child_pool.specs.Languages.{path_in}
 use Rattle.view_ports.specs.Functions.{Functions}
 use Rattle.view_ports.specs.Lines.{ended}
 use Rattle.view_ports.specs.Exchanges.{Exchange}
+use Rattle.view_ports.specs.Calls.{Call}
 use Rattle.child_pool.specs.declared.pool_fault.PoolFault.{PoolFault}
 use Rattle.child_pool.specs.Jobs.{Job}
-use Rattle.doc_file.specs.History.{Write}
+use Rattle.doc_file.specs.History.{Write, live_document}
 use Rattle.view_engine.specs.declared.request.Request.{Request}
 use Rattle.view_engine.specs.declared.request.Request.TheVariants.{Put, Delete, Get, View, Info}
 use Rattle.view_engine.specs.declared.request.ViewName.{ViewName}
 use Rattle.view_engine.specs.declared.refusal.Refusal.{Refusal}
 use Rattle.view_engine.specs.declared.refusal.Refusal.TheVariants.{NotBuiltYet, NoMemory}
-use Rattle.view_engine.specs.World.{World}
+use Rattle.view_engine.specs.World.{World, written}
+use Rattle.view_engine.specs.Updating.{IsBrought}
 use Rattle.view_engine.specs.Moments.{Called, Moment, with_world}
 use Rattle.view_engine.specs.Refusals.{request_of, refusal_text}
 use Rattle.view_engine.specs.Put.{DoesPut, IsPutRefused, put_write}
 use Rattle.view_engine.specs.Delete.{DoesDelete, IsDeleteRefused, delete_write}
 use Rattle.view_engine.specs.Get.{DoesGet, DoesInfo, get_refusal}
-use Rattle.view_engine.specs.View.{view_refusal, DoesView, IsGivenUp, IsJobOf, IsServed}
+use Rattle.view_engine.specs.View.{design_id, view_refusal, DoesView, IsBrokenOff, IsGivenUp, IsJobOf, IsServed}
 
 -- no server was called
 abbrev pub Acts : (World → World → Type 0) → Moment → Moment → Type 0
@@ -32,16 +36,6 @@ ChangesNothing Does before after = Does × (after ≡ before)
 abbrev pub Refuses : Moment → Refusal → List ℕ → Moment → Type 0
 Refuses before refusal reply after = (reply ≡ refusal_text refusal) × (after ≡ before)
 
--- the design of a view was asked for, with lawful calls, and nothing else has changed: the update was done, or it was given up
-abbrev pub AskedFor : List (List ℕ × List ℕ) → Moment → ViewName → Moment → Type 0
-AskedFor languages before name after =
-    (job : Job) × ((source : List ℕ) × IsJobOf languages before.world name job source × (after.world ≡ before.world) × Called job before after (λ added. IsServed job before after added ⊎ ((f : PoolFault) × IsGivenUp job before after f added)))
-
--- what may have been done of a request for which memory ran out: only a view calls servers, and only where it isn't refused before
-abbrev pub MayHaveCalled : List (List ℕ × List ℕ) → Moment → Result Request Refusal → Moment → Type 0
-MayHaveCalled languages before (Ok (View name None)) after = (after ≡ before) ⊎ ((view_refusal languages before.world name ≡ None) × AskedFor languages before name after)
-MayHaveCalled languages before other after = after ≡ before
-
 -- what a request writes where it is accepted
 abbrev pub IsWrite : World → Result Request Refusal → Write → Type 0
 IsWrite world (Ok (Put document)) write =
@@ -50,7 +44,32 @@ IsWrite world (Ok (Put document)) write =
 IsWrite world (Ok (Delete id given)) write = (reply : List ℕ) × ((new : World) × DoesDelete world id given reply new × (write ≡ delete_write world id))
 IsWrite world other write = ⊥
 
+-- how the update of a design ended: it was done, given up, or broken off
+abbrev pub EndsUpdate : Job → Moment → Moment → List Call → Type 0
+EndsUpdate job before after added = IsServed job before after added ⊎ (((f : PoolFault) × IsGivenUp job before after f added) ⊎ IsBrokenOff job before after added)
+
 module _ (functions : List ℕ → Functions) (honest : List ℕ → Type 0) (languages : List (List ℕ × List ℕ)) where
+  -- the design of a view was asked for, with lawful calls; the world may have its next picture already, wholly
+  pub record AskedFor (before : Moment) (name : ViewName) (after : Moment) : Type 0 where
+    pub design : Json
+    pub job : Job
+    pub source : List ℕ
+    pub is_job : IsJobOf languages before.world name design job source
+    pub called : Called job before after (EndsUpdate job before after)
+    pub world : (after.world ≡ before.world) ⊎ IsBrought functions honest languages design job.path before.world after.world
+
+  -- what may have been done of a request that isn't answered, or for which memory ran out: only a view calls servers, and only where it isn't refused before
+  abbrev pub MayHaveCalled : Moment → Result Request Refusal → Moment → Type 0
+  MayHaveCalled before (Ok (View name None)) after = (after ≡ before) ⊎ ((view_refusal languages before.world name ≡ None) × AskedFor before name after)
+  MayHaveCalled before other after = after ≡ before
+
+  -- the world that a request makes where it takes effect: one with its write, or with the next picture of its design
+  abbrev pub Makes : World → Result Request Refusal → World → Type 0
+  Makes world (Ok (View name None)) after =
+      (design : Json) × (path : List ℕ) × (live_document world.history (design_id name.design) ≡ Some design) × (path_in languages (language_of design) ≡ Some path)
+      × IsBrought functions honest languages design path world after
+  Makes world request after = (write : Write) × IsWrite world request write × (after ≡ written world write)
+
   -- the refusal of a request before any server is asked
   abbrev pub IsRefusedAs : World → Request → Refusal → Type 0
   IsRefusedAs world (Put document) refusal = IsPutRefused world (object (members_of document)) refusal
@@ -84,7 +103,7 @@ module _ (functions : List ℕ → Functions) (honest : List ℕ → Type 0) (la
 
   -- memory may run out at any line that isn't empty
   abbrev pub GivesUp : Moment → List ℕ → List ℕ → Moment → Type 0
-  GivesUp before line text after = (line ≢ []) × (text ≡ ended (refusal_text NoMemory)) × MayHaveCalled languages before (request_of line) after
+  GivesUp before line text after = (line ≢ []) × (text ≡ ended (refusal_text NoMemory)) × MayHaveCalled before (request_of line) after
 
   -- a step of a run
   abbrev pub Answers : Moment → Exchange → Moment → Type 0

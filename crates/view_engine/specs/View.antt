@@ -1,34 +1,37 @@
 -- What a view request does.
-use Rattle.std.specs.Prelude.{◌≡◌, ◌≢◌, ◌⊎◌, ◌≤◌, ◌++◌, ℕ, max, min, List, [], ◌∷◌, map, length, codes, Option, Some, None, option_and_then}
+use Rattle.std.specs.Prelude.{◌≡◌, ◌≢◌, ◌⊎◌, ◌++◌, ℕ, max, min, List, [], ◌∷◌, map, length, codes, true, bytes_eq, if◌then◌else◌, Option, Some, None, option_and_then}
 use Rattle.std.specs.List.{AllByRecursion}
 use Rattle.json_terms.specs.Json.{Json}
 use Rattle.design_docs.specs.Design.{language_of, map_sources, source_of, views_of}
 use Rattle.view_ports.specs.Calls.{Call}
 use Rattle.view_ports.specs.Faults.{Rose, RoseBy}
-use Rattle.view_ports.specs.Functions.{Functions, line_limit}
+use Rattle.view_ports.specs.Functions.{Functions}
 use Rattle.query_protocol.specs.CommandLines.{document_of}
 use Rattle.child_pool.specs.declared.pool_fault.PoolFault.{PoolFault}
 use Rattle.child_pool.specs.declared.pool_fault.PoolFault.TheVariants as fault
+use Rattle.child_pool.specs.Firsts.{first_prompts}
 use Rattle.child_pool.specs.Histories.{AllStops, talk}
 use Rattle.child_pool.specs.Honesty.{SomeSourceFails}
 use Rattle.child_pool.specs.Jobs.{Job}
 use Rattle.child_pool.specs.Languages.{path_in}
-use Rattle.child_pool.specs.Mapping.{AreParts}
+use Rattle.child_pool.specs.Mapping.{IsPart}
 use Rattle.child_pool.specs.Outcomes.{IsCaused}
 use Rattle.child_pool.specs.Pools.{NoneIsLeft, kept_of}
 use Rattle.child_pool.specs.Prompts.{update_prompts}
-use Rattle.child_pool.specs.Sessions.{AllCompile}
 use Rattle.child_pool.specs.Talk.{AreCutShortIn, AreTurns, talk_of}
 use Rattle.child_pool.specs.Tries.{AllAnswered, Prompt, StopsAt}
-use Rattle.raw_collation.specs.Sorting.{sorted_rows}
 use Rattle.view_engine.specs.declared.request.ViewName.{ViewName}
 use Rattle.view_engine.specs.declared.refusal.Refusal.{Refusal}
 use Rattle.view_engine.specs.declared.refusal.Refusal.TheVariants.{MissingNamedView, UnknownLanguage, CompilationError, ServerFault, ServerReply}
-use Rattle.doc_file.specs.History.{live_document}
-use Rattle.view_engine.specs.World.{World, mapped}
+use Rattle.doc_file.specs.History.{live_document, mapped_after}
+use Rattle.view_engine.specs.World.{World}
+use Rattle.view_engine.specs.Updating.{picture_in, AreFit, IsBrought, IsSound}
 use Rattle.view_engine.specs.Get.{get_refusal}
 use Rattle.view_engine.specs.Moments.{Called, Moment}
-use Rattle.view_model.specs.Rows.{emitted_rows}
+use Rattle.view_model.specs.Rows.{spoiled, view_rows}
+use Rattle.json_terms.specs.Seen.{json}
+use Rattle.json_terms.specs.declared.term.Row.{Row}
+use Rattle.design_docs.specs.declared.design.View.{View}
 use Rattle.view_engine.specs.Answer.{answer}
 use Rattle.view_engine.specs.Refusals.{first_of, refusal_text}
 
@@ -56,16 +59,22 @@ view_refusal languages world name =
     let design = live_document world.history (design_id name.design) in
     first_of (get_refusal world (design_id name.design) ∷ no_view (option_and_then (source_of name.view) design) ∷ no_language languages design ∷ [])
 
+-- the rows of the view with this name, in the order of the views
+abbrev pub rows_in : List View → List (List Row) → List ℕ → Option (List Row)
+rows_in [] rows name = None
+rows_in (view ∷ views) [] name = None
+rows_in (view ∷ views) (rows ∷ others) name = if bytes_eq view.name name then Some rows else rows_in views others name
+
 -- ---- what the query servers are asked for
 
--- the job of a view's design: its path, the sources of all its views, and the documents that are mapped; and the view's own source
-pub record IsJobOf (languages : List (List ℕ × List ℕ)) (world : World) (name : ViewName) (job : Job) (source : List ℕ) : Type 0 where
-  pub design : Json
+-- the job of a view's design: its path, the sources of all its views, and the documents that were written since its picture and are
+-- mapped; and the view's own source
+pub record IsJobOf (languages : List (List ℕ × List ℕ)) (world : World) (name : ViewName) (design : Json) (job : Job) (source : List ℕ) : Type 0 where
   pub live : live_document world.history (design_id name.design) ≡ Some design
   pub source_is : source_of name.view design ≡ Some source
   pub path_is : path_in languages (language_of design) ≡ Some job.path
   pub sources : job.sources ≡ map_sources (views_of design)
-  pub documents : job.documents ≡ map (λ entry. document_of entry.1) (mapped world)
+  pub documents : job.documents ≡ map (λ entry. document_of entry.1) (mapped_after (picture_in world design).seq world.history)
 
 -- the prompts of an update, in the order in which they are asked: a child of the job's path that is kept isn't started again
 abbrev pub prompts_of : Job → Moment → List Prompt
@@ -94,6 +103,17 @@ pub record IsGivenUp (job : Job) (before after : Moment) (f : PoolFault) (added 
   pub stopped : NoneIsLeft before.width after.calls
   pub none_kept : after.started ≡ None
 
+-- An update was broken off behind the first of its documents, since memory ran out or the documents could not be read. Each prompt up
+-- to there was answered within two tries, and the children that the update needs are kept, with those of its path that were kept
+-- before.
+pub record IsBrokenOff (job : Job) (before after : Moment) (added : List Call) : Type 0 where
+  pub done : List (List (List ℕ × Json))
+  pub left : List (List (List ℕ × Json))
+  pub all : job.documents ≡ done ++ left
+  pub some : done ≢ []
+  pub answered : AllAnswered (Rose before.faults after.faults) (first_prompts job before.width (kept_of job.path before.started) done) added
+  pub kept : after.started ≡ Some (record { path = job.path; count = max (min before.width (length job.documents)) (kept_of job.path before.started) })
+
 -- the fault that is told by a refusal
 abbrev pub fault_of : Refusal → PoolFault
 fault_of (CompilationError id) = fault.Compile
@@ -102,17 +122,14 @@ fault_of (ServerReply line) = fault.BadReply line
 fault_of other = fault.NoMemory
 
 module _ (functions : List ℕ → Functions) (honest : List ℕ → Type 0) where
-  -- The rows of the view, sorted, are printed. There is a list of emissions for each document, none of a key or a value that is
-  -- longer or deeper than a reply may hold, and no more of them than a line may have bytes. On an honest path it is that of the path's
-  -- map function, and all sources of the design compile there, unless no document is mapped.
-  pub record PrintsRows (job : Job) (source : List ℕ) (world : World) (reply : List ℕ) : Type 0 where
-    pub emitted : List (List (Json × Json))
-    pub each : length emitted ≡ length (mapped world)
-    pub parts : AreParts emitted
-    pub few : AllByRecursion (λ list. length list ≤ line_limit) emitted
-    pub right : honest job.path → emitted ≡ map ((functions job.path).map_of source) job.documents
-    pub compile : honest job.path → job.documents ≢ [] → AllCompile (functions job.path) job.sources
-    pub prints : reply ≡ answer (sorted_rows (emitted_rows (map (λ entry. entry.0) (mapped world)) emitted))
+  -- The rows of the view in the design's picture are printed, none of a key or a value that is longer or deeper than a reply may hold.
+  -- On an honest path they are those that mapping all documents afresh gives, where the pictures stood.
+  pub record PrintsRows (languages : List (List ℕ × List ℕ)) (name : ViewName) (design : Json) (path source : List ℕ) (before after : World) (reply : List ℕ) : Type 0 where
+    pub rows : List Row
+    pub shown : rows_in (views_of design) (picture_in after design).rows name.view ≡ Some rows
+    pub parts : AllByRecursion (λ row. IsPart (json row.key) × IsPart (json row.value)) rows
+    pub afresh : honest path → IsSound functions honest languages before → AreFit before.history → rows ≡ view_rows (functions path) source before.history
+    pub prints : reply ≡ answer rows
 
   -- a refusal that is met while documents are mapped, and its cause: on an honest path a source that doesn't compile, and
   -- elsewhere a complaint; two failed attempts; or a bad reply, which is none on an honest path
@@ -123,23 +140,27 @@ module _ (functions : List ℕ → Functions) (honest : List ℕ → Type 0) whe
   IsMet name job before after added (ServerReply line) = IsCaused functions honest job added before.calls (fault.BadReply line) × (honest job.path → ⊥)
   IsMet name job before after added other = ⊥
 
-  -- a refusal that was met
-  pub record IsRefused (name : ViewName) (job : Job) (before after : Moment) (reply : List ℕ) (added : List Call) : Type 0 where
+  -- A refusal that was met left the world as it was. A complaint of an honest path is right, where the pictures stood.
+  pub record IsRefused (languages : List (List ℕ × List ℕ)) (name : ViewName) (design : Json) (job : Job) (before after : Moment) (reply : List ℕ) (added : List Call) : Type 0 where
+    pub same : after.world ≡ before.world
     pub refusal : Refusal
     pub met : IsMet name job before after added refusal
     pub prints : reply ≡ refusal_text refusal
     pub given_up : IsGivenUp job before after (fault_of refusal) added
+    pub spoils : (id : List ℕ) → refusal ≡ CompilationError id → honest job.path → IsSound functions honest languages before.world → AreFit before.world.history
+        → spoiled (functions job.path) (views_of design) before.world.history ≡ true
 
-  -- the rows of an update
-  pub record IsAnswered (job : Job) (source : List ℕ) (before after : Moment) (reply : List ℕ) (added : List Call) : Type 0 where
-    pub rows : PrintsRows job source before.world reply
+  -- the index of the design was brought up to date, and the rows of the view are printed
+  pub record IsAnswered (languages : List (List ℕ × List ℕ)) (name : ViewName) (design : Json) (job : Job) (source : List ℕ) (before after : Moment) (reply : List ℕ) (added : List Call) : Type 0 where
+    pub brought : IsBrought functions honest languages design job.path before.world after.world
+    pub rows : PrintsRows languages name design job.path source before.world after.world reply
     pub served : IsServed job before after added
 
-  -- a view that isn't refused before any server is asked: the world stays
+  -- a view that isn't refused before any server is asked
   pub record DoesView (languages : List (List ℕ × List ℕ)) (before : Moment) (name : ViewName) (reply : List ℕ) (after : Moment) : Type 0 where
     pub accepted : view_refusal languages before.world name ≡ None
+    pub design : Json
     pub job : Job
     pub source : List ℕ
-    pub is_job : IsJobOf languages before.world name job source
-    pub same : after.world ≡ before.world
-    pub called : Called job before after (λ added. IsAnswered job source before after reply added ⊎ IsRefused name job before after reply added)
+    pub is_job : IsJobOf languages before.world name design job source
+    pub called : Called job before after (λ added. IsAnswered languages name design job source before after reply added ⊎ IsRefused languages name design job before after reply added)

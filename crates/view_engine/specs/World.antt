@@ -1,8 +1,8 @@
 -- The world that requests act on.
-use Rattle.std.specs.Prelude.{ℕ, List, ◌∷◌, None}
-use Rattle.json_terms.specs.Json.{Json}
-use Rattle.doc_file.specs.History.{Write, mapped_after}
+use Rattle.std.specs.Prelude.{◌≡◌, ◌≤◌, ℕ, List, ◌∷◌, length, Some, None}
+use Rattle.doc_file.specs.History.{Write}
 use Rattle.view_groups.specs.Pictures.{Pictures}
+use Rattle.view_model.specs.Picture.{Picture}
 
 pub record World : Type 0 where
   -- the accepted writes, the newest first: their number is the update sequence
@@ -18,6 +18,6 @@ of_history history = record { history = history; pictures = λ sig. None }
 abbrev pub written : World → Write → World
 written world write = record world { history = write ∷ world.history }
 
--- the documents that views map: those of the last write of each id, in the order of their numbers
-abbrev pub mapped : World → List (List ℕ × Json)
-mapped world = mapped_after 0 world.history
+-- no picture is newer than the history
+abbrev pub NoneIsNewer : World → Type 0
+NoneIsNewer world = (sig : List ℕ) (picture : Picture) → world.pictures sig ≡ Some picture → picture.seq ≤ length world.history

@@ -2,6 +2,7 @@
 -- one. Whoever uses them names no part of a world or of an engine, so a new part changes only this crate.
 use Rattle.std.specs.Prelude.{◌≡◌, ◌⊎◌, ℕ, List, [], ◌++◌, Option, None, Result}
 use Rattle.view_ports.specs.File.{File}
+use Rattle.view_ports.specs.Functions.{Functions}
 use Rattle.view_ports.specs.declared.file_name.FileName.{FileName}
 use Rattle.child_pool.specs.Pools.{languages_of, started_of, width_of}
 use Rattle.doc_file.specs.declared.docs.Docs.{Docs}
@@ -15,8 +16,8 @@ use Rattle.view_engine.specs.declared.refusal.Refusal.{Refusal}
 use Rattle.view_engine.specs.declared.request.Request.{Request}
 use Rattle.view_engine.specs.Halts.{FitsFor, IsDamage, IsFullFor}
 use Rattle.view_engine.specs.Moments.{Moment}
-use Rattle.view_engine.specs.Steps.{IsWrite}
-use Rattle.view_engine.specs.World.{World, written}
+use Rattle.view_engine.specs.Steps.{IsWrite, Makes}
+use Rattle.view_engine.specs.World.{World, NoneIsNewer}
 
 -- ---- worlds
 
@@ -30,23 +31,30 @@ at_start world width faults = record { world = world; width = width; started = N
 
 -- ---- files, and what a crash leaves of them
 
--- nothing is pending in the files, and they hold this world: its history, and the picture of each index
+-- nothing is pending in the files, and they hold this world: its history, and the picture of each index, of which none is newer
 pub record Holds (files : FileName → File) (world : World) : Type 0 where
   pub documents : HoldsHistory files world.history
   pub indexes : AreHeld files world.pictures
+  pub within : NoneIsNewer world
 
 -- an image of the disk, as a crash leaves it, stands for this world
 pub record StandsFor (image : FileName → List ℕ) (world : World) : Type 0 where
   pub documents : Stands image world.history
   pub indexes : StandFor image world.pictures
+  pub within : NoneIsNewer world
 
--- an image stands for the world with the write that the request makes
-abbrev pub StandsAfter : World → Result Request Refusal → (FileName → List ℕ) → Type 0
-StandsAfter world request image = (write : Write) × IsWrite world request write × StandsFor image (written world write)
+-- an image stands for the one world or the other
+abbrev pub StandsEither : World → World → (FileName → List ℕ) → Type 0
+StandsEither before after image = StandsFor image before ⊎ StandsFor image after
 
--- an image stands for the world before a request, or for the one with the write that the request makes
-abbrev pub StandsAround : World → Result Request Refusal → (FileName → List ℕ) → Type 0
-StandsAround world request image = StandsFor image world ⊎ StandsAfter world request image
+module _ (functions : List ℕ → Functions) (honest : List ℕ → Type 0) (languages : List (List ℕ × List ℕ)) where
+  -- an image stands for the world that the request makes
+  abbrev pub StandsAfter : World → Result Request Refusal → (FileName → List ℕ) → Type 0
+  StandsAfter world request image = (after : World) × Makes functions honest languages world request after × StandsFor image after
+
+  -- an image stands for the world before a request, or for the one that it makes
+  abbrev pub StandsAround : World → Result Request Refusal → (FileName → List ℕ) → Type 0
+  StandsAround world request image = StandsFor image world ⊎ StandsAfter world request image
 
 -- The files hold this world, in which the request is a write that is accepted, and with it the documents' file among them would
 -- be too long, or else has one commit too many.
@@ -103,6 +111,7 @@ pub record IsOpen (engine : Engine) (files : FileName → File) : Type 0 where
 pub record IsAtWorld (engine : Engine) (files : FileName → File) (world : World) : Type 0 where
   pub documents : AreAt engine.docs files world.history
   pub indexes : AreIndexesAt engine.groups files world.pictures
+  pub within : NoneIsNewer world
 
 -- an engine keeps no child
 abbrev pub IsChildless : Engine → Type 0

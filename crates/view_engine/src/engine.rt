@@ -78,9 +78,9 @@ impl Engine {
     /// Does the request of one line and appends the reply line with its newline, or nothing for an empty line.
     ///
     /// The line comes without its newline. Of a line of more than 2,097,152 bytes the first 2,097,153 are enough.
-    /// On `NoMemory` nothing is appended and no document has changed. At each moment a crash leaves the documents before the
-    /// request or after it; once a write is answered those after it. Only a write that is accepted changes a file, and only files
-    /// of the documents change. After every other fault the engine is not to be used again.
+    /// On `NoMemory` nothing is appended and no document has changed. At each moment a crash leaves the documents and indexes before
+    /// the request or after it; once a write is answered those after it. Only a write that is accepted changes files of the
+    /// documents, and only a view those of indexes. After every other fault the engine is not to be used again.
     pub fn step<F: Folder, C: Servers>(
         &mut self,
         alloc: Global,

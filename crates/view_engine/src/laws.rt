@@ -2,7 +2,7 @@
 
 ghost use Rattle.std.specs.Prelude.{List, ℕ};
 ghost use Rattle.doc_file.specs.History.{Write};
-ghost use Rattle.view_engine.specs.Laws.{HasLastWrites, HasLiveDocuments, IsAcceptedInTurn, IsInOrderOfId, IsNotRefusedAndDone, IsRefusedOnce};
+ghost use Rattle.view_engine.specs.Laws.{HasLastWrites, HasLiveDocuments, IsAcceptedInTurn, IsInOrderOfId, IsNotRefusedAndDone, IsRefusedOnce, MadeWorldsAreSound, SoundWorldsAreShaped, StepsKeepSound};
 
 use view_ports::Servers;
 
@@ -24,4 +24,15 @@ pub fn requests_have_one_outcome<C: Servers>()
 /// What lines that are answered one after another write is what each part of them writes, in turn.
 pub fn writes_are_accepted_in_turn()
     ensures { IsAcceptedInTurn }
+{}
+
+/// A line that is answered leads from a sound world to a sound one, and so does what a request makes; and in a sound world each
+/// picture has as many views as its design.
+pub fn worlds_stay_sound<C: Servers>()
+    ensures steps { (languages : List (List ℕ × List ℕ))
+        → StepsKeepSound C.functions C.honest languages }
+    ensures made { (languages : List (List ℕ × List ℕ))
+        → MadeWorldsAreSound C.functions C.honest languages }
+    ensures shaped { (languages : List (List ℕ × List ℕ))
+        → SoundWorldsAreShaped C.functions C.honest languages }
 {}

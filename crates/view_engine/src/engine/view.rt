@@ -1,9 +1,8 @@
 //! The request `view`.
 
-ghost use Rattle.std.specs.Prelude.{◌≡◌, ◌≢◌, ◌++◌, ◌<◌, ◌^◌, bytes_eq, ℕ, List, IfErr, IfOk, OnErr, OnOk, None, Some, Ok, IfSome, option_map, map, length};
+ghost use Rattle.std.specs.Prelude.{◌≡◌, ◌≢◌, ◌++◌, ◌<◌, ◌≤◌, bytes_eq, IfErr, IfOk, OnErr, OnOk, None, Ok, IfSome, option_map, map, length};
 ghost use Rattle.std.specs.Map.{lookup};
 ghost use Rattle.view_ports.specs.Lines.{ended};
-ghost use Rattle.raw_collation.specs.Sorting.{sorted_rows};
 ghost use Rattle.json_terms.specs.Seen.{json};
 ghost use Rattle.design_docs.specs.Design.{IsDesignOf};
 ghost use Rattle.design_docs.specs.Faults.{HasDesign};
@@ -11,25 +10,24 @@ ghost use Rattle.design_docs.specs.Laws.{entry_of as named};
 ghost use Rattle.view_engine.specs.Answer.{answer};
 ghost use Rattle.view_engine.specs.Calls.{scene, IsReplyLine, Performed};
 ghost use Rattle.view_engine.specs.Disks.{LiesOpen, Reads};
-ghost use Rattle.view_model.specs.Rows.{emitted_at, emitted_rows};
 ghost use Rattle.view_engine.specs.View as spec;
 ghost use Rattle.view_engine.specs.Planning.{HasPath, PlansView, RefusesView};
-ghost use Rattle.view_engine.specs.ViewPlan.{met_by, source_at};
+ghost use Rattle.view_engine.specs.ViewPlan.{met_by, met_by_pool, source_at, IsUpdateFault, ShowsRows};
 
 use crate::answer::write_answer;
 use crate::engine::Engine;
 use crate::halt::{Halt, StepFault};
-use crate::mapped::load_mapped;
 use crate::refusal::Refusal;
 use crate::reply::Reply;
 use crate::request::{Request, ViewName};
-use crate::rows::rows_of;
 use child_pool::PoolFault;
 use design_docs::{DESIGN_PREFIX, Design, DesignFault, View, read_design};
-use json_terms::{Chars, NoMemory, RowLists, Term};
-use raw_collation::sort_rows;
+use doc_file::DocFault;
+use json_terms::{Chars, NoMemory, Row, Term};
 use std::alloc::Global;
+use view_index::IndexFault;
 use view_ports::{Folder, Servers};
+use view_updater::UpdateFault;
 
 /// What a view request is about: the id of the design document, its design, and the place of the view.
 #[derive(Drop)]
@@ -40,7 +38,8 @@ struct Plan {
 }
 
 impl Engine {
-    /// Prints all rows of a view: all documents are mapped through the query server of its language.
+    /// Prints all rows of a view. The index of its design is brought up to date first: the documents that were written since are
+    /// mapped through the query server of its language, and no others.
     pub(super) fn view<F: Folder, C: Servers>(
         &mut self,
         alloc: Global,
@@ -58,21 +57,15 @@ impl Engine {
             Ok(plan) => plan,
             Err(halt) => return Err(halt),
         };
-        let mapped = match load_mapped(alloc, &self.docs, folder) {
-            Ok(mapped) => mapped,
-            Err(halt) => return Err(halt),
-        };
-        match self
-            .pool
-            .map_all(alloc, servers, &plan.design, mapped.documents.as_slice())
-        {
-            Ok(lists) => append_rows(
-                alloc,
-                mapped.ids.as_slice(),
-                lists.as_slice(),
-                plan.place,
-                out,
-            ),
+        match self.groups.update(
+            alloc,
+            folder,
+            servers,
+            &mut self.pool,
+            &self.docs,
+            &plan.design,
+        ) {
+            Ok(place) => append_rows(alloc, self.groups.index(place).rows(plan.place as u32), out),
             Err(fault) => Err(halt_of(fault, plan.id)),
         }
     }
@@ -80,7 +73,7 @@ impl Engine {
     /// What a view request is about, or why it is refused before any server is asked.
     fn plan<F: Folder>(&self, alloc: Global, folder: &mut F, name: &ViewName) -> Result<Plan, Halt>
         ensures plan { PlansView F.Folder self.now folder.old name.now result }
-        ensures few { IfOk result (λ plan. length plan.design.views < 2 ^ 32) }
+        ensures few { IfOk result (λ plan. length plan.design.views ≤ 32) }
         ensures within { IfOk result (λ plan. plan.place < length plan.design.views) }
         ensures known { IfOk result (HasPath self.now) }
         ensures refused { RefusesView F.Folder self.now folder.old name.now result }
@@ -120,6 +113,7 @@ fn place_of(views: &[View], name: &str) -> Option<usize>
     ensures within { IfSome result (λ place. place < length views.now) }
     ensures named { option_map (source_at views.now) result ≡ lookup (λ key. bytes_eq key name.now)
         (map named views.now) }
+    ensures shown { IfSome result (ShowsRows views.now name.now) }
 {
     for (place, view) in views.iter().enumerate() {
         if view.name.as_str() == name {
@@ -129,10 +123,25 @@ fn place_of(views: &[View], name: &str) -> Option<usize>
     None
 }
 
-/// Why a view is halted whose documents could not be mapped.
-fn halt_of(fault: PoolFault, id: Chars) -> Halt
-    requires { fault ≢ PoolFault.UnknownLanguage }
+/// Why a view is halted whose index could not be brought up to date.
+fn halt_of(fault: UpdateFault, id: Chars) -> Halt
+    requires { IsUpdateFault fault }
     ensures { result ≡ met_by id fault }
+{
+    match fault {
+        UpdateFault::Pool(fault) => halt_of_pool(fault, id),
+        UpdateFault::Docs(fault) | UpdateFault::Index(IndexFault::Store(fault)) => {
+            Halt::from(DocFault::Gate(fault))
+        }
+        UpdateFault::Index(_) => unreachable!(),
+        UpdateFault::NoMemory => Halt::Stopped(StepFault::NoMemory),
+    }
+}
+
+/// The same where the query servers gave up.
+fn halt_of_pool(fault: PoolFault, id: Chars) -> Halt
+    requires { fault ≢ PoolFault.UnknownLanguage }
+    ensures { result ≡ met_by_pool id fault }
 {
     match fault {
         PoolFault::ServerFault => Halt::Refused(Refusal::ServerFault),
@@ -143,25 +152,15 @@ fn halt_of(fault: PoolFault, id: Chars) -> Halt
     }
 }
 
-/// Appends the reply line with the rows of the view in this place.
-fn append_rows(
-    alloc: Global,
-    ids: &[Chars],
-    lists: &[RowLists],
-    place: usize,
-    out: &mut Vec<u8>,
-) -> Result<(), Halt>
-    ensures ok { OnOk result (out.new.items ≡ out.old.items ++ ended
-        (answer (sorted_rows (emitted_rows ids.now (emitted_at place lists.now))))) }
-    ensures line { OnOk result (IsReplyLine
-        (answer (sorted_rows (emitted_rows ids.now (emitted_at place lists.now))))) }
+/// Appends the reply line with the rows of a view.
+fn append_rows(alloc: Global, rows: &[Row], out: &mut Vec<u8>) -> Result<(), Halt>
+    ensures ok { OnOk result (out.new.items ≡ out.old.items ++ ended (answer rows.now)) }
+    ensures line { OnOk result (IsReplyLine (answer rows.now)) }
     ensures silent { OnErr result (out.new.items ≡ out.old.items) }
     ensures memory { IfErr result (λ halt. halt ≡ Halt.Stopped StepFault.NoMemory) }
 {
-    let mut rows = rows_of(alloc, ids, lists, place)?;
-    sort_rows(&mut rows);
     let mut reply = Reply::behind(alloc, out);
-    let written = write_answer(alloc, rows.as_slice(), &mut reply);
+    let written = write_answer(alloc, rows, &mut reply);
     reply.end(written, out)?;
     Ok(())
 }

@@ -43,7 +43,7 @@ opening_stands : (old new : Option (Disk FileName)) (world : World) (ends : (Fil
 opening_stands old new world ends =
     told_given old new (λ d. Holds d.now world) (Moves IsDocsFile (λ image. Stands image world.history) ends) (LeavesOnly (λ image. StandsFor image world))
     (λ a b held moves. weaker (Framed IsDocsFile a.now (λ image. Stands image world.history)) (λ image. StandsFor image world) a b
-    (λ image framed. record { documents = framed.inside; indexes = pictures_stand a.now world.pictures held.indexes (λ image. Stands image world.history) image framed }) moves.moments)
+    (λ image framed. record { documents = framed.inside; indexes = pictures_stand a.now world.pictures held.indexes (λ image. Stands image world.history) image framed; within = held.within }) moves.moments)
 
 documents_held : (disk : Option (Disk FileName)) (world : World) → IfTold disk (λ d. Holds d.now world) → IfTold disk (λ d. HoldsHistory d.now world.history)
 documents_held disk world = told_now disk (λ d. Holds d.now world) (λ d. HoldsHistory d.now world.history) (λ d held. held.documents)
@@ -55,6 +55,7 @@ returns-in-Ok-new-clause-documents g c = λ world held.
     (λ a b here moves. record {
       documents = moves.ended;
       indexes = none_open_are_at c.new-in-Ok-new.result b.now world.pictures c.new-in-Ok-new.ensures (held_still a.now b.now world.pictures (λ n of_view. moves.others n (apart n of_view)) here.indexes);
+      within = here.within;
     }) held (c.in-Ok.ensures.stands world.history (documents_held (g.F.Folder.disk c.args.folder.now) world held))
 
 pub returns-in-Ok-new-clause-moments : goal.returns-in-Ok-new-clause-moments

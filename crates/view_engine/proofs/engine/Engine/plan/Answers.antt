@@ -1,5 +1,5 @@
 -- The design that is read is that of the live document.
-use Rattle.std.proofs.Common.{◌≡◌, ◌∙◌, ◌≤◌, ℕ, List, length, map, bytes_eq, Some, None, sym, ap, subst, arith}
+use Rattle.std.proofs.Common.{◌≡◌, ◌∙◌, ◌≤◌, ℕ, List, length, map, bytes_eq, Some, None, sym, ap, subst}
 use Rattle.std.specs.Map.{lookup}
 use Rattle.json_terms.specs.Seen.{json}
 use Rattle.view_ports.proofs.Told.{told_now}
@@ -12,7 +12,7 @@ use Rattle.doc_file.specs.Docs.{IsAt}
 use Rattle.doc_file.specs.History.{live_document}
 use Rattle.view_engine.specs.declared.refusal.Refusal.TheVariants.{MissingNamedView, UnknownLanguage}
 use Rattle.view_engine.specs.View.{design_id, view_refusal}
-use Rattle.view_engine.specs.ViewPlan.{source_at, IsPlan}
+use Rattle.view_engine.specs.ViewPlan.{source_at, IsPlan, ShowsRows}
 use Rattle.view_engine.proofs.Reading.{read_of_get}
 use Rattle.view_engine.proofs.Plans.{stored_design, planned, refused_language, refused_same, refused_view}
 use Rattle.view_engine.proofs.engine.Engine.plan.Goals as goal
@@ -54,11 +54,14 @@ returns-in-Some-path_of-clause-plan g c = λ history.
     ap (λ (views : List View). Some (source_at views place)) (sym c.as_slice.ensures)
     ∙ c.in-Some.ensures.named
     ∙ (λ i. lookup (λ key. bytes_eq key (c.as_str-3.ensures i)) (map named (c.as_slice.ensures i))) in
+    let shown : ShowsRows design.views name.view place =
+    subst (λ (views : List View). ShowsRows views name.view place) c.as_slice.ensures
+    (subst (λ (text : List ℕ). ShowsRows c.as_slice.result.now text place) c.as_str-3.ensures c.in-Some.ensures.shown) in
     told_now (g.F.Folder.disk c.args.folder.now)
     (λ d. IsAt docs d.now history → live_document history id ≡ Some document)
     (λ d. IsAt docs d.now history → (path : List ℕ) → path_in languages design.language ≡ Some path → IsPlan languages history name c.in_ok-id.id design place path)
     (λ d live at path known. subst (λ i. IsPlan languages history name i design place path) c.as_str-2.ensures
-    (planned languages history name id document design is (live at) (stored_design name id document is c.in-Ok.ensures.body) c.in_ok-design.ensures place there path known))
+    (planned languages history name id document design is (live at) (stored_design name id document is c.in-Ok.ensures.body) c.in_ok-design.ensures place there shown path known))
     (c.in-Ok.ensures.document history)
 
 pub returns-in-Some-path_of-clause-few : goal.returns-in-Some-path_of-clause-few
@@ -69,7 +72,7 @@ returns-in-Some-path_of-clause-few g c =
     let is : id ≡ design_id c.args.name.now.design = c.as_str-2.ensures ∙ c.in_ok-id.ensures ∙ ap design_id c.as_str.ensures in
     let has = stored_design c.args.name.now id document is c.in-Ok.ensures.body in
     let few : length views ≤ 32 = subst (λ (vs : List View). length vs ≤ 32) (sym c.in_ok-design.ensures.1) (views_are_few document has) in
-    omega (arith, few)
+    few
 
 pub returns-in-Some-path_of-clause-known : goal.returns-in-Some-path_of-clause-known
 returns-in-Some-path_of-clause-known g c = (c.in-Some-path_of._path.now, ap (path_in (languages_of c.args.self.now.pool)) (sym c.as_str-4.ensures) ∙ sym c.in-Some-path_of.ensures)

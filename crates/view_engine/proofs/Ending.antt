@@ -1,0 +1,159 @@
+-- A view, performed: refused before any server is asked, refused by the update of its index, or answered.
+use Rattle.std.specs.Prelude.{◌≡◌, ◌≢◌, ◌<◌, ◌≤◌, ◌++◌, ℕ, List, [], length, Option, None, Some, Result, Ok, Err, IfErr, OnErr, OnOk, slice_get, slice_index_or}
+use Rattle.std.specs.List.{AllByRecursion}
+use Rattle.std.proofs.Common.{refl, sym, ap, ◌∙◌, subst, inl, ⊎_elim, arith}
+use Rattle.std.proofs.lemmas.List.{length-map}
+use Rattle.json_terms.specs.declared.term.Row.{Row}
+use Rattle.design_docs.specs.declared.design.Design.{Design}
+use Rattle.view_ports.specs.Disk.{Disk, IfTold, LeavesOnly, MovesNone, Tells}
+use Rattle.view_ports.specs.Lines.{ended}
+use Rattle.view_ports.specs.declared.file_name.FileName.{FileName}
+use Rattle.view_ports.specs.declared.folder.Folder.{Ghosts as Folders}
+use Rattle.view_ports.specs.declared.servers.Servers.{Ghosts as Servers}
+use Rattle.view_ports.proofs.DiskRuns.{none_same, none_wider}
+use Rattle.view_ports.proofs.Moments.{weaker}
+use Rattle.view_ports.proofs.Told.{told_after, told_all, told_given, told_map}
+use Rattle.child_pool.specs.declared.pool.Pool.{Pool}
+use Rattle.child_pool.specs.Languages.{path_in}
+use Rattle.child_pool.specs.Pools.{languages_of}
+use Rattle.doc_file.specs.declared.docs.Docs.{Docs}
+use Rattle.doc_file.specs.Docs.{IsAt as AreAt}
+use Rattle.doc_file.specs.History.{Write}
+use Rattle.view_index.specs.declared.index.Index.{Index}
+use Rattle.view_index.specs.Index.{both_in, picture_of}
+use Rattle.view_index.specs.Parts.{HasParts}
+use Rattle.view_updater.specs.declared.fault.UpdateFault.{UpdateFault}
+use Rattle.view_updater.specs.declared.fault.UpdateFault.TheVariants as update
+use Rattle.view_updater.specs.Updates.{IsOfIndex}
+use Rattle.gate_file.specs.declared.fault.GateFault.TheVariants as gate
+use Rattle.view_index.specs.declared.fault.IndexFault.TheVariants as index
+use Rattle.view_groups.specs.declared.groups.Groups.{Groups}
+use Rattle.view_groups.specs.Brings.{side, Brings}
+use Rattle.view_groups.specs.Cleans.{IsIndexFile}
+use Rattle.view_groups.specs.Groups.{open_of}
+use Rattle.view_engine.specs.declared.engine.Engine.{Engine}
+use Rattle.view_engine.specs.declared.halt.Halt.{Halt}
+use Rattle.view_engine.specs.declared.halt.Halt.TheVariants.{Refused, Stopped}
+use Rattle.view_engine.specs.declared.halt.StepFault.TheVariants.{NoMemory}
+use Rattle.view_engine.specs.declared.refusal.Refusal.TheVariants.{ServerFault}
+use Rattle.view_engine.specs.declared.request.Request.TheVariants.{View as ViewRequest}
+use Rattle.view_engine.specs.declared.request.ViewName.{ViewName}
+use Rattle.view_engine.specs.Answer.{answer}
+use Rattle.view_engine.specs.Calls.{scene, IsReplyLine, LeavesMoment, Performed, Scene, StandsAt}
+use Rattle.view_engine.specs.Disks.{LiesOpen, Reads}
+use Rattle.view_engine.specs.Halts.{GoesOn}
+use Rattle.view_engine.specs.Moments.{Moment}
+use Rattle.view_engine.specs.Steps.{MayHaveCalled}
+use Rattle.view_engine.specs.ViewPlan.{met_by, IsPlan, IsUpdateFault}
+use Rattle.view_engine.specs.Worlds.{IsAtWorld, IsOpen, StandsAround, StandsEither}
+use Rattle.view_engine.proofs.OnDisk.{documents_reason, read_halted}
+use Rattle.view_engine.proofs.Performing.{none_called}
+use Rattle.view_engine.proofs.Planned.{refused_leaves, shown_leaves, spent_leaves, stopped_leaves}
+use Rattle.view_engine.proofs.Reasons.{view_moved, view_open, view_why}
+use Rattle.view_engine.proofs.ServerFaults.{met_server_fault, unlike_answer}
+use Rattle.view_engine.proofs.Viewing.{does_halted, viewed, Halts}
+use Rattle.view_engine.proofs.Whole.{leaves_none}
+
+-- what is open stays so where no file changes
+pub open_still : (engine : Engine) (x y : Option (Disk FileName)) → Tells x y MovesNone → IfTold x (λ d. IsOpen engine d.now) → IfTold y (λ d. IsOpen engine d.now)
+open_still engine x y moves is_open = told_after x y (λ d. IsOpen engine d.now) (λ d. IsOpen engine d.now) MovesNone (λ a b here none. subst (IsOpen engine) (λ i. λ n. sym (none_same a b none n) i) here) is_open moves
+
+-- after which of its faults the engine may go on
+goes_on_of_none : (met : UpdateFault) (id : List ℕ) → IsUpdateFault met → GoesOn (met_by id met) → IsOfIndex met → ⊥
+goes_on_of_none (update.Index (index.Store gate.DiskFault)) id kind goes is = goes
+goes_on_of_none (update.Index (index.Store (gate.Damaged n at))) id kind goes is = goes
+goes_on_of_none (update.Index (index.Store (gate.Full n length))) id kind goes is = goes
+goes_on_of_none (update.Index (index.Store gate.NoMemory)) id kind goes is = kind.0
+goes_on_of_none (update.Index other) id kind goes is = kind.0
+goes_on_of_none other id kind goes is = is
+
+module _ {F C : Type 0} (f : Folders F) (s : Servers C) (docs : Docs) (pool : Pool) (groups : Groups) (old mid : F) (servers : C) (name : ViewName) (out : List ℕ) where
+  abbrev engine : Engine
+  engine = record { docs = docs; pool = pool; groups = groups }
+
+  -- ---- refused before any server was asked
+  pub refused_first : {T : Type 0} (halt : Halt) → LiesOpen f engine old → halt ≢ Refused ServerFault → Reads f {T = T} docs old mid (Err halt)
+      → ((before : Moment) → StandsAt f s (scene engine old servers) before → LeavesMoment f s (scene engine old servers) (scene engine mid servers) before (Halts f s (scene engine old servers) (scene engine mid servers) name before halt))
+      → Performed f s (scene engine old servers) (scene engine mid servers) (Ok (ViewRequest name None)) out out (Err halt)
+  refused_first halt is_open other reads leaves =
+      viewed f s (scene engine old servers) (scene engine mid servers) name
+      (does_halted f s (scene engine old servers) (scene engine mid servers) name out out halt (λ goes. leaves)
+      (λ step is not before at. (
+        told_given (f.disk old) (f.disk mid) (λ d. IsAtWorld engine d.now before.world) MovesNone (LeavesOnly (StandsAround s.functions s.honest (languages_of pool) before.world (Ok (ViewRequest name None))))
+            (λ a b here none. weaker (StandsEither before.world before.world) (StandsAround s.functions s.honest (languages_of pool) before.world (Ok (ViewRequest name None))) a b (λ image stands. ⊎_elim (λ one. inl one) (λ one. inl one) stands) (leaves_none engine before.world a b none here)) at.documents reads.disk,
+        record {
+          after = before;
+          child = at.child;
+          allowed = told_all (f.disk old) (λ d. MayHaveCalled s.functions s.honest (languages_of pool) before (Ok (ViewRequest name None)) before) (λ d. none_called s.functions s.honest (languages_of pool) before (Ok (ViewRequest name None)));
+        },
+      )))
+      tt refl (λ is. absurd (other (let same : halt ≡ Refused ServerFault = cc in same)))
+      (told_map (f.disk old) (f.disk mid) MovesNone _ (λ a b none. none_wider IsIndexFile (λ image. Unit {0}) (λ files. Unit {0}) a b (λ image is. tt) (λ same. tt) none) reads.disk)
+      (λ goes. open_still engine (f.disk old) (f.disk mid) reads.disk is_open)
+      (documents_reason f engine old mid (Ok (ViewRequest name None)) halt (read_halted f docs old mid (Ok (ViewRequest name None)) halt tt reads.why))
+      (record { languages = refl; width = refl; disk_faults = reads.later; server_faults = omega arith })
+
+  -- ---- over what bringing the index up to date left
+  module _ (pool' : Pool) (groups' : Groups) (new : F) (servers' : C) (id : List ℕ) (design : Design) (place : ℕ) (path : List ℕ)
+      (within : place < length design.views) (path_is : path_in (languages_of pool) design.language ≡ Some path)
+      (read : Tells (f.disk old) (f.disk mid) MovesNone) (earlier : f.faults old ≤ f.faults mid)
+      (plans : (history : List Write) → IfTold (f.disk old) (λ d. AreAt docs d.now history → IsPlan (languages_of pool) history name id design place path))
+      (is_open : LiesOpen f engine old) where
+    abbrev engine' : Engine
+    engine' = record { docs = docs; pool = pool'; groups = groups' }
+
+    abbrev now : Scene F C
+    now = scene engine old servers
+
+    abbrev later : Scene F C
+    later = scene engine' new servers'
+
+    module _ (met : UpdateFault) (kind : IsUpdateFault met) (brings : Brings f s docs design (side mid servers pool groups) (side new servers' pool' groups') (Err met)) where
+      pub refused_then : Performed f s now later (Ok (ViewRequest name None)) out out (Err (met_by id met))
+      refused_then =
+          viewed f s now later name
+          (does_halted f s now later name out out (met_by id met)
+          (λ goes before at. refused_leaves f s docs pool pool' groups groups' old mid new servers servers' name id design place path within path_is read plans met kind brings (goes_on_of_none met id kind goes) before at)
+          (stopped_leaves f s docs pool pool' groups groups' old mid new servers servers' name id design place path within path_is read plans met kind brings))
+          tt refl (λ is. brings.blames (ap Err (met_server_fault id met (let same : met_by id met ≡ Refused ServerFault = cc in same))))
+          (view_moved f s docs pool pool' groups groups' old mid new servers servers' name id design place path read earlier plans is_open (Err met) brings)
+          (λ goes. view_open f s docs pool pool' groups groups' old mid new servers servers' name id design place path read earlier plans is_open (Err met) brings (goes_on_of_none met id kind goes))
+          (view_why f s docs pool pool' groups groups' old mid new servers servers' name id design place path read earlier plans is_open met brings)
+          (record { languages = brings.keeps.languages; width = brings.keeps.width; disk_faults = omega (arith, earlier, brings.later.0); server_faults = brings.later.1 })
+
+    -- the rows of the view are printed, or memory runs out
+    module _ (slot : ℕ) (brings : Brings f s docs design (side mid servers pool groups) (side new servers' pool' groups') (Ok slot)) (index : Index) (there : slice_get (open_of groups') slot ≡ Some index)
+        (printed : List Row) (rows : printed ≡ slice_index_or (picture_of index).rows place []) (parts : AllByRecursion HasParts printed) where
+      same_index : index ≡ brings.place.0
+      same_index = let same : Some index ≡ Some brings.place.0 = sym there ∙ (brings.place.1).there in cc
+
+      abbrev shown : List Row
+      shown = slice_index_or (picture_of brings.place.0).rows place []
+
+      same_rows : printed ≡ shown
+      same_rows = rows ∙ ap (λ (i : Index). slice_index_or (picture_of i).rows place []) same_index
+
+      each : length (picture_of brings.place.0).rows ≡ length design.views
+      each = length-map (both_in brings.place.0) (λ (both : List Row × List Row). both.0) ∙ (brings.place.1).number
+
+      pub shown_then : {out' : List ℕ} (result : Result (Unit {0}) Halt) → OnOk result (out' ≡ out ++ ended (answer printed)) → OnOk result (IsReplyLine (answer printed)) → OnErr result (out' ≡ out) → IfErr result (λ halt. halt ≡ Stopped NoMemory)
+          → Performed f s now later (Ok (ViewRequest name None)) out out' result
+      shown_then {out'} (Ok done) appended line silent memory =
+          viewed f s now later name
+          (λ before at. shown_leaves f s docs pool pool' groups groups' old mid new servers servers' name id design place path within path_is read plans slot brings before at (subst (AllByRecursion HasParts) same_rows parts) each out out'
+          (appended ∙ ap (λ (r : List Row). out ++ ended (answer r)) same_rows))
+          (record { reply = answer printed; line = line; appended = appended; unlike = λ other. unlike_answer printed }) tt (λ is. let clash : ⊥ = cc in absurd clash)
+          (view_moved f s docs pool pool' groups groups' old mid new servers servers' name id design place path read earlier plans is_open (Ok slot) brings)
+          (λ goes. view_open f s docs pool pool' groups groups' old mid new servers servers' name id design place path read earlier plans is_open (Ok slot) brings (λ lost. lost))
+          tt
+          (record { languages = brings.keeps.languages; width = brings.keeps.width; disk_faults = omega (arith, earlier, brings.later.0); server_faults = brings.later.1 })
+      shown_then {out'} (Err halt) appended line silent memory = subst (λ (h : Halt). Performed f s now later (Ok (ViewRequest name None)) out out' (Err h)) (sym memory)
+          (viewed f s now later name
+          (λ before at. let left = spent_leaves f s docs pool pool' groups groups' old mid new servers servers' name id design place path within path_is read plans slot brings before at in
+          does_halted f s now later name out out' (Stopped NoMemory) (λ goes before at. spent_leaves f s docs pool pool' groups groups' old mid new servers servers' name id design place path within path_is read plans slot brings before at)
+          (λ step is other before at. absurd (other (let same : step ≡ NoMemory = cc in same))) before at)
+          tt silent (λ is. let clash : ⊥ = cc in absurd clash)
+          (view_moved f s docs pool pool' groups groups' old mid new servers servers' name id design place path read earlier plans is_open (Ok slot) brings)
+          (λ goes. view_open f s docs pool pool' groups groups' old mid new servers servers' name id design place path read earlier plans is_open (Ok slot) brings (λ lost. lost))
+          (inl tt)
+          (record { languages = brings.keeps.languages; width = brings.keeps.width; disk_faults = omega (arith, earlier, brings.later.0); server_faults = brings.later.1 }))

@@ -1,0 +1,148 @@
+-- Why a view met a fault of a file, and which files it changed.
+use Rattle.std.specs.Prelude.{◌≡◌, ◌⊎◌, ◌≤◌, ℕ, zero, suc, List, length, Option, Some, None, Result, Ok, Err}
+use Rattle.std.proofs.Common.{refl, sym, ap, ◌∙◌, subst, inl, inr, ⊎_elim}
+use Rattle.design_docs.specs.declared.design.Design.{Design}
+use Rattle.design_docs.specs.declared.design.View.{View as DesignView}
+use Rattle.view_ports.specs.Disk.{IfTold, Moves, MovesNone, Tells}
+use Rattle.view_ports.specs.File.{File}
+use Rattle.view_ports.specs.Faults.{Rose}
+use Rattle.view_ports.specs.declared.file_name.FileName.{FileName}
+use Rattle.view_ports.specs.declared.file_name.Stem.TheVariants.{Docs as DocsStem, View}
+use Rattle.view_ports.specs.declared.folder.Folder.{Ghosts as Folders}
+use Rattle.view_ports.specs.declared.servers.Servers.{Ghosts as Servers}
+use Rattle.view_ports.proofs.Counting.{Rose-earlier}
+use Rattle.view_ports.proofs.DiskRuns.{moves_then, moves_wider, none_same, none_wider}
+use Rattle.view_ports.proofs.Told.{told_after, told_back, told_now, told_pair, told_then}
+use Rattle.gate_file.specs.declared.fault.GateFault.TheVariants as gate
+use Rattle.gate_file.specs.GateFile.{name_of}
+use Rattle.child_pool.specs.declared.pool.Pool.{Pool}
+use Rattle.child_pool.specs.declared.pool_fault.PoolFault.TheVariants as fault
+use Rattle.child_pool.specs.Pools.{languages_of}
+use Rattle.doc_file.specs.declared.docs.Docs.{Docs}
+use Rattle.doc_file.specs.Docs.{bytes_in, file_of, is_deleted, IsAt as AreAt, IsDocsFile, IsLoaded, IsOpen as AreDocumentsOpen, IsSpoiled}
+use Rattle.doc_file.specs.History.{Write}
+use Rattle.view_index.specs.declared.fault.IndexFault.TheVariants as index
+use Rattle.view_index.specs.Held.{empty_views, or_empty, IsFileOf}
+use Rattle.view_model.specs.Picture.{Picture}
+use Rattle.view_updater.specs.declared.fault.UpdateFault.{UpdateFault}
+use Rattle.view_updater.specs.declared.fault.UpdateFault.TheVariants as update
+use Rattle.view_updater.specs.Updates.{IsBodyDamaged, IsLost}
+use Rattle.view_signature.specs.Signature.{digest_of}
+use Rattle.view_groups.specs.declared.groups.Groups.{Groups}
+use Rattle.view_groups.specs.Brings.{side, Brings}
+use Rattle.view_groups.specs.Cleans.{IsIndexFile}
+use Rattle.view_groups.specs.Groups.{AreOpen as AreIndexesOpen}
+use Rattle.view_groups.specs.Reached.{picture_for, sig_of, views_in, IsReached}
+use Rattle.view_engine.specs.declared.engine.Engine.{Engine}
+use Rattle.view_engine.specs.declared.request.Request.TheVariants.{View as ViewRequest}
+use Rattle.view_engine.specs.declared.request.ViewName.{ViewName}
+use Rattle.view_engine.specs.Disks.{HasIndexDamage, IfStopped, IsReasonOf, LiesOpen}
+use Rattle.view_engine.specs.Halts.{IsDamage}
+use Rattle.view_engine.specs.Updating.{AreShaped}
+use Rattle.view_engine.specs.View.{design_id}
+use Rattle.view_engine.specs.ViewPlan.{met_by, IsPlan}
+use Rattle.view_engine.specs.World.{World}
+use Rattle.view_engine.specs.Worlds.{IsAtWorld, IsOpen}
+use Rattle.view_engine.proofs.Beside.{open_beside_indexes}
+use Rattle.view_engine.proofs.HaltedAs.{after_damage}
+use Rattle.view_engine.proofs.Bringing.{within_there}
+use Rattle.view_engine.proofs.Updated.{live_is_design}
+
+empty_length : (views : ℕ) → length (empty_views views) ≡ views
+empty_length zero = refl
+empty_length (suc views) = ap suc (empty_length views)
+
+module _ {F C : Type 0} (f : Folders F) (s : Servers C) (docs : Docs) (pool pool' : Pool) (groups groups' : Groups) (old mid new : F) (servers servers' : C) (name : ViewName) (id : List ℕ) (design : Design) (place : ℕ) (path : List ℕ)
+    (read : Tells (f.disk old) (f.disk mid) MovesNone) (earlier : f.faults old ≤ f.faults mid)
+    (plans : (history : List Write) → IfTold (f.disk old) (λ d. AreAt docs d.now history → IsPlan (languages_of pool) history name id design place path))
+    (is_open : LiesOpen f (record { docs = docs; pool = pool; groups = groups }) old) where
+  abbrev engine : Engine
+  engine = record { docs = docs; pool = pool; groups = groups }
+
+  abbrev engine' : Engine
+  engine' = record { docs = docs; pool = pool'; groups = groups' }
+
+  -- what is said of the files after reading is said of them before
+  told_before : (P : (FileName → File) → Type 0) → IfTold (f.disk mid) (λ d. P d.now) → IfTold (f.disk old) (λ d. P d.now)
+  told_before P known = told_back (f.disk old) (f.disk mid) (λ d. P d.now) (λ d. P d.now) MovesNone (λ a b none is. subst P (λ i. λ n. none_same a b none n i) is) read known
+
+  -- ---- which files changed
+
+  module _ (result : Result ℕ UpdateFault) (brings : Brings f s docs design (side mid servers pool groups) (side new servers' pool' groups') result) where
+    pub view_moved : Tells (f.disk old) (f.disk new) (Moves IsIndexFile (λ image. Unit {0}) (λ files. Unit {0}))
+    view_moved =
+        told_then (f.disk old) (f.disk mid) (f.disk new) MovesNone (Moves (IsFileOf (View (sig_of design))) (λ image. Unit {0}) (λ files. IsLost result ⊎ AreIndexesOpen groups' files)) (Moves IsIndexFile (λ image. Unit {0}) (λ files. Unit {0}))
+        (λ a b c none moves. moves_then IsIndexFile (λ image. Unit {0}) (λ image. Unit {0}) (λ image. Unit {0}) (λ files. Unit {0}) (λ files. Unit {0}) (λ files. Unit {0}) a b c (λ image one. tt) (λ one image other. tt) (λ one other. tt)
+        (none_wider IsIndexFile (λ image. Unit {0}) (λ files. Unit {0}) a b (λ image is. tt) (λ same. tt) none)
+        (moves_wider (IsFileOf (View (sig_of design))) IsIndexFile (λ image. Unit {0}) (λ image. Unit {0}) (λ files. IsLost result ⊎ AreIndexesOpen groups' files) (λ files. Unit {0}) b c (λ n is. (sig_of design, is)) (λ image framed. tt) (λ others ended. tt) moves))
+        read brings.others
+
+    -- where no fault of the index came, the engine lies open
+    pub view_open : (IsLost result → ⊥) → LiesOpen f engine' new
+    view_open kept =
+        told_pair (f.disk new) (λ d. AreDocumentsOpen docs d.now) (λ d. AreIndexesOpen groups' d.now) (λ d. IsOpen engine' d.now) (λ d documents indexes. record { documents = documents; indexes = indexes })
+        (told_after (f.disk old) (f.disk new) (λ d. IsOpen engine d.now) (λ d. AreDocumentsOpen docs d.now) (Moves IsIndexFile (λ image. Unit {0}) (λ files. Unit {0}))
+        (λ a b here moves. open_beside_indexes docs a.now b.now (λ n of_docs. moves.others n (λ of_view. let clash : View of_view.0 ≡ DocsStem = sym of_view.1 ∙ of_docs in let no : ⊥ = cc in no)) here.documents) is_open view_moved)
+        (told_after (f.disk mid) (f.disk new) (λ d. Unit {0}) (λ d. AreIndexesOpen groups' d.now) _ (λ a b here moves. ⊎_elim (λ lost. absurd (kept lost)) (λ are. are) moves.ended)
+        (told_after (f.disk old) (f.disk mid) (λ d. IsOpen engine d.now) (λ d. Unit {0}) MovesNone (λ a b here none. tt) is_open read) brings.others)
+
+  -- ---- why it met a fault
+
+  module _ (met : UpdateFault) (brings : Brings f s docs design (side mid servers pool groups) (side new servers' pool' groups') (Err met)) where
+    abbrev Why : Type 0
+    Why = IfStopped (IsReasonOf f engine old new (Ok (ViewRequest name None))) (met_by id met)
+
+    failed : ((met ≡ update.Docs gate.DiskFault) ⊎ (met ≡ update.Index (index.Store gate.DiskFault))) → Rose (f.faults old) (f.faults new)
+    failed is = Rose-earlier (f.faults old) (f.faults mid) (f.faults new) earlier (brings.cause is)
+
+    -- a body
+    module _ (n : FileName) (at : ℕ) (is : met ≡ update.Docs (gate.Damaged n at)) where
+      body_damaged : IfTold (f.disk old) (λ d. IsDamage docs d.now n at)
+      body_damaged =
+          told_pair (f.disk old) (λ d. IsOpen engine d.now) (λ d. IsDocsFile (name_of (file_of docs)) → IsLoaded docs d.now → IsBodyDamaged docs d.now n at) _
+          (λ d here damaged. let there = damaged here.documents.pair.own here.documents.loaded in after_damage docs d.now n there.1 at (there.0, there.2)) is_open
+          (told_before (λ files. IsDocsFile (name_of (file_of docs)) → IsLoaded docs files → IsBodyDamaged docs files n at)
+          (told_now (f.disk mid) _ _ (λ d damaged own loaded. damaged own loaded n at (ap Err is)) brings.body))
+
+      body_never : (world : World) → IfTold (f.disk old) (λ d. AreAt docs d.now world.history → ⊥)
+      body_never world = told_before (λ files. AreAt docs files world.history → ⊥) (told_now (f.disk mid) _ _ (λ d never here. never here n at (ap Err is)) (brings.read world.history))
+
+    -- the index
+    module _ (n : FileName) (at : ℕ) (is : met ≡ update.Index (index.Store (gate.Damaged n at))) where
+      index_damaged : IfTold (f.disk old) (λ d. HasIndexDamage d.now n at)
+      index_damaged = told_before (λ files. HasIndexDamage files n at) (told_now (f.disk mid) _ _ (λ d damaged. let there = damaged n at (ap Err is) in (sig_of design, views_in design, (there.1, there.0))) brings.spoiled)
+
+      shaped_there : (world : World) → IsPlan (languages_of pool) world.history name id design place path → AreShaped world → length (picture_for design world.pictures).rows ≡ views_in design
+      shaped_there world plan shaped = by_picture (world.pictures (sig_of design)) refl
+        where
+          by_picture : (picture : Option Picture) → world.pictures (sig_of design) ≡ picture → length (or_empty (views_in design) picture).rows ≡ views_in design
+          by_picture None there = empty_length (views_in design)
+          by_picture (Some picture) there =
+              shaped (sig_of design) picture plan.document there (live_is_design world.history (design_id name.design) plan.document refl plan.live) (sym (ap digest_of plan.term))
+              ∙ ap (λ (views : List DesignView). length views) (sym plan.views)
+
+      index_never : (world : World) → IfTold (f.disk old) (λ d. IsAtWorld engine d.now world → AreShaped world → ⊥)
+      index_never world =
+          told_pair (f.disk old) (λ d. AreAt docs d.now world.history → IsPlan (languages_of pool) world.history name id design place path) (λ d. IsReached docs groups design world.history world.pictures d.now → length (picture_for design world.pictures).rows ≡ views_in design → ⊥) _
+          (λ d plan never here shaped. never (record { documents = here.documents; indexes = here.indexes; within = within_there engine d.now world design here }) (shaped_there world (plan here.documents) shaped)) (plans world.history)
+          (told_before (λ files. IsReached docs groups design world.history world.pictures files → length (picture_for design world.pictures).rows ≡ views_in design → ⊥)
+          (told_now (f.disk mid) _ _ (λ d never reached shaped. (never reached shaped n at).1 (ap Err is)) (brings.sound world.history world.pictures)))
+
+  -- by the kind of the fault
+  pub view_why : (met : UpdateFault) → Brings f s docs design (side mid servers pool groups) (side new servers' pool' groups') (Err met) → IfStopped (IsReasonOf f engine old new (Ok (ViewRequest name None))) (met_by id met)
+  view_why (update.Pool fault.ServerFault) brings = tt
+  view_why (update.Pool (fault.BadReply line)) brings = tt
+  view_why (update.Pool fault.Compile) brings = tt
+  view_why (update.Pool fault.NoMemory) brings = inl tt
+  view_why (update.Pool fault.UnknownLanguage) brings = inl tt
+  view_why update.NoMemory brings = inl tt
+  view_why (update.Docs gate.DiskFault) brings = inl (failed (update.Docs gate.DiskFault) brings (inl refl), tt)
+  view_why (update.Docs (gate.Damaged n at)) brings = inl (tt, (body_damaged (update.Docs (gate.Damaged n at)) brings n at refl, body_never (update.Docs (gate.Damaged n at)) brings n at refl))
+  view_why (update.Docs (gate.Full n length)) brings = absurd brings.file
+  view_why (update.Docs gate.NoMemory) brings = absurd brings.file
+  view_why (update.Index (index.Store gate.DiskFault)) brings = inl (failed (update.Index (index.Store gate.DiskFault)) brings (inr refl), tt)
+  view_why (update.Index (index.Store (gate.Damaged n at))) brings =
+      inr (tt, index_damaged (update.Index (index.Store (gate.Damaged n at))) brings n at refl, index_never (update.Index (index.Store (gate.Damaged n at))) brings n at refl)
+  view_why (update.Index (index.Store (gate.Full n length))) brings = inr (tt, (sig_of design, brings.full n length refl))
+  view_why (update.Index (index.Store gate.NoMemory)) brings = absurd brings.file
+  view_why (update.Index other) brings = absurd brings.file

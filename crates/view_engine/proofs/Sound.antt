@@ -1,0 +1,150 @@
+-- The pictures of a world stay true over what requests make of it.
+use Rattle.std.specs.Prelude.{true, bytes_eq, option_and_then, Contains, if◌then◌else◌}
+use Rattle.std.proofs.Common.{◌≡◌, ℕ, List, [], ◌∷◌, Bool, Option, Some, None, Result, Ok, Err, inl, inr, refl, sym, ap, ◌∙◌, subst}
+use Rattle.std.proofs.lemmas.Bool.{cases_Bool}
+use Rattle.std.proofs.lemmas.List.Elements.{Contains-append_left, Contains-append_right, Contains-push}
+use Rattle.json_terms.specs.Json.{Json, members_of, object}
+use Rattle.design_docs.specs.Design.{language_of, views_of}
+use Rattle.design_docs.specs.Documents.{is_design_id}
+use Rattle.view_ports.specs.Exchanges.{Exchange}
+use Rattle.view_ports.specs.Functions.{Functions}
+use Rattle.child_pool.specs.Languages.{path_in}
+use Rattle.doc_file.specs.History.{Write, last_write, live_document}
+use Rattle.doc_file.proofs.Histories.{last_write-id}
+use Rattle.view_model.specs.Standing.{AreSigned, IsDesignIn, PicturesStand}
+use Rattle.view_model.proofs.Designs.{digests_tell_designs}
+use Rattle.view_model.proofs.Standing.{updates_keep_pictures, writes_keep_pictures}
+use Rattle.view_signature.specs.Signature.{digest_of, signature_of}
+use Rattle.view_engine.specs.declared.refusal.Refusal.{Refusal}
+use Rattle.view_engine.specs.declared.request.Request.{Request}
+use Rattle.view_engine.specs.declared.request.Request.TheVariants.{Delete, Get, Info, Put, View}
+use Rattle.view_engine.specs.declared.request.ViewName.{ViewName}
+use Rattle.view_engine.specs.Delete.{delete_write}
+use Rattle.view_engine.specs.Moments.{Moment}
+use Rattle.view_engine.specs.Put.{put_write}
+use Rattle.view_engine.specs.Refusals.{request_of}
+use Rattle.view_engine.specs.Steps.{Answers, Does, DoesRequest, Makes, MayHaveCalled, Performs}
+use Rattle.view_engine.specs.Updating.{AreFit, AreShaped, IsBrought, IsSound}
+use Rattle.view_engine.specs.View.{design_id, DoesView}
+use Rattle.view_engine.specs.World.{World, written}
+
+-- ---- designs
+
+still_stored : (write : Write) (history : List Write) (document : Json) → IsDesignIn history document → IsDesignIn (write ∷ history) document
+still_stored write history document is = record { id = is.id; design = is.design; stored = Contains-append_right (write ∷ []) history (record { id = is.id; document = Some document }) is.stored }
+
+-- the designs of a history that goes on are fit only where those before are
+pub fit_before : (write : Write) (history : List Write) → AreFit (write ∷ history) → AreFit history
+fit_before write history fit = record {
+  apart = λ one other is also. fit.apart one other (still_stored write history one is) (still_stored write history other also);
+  unreduced = λ document is. fit.unreduced document (still_stored write history document is);
+}
+
+-- designs that are fit are the same to views where their signatures are
+pub fit_signed : (languages : List (List ℕ × List ℕ)) (history : List Write) → AreFit history → AreSigned signature_of (λ document. path_in languages (language_of document)) views_of history
+fit_signed languages history fit = digests_tell_designs digest_of (path_in languages) history fit.apart
+
+-- a last write is one of the history
+last_stored : (history : List Write) (id : List ℕ) (write : Write) → last_write history id ≡ Some write → Contains history write
+last_stored [] id write is = absurd (let clash : None ≡ Some write = is in cc)
+last_stored (newest ∷ older) id write is = elim (cases_Bool (bytes_eq id newest.id)) [
+  | inl here ↦ (let same : Some newest ≡ Some write = sym (ap (λ (b : Bool). if b then Some newest else last_write older id) here) ∙ is in
+      let one : newest ≡ write = cc in
+      subst (Contains (newest ∷ older)) one (Contains-append_left (newest ∷ []) older newest (Contains-push [] newest)))
+  | inr there ↦ Contains-append_right (newest ∷ []) older write (last_stored older id write (sym (ap (λ (b : Bool). if b then Some newest else last_write older id) there) ∙ is))
+]
+
+-- a live document is one of the history's, under its id
+live_stored : (history : List Write) (id : List ℕ) (document : Json) → live_document history id ≡ Some document → Contains history (record { id = id; document = Some document })
+live_stored history id document live = by_last (last_write history id) refl live
+  where
+    by_write : (write : Write) (stored : Option Json) → write.document ≡ stored → last_write history id ≡ Some write → stored ≡ Some document → Contains history (record { id = id; document = Some document })
+    by_write write stored has is same =
+        let named : write.id ≡ id = last_write-id history id write is in
+        let whole : write ≡ record { id = id; document = Some document } = λ i. record { id = named i; document = (has ∙ same) i } in
+        subst (Contains history) whole (last_stored history id write is)
+
+    by_last : (last : Option Write) → last_write history id ≡ last → live_document history id ≡ Some document → Contains history (record { id = id; document = Some document })
+    by_last None is live = absurd (let clash : None ≡ Some document = sym (ap (λ (o : Option Write). option_and_then (λ (w : Write). w.document) o) is) ∙ live in cc)
+    by_last (Some write) is live = by_write write write.document refl is (sym (ap (λ (o : Option Write). option_and_then (λ (w : Write). w.document) o) is) ∙ live)
+
+-- the id of a design document is one
+named_design : (name : List ℕ) → is_design_id (design_id name) ≡ true
+named_design name = refl
+
+-- the live document of a design's name is a design of the history
+pub live_is_design : (history : List Write) (name : List ℕ) (design : Json) → live_document history (design_id name) ≡ Some design → IsDesignIn history design
+live_is_design history name design live = record { id = design_id name; design = named_design name; stored = live_stored history (design_id name) design live }
+
+-- ---- worlds
+
+module _ (functions : List ℕ → Functions) (honest : List ℕ → Type 0) (languages : List (List ℕ × List ℕ)) where
+  abbrev Sound : World → Type 0
+  Sound = IsSound functions honest languages
+
+  -- the pictures have the shape of their designs
+  pub sound_shaped : (world : World) → Sound world → AreFit world.history → AreShaped world
+  sound_shaped world sound fit = λ sig picture document has is same. ((sound fit).shaped sig picture document has is same).each_view
+
+  pub written_sound : (world : World) (write : Write) → Sound world → Sound (written world write)
+  written_sound world write sound = λ fit.
+      writes_keep_pictures signature_of (λ document. path_in languages (language_of document)) views_of functions honest world.history write world.pictures
+      (fit_signed languages (write ∷ world.history) fit) (sound (fit_before write world.history fit))
+
+  pub brought_sound : (design : Json) (path : List ℕ) (before after : World) → IsDesignIn before.history design → path_in languages (language_of design) ≡ Some path
+      → IsBrought functions honest languages design path before after → Sound before → Sound after
+  brought_sound design path before after is leads brought sound = λ fit.
+      let was : AreFit before.history = subst AreFit brought.history fit in
+      subst (λ (h : List Write). PicturesStand signature_of (λ document. path_in languages (language_of document)) views_of functions honest h after.pictures) (sym brought.history)
+      (updates_keep_pictures signature_of (λ document. path_in languages (language_of document)) views_of functions honest before.history design path brought.next before.pictures after.pictures
+      (fit_signed languages before.history was) (sound was) is leads brought.updated (λ does. brought.answerable does sound was) brought.set)
+
+  -- what a request makes of a world is sound where that is
+  pub made_sound : (world : World) (request : Result Request Refusal) (made : World) → Makes functions honest languages world request made → Sound world → Sound made
+  made_sound world (Ok (View name None)) made makes sound = brought_sound makes.0 makes.1 world made (live_is_design world.history name.design makes.0 makes.2) makes.3 makes.4 sound
+  made_sound world (Ok (View name (Some query))) made makes sound = absurd makes.1
+  made_sound world (Ok (Put document)) made makes sound = subst Sound (sym makes.2) (written_sound world makes.0 sound)
+  made_sound world (Ok (Delete id given)) made makes sound = subst Sound (sym makes.2) (written_sound world makes.0 sound)
+  made_sound world (Ok other) made makes sound = absurd makes.1
+  made_sound world (Err refusal) made makes sound = absurd makes.1
+
+  same_sound : (before after : Moment) → after ≡ before → Sound before.world → Sound after.world
+  same_sound before after same = subst (λ (m : Moment). Sound m.world) (sym same)
+
+  view_sound : (before : Moment) (name : ViewName) (reply : List ℕ) (after : Moment) → DoesView functions honest languages before name reply after → Sound before.world → Sound after.world
+  view_sound before name reply after does sound = elim does.called.holds [
+    | inl answered ↦ brought_sound does.design does.job.path before.world after.world (live_is_design (before.world).history name.design does.design does.is_job.live) does.is_job.path_is answered.brought sound
+    | inr refused ↦ subst Sound (sym refused.same) sound
+  ]
+
+  performs_sound : (before : Moment) (request : Request) (reply : List ℕ) (after : Moment) → Performs functions honest languages before request reply after → Sound before.world → Sound after.world
+  performs_sound before (Put document) reply after does sound =
+      subst (λ (m : Moment). Sound m.world) (sym does.2) (subst Sound (sym (does.1).wrote) (written_sound before.world (put_write before.world (object (members_of document))) sound))
+  performs_sound before (Delete id given) reply after does sound =
+      subst (λ (m : Moment). Sound m.world) (sym does.2) (subst Sound (sym (does.1).wrote) (written_sound before.world (delete_write before.world id) sound))
+  performs_sound before (Get id) reply after does sound = same_sound before after does.1 sound
+  performs_sound before Info reply after does sound = same_sound before after does.1 sound
+  performs_sound before (View name None) reply after does sound = view_sound before name reply after does sound
+  performs_sound before other reply after does sound = absurd does
+
+  request_sound : (before : Moment) (request : Result Request Refusal) (reply : List ℕ) (after : Moment) → DoesRequest functions honest languages before request reply after → Sound before.world → Sound after.world
+  request_sound before (Ok request) reply after (inl does) sound = performs_sound before request reply after does sound
+  request_sound before (Ok request) reply after (inr refused) sound = same_sound before after (refused.2).1 sound
+  request_sound before (Err refusal) reply after does sound = same_sound before after does.1 sound
+
+  does_sound : (before : Moment) (line text : List ℕ) (after : Moment) → Does functions honest languages before line text after → Sound before.world → Sound after.world
+  does_sound before [] text after does sound = same_sound before after does.1 sound
+  does_sound before (byte ∷ bytes) text after does sound = request_sound before (request_of (byte ∷ bytes)) does.0 after does.1 sound
+
+  called_sound : (before : Moment) (request : Result Request Refusal) (after : Moment) → MayHaveCalled functions honest languages before request after → Sound before.world → Sound after.world
+  called_sound before (Ok (View name None)) after (inl same) sound = same_sound before after same sound
+  called_sound before (Ok (View name None)) after (inr asked) sound = elim (asked.1).world [
+    | inl same ↦ subst Sound (sym same) sound
+    | inr brought ↦ brought_sound (asked.1).design (asked.1).job.path before.world after.world (live_is_design (before.world).history name.design (asked.1).design (asked.1).is_job.live) (asked.1).is_job.path_is brought sound
+  ]
+  called_sound before other after same sound = same_sound before after same sound
+
+  -- and so is the world after a step of a run
+  pub answers_sound : (before : Moment) (e : Exchange) (after : Moment) → Answers functions honest languages before e after → Sound before.world → Sound after.world
+  answers_sound before e after (inl does) sound = does_sound before e.line e.text after does sound
+  answers_sound before e after (inr gave_up) sound = called_sound before (request_of e.line) after gave_up.2 sound

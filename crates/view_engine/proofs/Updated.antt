@@ -1,0 +1,146 @@
+-- What an update of a design's picture is to a world whose pictures stand.
+use Rattle.std.specs.Prelude.{◌≡◌, ◌≢◌, ◌<◌, ◌&&◌, ◌||◌, ℕ, zero, suc, List, [], ◌∷◌, Bool, true, false, if◌then◌else◌, Option, Some, None, option_and_then, bytes_eq, length, slice_index_or, Contains}
+use Rattle.std.proofs.Common.{refl, sym, ap, ◌∙◌, subst, inl, inr, arith}
+use Rattle.std.proofs.lemmas.List.Elements.{Contains-append_right}
+use Rattle.std.proofs.lemmas.Slice.Eq.{bytes_eq-Decides}
+use Rattle.json_terms.specs.Json.{Json}
+use Rattle.json_terms.specs.declared.term.Row.{Row}
+use Rattle.view_ports.specs.Functions.{Functions}
+use Rattle.design_docs.specs.declared.design.Reduce.{Reduce}
+use Rattle.design_docs.specs.declared.design.Reduce.TheVariants.{Absent, Source}
+use Rattle.design_docs.specs.declared.design.View.{View}
+use Rattle.design_docs.specs.Design.{language_of, map_sources, views_of}
+use Rattle.design_docs.specs.Documents.{is_design_id}
+use Rattle.child_pool.specs.Jobs.{IsAmong}
+use Rattle.child_pool.specs.Honesty.{SomeSourceFails}
+use Rattle.child_pool.specs.Languages.{path_in}
+use Rattle.child_pool.specs.Sessions.{AllCompile}
+use Rattle.doc_file.specs.History.{Write, last_write, live_document, mapped_after}
+use Rattle.view_model.specs.Picture.{Picture, IsTrueOf, picture_or_none}
+use Rattle.view_model.specs.Rows.{has_some, maps_compile, reduce_fails, rows_of, some_reduce_fails, spoiled, view_rows}
+use Rattle.view_model.specs.Standing.{IsDesignIn}
+use Rattle.view_model.specs.Update.{IsUpdated}
+use Rattle.view_model.proofs.Pictures.{is_spoiled_as_met, is_spoiled_by_mapped, no_picture_is_true}
+use Rattle.view_model.proofs.Updates.{updates_are_afresh}
+use Rattle.view_signature.specs.Signature.{signature_of}
+use Rattle.view_engine.specs.Put.{has_reduce, is_reduced}
+use Rattle.view_engine.specs.Updating.{picture_in, AreFit, IsSound}
+use Rattle.view_engine.specs.ViewPlan.{source_at}
+use Rattle.view_engine.specs.World.{World}
+
+-- ---- a live design document was stored
+
+last_is_stored : (history : List Write) (id : List ℕ) (write : Write) → last_write history id ≡ Some write → Contains history write × (write.id ≡ id)
+last_is_stored [] id write is = let clash : ⊥ = cc in absurd clash
+last_is_stored (first ∷ older) id write is =
+    elim (bytes_eq id first.id) as (λ b. bytes_eq id first.id ≡ b → (if b then Some first else last_write older id) ≡ Some write → Contains (first ∷ older) write × (write.id ≡ id)) [
+      | true ↦ λ same found.
+          let this : first ≡ write = cc in
+          ((0, omega arith, this), ap (λ (w : Write). w.id) (sym this) ∙ sym ((bytes_eq-Decides id first.id).0 same))
+      | false ↦ λ differs found.
+          let rest = last_is_stored older id write found in
+          (Contains-append_right (first ∷ []) older write rest.0, rest.1)
+    ] refl is
+
+live_is_stored : (history : List Write) (id : List ℕ) (document : Json) (last : Option Write) → last_write history id ≡ last → option_and_then (λ w. w.document) last ≡ Some document
+    → Contains history (record { id = id; document = Some document })
+live_is_stored history id document None is live = let clash : ⊥ = cc in absurd clash
+live_is_stored history id document (Some write) is live =
+    let stored = last_is_stored history id write is in
+    subst (Contains history) (λ i. record { id = stored.1 i; document = live i }) stored.0
+
+-- a design document that is live is one of the history
+pub live_is_design : (history : List Write) (id : List ℕ) (document : Json) → is_design_id id ≡ true → live_document history id ≡ Some document → IsDesignIn history document
+live_is_design history id document is live = record { id = id; design = is; stored = live_is_stored history id document (last_write history id) refl live }
+
+-- ---- sources that compile
+
+all_compile : (functions : Functions) (views : List View) → AllCompile functions (map_sources views) → maps_compile functions views ≡ true
+all_compile functions [] compile = refl
+all_compile functions (view ∷ views) compile = ap (λ (b : Bool). b && maps_compile functions views) compile.0 ∙ all_compile functions views compile.1
+
+and_false : (a b : Bool) → b ≡ false → (a && b) ≡ false
+and_false true b is = is
+and_false false b is = refl
+
+some_fails : (functions : Functions) (views : List View) (source : List ℕ) → IsAmong (map_sources views) source → functions.compiles source ≡ false → maps_compile functions views ≡ false
+some_fails functions [] source among fails = absurd among
+some_fails functions (view ∷ views) source (inl this) fails = ap (λ (b : Bool). b && maps_compile functions views) (ap functions.compiles (sym this) ∙ fails)
+some_fails functions (view ∷ views) source (inr later) fails = and_false (functions.compiles view.map) (maps_compile functions views) (some_fails functions views source later fails)
+
+or_none : (a b : Bool) → (a || b) ≡ false → (a ≡ false) × (b ≡ false)
+or_none true b none = let clash : ⊥ = cc in absurd clash
+or_none false b none = (refl, none)
+
+no_reduce_fails : (functions : Functions) (reduce : Reduce) (rows : List Row) → is_reduced reduce ≡ false → reduce_fails functions reduce rows ≡ false
+no_reduce_fails functions Absent rows none = refl
+no_reduce_fails functions (Source source) rows none = let clash : ⊥ = cc in absurd clash
+no_reduce_fails functions other rows none = refl
+
+none_fails : (functions : Functions) (views : List View) (rows : List (List Row)) → has_reduce views ≡ false → some_reduce_fails functions views rows ≡ false
+none_fails functions [] rows none = refl
+none_fails functions (view ∷ views) [] none = refl
+none_fails functions (view ∷ views) (own ∷ rows) none =
+    let both = or_none (is_reduced view.reduce) (has_reduce views) none in
+    ap (λ (b : Bool). b || some_reduce_fails functions views rows) (no_reduce_fails functions view.reduce own both.0) ∙ none_fails functions views rows both.1
+
+-- ---- the rows of a view in its place
+
+pub rows_at_place : (functions : Functions) (views : List View) (history : List Write) (place : ℕ) → place < length views
+    → slice_index_or (rows_of functions views history) place [] ≡ view_rows functions (source_at views place) history
+rows_at_place functions [] history place within = absurd (omega arith)
+rows_at_place functions (view ∷ views) history zero within = refl
+rows_at_place functions (view ∷ views) history (suc place) within = rows_at_place functions views history place (omega arith)
+
+-- ---- an update of a live design, where the pictures stand
+
+module _ (functions : List ℕ → Functions) (honest : List ℕ → Type 0) (languages : List (List ℕ × List ℕ)) (world : World) (id : List ℕ) (document : Json) (path : List ℕ)
+    (is_design : is_design_id id ≡ true) (live : live_document world.history id ≡ Some document) (known : path_in languages (language_of document) ≡ Some path)
+    (is_honest : honest path) (sound : IsSound functions honest languages world) (fit : AreFit world.history) where
+  abbrev own : Functions
+  own = functions path
+
+  abbrev views : List View
+  views = views_of document
+
+  stored : IsDesignIn world.history document
+  stored = live_is_design world.history id document is_design live
+
+  -- its picture is true
+  pub true_before : IsTrueOf own views world.history (picture_in world document)
+  true_before = by_picture (world.pictures (signature_of document)) refl
+    where
+      by_picture : (picture : Option Picture) → world.pictures (signature_of document) ≡ picture → IsTrueOf own views world.history (picture_or_none views picture)
+      by_picture None is = no_picture_is_true own views world.history
+      by_picture (Some picture) is = (sound fit).are_true (signature_of document) picture document path is stored refl known is_honest
+
+  abbrev mapped_now : List (List ℕ × Json)
+  mapped_now = mapped_after (picture_in world document).seq world.history
+
+  module _ (next : Picture) (updated : IsUpdated own (honest path) views world.history (picture_in world document) next) where
+    -- the rows are those that mapping all documents afresh gives
+    pub rows_are_afresh : next.rows ≡ rows_of own views world.history
+    rows_are_afresh = updates_are_afresh own (honest path) views world.history (picture_in world document) next true_before is_honest updated
+
+    -- and they can be answered, where all sources compile once a document is mapped
+    pub can_be_answered : (mapped_now ≢ [] → AllCompile own (map_sources views)) → spoiled own views world.history ≡ false
+    can_be_answered compile = is_spoiled_as_met own (honest path) views world.history (picture_in world document) next true_before is_honest updated ∙ by_documents mapped_now refl
+      where
+        by_documents : (documents : List (List ℕ × Json)) → mapped_now ≡ documents → (if maps_compile own views then some_reduce_fails own views next.rows else has_some documents) ≡ false
+        by_documents [] none =
+            elim (maps_compile own views) as (λ b. (if b then some_reduce_fails own views next.rows else false) ≡ false) [
+              | true ↦ none_fails own views next.rows (fit.unreduced document stored)
+              | false ↦ refl
+            ]
+        by_documents (first ∷ others) some =
+            let all = all_compile own views (compile (λ none. let clash : first ∷ others ≡ [] = sym some ∙ none in let no : ⊥ = cc in no)) in
+            ap (λ (b : Bool). if b then some_reduce_fails own views next.rows else true) all ∙ none_fails own views next.rows (fit.unreduced document stored)
+
+  -- where a source fails that is met, they can't be
+  pub are_spoiled : SomeSourceFails own (map_sources views) → mapped_now ≢ [] → spoiled own views world.history ≡ true
+  are_spoiled fails some =
+      is_spoiled_by_mapped own views world.history (picture_in world document) true_before (some_fails own views fails.source fails.among fails.fails) ∙ by_documents mapped_now refl
+    where
+      by_documents : (documents : List (List ℕ × Json)) → mapped_now ≡ documents → has_some documents ≡ true
+      by_documents [] none = absurd (some none)
+      by_documents (first ∷ others) is = refl

@@ -1,0 +1,45 @@
+-- What bringing the index of a design up to date makes of a world, and which pictures of a world must be true.
+use Rattle.std.specs.Prelude.{◌≡◌, ℕ, List, length, false, Some}
+use Rattle.json_terms.specs.Json.{Json}
+use Rattle.design_docs.specs.Design.{design_term, language_of, views_of}
+use Rattle.view_ports.specs.Functions.{Functions}
+use Rattle.child_pool.specs.Languages.{path_in}
+use Rattle.doc_file.specs.History.{Write}
+use Rattle.view_model.specs.Picture.{Picture, picture_or_none}
+use Rattle.view_model.specs.Rows.{spoiled}
+use Rattle.view_model.specs.Standing.{AreSetAt, IsDesignIn, PicturesStand}
+use Rattle.view_model.specs.Update.{IsUpdated}
+use Rattle.view_signature.specs.Signature.{signature_of}
+use Rattle.view_engine.specs.Put.{has_reduce}
+use Rattle.view_engine.specs.World.{World}
+
+-- the picture of a design, where none counts as one of no write, without rows
+abbrev pub picture_in : World → Json → Picture
+picture_in world design = picture_or_none (views_of design) (world.pictures (signature_of design))
+
+-- what is supposed of the designs of a history: those that differ in their language or their views have different signatures, and
+-- none has a reduce
+pub record AreFit (history : List Write) : Type 0 where
+  pub apart : (one other : Json) → IsDesignIn history one → IsDesignIn history other → signature_of one ≡ signature_of other → design_term one ≡ design_term other
+  pub unreduced : (document : Json) → IsDesignIn history document → has_reduce (views_of document) ≡ false
+
+-- the picture of each design has the rows of as many views
+abbrev pub AreShaped : World → Type 0
+AreShaped world = (sig : List ℕ) (picture : Picture) (document : Json) → world.pictures sig ≡ Some picture → IsDesignIn world.history document → signature_of document ≡ sig
+    → length picture.rows ≡ length (views_of document)
+
+module _ (functions : List ℕ → Functions) (honest : List ℕ → Type 0) (languages : List (List ℕ × List ℕ)) where
+  -- Where the designs are fit, each picture of the world is that of a design which was stored by its sequence, none is newer than the
+  -- history, and it is true where the path of such a design is honest.
+  abbrev pub IsSound : World → Type 0
+  IsSound world =
+      AreFit world.history → PicturesStand signature_of (λ document. path_in languages (language_of document)) views_of functions honest world.history world.pictures
+
+  -- a world with the next picture of a design, which is of its whole history, and else as it was; on an honest path it is one that
+  -- can be answered
+  pub record IsBrought (design : Json) (path : List ℕ) (before after : World) : Type 0 where
+    pub next : Picture
+    pub updated : IsUpdated (functions path) (honest path) (views_of design) before.history (picture_in before design) next
+    pub history : after.history ≡ before.history
+    pub set : AreSetAt (signature_of design) (Some next) before.pictures after.pictures
+    pub answerable : honest path → IsSound before → AreFit before.history → spoiled (functions path) (views_of design) before.history ≡ false
