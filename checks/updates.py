@@ -38,6 +38,29 @@ def server():
     return language, source, path
 
 
+# A server that takes its time over each document, whose map function is the one above.
+SLOW = """#!%s
+import json, sys, time
+for line in sys.stdin:
+    command = json.loads(line)
+    if command[0] == "map_doc":
+        with open(%r, "a") as log:
+            log.write(line)
+        time.sleep(0.003)
+        print(json.dumps([[[command[1]["n"] %% 10, command[1]["n"]]]]), flush=True)
+    else:
+        print("true", flush=True)
+"""
+
+
+def slow_server():
+    path = os.path.abspath("slow.py")
+    with open(path, "w") as script:
+        script.write(SLOW % (sys.executable, LOG))
+    os.chmod(path, 0o755)
+    return path
+
+
 LANGUAGE, SOURCE, PATH = server()
 WORDS = [PROGRAM, "serve", "%s=%s" % (LANGUAGE, PATH)]
 VIEW = '{"view":["d","v"]}'
@@ -93,6 +116,7 @@ def counts():
 
 def kills():
     """Kills the program in the midst of updates. Each time there are new documents, and the next run finds all rows."""
+    WORDS[2] = "%s=%s" % (LANGUAGE, slow_server())
     chance = random.Random(20261128)
     documents = {}
     design = {"_id": "_design/d", "language": LANGUAGE, "views": {"v": {"map": SOURCE}}}
@@ -104,7 +128,7 @@ def kills():
         documents.update(fresh)
         mapped()
         began = time.monotonic()
-        child = subprocess.Popen(WORDS, stdin=subprocess.PIPE, stdout=subprocess.PIPE, start_new_session=True)
+        child = subprocess.Popen(WORDS, stdin=subprocess.PIPE, stdout=subprocess.PIPE, stderr=subprocess.DEVNULL)
         child.stdin.write((VIEW + "\n").encode())
         child.stdin.flush()
         if kill == 0:
@@ -119,6 +143,7 @@ def kills():
         want("the view behind kill %d" % kill, run([VIEW]), [rows_of(documents)])
         info = json.loads(run(['{"info":true}'])[0])
         want("the documents behind kill %d" % kill, info["doc_count"], len(documents) + 1)
+    want("whether any kill was in the midst of an update", midst > 0, True)
     print("updates: %d kills, %d of them in the midst of an update" % (KILLS, midst))
 
 
