@@ -28,10 +28,10 @@ module _ (functions : List ℕ → Functions) (honest : List ℕ → Type 0) (la
   abbrev pub GoesSoundly : World → World → Type 0
   GoesSoundly a b = GoesOnFrom a b × (Sound a → Sound b)
 
-  pub soundly_same : (world : World) → GoesSoundly world world
+  soundly_same : (world : World) → GoesSoundly world world
   soundly_same world = (same_world world, λ sound. sound)
 
-  pub soundly_on : (a b c : World) → GoesSoundly a b → GoesSoundly b c → GoesSoundly a c
+  soundly_on : (a b c : World) → GoesSoundly a b → GoesSoundly b c → GoesSoundly a c
   soundly_on a b c first second = (goes_on a b c first.0 second.0, λ sound. second.1 (first.1 sound))
 
   since_later : (opening world world' : World) (image : FileName → List ℕ) → GoesOnFrom world world' → Since opening world image → Since opening world' image

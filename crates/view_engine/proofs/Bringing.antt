@@ -183,6 +183,7 @@ module _ {F C : Type 0} (f : Folders F) (s : Servers C) (docs : Docs) (pool pool
             (
               plan.document,
               path,
+              plan.accepted,
               plan.live,
               plan.path_is,
               is_brought s.functions s.honest (languages_of pool) before name id design place path within (documents_since seq world.history) next.0 after known (next_is next.0 after (documents_since seq world.history) is_next refl refl (λ sig. refl)),

@@ -29,7 +29,7 @@ use Rattle.gate_file.specs.declared.fault.GateFault.TheVariants as gate
 use Rattle.view_index.specs.declared.fault.IndexFault.TheVariants as index
 use Rattle.view_groups.specs.declared.groups.Groups.{Groups}
 use Rattle.view_groups.specs.Brings.{side, Brings}
-use Rattle.view_groups.specs.Cleans.{IsIndexFile}
+use Rattle.view_groups.specs.Reached.{sig_of}
 use Rattle.view_groups.specs.Groups.{open_of}
 use Rattle.view_engine.specs.declared.engine.Engine.{Engine}
 use Rattle.view_engine.specs.declared.halt.Halt.{Halt}
@@ -52,7 +52,7 @@ use Rattle.view_engine.proofs.Planned.{refused_leaves, shown_leaves, spent_leave
 use Rattle.view_engine.proofs.Reasons.{view_moved, view_open, view_why}
 use Rattle.view_engine.proofs.ServerFaults.{met_server_fault, unlike_answer}
 use Rattle.view_engine.proofs.Viewing.{does_halted, viewed, Halts}
-use Rattle.view_engine.proofs.Whole.{leaves_none}
+use Rattle.view_engine.proofs.Whole.{leaves_none, moves_no_index}
 
 -- what is open stays so where no file changes
 pub open_still : (engine : Engine) (x y : Option (Disk FileName)) → Tells x y MovesNone → IfTold x (λ d. IsOpen engine d.now) → IfTold y (λ d. IsOpen engine d.now)
@@ -88,7 +88,7 @@ module _ {F C : Type 0} (f : Folders F) (s : Servers C) (docs : Docs) (pool : Po
         },
       )))
       tt refl (λ is. absurd (other (let same : halt ≡ Refused ServerFault = cc in same)))
-      (told_map (f.disk old) (f.disk mid) MovesNone _ (λ a b none. none_wider IsIndexFile (λ image. Unit {0}) (λ files. Unit {0}) a b (λ image is. tt) (λ same. tt) none) reads.disk)
+      (moves_no_index f old mid reads.disk)
       (λ goes. open_still engine (f.disk old) (f.disk mid) reads.disk is_open)
       (documents_reason f engine old mid (Ok (ViewRequest name None)) halt (read_halted f docs old mid (Ok (ViewRequest name None)) halt tt reads.why))
       (record { languages = refl; width = refl; disk_faults = reads.later; server_faults = omega arith })
@@ -116,7 +116,7 @@ module _ {F C : Type 0} (f : Folders F) (s : Servers C) (docs : Docs) (pool : Po
           (λ goes before at. refused_leaves f s docs pool pool' groups groups' old mid new servers servers' name id design place path within path_is read plans met kind brings (goes_on_of_none met id kind goes) before at)
           (stopped_leaves f s docs pool pool' groups groups' old mid new servers servers' name id design place path within path_is read plans met kind brings))
           tt refl (λ is. brings.blames (ap Err (met_server_fault id met (let same : met_by id met ≡ Refused ServerFault = cc in same))))
-          (view_moved f s docs pool pool' groups groups' old mid new servers servers' name id design place path read earlier plans is_open (Err met) brings)
+          (sig_of design, view_moved f s docs pool pool' groups groups' old mid new servers servers' name id design place path read earlier plans is_open (Err met) brings)
           (λ goes. view_open f s docs pool pool' groups groups' old mid new servers servers' name id design place path read earlier plans is_open (Err met) brings (goes_on_of_none met id kind goes))
           (view_why f s docs pool pool' groups groups' old mid new servers servers' name id design place path read earlier plans is_open met brings)
           (record { languages = brings.keeps.languages; width = brings.keeps.width; disk_faults = omega (arith, earlier, brings.later.0); server_faults = brings.later.1 })
@@ -143,7 +143,7 @@ module _ {F C : Type 0} (f : Folders F) (s : Servers C) (docs : Docs) (pool : Po
           (λ before at. shown_leaves f s docs pool pool' groups groups' old mid new servers servers' name id design place path within path_is read plans slot brings before at (subst (AllByRecursion HasParts) same_rows parts) each out out'
           (appended ∙ ap (λ (r : List Row). out ++ ended (answer r)) same_rows))
           (record { reply = answer printed; line = line; appended = appended; unlike = λ other. unlike_answer printed }) tt (λ is. let clash : ⊥ = cc in absurd clash)
-          (view_moved f s docs pool pool' groups groups' old mid new servers servers' name id design place path read earlier plans is_open (Ok slot) brings)
+          (sig_of design, view_moved f s docs pool pool' groups groups' old mid new servers servers' name id design place path read earlier plans is_open (Ok slot) brings)
           (λ goes. view_open f s docs pool pool' groups groups' old mid new servers servers' name id design place path read earlier plans is_open (Ok slot) brings (λ lost. lost))
           tt
           (record { languages = brings.keeps.languages; width = brings.keeps.width; disk_faults = omega (arith, earlier, brings.later.0); server_faults = brings.later.1 })
@@ -153,7 +153,7 @@ module _ {F C : Type 0} (f : Folders F) (s : Servers C) (docs : Docs) (pool : Po
           does_halted f s now later name out out' (Stopped NoMemory) (λ goes before at. spent_leaves f s docs pool pool' groups groups' old mid new servers servers' name id design place path within path_is read plans slot brings before at)
           (λ step is other before at. absurd (other (let same : step ≡ NoMemory = cc in same))) before at)
           tt silent (λ is. let clash : ⊥ = cc in absurd clash)
-          (view_moved f s docs pool pool' groups groups' old mid new servers servers' name id design place path read earlier plans is_open (Ok slot) brings)
+          (sig_of design, view_moved f s docs pool pool' groups groups' old mid new servers servers' name id design place path read earlier plans is_open (Ok slot) brings)
           (λ goes. view_open f s docs pool pool' groups groups' old mid new servers servers' name id design place path read earlier plans is_open (Ok slot) brings (λ lost. lost))
           (inl tt)
           (record { languages = brings.keeps.languages; width = brings.keeps.width; disk_faults = omega (arith, earlier, brings.later.0); server_faults = brings.later.1 }))

@@ -30,7 +30,6 @@ use Rattle.view_updater.specs.Updates.{IsBodyDamaged, IsLost}
 use Rattle.view_signature.specs.Signature.{digest_of}
 use Rattle.view_groups.specs.declared.groups.Groups.{Groups}
 use Rattle.view_groups.specs.Brings.{side, Brings}
-use Rattle.view_groups.specs.Cleans.{IsIndexFile}
 use Rattle.view_groups.specs.Groups.{AreOpen as AreIndexesOpen}
 use Rattle.view_groups.specs.Reached.{picture_for, sig_of, views_in, IsReached}
 use Rattle.view_engine.specs.declared.engine.Engine.{Engine}
@@ -69,20 +68,23 @@ module _ {F C : Type 0} (f : Folders F) (s : Servers C) (docs : Docs) (pool pool
   -- ---- which files changed
 
   module _ (result : Result ℕ UpdateFault) (brings : Brings f s docs design (side mid servers pool groups) (side new servers' pool' groups') result) where
-    pub view_moved : Tells (f.disk old) (f.disk new) (Moves IsIndexFile (λ image. Unit {0}) (λ files. Unit {0}))
+    abbrev IsOwn : FileName → Type 0
+    IsOwn = IsFileOf (View (sig_of design))
+
+    pub view_moved : Tells (f.disk old) (f.disk new) (Moves IsOwn (λ image. Unit {0}) (λ files. Unit {0}))
     view_moved =
-        told_then (f.disk old) (f.disk mid) (f.disk new) MovesNone (Moves (IsFileOf (View (sig_of design))) (λ image. Unit {0}) (λ files. IsLost result ⊎ AreIndexesOpen groups' files)) (Moves IsIndexFile (λ image. Unit {0}) (λ files. Unit {0}))
-        (λ a b c none moves. moves_then IsIndexFile (λ image. Unit {0}) (λ image. Unit {0}) (λ image. Unit {0}) (λ files. Unit {0}) (λ files. Unit {0}) (λ files. Unit {0}) a b c (λ image one. tt) (λ one image other. tt) (λ one other. tt)
-        (none_wider IsIndexFile (λ image. Unit {0}) (λ files. Unit {0}) a b (λ image is. tt) (λ same. tt) none)
-        (moves_wider (IsFileOf (View (sig_of design))) IsIndexFile (λ image. Unit {0}) (λ image. Unit {0}) (λ files. IsLost result ⊎ AreIndexesOpen groups' files) (λ files. Unit {0}) b c (λ n is. (sig_of design, is)) (λ image framed. tt) (λ others ended. tt) moves))
+        told_then (f.disk old) (f.disk mid) (f.disk new) MovesNone (Moves (IsFileOf (View (sig_of design))) (λ image. Unit {0}) (λ files. IsLost result ⊎ AreIndexesOpen groups' files)) (Moves IsOwn (λ image. Unit {0}) (λ files. Unit {0}))
+        (λ a b c none moves. moves_then IsOwn (λ image. Unit {0}) (λ image. Unit {0}) (λ image. Unit {0}) (λ files. Unit {0}) (λ files. Unit {0}) (λ files. Unit {0}) a b c (λ image one. tt) (λ one image other. tt) (λ one other. tt)
+        (none_wider IsOwn (λ image. Unit {0}) (λ files. Unit {0}) a b (λ image is. tt) (λ same. tt) none)
+        (moves_wider IsOwn IsOwn (λ image. Unit {0}) (λ image. Unit {0}) (λ files. IsLost result ⊎ AreIndexesOpen groups' files) (λ files. Unit {0}) b c (λ n is. is) (λ image framed. tt) (λ others ended. tt) moves))
         read brings.others
 
     -- where no fault of the index came, the engine lies open
     pub view_open : (IsLost result → ⊥) → LiesOpen f engine' new
     view_open kept =
         told_pair (f.disk new) (λ d. AreDocumentsOpen docs d.now) (λ d. AreIndexesOpen groups' d.now) (λ d. IsOpen engine' d.now) (λ d documents indexes. record { documents = documents; indexes = indexes })
-        (told_after (f.disk old) (f.disk new) (λ d. IsOpen engine d.now) (λ d. AreDocumentsOpen docs d.now) (Moves IsIndexFile (λ image. Unit {0}) (λ files. Unit {0}))
-        (λ a b here moves. open_beside_indexes docs a.now b.now (λ n of_docs. moves.others n (λ of_view. let clash : View of_view.0 ≡ DocsStem = sym of_view.1 ∙ of_docs in let no : ⊥ = cc in no)) here.documents) is_open view_moved)
+        (told_after (f.disk old) (f.disk new) (λ d. IsOpen engine d.now) (λ d. AreDocumentsOpen docs d.now) (Moves IsOwn (λ image. Unit {0}) (λ files. Unit {0}))
+        (λ a b here moves. open_beside_indexes docs a.now b.now (λ n of_docs. moves.others n (λ of_view. let clash : View (sig_of design) ≡ DocsStem = sym of_view ∙ of_docs in let no : ⊥ = cc in no)) here.documents) is_open view_moved)
         (told_after (f.disk mid) (f.disk new) (λ d. Unit {0}) (λ d. AreIndexesOpen groups' d.now) _ (λ a b here moves. ⊎_elim (λ lost. absurd (kept lost)) (λ are. are) moves.ended)
         (told_after (f.disk old) (f.disk mid) (λ d. IsOpen engine d.now) (λ d. Unit {0}) MovesNone (λ a b here none. tt) is_open read) brings.others)
 

@@ -101,7 +101,7 @@ module _ (functions : List ℕ → Functions) (honest : List ℕ → Type 0) (la
 
   -- what a request makes of a world is sound where that is
   pub made_sound : (world : World) (request : Result Request Refusal) (made : World) → Makes functions honest languages world request made → Sound world → Sound made
-  made_sound world (Ok (View name None)) made makes sound = brought_sound makes.0 makes.1 world made (live_is_design world.history name.design makes.0 makes.2) makes.3 makes.4 sound
+  made_sound world (Ok (View name None)) made makes sound = brought_sound makes.0 makes.1 world made (live_is_design world.history name.design makes.0 makes.3) makes.4 makes.5 sound
   made_sound world (Ok (View name (Some query))) made makes sound = absurd makes.1
   made_sound world (Ok (Put document)) made makes sound = subst Sound (sym makes.2) (written_sound world makes.0 sound)
   made_sound world (Ok (Delete id given)) made makes sound = subst Sound (sym makes.2) (written_sound world makes.0 sound)

@@ -13,6 +13,8 @@ use Rattle.child_pool.specs.Pools.{languages_of}
 use Rattle.doc_file.specs.declared.docs.Docs.{Docs}
 use Rattle.doc_file.specs.Docs.{IsAt as AreAt, IsDocsFile, IsOpen}
 use Rattle.view_groups.specs.Cleans.{IsIndexFile}
+use Rattle.view_index.specs.Held.{IsFileOf}
+use Rattle.view_ports.specs.declared.file_name.Stem.TheVariants.{View as ViewStem}
 use Rattle.view_engine.specs.declared.engine.Engine.{Engine}
 use Rattle.view_engine.specs.declared.halt.Halt.{Halt}
 use Rattle.view_engine.specs.declared.halt.Halt.TheVariants.{Refused, Stopped}
@@ -332,15 +334,17 @@ module _ {F C : Type 0} {f : Folders F} {s : Servers C} {old new : Scene F C} {l
         → (ReadsDocuments (request_of line) × IfTold (f.disk new.folder) (λ d. HasBodyDamage d.now name at)) ⊎ (IsView (request_of line) × IfTold (f.disk new.folder) (λ d. IsIndexFile name))
     step_damaged name at is = elim (why_damaged f old.engine old.folder new.folder (request_of line) name at (met step is)) [
       | inl damage ↦ inl (damage.0, by_kind damage.1 (reads_either (request_of line) damage.0))
-      | inr of_index ↦ inr (of_index.0, told_after (f.disk old.folder) (f.disk new.folder) (λ d. IsIndexFile name) (λ d. IsIndexFile name) _ (λ a b is moves. is) of_index.1 (step.disk.indexes of_index.0))
+      | inr of_index ↦ inr (of_index.0, told_after (f.disk old.folder) (f.disk new.folder) (λ d. IsIndexFile name) (λ d. IsIndexFile name) _ (λ a b is moves. is) of_index.1 (step.disk.indexes of_index.0).1)
     ]
       where
         opened : IfTold (f.disk old.folder) (λ d. IsOpen old.engine.docs d.now)
         opened = documents_open _ _ is_open
 
         by_kind : IfTold (f.disk old.folder) (λ d. IsDamage old.engine.docs d.now name at) → IsView (request_of line) ⊎ (IsView (request_of line) → ⊥) → IfTold (f.disk new.folder) (λ d. HasBodyDamage d.now name at)
-        by_kind damage (inl view) = damage_named (f.disk old.folder) (f.disk new.folder) old.engine.docs name at (Moves IsIndexFile (λ image. Unit {0}) (λ files. Unit {0}))
-            (λ a b moves n of_docs. moves.others n (λ of_view. apart n of_view of_docs)) opened damage (step.disk.indexes view)
+        by_kind damage (inl view) =
+            let moved = step.disk.indexes view in
+            damage_named (f.disk old.folder) (f.disk new.folder) old.engine.docs name at (Moves (IsFileOf (ViewStem moved.0)) (λ image. Unit {0}) (λ files. Unit {0}))
+            (λ a b moves n of_docs. moves.others n (λ of_view. apart n (moved.0, of_view) of_docs)) opened damage moved.1
         by_kind damage (inr no_view) = damage_named (f.disk old.folder) (f.disk new.folder) old.engine.docs name at MovesNone (λ a b moves n of_docs. none_same a b moves n) opened damage
             (step_kept step (λ failed. let never : DiskFault ≡ Damaged name at = sym failed ∙ is in cc) no_view)
 

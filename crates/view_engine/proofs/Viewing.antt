@@ -7,7 +7,6 @@ use Rattle.view_ports.specs.declared.folder.Folder.{Ghosts as Folders}
 use Rattle.view_ports.specs.declared.servers.Servers.{Ghosts as Servers}
 use Rattle.view_ports.proofs.Told.{told_now}
 use Rattle.child_pool.specs.Pools.{languages_of}
-use Rattle.view_groups.specs.Cleans.{IsIndexFile}
 use Rattle.view_engine.specs.declared.halt.Halt.{Halt}
 use Rattle.view_engine.specs.declared.halt.Halt.TheVariants.{Refused, Stopped}
 use Rattle.view_engine.specs.declared.halt.StepFault.{StepFault}
@@ -18,7 +17,7 @@ use Rattle.view_engine.specs.declared.request.Request.{Request}
 use Rattle.view_engine.specs.declared.request.Request.TheVariants.{View as ViewRequest}
 use Rattle.view_engine.specs.declared.request.ViewName.{ViewName}
 use Rattle.view_engine.specs.Calls.{AppendsReplyTo, CrashesAround, DoesBy, LeavesChild, LeavesMoment, Performed, Scene, StandsAt, Stays}
-use Rattle.view_engine.specs.Disks.{IfStopped, IsReasonOf, LiesOpen, MayGoOn}
+use Rattle.view_engine.specs.Disks.{IfStopped, IsReasonOf, LiesOpen, MayGoOn, MovesOneIndex}
 use Rattle.view_engine.specs.Halts.{FitsFor, GoesOn}
 use Rattle.view_engine.specs.Moments.{Moment}
 use Rattle.view_engine.specs.Refusals.{refusal_text}
@@ -71,7 +70,7 @@ module _ {F C : Type 0} (f : Folders F) (s : Servers C) (old new : Scene F C) (n
 
   -- a view is performed as these parts say
   pub viewed : {out out' : List ℕ} {result : Result (Unit {0}) Halt} → ((before : Moment) → StandsAt f s old before → DoesBy f s old new before request out out' result) → OnOk result (AppendsReplyTo request out out') → OnErr result (out' ≡ out)
-      → (result ≡ Err (Refused ServerFault) → RoseBy 2 (s.faults old.servers) (s.faults new.servers)) → Tells (f.disk old.folder) (f.disk new.folder) (Moves IsIndexFile (λ image. Unit {0}) (λ files. Unit {0}))
+      → (result ≡ Err (Refused ServerFault) → RoseBy 2 (s.faults old.servers) (s.faults new.servers)) → MovesOneIndex f old.folder new.folder
       → (MayGoOn result → LiesOpen f new.engine new.folder) → IfErr result (IfStopped (IsReasonOf f old.engine old.folder new.folder request)) → Stays f s old new → Performed f s old new request out out' result
   viewed {result = result} does prints silent blames moved is_open why stays = record {
     does = does;

@@ -1,5 +1,5 @@
 -- What is kept of the documents is kept of the world, where no file of an index changes.
-use Rattle.std.proofs.Common.{◌≡◌, ◌⊎◌, ◌∙◌, ℕ, List, Option, None, Result, Ok, inl, inr, sym, subst, arith}
+use Rattle.std.proofs.Common.{◌≡◌, ◌⊎◌, ◌∙◌, ℕ, List, Option, None, Result, Ok, inl, inr, sym, subst, arith, []}
 use Rattle.view_ports.specs.Disk.{Disk, Framed, IfTold, IsImageOf, LeavesOnly, Moves, MovesNone, Tells}
 use Rattle.view_ports.specs.File.{File}
 use Rattle.view_ports.specs.declared.file_name.FileName.{FileName}
@@ -16,12 +16,13 @@ use Rattle.view_groups.specs.declared.groups.Groups.{Groups}
 use Rattle.view_groups.specs.Cleans.{IsIndexFile}
 use Rattle.view_groups.specs.Groups.{AreAt as AreIndexesAt, AreOpen as AreIndexesOpen}
 use Rattle.view_groups.specs.Pictures.{AreHeld, Pictures, StandFor}
+use Rattle.view_index.specs.Held.{IsFileOf}
 use Rattle.view_groups.proofs.Standing.{images_stand, others_matter_not, settled_stand}
 use Rattle.view_engine.specs.declared.engine.Engine.{Engine}
 use Rattle.view_engine.specs.declared.refusal.Refusal.{Refusal}
 use Rattle.view_engine.specs.declared.request.Request.{Request}
 use Rattle.view_engine.specs.declared.request.Request.TheVariants.{View as ViewRequest}
-use Rattle.view_engine.specs.Disks.{IsView, KeepsDisk, KeepsDocuments, LiesOpen}
+use Rattle.view_engine.specs.Disks.{IsView, KeepsDisk, KeepsDocuments, LiesOpen, MovesOneIndex}
 use Rattle.view_engine.specs.Halts.{DocumentsStandAround, MovesDocuments, Writes}
 use Rattle.view_engine.specs.Steps.{IsWrite}
 use Rattle.view_engine.specs.World.{World, NoneIsNewer, written}
@@ -105,14 +106,21 @@ view_writes_none : (request : Result Request Refusal) → IsView request → Wri
 view_writes_none (Ok (ViewRequest name limits)) view writes = writes
 view_writes_none other view writes = absurd view
 
+-- where no file changes none of an index does
+pub moves_no_index : {F : Type 0} (f : Folders F) (old new : F) → Tells (f.disk old) (f.disk new) MovesNone → MovesOneIndex f old new
+moves_no_index f old new none = (
+  [],
+  told_map (f.disk old) (f.disk new) MovesNone (Moves (IsFileOf (View [])) (λ image. Unit {0}) (λ files. Unit {0}))
+      (λ a b same. none_wider (IsFileOf (View [])) (λ image. Unit {0}) (λ files. Unit {0}) a b (λ image is. tt) (λ kept. tt) same) none,
+)
+
 module _ {F : Type 0} {f : Folders F} {engine engine' : Engine} {old new : F} where
   module _ {request : Result Request Refusal} {GivenUp GoesOn : Type 0} (groups : engine'.groups ≡ engine.groups) where
     -- what is kept of the documents is kept of all files
     pub kept_whole : LiesOpen f engine old → KeepsDocuments f engine.docs engine'.docs old new request GivenUp GoesOn → KeepsDisk f engine engine' old new request GivenUp GoesOn
     kept_whole is_open keeps = record {
       documents = λ other. keeps;
-      indexes = λ view. told_map (f.disk old) (f.disk new) MovesNone (Moves IsIndexFile (λ image. Unit {0}) (λ files. Unit {0}))
-          (λ a b none. none_wider IsIndexFile (λ image. Unit {0}) (λ files. Unit {0}) a b (λ image is. tt) (λ same. tt) none) (keeps.read (view_writes_none request view));
+      indexes = λ view. moves_no_index f old new (keeps.read (view_writes_none request view));
       is_open = λ goes. told_pair (f.disk new) (λ d. AreDocumentsOpen engine'.docs d.now) (λ d. AreIndexesOpen engine.groups d.now) (λ d. IsOpen engine' d.now)
           (λ d here there. record { documents = here; indexes = subst (λ (g : Groups). AreIndexesOpen g d.now) (sym groups) there }) (keeps.is_open goes)
           (told_after (f.disk old) (f.disk new) (λ d. IsOpen engine d.now) (λ d. AreIndexesOpen engine.groups d.now) (MovesDocuments (λ image. Unit {0}))

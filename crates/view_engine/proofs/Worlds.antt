@@ -57,7 +57,7 @@ module _ (functions : List ℕ → Functions) (honest : List ℕ → Type 0) (la
 
   -- and so does what a request makes
   pub made_grows : (world : World) (request : Result Request Refusal) (made : World) → Makes functions honest languages world request made → GoesOnFrom world made
-  made_grows world (Ok (View name None)) made makes = ([], (makes.4).history)
+  made_grows world (Ok (View name None)) made makes = ([], (makes.5).history)
   made_grows world (Ok (View name (Some query))) made makes = absurd makes.1
   made_grows world (Ok (Put document)) made makes = (makes.0 ∷ [], ap (λ (w : World). w.history) makes.2)
   made_grows world (Ok (Delete id given)) made makes = (makes.0 ∷ [], ap (λ (w : World). w.history) makes.2)

@@ -15,7 +15,7 @@ use Rattle.view_engine.specs.declared.request.Request.{Request}
 use Rattle.view_engine.specs.declared.request.Request.TheVariants.{Get, View as ViewRequest}
 use Rattle.view_ports.specs.File.{File}
 use Rattle.view_ports.specs.declared.file_name.Stem.TheVariants.{View}
-use Rattle.view_index.specs.Held.{IsDamagedAt}
+use Rattle.view_index.specs.Held.{IsDamagedAt, IsFileOf}
 use Rattle.view_engine.specs.declared.engine.Engine.{Engine}
 use Rattle.view_groups.specs.Cleans.{IsIndexFile}
 use Rattle.view_engine.specs.Updating.{AreShaped}
@@ -91,11 +91,15 @@ module _ {F : Type 0} (f : Folders F) where
   abbrev pub LiesOpen : Engine → F → Type 0
   LiesOpen engine folder = IfTold (f.disk folder) (λ d. IsEngineOpen engine d.now)
 
+  -- only files of one index change
+  abbrev pub MovesOneIndex : F → F → Type 0
+  MovesOneIndex old new = (sig : List ℕ) × Tells (f.disk old) (f.disk new) (Moves (IsFileOf (View sig)) (λ image. Unit {0}) (λ files. Unit {0}))
+
   -- which files a request changes, whatever the folder holds, and where the engine is after it
   pub record KeepsDisk (engine engine' : Engine) (old new : F) (request : Result Request Refusal) (HasGivenUp GoesOn : Type 0) : Type 0 where
-    -- a request that is no view changes the documents alone, and a view only files of indexes
+    -- a request that is no view changes the documents alone, and a view only files of one index
     pub documents : (IsView request → ⊥) → KeepsDocuments engine.docs engine'.docs old new request HasGivenUp GoesOn
-    pub indexes : IsView request → Tells (f.disk old) (f.disk new) (Moves IsIndexFile (λ image. Unit {0}) (λ files. Unit {0}))
+    pub indexes : IsView request → MovesOneIndex old new
     -- where the engine may go on, it lies open
     pub is_open : GoesOn → LiesOpen engine' new
 

@@ -66,7 +66,7 @@ module _ (functions : List ℕ → Functions) (honest : List ℕ → Type 0) (la
   -- the world that a request makes where it takes effect: one with its write, or with the next picture of its design
   abbrev pub Makes : World → Result Request Refusal → World → Type 0
   Makes world (Ok (View name None)) after =
-      (design : Json) × (path : List ℕ) × (live_document world.history (design_id name.design) ≡ Some design) × (path_in languages (language_of design) ≡ Some path)
+      (design : Json) × (path : List ℕ) × (view_refusal languages world name ≡ None) × (live_document world.history (design_id name.design) ≡ Some design) × (path_in languages (language_of design) ≡ Some path)
       × IsBrought functions honest languages design path world after
   Makes world request after = (write : Write) × IsWrite world request write × (after ≡ written world write)
 
