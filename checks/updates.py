@@ -30,7 +30,7 @@ def server():
         source = "function (doc) { emit(doc.n % 10, doc.n); }"
     else:
         language, program = "python", "python.py"
-        source = "lambda doc: [(doc['n'] % 10, doc['n'])]"
+        source = "def fun(doc):\n    yield doc['n'] % 10, doc['n']"
     path = os.path.abspath("server.sh")
     with open(path, "w") as script:
         script.write("#!/bin/sh\ntee -a '%s' | exec '%s'\n" % (LOG, os.path.join(SERVERS, program)))
