@@ -61,7 +61,9 @@ def rows_of(function, line):
         # Each function gets a document of its own, so that none sees what another one did to it.
         return text([[key, value] for key, value in function(json.loads(line)[1]) or ()])
     except Exception as error:
-        log("a map function raised an exception: " + repr(error))
+        doc = json.loads(line)[1]
+        name = doc.get("_id") if isinstance(doc, dict) else doc
+        log("a map function raised an exception for document %s: %r" % (name, error))
         return "[]"
 
 
