@@ -21,7 +21,7 @@ use Rattle.view_engine.specs.Worlds.{HasRoomAt}
 use Rattle.view_engine.specs.Calls.{IsStep, Scene}
 use Rattle.view_engine.specs.Disks.{IsReasonOf, LiesOpen}
 use Rattle.view_engine.specs.Worlds.{languages as languages_of}
-use Rattle.view_engine.proofs.Stepping.{step_damaged, step_full, step_full_in, step_kept, step_room_left, step_sound, step_still, step_stopped}
+use Rattle.view_engine.proofs.Stepping.{step_damaged, step_full, step_full_in, step_kept, step_room_left, step_sound, step_on, step_still, step_stopped}
 use Rattle.view_ports.specs.declared.folder.Folder.{Ghosts as Folders}
 use Rattle.view_ports.specs.declared.servers.Servers.{Ghosts as Servers}
 use Rattle.couchview_cli.specs.Session.{Answered, IsAnswered, IsUnanswered}
@@ -85,6 +85,7 @@ module _ {F C : Type 0} {f : Folders F} {s : Servers C} {old new : Scene F C} {l
     };
     blames = λ is. step.blames (appended_fault line start out empty is);
     still = step_still step;
+    on = step_on step;
     stays = step.stays;
   }
 
@@ -98,6 +99,7 @@ module _ {F C : Type 0} {f : Folders F} {s : Servers C} {old new : Scene F C} {l
     prints = record { none = λ none. absurd (step.asked none); some = λ some. (refusal_text NoMemory, refusal_line NoMemory, refl); refused = λ some. spent_refused (request_of line) };
     blames = λ is. absurd (constant_no_fault line is);
     still = step_still step;
+    on = step_on step;
     stays = step.stays;
   }
 
@@ -123,6 +125,7 @@ module _ {F C : Type 0} {f : Folders F} {s : Servers C} {old new : Scene F C} {l
       full = step_full_in is_open step;
     };
     still = step_still step;
+    on = step_on step;
     kept = step_kept step;
     stays = step.stays;
   }

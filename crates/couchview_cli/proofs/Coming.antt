@@ -7,7 +7,8 @@ use Rattle.view_ports.specs.Disk.{IfTold, LeavesOnly, MovesNone, Tells}
 use Rattle.view_ports.specs.Exchanges.{Exchange, LeadsTo}
 use Rattle.view_ports.specs.Faults.{Rose, RoseBy}
 use Rattle.view_ports.proofs.Counting.{Rose-earlier}
-use Rattle.view_ports.proofs.Told.{told_all, told_now, told_pair}
+use Rattle.view_ports.proofs.Moments.{joined, started}
+use Rattle.view_ports.proofs.Told.{told_all, told_now, told_pair, told_refl, told_then}
 use Rattle.line_loop.specs.declared.loop_end.LoopEnd.{LoopEnd}
 use Rattle.line_loop.specs.declared.loop_end.LoopEnd.TheVariants as loop_end
 use Rattle.line_loop.specs.declared.responder.Responder.{Ghosts as Responds}
@@ -33,7 +34,7 @@ use Rattle.view_engine.proofs.Sound.{answers_sound}
 use Rattle.view_engine.proofs.Worlds.{answers_grow, holds_at, images_at, stays_still, stays_still_then}
 use Rattle.couchview_cli.specs.declared.session.Session.{Session}
 use Rattle.couchview_cli.specs.Ends.{Comes}
-use Rattle.couchview_cli.specs.Reading.{HasReplied, IsReplied, NoneChanges, Replies, Told}
+use Rattle.couchview_cli.specs.Reading.{ComesTo, HasReplied, IsReplied, NoneChanges, Replies, Told}
 use Rattle.couchview_cli.specs.Serving.{width, HadRoom}
 use Rattle.couchview_cli.specs.Session.{HasCome, IsAnswered, IsUnanswered, KeepsPorts, Origin, StepsOf, scene_of}
 use Rattle.couchview_cli.proofs.Keeping.{Answered-of}
@@ -187,6 +188,14 @@ module _ {F C : Type 0} (f : Folders F) (s : Servers C) (r : Responds (Session F
   still start now (e ∷ es) leads none =
       stays_still_then (f.disk start.folder.now) (f.disk (leads.0).folder.now) (f.disk now.folder.now) (((answers start leads.0 e.line leads.1.0).1).still none.0) (still leads.0 now es leads.2 none.1)
 
+  -- the disk comes behind the one before, line by line
+  on_lines : (start now : Session F C) (es : List Exchange) → LeadsTo (Steps r) start es now → ComesTo (f.disk start.folder.now) (f.disk now.folder.now)
+  on_lines start now [] leads = subst (λ (session : Session F C). ComesTo (f.disk start.folder.now) (f.disk session.folder.now)) (sym leads)
+      (told_refl (f.disk start.folder.now) (LeavesOnly (λ image. Unit {0})) (λ d. started (λ image. Unit {0}) d (λ image is. tt)))
+  on_lines start now (e ∷ es) leads =
+      told_then (f.disk start.folder.now) (f.disk (leads.0).folder.now) (f.disk now.folder.now) (LeavesOnly (λ image. Unit {0})) (LeavesOnly (λ image. Unit {0})) (LeavesOnly (λ image. Unit {0}))
+      (λ a b c early late. joined (λ image. Unit {0}) a b c early late) ((answers start leads.0 e.line leads.1.0).1).on (on_lines leads.0 now es leads.2)
+
   -- the count of the query servers' faults rises by two for each line that is answered `server_fault`
   twice : (start now : Session F C) (es : List Exchange) → LeadsTo (Steps r) start es now → RoseBy (2 * server_faults es) (s.faults start.servers.now) (s.faults now.servers.now)
   twice start now [] leads = subst (λ (session : Session F C). RoseBy 0 (s.faults start.servers.now) (s.faults session.servers.now)) (sym leads) (none_rose (s.faults start.servers.now))
@@ -241,6 +250,9 @@ module _ {F C : Type 0} (f : Folders F) (s : Servers C) (r : Responds (Session F
           answered = cut.answered;
           leads = seen.1;
           wrote = cut.wrote;
+          mid = f.disk cut.mid.folder.now;
+          until = on_lines start cut.mid cut.exchanges cut.leads;
+          since = stopped.on;
           found = stopped.found;
           still = λ none silent. stays_still_then (f.disk start.folder.now) (f.disk cut.mid.folder.now) (f.disk last.folder.now) (still start cut.mid cut.exchanges cut.leads none) (stopped.still silent);
           twice = rose_on (2 * server_faults cut.exchanges) (s.faults start.servers.now) (s.faults cut.mid.servers.now) (s.faults last.servers.now) (twice start cut.mid cut.exchanges cut.leads) stopped.stays.server_faults;

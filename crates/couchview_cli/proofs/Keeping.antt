@@ -6,7 +6,6 @@ use Rattle.view_engine.specs.Moments.{Moment}
 use Rattle.view_engine.specs.declared.refusal.Refusal.{Refusal}
 use Rattle.view_engine.specs.declared.refusal.Refusal.TheVariants.{NoMemory}
 use Rattle.view_engine.specs.declared.request.Request.{Request}
-use Rattle.view_groups.specs.Cleans.{IsIndexFile}
 use Rattle.view_engine.specs.Refusals.{request_limit, refusal_text, request_of}
 use Rattle.view_ports.specs.Lines.{ended, kept}
 use Rattle.view_ports.proofs.KeptLines.{kept-cases, kept-nil, kept-none}
@@ -22,7 +21,7 @@ use Rattle.view_ports.specs.declared.servers.Servers.{Ghosts as Servers}
 use Rattle.view_engine.specs.Accepted.{is_ok}
 use Rattle.view_engine.specs.Calls.{Scene}
 use Rattle.view_engine.proofs.RequestLimit.{Answers-cut, request_limit-is, request_of-long}
-use Rattle.view_engine.specs.Disks.{ChangesFiles, IsOfIndex, IsView, ReadsDocuments}
+use Rattle.view_engine.specs.Disks.{ChangesFiles, IsOfIndex, IsOnIndexes, MeetsIndexDamageIn, ReadsDocuments}
 use Rattle.view_engine.specs.Halts.{Writes}
 use Rattle.view_engine.specs.ServerFaults.{says_server_fault}
 use Rattle.couchview_cli.specs.Reading.{IsFoundOn, IsReplied}
@@ -96,12 +95,12 @@ replied_kept line text replied = record {
 unless_kept : {P : Type 0} (Q : Result Request Refusal → Type 0) (line : List ℕ) → ((Q (request_of (kept request_limit line)) → ⊥) → P) → (Q (request_of line) → ⊥) → P
 unless_kept {P} Q line unless = subst (λ request. (Q request → ⊥) → P) (request_kept line) unless
 
-found_kept : {disk : Told} {fault : StepFault} (line : List ℕ) → IsFoundOn disk (kept request_limit line) fault → IsFoundOn disk line fault
-found_kept {disk = disk} line found = record {
+found_kept : {before now : Told} {fault : StepFault} (line : List ℕ) → IsFoundOn before now (kept request_limit line) fault → IsFoundOn before now line fault
+found_kept {before = before} {now = now} line found = record {
   halts = found.halts;
   asks = subst (λ request. IfErr request (λ refusal. ⊥)) (request_kept line) found.asks;
-  damaged = λ name at is. subst (λ request. (ReadsDocuments request × IfTold disk (λ d. HasBodyDamage d.now name at)) ⊎ (IsView request × IfTold disk (λ d. IsIndexFile name))) (request_kept line) (found.damaged name at is);
-  full = λ name length is. subst (λ request. (Writes request × IfTold disk (λ d. IsFullIn d.now request name length)) ⊎ IsOfIndex request name) (request_kept line) (found.full name length is);
+  damaged = λ name at is. subst (λ request. (ReadsDocuments request × IfTold now (λ d. HasBodyDamage d.now name at)) ⊎ (IsOnIndexes request × IfTold before (λ d. MeetsIndexDamageIn d.now request name at))) (request_kept line) (found.damaged name at is);
+  full = λ name length is. subst (λ request. (Writes request × IfTold now (λ d. IsFullIn d.now request name length)) ⊎ IsOfIndex request name) (request_kept line) (found.full name length is);
 }
 
 -- what a responder is given of a line is what is kept of it
@@ -112,9 +111,9 @@ module _ {F C : Type 0} {f : Folders F} {s : Servers C} {old new : Scene F C} (l
   pub answered_whole : (text : List ℕ) → IsAnswered f s old new given text → IsAnswered f s old new line text
   answered_whole text answered =
       let kept_answered : IsAnswered f s old new (kept request_limit line) text = subst (λ (l : List ℕ). IsAnswered f s old new l text) (is_kept line given is) answered in
-      record { answers = λ before at. Answered-kept line (kept_answered.answers before at); room = λ before at. subst (λ request. IfTold (f.disk old.folder) (λ d. is_ok text ≡ true → HasRoomAt d.now before.world request)) (request_kept line) (kept_answered.room before at); prints = replied_kept line text kept_answered.prints; blames = λ fault. kept_answered.blames (ap (λ request. says_server_fault request text) (request_kept line) ∙ fault); still = unless_kept ChangesFiles line kept_answered.still; stays = answered.stays }
+      record { answers = λ before at. Answered-kept line (kept_answered.answers before at); room = λ before at. subst (λ request. IfTold (f.disk old.folder) (λ d. is_ok text ≡ true → HasRoomAt d.now before.world request)) (request_kept line) (kept_answered.room before at); prints = replied_kept line text kept_answered.prints; blames = λ fault. kept_answered.blames (ap (λ request. says_server_fault request text) (request_kept line) ∙ fault); still = unless_kept ChangesFiles line kept_answered.still; on = answered.on; stays = answered.stays }
 
   pub unanswered_whole : (fault : StepFault) → IsUnanswered f s old new given fault → IsUnanswered f s old new line fault
   unanswered_whole fault cut =
       let kept_unanswered : IsUnanswered f s old new (kept request_limit line) fault = subst (λ (l : List ℕ). IsUnanswered f s old new l fault) (is_kept line given is) cut in
-      record { halts = λ before at. IsHalted-kept line (kept_unanswered.halts before at); cause = cut.cause; found = found_kept line kept_unanswered.found; still = unless_kept ChangesFiles line kept_unanswered.still; kept = λ other. unless_kept IsView line (kept_unanswered.kept other); stays = cut.stays }
+      record { halts = λ before at. IsHalted-kept line (kept_unanswered.halts before at); cause = cut.cause; found = found_kept line kept_unanswered.found; on = cut.on; still = unless_kept ChangesFiles line kept_unanswered.still; kept = λ other. unless_kept IsOnIndexes line (kept_unanswered.kept other); stays = cut.stays }

@@ -8,9 +8,9 @@ use Rattle.view_ports.proofs.Told.{told_after, told_all, told_back, told_given, 
 use Rattle.view_engine.specs.Refusals.{request_of}
 use Rattle.view_engine.specs.Updating.{IsSound}
 use Rattle.view_engine.specs.World.{World}
-use Rattle.view_engine.specs.Worlds.{GoesOnFrom, StandsAround, StandsEither, StandsFor}
-use Rattle.view_engine.proofs.Sound.{made_sound}
-use Rattle.view_engine.proofs.Worlds.{goes_on, same_world}
+use Rattle.view_engine.specs.Worlds.{GoesOnFrom, IsBetween, StandsAround, StandsEither, StandsFor}
+use Rattle.view_engine.proofs.Sound.{between_sound, made_sound}
+use Rattle.view_engine.proofs.Worlds.{goes_on, grown_as, grows_as, same_world}
 use Rattle.couchview_cli.specs.Serving.{StandsSince, StandsSinceWith}
 use Rattle.couchview_cli.specs.Session.{HasMoved, Origin}
 
@@ -40,8 +40,16 @@ module _ (functions : List ℕ → Functions) (honest : List ℕ → Type 0) (la
   since_now : (opening world : World) (image : FileName → List ℕ) → GoesSoundly opening world → StandsFor image world → Since opening world image
   since_now opening world image from stands = (world, (from.0, same_world world, stands, from.1))
 
+  -- a world between two goes on from all that the first goes on from, and so does what comes behind them
+  goes_between : (opening before after mid : World) → IsBetween before after mid → GoesSoundly opening before → GoesSoundly opening mid
+  goes_between opening before after mid between from = (grown_as opening before mid between.history from.0, λ sound. between_sound functions honest languages before after mid between (from.1 sound))
+
+  between_goes : (before after mid last : World) → IsBetween before after mid → GoesOnFrom before last → GoesOnFrom mid last
+  between_goes before after mid last between more = grows_as before mid last between.history more
+
   either_since : (opening before after : World) (image : FileName → List ℕ) → GoesSoundly opening before → GoesSoundly before after → StandsEither before after image → Since opening after image
-  either_since opening before after image from more (inl stands) = since_later opening before after image more.0 (since_now opening before image from stands)
+  either_since opening before after image from more (inl (mid, between, stands)) =
+      since_later opening mid after image (between_goes before after mid after between more.0) (since_now opening mid image (goes_between opening before after mid between from) stands)
   either_since opening before after image from more (inr stands) = since_now opening after image (soundly_on opening before after from more) stands
 
   around_since : (opening world : World) (line : List ℕ) (image : FileName → List ℕ) → GoesSoundly opening world → StandsAround functions honest languages world (request_of line) image
@@ -51,7 +59,9 @@ module _ (functions : List ℕ → Functions) (honest : List ℕ → Type 0) (la
       inr (made.0, made.1, made.2, λ sound. made_sound functions honest languages world (request_of line) made.0 made.1 (from.1 sound))
 
   before_since : (a b c : World) (image : FileName → List ℕ) → GoesSoundly a b → GoesOnFrom b c → StandsEither a b image → Since a c image
-  before_since a b c image first rest (inl stands) = (a, (same_world a, goes_on a b c first.0 rest, stands, λ sound. sound))
+  before_since a b c image first rest (inl (mid, between, stands)) =
+      let from = goes_between a a b mid between (soundly_same a) in
+      (mid, (from.0, between_goes a b mid c between (goes_on a b c first.0 rest), stands, from.1))
   before_since a b c image first rest (inr stands) = (b, (first.0, rest, stands, first.1))
 
   later_since : (a b c : World) (image : FileName → List ℕ) → GoesSoundly a b → Since b c image → Since a c image

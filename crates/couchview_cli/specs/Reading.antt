@@ -4,7 +4,7 @@ use Rattle.std.specs.Io.KnownBytes.{Appends, Consumes, IsAtEnd}
 use Rattle.std.specs.List.{AllByRecursion}
 use Rattle.view_ports.specs.declared.run_end.RunEnd.{RunEnd}
 use Rattle.view_ports.specs.declared.file_name.FileName.{FileName}
-use Rattle.view_ports.specs.Disk.{Disk, IfTold, MovesNone, Tells}
+use Rattle.view_ports.specs.Disk.{Disk, IfTold, LeavesOnly, MovesNone, Tells}
 use Rattle.view_ports.specs.Exchanges.{Exchange, LeadsTo, lines_of, text_of}
 use Rattle.view_ports.specs.Faults.{RoseBy}
 use Rattle.view_ports.specs.Lines.{IsCut, ended}
@@ -15,8 +15,7 @@ use Rattle.line_loop.specs.Loops.{HasReadBy}
 use Rattle.view_engine.specs.declared.halt.StepFault.{StepFault}
 use Rattle.view_engine.specs.declared.halt.StepFault.TheVariants.{Damaged, Full, NoMemory}
 use Rattle.view_engine.specs.Calls.{IsReplyLine}
-use Rattle.view_engine.specs.Disks.{ChangesFiles, IsOfIndex, IsView, ReadsDocuments}
-use Rattle.view_groups.specs.Cleans.{IsIndexFile}
+use Rattle.view_engine.specs.Disks.{ChangesFiles, IsOfIndex, IsOnIndexes, MeetsIndexDamageIn, ReadsDocuments}
 use Rattle.view_engine.specs.Halts.{Writes}
 use Rattle.view_engine.specs.Openings.{IsMovedByOpening}
 use Rattle.view_engine.specs.declared.refusal.Refusal.TheVariants.{NoMemory as OutOfMemory}
@@ -37,13 +36,14 @@ pub record IsReplied (line text : List ℕ) : Type 0 where
 abbrev pub Replies : Unit {0} → Exchange → Unit {0} → Type 0
 Replies before exchange after = IsReplied exchange.line exchange.text
 
--- a line isn't answered, for this fault: it is a request, and memory didn't run out; one that reads documents met a body that is
--- damaged; one that writes a document met a full file; and a view met either in a file of an index
-pub record IsFoundOn (disk : Option (Disk FileName)) (line : List ℕ) (fault : StepFault) : Type 0 where
+-- A line isn't answered, for this fault, between these disks: it is a request, and memory didn't run out; one that reads documents met
+-- a body that is damaged; one that writes a document met a full file; a view met either in a file of an index, and a cleanup a damaged
+-- one.
+pub record IsFoundOn (before now : Option (Disk FileName)) (line : List ℕ) (fault : StepFault) : Type 0 where
   pub halts : fault ≢ NoMemory
   pub asks : IfErr (request_of line) (λ refusal. ⊥)
-  pub damaged : (name : FileName) (at : ℕ) → fault ≡ Damaged name at → (ReadsDocuments (request_of line) × IfTold disk (λ d. HasBodyDamage d.now name at)) ⊎ (IsView (request_of line) × IfTold disk (λ d. IsIndexFile name))
-  pub full : (name : FileName) (length : Option ℕ) → fault ≡ Full name length → (Writes (request_of line) × IfTold disk (λ d. IsFullIn d.now (request_of line) name length)) ⊎ IsOfIndex (request_of line) name
+  pub damaged : (name : FileName) (at : ℕ) → fault ≡ Damaged name at → (ReadsDocuments (request_of line) × IfTold now (λ d. HasBodyDamage d.now name at)) ⊎ (IsOnIndexes (request_of line) × IfTold before (λ d. MeetsIndexDamageIn d.now (request_of line) name at))
+  pub full : (name : FileName) (length : Option ℕ) → fault ≡ Full name length → (Writes (request_of line) × IfTold now (λ d. IsFullIn d.now (request_of line) name length)) ⊎ IsOfIndex (request_of line) name
 
 -- none of these lines is a request that may change files
 abbrev pub NoneChanges : List Exchange → Type 0
@@ -52,9 +52,13 @@ NoneChanges exchanges = AllByRecursion (λ e. ChangesFiles (request_of e.line) �
 abbrev pub Told : Type 0
 Told = Option (Disk FileName)
 
+-- the one disk came behind the other
+abbrev pub ComesTo : Told → Told → Type 0
+ComesTo old new = Tells old new (LeavesOnly (λ image. Unit {0}))
+
 module _ (IsOver : Type 0) (held now : Option (List ℕ)) (bytes : List ℕ) (old new : Told) (faults faults' : ℕ) where
-  -- The lines of these bytes were answered, as a run that came to this end answers them. Where none of them writes a document or asks
-  -- for a view no file changed. The count of the query servers' faults rose by two for each line that was answered `server_fault`.
+  -- The lines of these bytes were answered, as a run that came to this end answers them. Where none of them writes a document, asks
+  -- for a view or cleans up, no file changed. The count of the query servers' faults rose by two for each line that was answered `server_fault`.
   pub record AreReplied (end : RunEnd) : Type 0 where
     pub gained : List ℕ
     pub run : Run Replies IsOver tt bytes gained end tt
@@ -62,7 +66,7 @@ module _ (IsOver : Type 0) (held now : Option (List ℕ)) (bytes : List ℕ) (ol
     pub still : NoneChanges run.exchanges → Tells old new MovesNone
     pub twice : RoseBy (2 * server_faults run.exchanges) faults faults'
 
-  -- the first lines of them were answered, and the one behind them was not, for this fault
+  -- the first lines of them were answered, and the one behind them was not, for this fault, which it met as the disk was `mid`
   pub record AreRepliedUpTo (fault : StepFault) : Type 0 where
     pub exchanges : List Exchange
     pub lines : List (List ℕ)
@@ -73,7 +77,10 @@ module _ (IsOver : Type 0) (held now : Option (List ℕ)) (bytes : List ℕ) (ol
     pub answered : AreLines IsOver lines rest (lines_of exchanges ++ line ∷ more)
     pub leads : LeadsTo Replies tt exchanges tt
     pub wrote : Appends held now (text_of exchanges)
-    pub found : IsFoundOn new line fault
+    pub mid : Told
+    pub until : ComesTo old mid
+    pub since : ComesTo mid new
+    pub found : IsFoundOn mid new line fault
     pub still : NoneChanges exchanges → (ChangesFiles (request_of line) → ⊥) → Tells old new MovesNone
     pub twice : RoseBy (2 * server_faults exchanges) faults faults'
 

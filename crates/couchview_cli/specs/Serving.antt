@@ -21,7 +21,7 @@ use Rattle.view_engine.specs.declared.refusal.Refusal.{Refusal}
 use Rattle.view_engine.specs.declared.request.Request.{Request}
 use Rattle.view_engine.specs.World.{World}
 use Rattle.view_engine.specs.Moments.{Moment}
-use Rattle.view_engine.specs.Disks.{IsOfIndex, IsView}
+use Rattle.view_engine.specs.Disks.{IsOfIndex, IsOnIndexes}
 use Rattle.view_engine.specs.Updating.{AreShaped, IsSound}
 use Rattle.view_engine.specs.Worlds.{at_start, GoesOnFrom, HasRoomAt, Holds, IsFullAt, StandsAround, StandsFor}
 use Rattle.view_groups.specs.Cleans.{IsIndexFile}
@@ -115,7 +115,7 @@ module _ (functions : List ℕ → Functions) (honest : List ℕ → Type 0) (la
   -- A run that a fault of the folder cut short: some first lines were answered, each wholly, and then the line in hand was
   -- not. Its request took effect wholly or not at all. The last line that is written names the fault, unless the sink fails.
   -- Want of memory doesn't cut a run short: such a line is answered. `mid` is the disk before the line in hand: nothing is
-  -- pending there, its files hold the world, and a file that is full is one of them. No file changes since but in a view, or where the
+  -- pending there, its files hold the world, and a file that is full is one of them. No file changes since but in a view or a cleanup, or where the
   -- disk failed, and there the line's write would have passed no limit. A file that is damaged is one of an index, and none is where the
   -- pictures have the shape of their designs. `last` is how the query servers were left.
   pub record IsCutShort (before after : Outside) (AtEnd : List Call → Type 0) (status : ℕ) : Type 0 where
@@ -144,7 +144,7 @@ module _ (functions : List ℕ → Functions) (honest : List ℕ → Type 0) (la
     pub fits : HaveRoom functions honest languages opening moment.world before.disk mid exchanges
     pub full : IfTold mid (λ d. (name : FileName) (length : Option ℕ) → fault ≡ Full name length → IsFullAt d.now moment.world (request_of line) name length ⊎ IsOfIndex (request_of line) name)
     pub room : IfTold mid (λ d. fault ≡ DiskFault → HasRoomAt d.now moment.world (request_of line))
-    pub kept : fault ≢ DiskFault → (IsView (request_of line) → ⊥) → Tells mid after.disk MovesNone
+    pub kept : fault ≢ DiskFault → (IsOnIndexes (request_of line) → ⊥) → Tells mid after.disk MovesNone
     pub since : Tells mid after.disk (LeavesOnly (StandsAround functions honest languages moment.world (request_of line)))
     pub moments : Tells before.disk after.disk (LeavesOnly (StandsSinceWith functions honest languages opening moment.world line))
     pub images : IfTold after.disk (λ d. (image : FileName → List ℕ) → IsImageOf d.now image → StandsAround functions honest languages moment.world (request_of line) image)

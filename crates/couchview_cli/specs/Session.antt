@@ -16,14 +16,14 @@ use Rattle.view_engine.specs.Calls.{KeepsChild, Scene, StandsAt, Stays, scene}
 use Rattle.view_engine.specs.Refusals.{refusal_text, request_of}
 use Rattle.view_engine.specs.Moments.{Moment}
 use Rattle.view_engine.specs.ServerFaults.{is_server_fault}
-use Rattle.view_engine.specs.Disks.{ChangesFiles, IsOfIndex, IsView}
+use Rattle.view_engine.specs.Disks.{ChangesFiles, IsOfIndex, IsOnIndexes}
 use Rattle.view_engine.specs.Steps.{Answers, MayHaveCalled}
 use Rattle.view_engine.specs.Updating.{AreShaped, IsSound}
 use Rattle.view_groups.specs.Cleans.{IsIndexFile}
 use Rattle.view_engine.specs.World.{World}
 use Rattle.view_engine.specs.Worlds.{at_start, GoesOnFrom, HasRoomAt, IsFullAt, StandsAround, StandsEither, languages as languages_of}
 use Rattle.couchview_cli.specs.declared.session.Session.{Session}
-use Rattle.couchview_cli.specs.Reading.{IsFoundOn, IsReplied}
+use Rattle.couchview_cli.specs.Reading.{ComesTo, IsFoundOn, IsReplied}
 use Rattle.couchview_cli.specs.Serving.{StandsSince, Steps, width}
 
 -- where a session began: its languages, the world at the opening, the disk, and how many faults the query servers had
@@ -71,15 +71,17 @@ module _ {F C : Type 0} (f : Folders F) (s : Servers C) where
     pub prints : IsReplied line text
     pub blames : is_server_fault (record { line = line; text = text }) ≡ true → RoseBy 2 (s.faults old.servers) (s.faults new.servers)
     pub still : (ChangesFiles (request_of line) → ⊥) → Tells (f.disk old.folder) (f.disk new.folder) MovesNone
+    pub on : ComesTo (f.disk old.folder) (f.disk new.folder)
     pub stays : Stays f s old new
 
   -- a line was not answered, for this fault
   pub record IsUnanswered (old new : Scene F C) (line : List ℕ) (fault : StepFault) : Type 0 where
     pub halts : (before : Moment) → StandsAt f s old before → IsHalted s.functions s.honest (languages_of old.engine) fault (f.disk old.folder) (f.disk new.folder) before line (KeepsChild f s new)
     pub cause : fault ≡ DiskFault → Rose (f.faults old.folder) (f.faults new.folder)
-    pub found : IsFoundOn (f.disk new.folder) line fault
+    pub found : IsFoundOn (f.disk old.folder) (f.disk new.folder) line fault
+    pub on : ComesTo (f.disk old.folder) (f.disk new.folder)
     pub still : (ChangesFiles (request_of line) → ⊥) → Tells (f.disk old.folder) (f.disk new.folder) MovesNone
-    pub kept : fault ≢ DiskFault → (IsView (request_of line) → ⊥) → Tells (f.disk old.folder) (f.disk new.folder) MovesNone
+    pub kept : fault ≢ DiskFault → (IsOnIndexes (request_of line) → ⊥) → Tells (f.disk old.folder) (f.disk new.folder) MovesNone
     pub stays : Stays f s old new
 
   -- since the origin a session has come to this moment

@@ -72,7 +72,7 @@ follows-push id [] last less = ap is_lt less
 follows-push id (x ∷ []) last less = ap is_lt less
 follows-push id (x ∷ y ∷ done) last less = follows-push id (y ∷ done) last less
 
-is_lt-Less : (o : Ordering) → is_lt o ≡ true → o ≡ Less
+pub is_lt-Less : (o : Ordering) → is_lt o ≡ true → o ≡ Less
 is_lt-Less Less h = refl
 is_lt-Less Equal h = absurd cc
 is_lt-Less Greater h = absurd cc

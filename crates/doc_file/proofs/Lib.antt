@@ -7,6 +7,7 @@ mod Bodies
 mod CountsKept
 mod Carried
 mod Setting
+mod Rises
 pub mod Histories
 mod Standing
 pub mod Sizes
@@ -25,6 +26,7 @@ pub mod Pages
 mod Since
 mod Progress
 mod Known
+mod DesignIds
 mod Tallies
 pub mod LastWrites
 pub mod MappedOrder

@@ -31,7 +31,7 @@ greater_differs a b greater same =
     let other : is_eq (slice_cmp nat_cmp a b) ≡ false = ap is_eq greater in
     let clash : ⊥ = cc in clash
 
-turned : (a b : List ℕ) → slice_cmp nat_cmp a b ≡ Greater → slice_cmp nat_cmp b a ≡ Less
+pub turned : (a b : List ℕ) → slice_cmp nat_cmp a b ≡ Greater → slice_cmp nat_cmp b a ≡ Less
 turned a b greater = nat_list_cmp_total.antisymm b a ∙ ap ordering_reverse greater
 
 pub bool_cases : (b : Bool) → (b ≡ true) ⊎ (b ≡ false)

@@ -1,10 +1,7 @@
 -- The next of the entries is the next change of the history.
-use Rattle.std.proofs.Common.{◌≡◌, ◌⊎◌, inl, inr, ℕ, ◌<◌, ◌≤◌, List, [], ◌∷◌, ◌++◌, get_or, Option, Some, None, Less, nat_cmp, is_eq, refl, sym, ap, ◌∙◌, subst, arith}
+use Rattle.std.proofs.Common.{◌≡◌, ◌⊎◌, inl, inr, ℕ, ◌<◌, ◌≤◌, List, [], ◌∷◌, ◌++◌, Option, Some, None, refl, sym, ap, ◌∙◌, subst, arith}
 use Rattle.std.specs.Prelude.{true, false, bytes_eq, All}
-use Rattle.std.specs.Cmp.Lexicographic.{slice_cmp}
-use Rattle.std.proofs.lemmas.Cmp.{nat_list_cmp_total}
-use Rattle.std.proofs.lemmas.Map.Text.{is_eq-slice_cmp}
-use Rattle.std.proofs.lemmas.List.Elements.{All-cons, All-contains, All-head, All-nil, All-tail}
+use Rattle.std.proofs.lemmas.List.Elements.{All-contains, All-head, All-tail}
 use Rattle.json_terms.specs.Json.{Json}
 use Rattle.term_codec.specs.Spelling.{spelling}
 use Rattle.term_codec.specs.SpelledAt.{IsWithin}
@@ -12,14 +9,15 @@ use Rattle.term_codec.proofs.Spelled.{spelling-prefix_free}
 use Rattle.gate_file.specs.declared.root.Root.{Root}
 use Rattle.doc_file.specs.declared.entry.LastWrite.{LastWrite}
 use Rattle.doc_file.specs.declared.entry.Entry.{Entry}
-use Rattle.doc_file.specs.Record.{AreEntries, ComesBefore}
+use Rattle.doc_file.specs.Record.{AreEntries}
 use Rattle.doc_file.specs.Stored.{entry_of}
 use Rattle.doc_file.specs.History.{Write, changes_after, last_seq, last_write}
 use Rattle.doc_file.specs.Held.{HasBody, HoldsRoot, IsDocument, IsKept, KeepsLast, KeepsDocument, KeepsEach, find_last}
 use Rattle.doc_file.specs.Changes.{IsNext, IsStored}
-use Rattle.doc_file.proofs.Setting.{bool_cases, bytes_eq-same, same_id}
+use Rattle.doc_file.proofs.Setting.{bool_cases, same_id}
 use Rattle.doc_file.proofs.Histories.{last_write-id}
 use Rattle.doc_file.proofs.Numbers.{first_change, no_change}
+use Rattle.doc_file.proofs.Rises.{found_of_rise, rise_of_entries}
 
 -- ---- entries of rising ids
 
@@ -27,27 +25,9 @@ pub are_entries : (root : Option Root) (commits : ℕ) (bytes : List ℕ) (seq :
 are_entries None commits bytes seq entries holds = subst AreEntries (sym holds.1) tt
 are_entries (Some root) commits bytes seq entries holds = holds.0.each
 
-all_behind : (id : List ℕ) (es : List Entry) → ComesBefore id es → AreEntries es → All (λ (e : Entry). slice_cmp nat_cmp id e.id ≡ Less) es
-all_behind id [] before are = All-nil (λ (e : Entry). slice_cmp nat_cmp id e.id ≡ Less)
-all_behind id (e ∷ es) before are =
-    All-cons (λ (x : Entry). slice_cmp nat_cmp id x.id ≡ Less) e es before
-    (λ k d in'. nat_list_cmp_total.trans id e.id (get_or es k d).id before (all_behind e.id es are.1 are.2 k d in'))
-
-less_differs : (a b : List ℕ) → slice_cmp nat_cmp a b ≡ Less → bytes_eq b a ≡ false
-less_differs a b less = elim (bool_cases (bytes_eq b a)) [
-  | inl same ↦
-      let back : bytes_eq a b ≡ true = ap (bytes_eq a) (same_id b a same) ∙ bytes_eq-same a in
-      let test = is_eq-slice_cmp a b in
-      absurd (let clash : ⊥ = cc (ap is_eq less) in clash)
-  | inr is ↦ is
-]
-
 -- an entry is what is found of its id
 pub found_entries : (es : List Entry) → AreEntries es → All (λ (e : Entry). find_last e.id es ≡ Some e.last) es
-found_entries [] are = All-nil (λ (e : Entry). find_last e.id [] ≡ Some e.last)
-found_entries (e ∷ es) are =
-    All-cons (λ (x : Entry). find_last x.id (e ∷ es) ≡ Some x.last) e es (rw (bytes_eq-same e.id) refl)
-    (λ k d in'. let differs = less_differs e.id (get_or es k d).id (all_behind e.id es are.1 are.2 k d in') in rw differs (found_entries es are.2 k d in'))
+found_entries es are = found_of_rise es (rise_of_entries es are)
 
 -- what is found of an id is its entry
 holds_match : (P : Entry → Type 0) (id : List ℕ) (last : LastWrite) (e : Entry) (es : List Entry) → (bytes_eq id e.id ≡ true) ⊎ (bytes_eq id e.id ≡ false) → find_last id (e ∷ es) ≡ Some last → All P (e ∷ es)

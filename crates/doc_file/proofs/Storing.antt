@@ -24,10 +24,11 @@ use Rattle.doc_file.specs.Docs.{bytes_in, entries_of, file_of, seq_of, IsAt, IsD
 use Rattle.doc_file.specs.Drafts.{IsDraft}
 use Rattle.doc_file.specs.Held.{HoldsRoot, HoldsWrites, IsBodyOf, SpellsRoot, Stands, commits_in, find_last}
 use Rattle.doc_file.specs.History.{IsStoredAs, Write}
-use Rattle.doc_file.specs.Record.{AreEntries, record_bytes}
+use Rattle.doc_file.specs.Record.{rise, AreEntries, record_bytes}
 use Rattle.doc_file.specs.Stored.{body_of, entry_of, generation_in, last_of, revised, with_last, write_of, IsStorable}
 use Rattle.doc_file.proofs.Carried.{spells_of_root, writes_of_root}
 use Rattle.doc_file.proofs.CountsKept.{room_of}
+use Rattle.doc_file.proofs.Rises.{rise-with_last}
 use Rattle.doc_file.proofs.Setting.{list_all-with_last}
 use Rattle.doc_file.proofs.Since.{are_entries}
 use Rattle.doc_file.proofs.Standing.{counted_written, generation_room, holds_written, seq_room, writes_written}
@@ -125,6 +126,9 @@ module _ (docs : Docs) (id : List ℕ) (content : Option Json) (draft : Draft) (
   pub room_now : list_all has_room draft.entries.items ≡ true
   room_now = ap (list_all has_room) is.entries_are
       ∙ list_all-with_last has_room id (last_of (start_of (file_of docs)) draft.rev (revised content draft.rev)) (entries_of docs) (room_of (entry_of id (last_of (start_of (file_of docs)) draft.rev (revised content draft.rev))) short) docs.room
+
+  pub order_now : rise draft.entries.items ≡ true
+  order_now = ap rise is.entries_are ∙ rise-with_last id (last_of (start_of (file_of docs)) draft.rev (revised content draft.rev)) (entries_of docs) docs.order
 
   record_long : length bytes - skipped ≡ length (record_bytes (seq_of docs + 1) draft.entries.items)
   record_long = omega (arith, ap length bytes_are, length-append (body_of (revised content draft.rev)) (record_bytes (seq_of docs + 1) draft.entries.items), skipped_body)

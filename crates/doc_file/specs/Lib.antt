@@ -16,4 +16,5 @@ pub mod Docs
 pub mod Calls
 pub mod Laws
 pub mod Changes
+pub mod Designs
 pub mod Reads

@@ -1,8 +1,9 @@
 -- The root record: the number of accepted writes, and the last write of each id in byte order of id.
-use Rattle.std.specs.Prelude.{◌≡◌, ℕ, ◌+◌, ◌<◌, ◌^◌, List, [], ◌∷◌, ◌++◌, length, Bool, true, false, IsUtf8}
+use Rattle.std.specs.Prelude.{◌≡◌, ℕ, ◌+◌, ◌<◌, ◌^◌, List, [], ◌∷◌, ◌++◌, length, Bool, ◌&&◌, true, false, IsUtf8}
+use Rattle.std.specs.List.{list_all}
 use Rattle.std.specs.Int.{to_le_bytes, w64}
 use Rattle.std.specs.declared.cmp.Ordering.TheVariants.{Less}
-use Rattle.std.specs.Ordering.{nat_cmp}
+use Rattle.std.specs.Ordering.{is_lt, nat_cmp}
 use Rattle.std.specs.Cmp.Lexicographic.{slice_cmp}
 use Rattle.term_codec.specs.Spelling.{count_bytes, text_bytes}
 use Rattle.doc_file.specs.declared.entry.LastWrite.{LastWrite}
@@ -53,6 +54,15 @@ ComesBefore id (entry ∷ entries) = slice_cmp nat_cmp id entry.id ≡ Less
 abbrev pub AreEntries : List Entry → Type 0
 AreEntries [] = Unit {0}
 AreEntries (entry ∷ entries) = IsEntry entry × ComesBefore entry.id entries × AreEntries entries
+
+-- the id is less than that of the entry
+abbrev pub precedes : List ℕ → Entry → Bool
+precedes id entry = is_lt (slice_cmp nat_cmp id entry.id)
+
+-- each id is less than those of the later entries
+abbrev pub rise : List Entry → Bool
+rise [] = true
+rise (entry ∷ entries) = list_all (precedes entry.id) entries && rise entries
 
 -- what a root record may hold
 pub record IsRoot (seq : ℕ) (entries : List Entry) : Type 0 where

@@ -1,12 +1,14 @@
 //! The documents of a database, by their last writes.
 
 pub(crate) mod changes;
+mod designs;
 mod write;
 
 ghost use Rattle.std.specs.Prelude.{◌≡◌, IsTrue};
 ghost use Rattle.std.specs.List.{list_all};
 ghost use Rattle.gate_file.specs.GateFile.{commits_of};
 ghost use Rattle.doc_file.specs.Counts.{are_counted, has_room};
+ghost use Rattle.doc_file.specs.Record.{rise};
 
 use crate::entry::Entry;
 use crate::fault::DocFault;
@@ -26,6 +28,7 @@ pub struct Docs {
     entries: Vec<Entry>,
     ghost counted: { IsTrue (are_counted (commits_of file) seq entries.items) },
     ghost room: { IsTrue (list_all has_room entries.items) },
+    ghost order: { IsTrue (rise entries.items) },
 }
 
 /// Counts of documents.

@@ -11,6 +11,7 @@ ghost use Rattle.gate_file.specs.RootPlace.{IsRootPlace};
 ghost use Rattle.doc_file.specs.declared.entry.Entry.{Entry as EntryValue};
 ghost use Rattle.doc_file.specs.Counts.{are_counted, has_room};
 ghost use Rattle.doc_file.specs.Held.{HasBody, HoldsIn, IsBodyOf};
+ghost use Rattle.doc_file.specs.Record.{rise};
 ghost use Rattle.doc_file.specs.Reads.{FindsDamage, IsCounted, IsReadFault};
 
 use crate::body::read_body;
@@ -31,6 +32,7 @@ pub fn load_root<F: Folder>(
 ) -> Result<RootRecord, DocFault>
     ensures counted { IfOk result (λ root. IsTrue (are_counted (commits_of file.now) root.seq root.entries.items)
         × IsTrue (list_all has_room root.entries.items)) }
+    ensures order { IfOk result (λ root. IsTrue (rise root.entries.items)) }
     ensures held { Told F.Folder folder.old
         (λ d. IfOk result (λ root. HoldsIn file.now d.now root.seq root.entries.items)) }
     ensures damaged { Told F.Folder folder.old (λ d. FindsDamage

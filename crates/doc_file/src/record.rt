@@ -3,7 +3,7 @@
 ghost use Rattle.std.specs.Prelude.{◌≡◌, ◌+◌, ◌<◌, ◌≤◌, ◌^◌, ◌++◌, length, None, Ok, IfOk, OnOk, IfSome, IsTrue, option_map};
 ghost use Rattle.std.specs.List.{list_all};
 ghost use Rattle.doc_file.specs.Counts.{has_room, is_counted};
-ghost use Rattle.doc_file.specs.Record.{whole_bytes, entry_bytes, entries_bytes, record_bytes, IdsFit, IsNoRecord, IsOneRecord, IsRecordOf};
+ghost use Rattle.doc_file.specs.Record.{whole_bytes, entry_bytes, entries_bytes, record_bytes, rise, IdsFit, IsNoRecord, IsOneRecord, IsRecordOf};
 ghost use Rattle.doc_file.specs.Reading.{whole_in, last_in, entry_of_id, entry_of_size, entry_in, follows, entry_after, whole_entries, root_of, root_in};
 
 use crate::entry::{Entry, LAST_LENGTH, LastWrite};
@@ -102,6 +102,7 @@ pub fn read_root(alloc: Global, bytes: &[u8]) -> Result<Option<RootRecord>, NoMe
         (λ found. IfSome found (λ root. IsOneRecord bytes.now root.seq root.entries.items)) }
     ensures room { IfOk result
         (λ found. IfSome found (λ root. IsTrue (list_all has_room root.entries.items))) }
+    ensures order { IfOk result (λ found. IfSome found (λ root. IsTrue (rise root.entries.items))) }
     ensures none { result ≡ Ok None → IsNoRecord bytes.now }
 {
     parse_root(alloc, bytes)

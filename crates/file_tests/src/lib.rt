@@ -4,6 +4,8 @@
 #[cfg(test)]
 mod changes_tests;
 #[cfg(test)]
+mod design_tests;
+#[cfg(test)]
 mod doc_file_tests;
 #[cfg(test)]
 mod documents;

@@ -9,7 +9,7 @@ use Rattle.doc_file.specs.Stored.{write_of}
 use Rattle.doc_file.specs.Writes.{content_of}
 use Rattle.view_ports.specs.Exchanges.{Exchange, LeadsTo}
 use Rattle.view_engine.specs.declared.request.Request.{Request}
-use Rattle.view_engine.specs.declared.request.Request.TheVariants.{Put, Delete, Get, View, Info}
+use Rattle.view_engine.specs.declared.request.Request.TheVariants.{Cleanup, Put, Delete, Get, View, Info}
 use Rattle.view_engine.specs.declared.request.ViewName.{ViewName}
 use Rattle.view_engine.specs.declared.refusal.Refusal.{Refusal}
 use Rattle.view_engine.specs.declared.refusal.Refusal.TheVariants.{NoMemory}
@@ -89,6 +89,7 @@ module _ (functions : List ℕ → Functions) (honest : List ℕ → Type 0) (la
       rw (is, text, (done.1).prints) (acted ∙ ap (λ (w : World). w.history) (done.1).wrote)
   performs-accepted before (Get id) e reply after is done text = rw is (same_moment before after done.1 ∙ either_way (is_ok e.text) before.world)
   performs-accepted before Info e reply after is done text = rw is (same_moment before after done.1 ∙ either_way (is_ok e.text) before.world)
+  performs-accepted before Cleanup e reply after is done text = rw is (ap (λ (m : Moment). (m.world).history) done.2 ∙ (done.1).0.history ∙ either_way (is_ok e.text) before.world)
   performs-accepted before (View name None) e reply after is done text = rw is (view-accepted before name reply after done ∙ either_way (is_ok e.text) before.world)
   performs-accepted before other e reply after is done text = absurd done
 

@@ -38,6 +38,7 @@ use Rattle.view_engine.specs.Refusals.{refusal_text}
 use Rattle.view_engine.specs.Steps.{DoesRequest, DoesRequestText, IsRefusedAs, IsWrite, Makes, MayHaveCalled, Performs}
 use Rattle.view_engine.specs.World.{World, NoneIsNewer, written}
 use Rattle.view_engine.proofs.OnDisk.{documents_reason, documents_still}
+use Rattle.view_engine.proofs.Between.{stands_first}
 use Rattle.view_engine.proofs.Whole.{documents_at, documents_open, indexes_at, kept_whole, leaves_around, told_leaves_before, told_leaves_none}
 use Rattle.view_engine.proofs.Performing.{none_called}
 use Rattle.view_engine.proofs.ServerFaults.{err_unblamed}
@@ -127,7 +128,7 @@ module _ {F C : Type 0} (f : Folders F) (s : Servers C) (docs docs' : Docs) (poo
       → Tells (f.disk old) (f.disk new) (LeavesOnly (StandsEither world after))
   moments_done request reply world after at does =
       told_given (f.disk old) (f.disk new) (λ d. IsAtWorld before_it d.now world × DoesHere world request reply after) (MovesDocuments (DocumentsStandAround world (Ok request))) (LeavesOnly (StandsEither world after))
-      (λ a b known moves. leaves_around before_it world (Ok request) (StandsEither world after) a b (λ image stands. inl stands)
+      (λ a b known moves. leaves_around before_it world (Ok request) (StandsEither world after) a b (λ image stands. stands_first world after image stands)
       (λ image write is stands. inr (subst (StandsFor image) (does_write request world reply after write known.1 is) stands)) known.0 moves)
       (told_pair (f.disk old) (λ d. IsAtWorld before_it d.now world) (λ d. DoesHere world request reply after) (λ d. IsAtWorld before_it d.now world × DoesHere world request reply after) (λ d here done. (here, done)) at does)
 

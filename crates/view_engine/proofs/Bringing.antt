@@ -35,6 +35,7 @@ use Rattle.view_engine.specs.Moments.{Moment}
 use Rattle.view_engine.specs.ViewPlan.{IsPlan}
 use Rattle.view_engine.specs.World.{World}
 use Rattle.view_engine.specs.Worlds.{IsAtWorld, StandsAround, StandsEither}
+use Rattle.view_engine.proofs.Between.{stands_first}
 use Rattle.view_engine.proofs.Apart.{documents_beside, indexes_alike, next_stands, none_newer_set, old_stands, set_is_alike}
 use Rattle.view_engine.proofs.Viewed.{is_brought, IsKnown, IsNextOf}
 
@@ -119,7 +120,7 @@ module _ {F C : Type 0} (f : Folders F) (s : Servers C) (docs : Docs) (pool pool
       pub refused_at : (fault : UpdateFault) → (IsOfIndex fault → ⊥) → MovesBy (Err fault) a b → LeavesOnly (StandsEither world world) a b × IsAtWorld engine' b.now world
       refused_at fault other moves = (
         weaker (Framed (IsFileOf (View own)) a.now (IndexStandsAround design world.pictures (MayLeave f s docs design (side mid servers pool groups) (side new servers' pool' groups') world.history world.pictures (Err fault)))) (StandsEither world world) a b
-            (λ image framed. ⊎_elim (λ old. inl (old_stands engine design a.now world here _ image framed old.0 old.1)) (λ next. absurd (other next.1.1)) framed.inside) moves.moments,
+            (λ image framed. ⊎_elim (λ old. stands_first world world image (old_stands engine design a.now world here _ image framed old.0 old.1)) (λ next. absurd (other next.1.1)) framed.inside) moves.moments,
         record { documents = documents_stay moves.others; indexes = moves.ended other; within = here.within },
       )
 
@@ -151,7 +152,7 @@ module _ {F C : Type 0} (f : Folders F) (s : Servers C) (docs : Docs) (pool pool
             let number : shown.seq ≡ length world.history = (is_next path before.calls at.child.follows path_is at.child.child).updated.seq in
             let there : ended.next ≡ Some shown = next_there ended.next shows number some in (
               weaker (Framed (IsFileOf (View own)) a.now (IndexStandsAround design world.pictures (MayLeave f s docs design (side mid servers pool groups) (side new servers' pool' groups') world.history world.pictures (Ok slot)))) (StandsEither world left) a b
-                  (λ image framed. ⊎_elim (λ old. inl (old_stands engine design a.now world here _ image framed old.0 old.1))
+                  (λ image framed. ⊎_elim (λ old. stands_first world left image (old_stands engine design a.now world here _ image framed old.0 old.1))
                   (λ next.
                   let made = next.1.1 in
                   let this : next.0 ≡ shown = made.2 ∙ ap picture_of (one_index groups' slot own (views_in design) made.0 index made.1 group) in

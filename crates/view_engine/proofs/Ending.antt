@@ -4,7 +4,9 @@ use Rattle.std.specs.List.{AllByRecursion}
 use Rattle.std.proofs.Common.{refl, sym, ap, ◌∙◌, subst, inl, ⊎_elim, arith}
 use Rattle.std.proofs.lemmas.List.{length-map}
 use Rattle.json_terms.specs.declared.term.Row.{Row}
+use Rattle.json_terms.specs.Json.{Json}
 use Rattle.design_docs.specs.declared.design.Design.{Design}
+use Rattle.design_docs.specs.Design.{IsDesignOf}
 use Rattle.view_ports.specs.Disk.{Disk, IfTold, LeavesOnly, MovesNone, Tells}
 use Rattle.view_ports.specs.Lines.{ended}
 use Rattle.view_ports.specs.declared.file_name.FileName.{FileName}
@@ -29,7 +31,6 @@ use Rattle.gate_file.specs.declared.fault.GateFault.TheVariants as gate
 use Rattle.view_index.specs.declared.fault.IndexFault.TheVariants as index
 use Rattle.view_groups.specs.declared.groups.Groups.{Groups}
 use Rattle.view_groups.specs.Brings.{side, Brings}
-use Rattle.view_groups.specs.Reached.{sig_of}
 use Rattle.view_groups.specs.Groups.{open_of}
 use Rattle.view_engine.specs.declared.engine.Engine.{Engine}
 use Rattle.view_engine.specs.declared.halt.Halt.{Halt}
@@ -40,7 +41,7 @@ use Rattle.view_engine.specs.declared.request.Request.TheVariants.{View as ViewR
 use Rattle.view_engine.specs.declared.request.ViewName.{ViewName}
 use Rattle.view_engine.specs.Answer.{answer}
 use Rattle.view_engine.specs.Calls.{scene, IsReplyLine, LeavesMoment, Performed, Scene, StandsAt}
-use Rattle.view_engine.specs.Disks.{LiesOpen, Reads}
+use Rattle.view_engine.specs.Disks.{IsAskedFor, LiesOpen, Reads}
 use Rattle.view_engine.specs.Halts.{GoesOn}
 use Rattle.view_engine.specs.Moments.{Moment}
 use Rattle.view_engine.specs.Steps.{MayHaveCalled}
@@ -49,10 +50,11 @@ use Rattle.view_engine.specs.Worlds.{IsAtWorld, IsOpen, StandsAround, StandsEith
 use Rattle.view_engine.proofs.OnDisk.{documents_reason, read_halted}
 use Rattle.view_engine.proofs.Performing.{none_called}
 use Rattle.view_engine.proofs.Planned.{refused_leaves, shown_leaves, spent_leaves, stopped_leaves}
-use Rattle.view_engine.proofs.Reasons.{view_moved, view_open, view_why}
+use Rattle.view_engine.proofs.Reasons.{view_moves, view_open, view_why}
 use Rattle.view_engine.proofs.ServerFaults.{met_server_fault, unlike_answer}
 use Rattle.view_engine.proofs.Viewing.{does_halted, viewed, Halts}
-use Rattle.view_engine.proofs.Whole.{leaves_none, moves_no_index}
+use Rattle.view_engine.proofs.Whole.{leaves_none, view_moves_none}
+use Rattle.view_engine.proofs.Between.{stands_same}
 
 -- what is open stays so where no file changes
 pub open_still : (engine : Engine) (x y : Option (Disk FileName)) → Tells x y MovesNone → IfTold x (λ d. IsOpen engine d.now) → IfTold y (λ d. IsOpen engine d.now)
@@ -80,7 +82,7 @@ module _ {F C : Type 0} (f : Folders F) (s : Servers C) (docs : Docs) (pool : Po
       (does_halted f s (scene engine old servers) (scene engine mid servers) name out out halt (λ goes. leaves)
       (λ step is not before at. (
         told_given (f.disk old) (f.disk mid) (λ d. IsAtWorld engine d.now before.world) MovesNone (LeavesOnly (StandsAround s.functions s.honest (languages_of pool) before.world (Ok (ViewRequest name None))))
-            (λ a b here none. weaker (StandsEither before.world before.world) (StandsAround s.functions s.honest (languages_of pool) before.world (Ok (ViewRequest name None))) a b (λ image stands. ⊎_elim (λ one. inl one) (λ one. inl one) stands) (leaves_none engine before.world a b none here)) at.documents reads.disk,
+            (λ a b here none. weaker (StandsEither before.world before.world) (StandsAround s.functions s.honest (languages_of pool) before.world (Ok (ViewRequest name None))) a b (λ image stands. inl (stands_same before.world image stands)) (leaves_none engine before.world a b none here)) at.documents reads.disk,
         record {
           after = before;
           child = at.child;
@@ -88,7 +90,7 @@ module _ {F C : Type 0} (f : Folders F) (s : Servers C) (docs : Docs) (pool : Po
         },
       )))
       tt refl (λ is. absurd (other (let same : halt ≡ Refused ServerFault = cc in same)))
-      (moves_no_index f old mid reads.disk)
+      (view_moves_none f engine old mid name reads.disk)
       (λ goes. open_still engine (f.disk old) (f.disk mid) reads.disk is_open)
       (documents_reason f engine old mid (Ok (ViewRequest name None)) halt (read_halted f docs old mid (Ok (ViewRequest name None)) halt tt reads.why))
       (record { languages = refl; width = refl; disk_faults = reads.later; server_faults = omega arith })
@@ -98,7 +100,7 @@ module _ {F C : Type 0} (f : Folders F) (s : Servers C) (docs : Docs) (pool : Po
       (within : place < length design.views) (path_is : path_in (languages_of pool) design.language ≡ Some path)
       (read : Tells (f.disk old) (f.disk mid) MovesNone) (earlier : f.faults old ≤ f.faults mid)
       (plans : (history : List Write) → IfTold (f.disk old) (λ d. AreAt docs d.now history → IsPlan (languages_of pool) history name id design place path))
-      (is_open : LiesOpen f engine old) where
+      (is_open : LiesOpen f engine old) (asked : IfTold (f.disk old) (λ d. (document : Json) × IsAskedFor docs d.now name document × IsDesignOf document design)) where
     abbrev engine' : Engine
     engine' = record { docs = docs; pool = pool'; groups = groups' }
 
@@ -116,9 +118,9 @@ module _ {F C : Type 0} (f : Folders F) (s : Servers C) (docs : Docs) (pool : Po
           (λ goes before at. refused_leaves f s docs pool pool' groups groups' old mid new servers servers' name id design place path within path_is read plans met kind brings (goes_on_of_none met id kind goes) before at)
           (stopped_leaves f s docs pool pool' groups groups' old mid new servers servers' name id design place path within path_is read plans met kind brings))
           tt refl (λ is. brings.blames (ap Err (met_server_fault id met (let same : met_by id met ≡ Refused ServerFault = cc in same))))
-          (sig_of design, view_moved f s docs pool pool' groups groups' old mid new servers servers' name id design place path read earlier plans is_open (Err met) brings)
-          (λ goes. view_open f s docs pool pool' groups groups' old mid new servers servers' name id design place path read earlier plans is_open (Err met) brings (goes_on_of_none met id kind goes))
-          (view_why f s docs pool pool' groups groups' old mid new servers servers' name id design place path read earlier plans is_open met brings)
+          (view_moves f s docs pool pool' groups groups' old mid new servers servers' name id design place path read earlier plans is_open asked (Err met) brings)
+          (λ goes. view_open f s docs pool pool' groups groups' old mid new servers servers' name id design place path read earlier plans is_open asked (Err met) brings (goes_on_of_none met id kind goes))
+          (view_why f s docs pool pool' groups groups' old mid new servers servers' name id design place path read earlier plans is_open asked met brings)
           (record { languages = brings.keeps.languages; width = brings.keeps.width; disk_faults = omega (arith, earlier, brings.later.0); server_faults = brings.later.1 })
 
     -- the rows of the view are printed, or memory runs out
@@ -143,8 +145,8 @@ module _ {F C : Type 0} (f : Folders F) (s : Servers C) (docs : Docs) (pool : Po
           (λ before at. shown_leaves f s docs pool pool' groups groups' old mid new servers servers' name id design place path within path_is read plans slot brings before at (subst (AllByRecursion HasParts) same_rows parts) each out out'
           (appended ∙ ap (λ (r : List Row). out ++ ended (answer r)) same_rows))
           (record { reply = answer printed; line = line; appended = appended; unlike = λ other. unlike_answer printed }) tt (λ is. let clash : ⊥ = cc in absurd clash)
-          (sig_of design, view_moved f s docs pool pool' groups groups' old mid new servers servers' name id design place path read earlier plans is_open (Ok slot) brings)
-          (λ goes. view_open f s docs pool pool' groups groups' old mid new servers servers' name id design place path read earlier plans is_open (Ok slot) brings (λ lost. lost))
+          (view_moves f s docs pool pool' groups groups' old mid new servers servers' name id design place path read earlier plans is_open asked (Ok slot) brings)
+          (λ goes. view_open f s docs pool pool' groups groups' old mid new servers servers' name id design place path read earlier plans is_open asked (Ok slot) brings (λ lost. lost))
           tt
           (record { languages = brings.keeps.languages; width = brings.keeps.width; disk_faults = omega (arith, earlier, brings.later.0); server_faults = brings.later.1 })
       shown_then {out'} (Err halt) appended line silent memory = subst (λ (h : Halt). Performed f s now later (Ok (ViewRequest name None)) out out' (Err h)) (sym memory)
@@ -153,7 +155,7 @@ module _ {F C : Type 0} (f : Folders F) (s : Servers C) (docs : Docs) (pool : Po
           does_halted f s now later name out out' (Stopped NoMemory) (λ goes before at. spent_leaves f s docs pool pool' groups groups' old mid new servers servers' name id design place path within path_is read plans slot brings before at)
           (λ step is other before at. absurd (other (let same : step ≡ NoMemory = cc in same))) before at)
           tt silent (λ is. let clash : ⊥ = cc in absurd clash)
-          (sig_of design, view_moved f s docs pool pool' groups groups' old mid new servers servers' name id design place path read earlier plans is_open (Ok slot) brings)
-          (λ goes. view_open f s docs pool pool' groups groups' old mid new servers servers' name id design place path read earlier plans is_open (Ok slot) brings (λ lost. lost))
+          (view_moves f s docs pool pool' groups groups' old mid new servers servers' name id design place path read earlier plans is_open asked (Ok slot) brings)
+          (λ goes. view_open f s docs pool pool' groups groups' old mid new servers servers' name id design place path read earlier plans is_open asked (Ok slot) brings (λ lost. lost))
           (inl tt)
           (record { languages = brings.keeps.languages; width = brings.keeps.width; disk_faults = omega (arith, earlier, brings.later.0); server_faults = brings.later.1 }))

@@ -10,7 +10,7 @@ use Rattle.doc_file.specs.History.{Write}
 use Rattle.doc_file.specs.Incoming.{IsUnfit, IsWritable}
 use Rattle.doc_file.specs.Writes.{IsAcceptedDelete, IsAcceptedPut, IsRefusedDelete, IsRefusedPut}
 use Rattle.view_engine.specs.declared.refusal.Refusal.{Refusal}
-use Rattle.view_engine.specs.declared.request.Request.TheVariants.{Delete, Get, Info, Put, View}
+use Rattle.view_engine.specs.declared.request.Request.TheVariants.{Cleanup, Delete, Get, Info, Put, View}
 use Rattle.view_engine.specs.Get.{not_live}
 use Rattle.view_engine.specs.Laws.{IsNotRefusedAndDone, IsRefusedOnce}
 use Rattle.view_engine.specs.Put.{DoesPut, IsPutRefused}
@@ -126,6 +126,7 @@ module _ (functions : List ℕ → Functions) (honest : List ℕ → Type 0) (la
   is_refused_once world (Delete id given) first second a b = a.2 ∙ ap refused_as (delete_once _ given a.0 b.0 a.1 b.1) ∙ sym b.2
   is_refused_once world (Get id) first second a b = let same : Some first ≡ Some second = sym a ∙ b in cc
   is_refused_once world Info first second a b = absurd a
+  is_refused_once world Cleanup first second a b = absurd a
   is_refused_once world (View name None) first second a b = let same : Some first ≡ Some second = sym a ∙ b in cc
   is_refused_once world (View name (Some query)) first second a b = a ∙ sym b
   is_refused_once world other first second a b = a ∙ sym b
@@ -136,6 +137,7 @@ module _ (functions : List ℕ → Functions) (honest : List ℕ → Type 0) (la
   is_not_refused_and_done before after (Delete id given) refusal reply refused done = delete_clash _ given refused.0 refused.1 (done.1).accepted
   is_not_refused_and_done before after (Get id) refusal reply refused done = live_not_refused _ (done.0).0 refusal (done.0).1 refused
   is_not_refused_and_done before after Info refusal reply refused done = refused
+  is_not_refused_and_done before after Cleanup refusal reply refused done = refused
   is_not_refused_and_done before after (View name None) refusal reply refused done = let clash : Some refusal ≡ None = sym refused ∙ done.accepted in cc
   is_not_refused_and_done before after (View name (Some query)) refusal reply refused done = done
   is_not_refused_and_done before after other refusal reply refused done = done

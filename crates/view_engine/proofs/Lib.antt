@@ -18,6 +18,8 @@ pub mod SameDocs
 pub mod Unmoved
 pub mod Keeping
 pub mod Performing
+pub mod Between
+pub mod Slots
 pub mod Stepping
 pub mod AcceptedWrites
 pub mod Worlds
@@ -40,3 +42,6 @@ pub mod Beside
 pub mod Sound
 pub mod Reasons
 pub mod Ending
+pub mod CleanedUp
+pub mod LiveSignatures
+pub mod CleansThen

@@ -20,7 +20,7 @@ use Rattle.view_engine.specs.declared.halt.StepFault.{StepFault}
 use Rattle.view_engine.specs.declared.halt.StepFault.TheVariants.{DiskFault, Damaged, Full, NoMemory}
 use Rattle.view_engine.specs.declared.refusal.Refusal.{Refusal}
 use Rattle.view_engine.specs.declared.request.Request.{Request}
-use Rattle.view_engine.specs.declared.request.Request.TheVariants.{Get, View}
+use Rattle.view_engine.specs.declared.request.Request.TheVariants.{Cleanup, Get, View}
 use Rattle.view_engine.specs.Disks.{AreOpen, IfStopped, IsReadReason, IsReason, IsReasonOf, KeepsDisk, KeepsDocuments, Reads, ReadsDocuments}
 use Rattle.view_engine.specs.Halts.{halted_as, FitsFor, IsDamage}
 use Rattle.view_engine.proofs.Keeping.{moved_none, moved_still, open_none}
@@ -90,9 +90,10 @@ disk_ends given goes keeps = record {
 -- ---- causes
 
 -- a request that reads documents writes none
-reads_fit : (docs : Docs) (request : Result Request Refusal) → ReadsDocuments request → FitsFor docs request
+pub reads_fit : (docs : Docs) (request : Result Request Refusal) → ReadsDocuments request → FitsFor docs request
 reads_fit docs (Ok (Get id)) reads = tt
 reads_fit docs (Ok (View name limits)) reads = tt
+reads_fit docs (Ok Cleanup) reads = tt
 reads_fit docs other reads = absurd reads
 
 module _ {F : Type 0} (f : Folders F) (docs : Docs) where

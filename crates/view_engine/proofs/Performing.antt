@@ -7,7 +7,7 @@ use Rattle.view_ports.specs.declared.file_name.FileName.{FileName}
 use Rattle.view_ports.proofs.Told.{told_now}
 use Rattle.view_engine.specs.declared.engine.Engine.{Engine}
 use Rattle.view_engine.specs.declared.request.Request.{Request}
-use Rattle.view_engine.specs.declared.request.Request.TheVariants.{Put, Delete, Get, View, Info}
+use Rattle.view_engine.specs.declared.request.Request.TheVariants.{Cleanup, Put, Delete, Get, View, Info}
 use Rattle.view_engine.specs.declared.request.ViewName.{ViewName}
 use Rattle.json_terms.specs.declared.term.Chars.{Chars}
 use Rattle.json_terms.specs.declared.term.Members.{Members}
@@ -36,10 +36,11 @@ leaves_as {old} P Q then left = record {
 module _ (functions : List ℕ → Functions) (honest : List ℕ → Type 0) (languages : List (List ℕ × List ℕ)) where
   -- a request that isn't built yet is refused as such
   pub unbuilt : (world : World) (request : Request) → ((document : Members) → request ≡ Put document → ⊥) → ((id : Chars) (rev : Option Chars) → request ≡ Delete id rev → ⊥)
-      → ((id : Chars) → request ≡ Get id → ⊥) → (request ≡ Info → ⊥) → ((view : ViewName) → request ≡ View view None → ⊥) → IsRefusedAs functions honest languages world request NotBuiltYet
-  unbuilt world (Put document) no_put no_delete no_get no_info no_view = absurd (no_put document refl)
-  unbuilt world (Delete id rev) no_put no_delete no_get no_info no_view = absurd (no_delete id rev refl)
-  unbuilt world (Get id) no_put no_delete no_get no_info no_view = absurd (no_get id refl)
-  unbuilt world Info no_put no_delete no_get no_info no_view = absurd (no_info refl)
-  unbuilt world (View view None) no_put no_delete no_get no_info no_view = absurd (no_view view refl)
-  unbuilt world other no_put no_delete no_get no_info no_view = refl
+      → ((id : Chars) → request ≡ Get id → ⊥) → (request ≡ Info → ⊥) → (request ≡ Cleanup → ⊥) → ((view : ViewName) → request ≡ View view None → ⊥) → IsRefusedAs functions honest languages world request NotBuiltYet
+  unbuilt world (Put document) no_put no_delete no_get no_info no_cleanup no_view = absurd (no_put document refl)
+  unbuilt world (Delete id rev) no_put no_delete no_get no_info no_cleanup no_view = absurd (no_delete id rev refl)
+  unbuilt world (Get id) no_put no_delete no_get no_info no_cleanup no_view = absurd (no_get id refl)
+  unbuilt world Info no_put no_delete no_get no_info no_cleanup no_view = absurd (no_info refl)
+  unbuilt world Cleanup no_put no_delete no_get no_info no_cleanup no_view = absurd (no_cleanup refl)
+  unbuilt world (View view None) no_put no_delete no_get no_info no_cleanup no_view = absurd (no_view view refl)
+  unbuilt world other no_put no_delete no_get no_info no_cleanup no_view = refl

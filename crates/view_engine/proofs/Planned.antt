@@ -43,6 +43,7 @@ use Rattle.view_engine.specs.Steps.{DoesRequest, DoesRequestText, MayHaveCalled}
 use Rattle.view_engine.specs.ViewPlan.{met_by, IsPlan, IsUpdateFault}
 use Rattle.view_engine.specs.World.{World}
 use Rattle.view_engine.specs.Worlds.{IsAtWorld, StandsAround, StandsEither}
+use Rattle.view_engine.proofs.Between.{stands_first, stands_same}
 use Rattle.view_engine.proofs.Asking.{all_mapped, has_child, left_there, then, AreMapped, IsLeft}
 use Rattle.view_engine.proofs.Bringing.{asked_there, brought_at, failed_at, moved, next_is, refused_at, with_picture}
 use Rattle.view_engine.proofs.Viewed.{answered, asked_all, at_moment, IsKnown, IsNextOf, Updates}
@@ -132,7 +133,7 @@ module _ {F C : Type 0} (f : Folders F) (s : Servers C) (docs : Docs) (pool pool
     stopped_leaves step is other before at =
         let here = at_mid before at in
         let is_left = left before at in (
-          crashes before at (StandsAround s.functions s.honest (languages_of pool) before.world (Ok (ViewRequest name None))) (λ d image stands. ⊎_elim (λ one. inl one) (λ one. inl one) stands)
+          crashes before at (StandsAround s.functions s.honest (languages_of pool) before.world (Ok (ViewRequest name None))) (λ d image stands. inl (stands_same before.world image stands))
               (told_given (f.disk mid) (f.disk new) (λ d. IsAtWorld engine d.now before.world × (IsPlan (languages_of pool) before.world.history name id design place path × AreStored before.world.history)) _ (LeavesOnly (StandsAround s.functions s.honest (languages_of pool) before.world (Ok (ViewRequest name None))))
               (λ a b known moves. failed_at f s docs pool pool' groups groups' mid new servers servers' name id design place path within path_is (Err fault) brings before here a b known.0 (Err fault) known.1.0 known.1.1 moves)
               (told_pair (f.disk mid) (λ d. IsAtWorld engine d.now before.world) _ _ (λ d one plan. (one, plan)) here.documents (told_after (f.disk old) (f.disk mid) _ _ MovesNone (λ a b plan none. plan) (planned before at) read))
@@ -203,7 +204,7 @@ module _ {F C : Type 0} (f : Folders F) (s : Servers C) (docs : Docs) (pool pool
           documents = told_after (f.disk mid) (f.disk new) (λ d. IsAtWorld engine d.now before.world) (λ d. IsAtWorld engine' d.now after_world) _ (λ a b there both. both.1.0) (at_mid before at).documents brought;
           child = has_child s before name id design place path within pool pool' servers servers' path_is at.child brings.keeps brings.later.1 (f.disk old) after_world went.now went.follows went.holds.1.0;
         };
-        moments = crashes before at (StandsEither before.world after_world) (λ d image stands. inl (⊎_elim (λ one. one) (λ one. one) stands)) (told_map (f.disk mid) (f.disk new) _ (LeavesOnly (StandsEither before.world after_world)) (λ a b both. both.0) brought);
+        moments = crashes before at (StandsEither before.world after_world) (λ d image stands. stands_first before.world after_world image (stands_same before.world image stands)) (told_map (f.disk mid) (f.disk new) _ (LeavesOnly (StandsEither before.world after_world)) (λ a b both. both.0) brought);
         allowed = allowed;
       }
 

@@ -1,9 +1,11 @@
 -- Why a view met a fault of a file, and which files it changed.
 use Rattle.std.specs.Prelude.{◌≡◌, ◌⊎◌, ◌≤◌, ℕ, zero, suc, List, length, Option, Some, None, Result, Ok, Err}
 use Rattle.std.proofs.Common.{refl, sym, ap, ◌∙◌, subst, inl, inr, ⊎_elim}
+use Rattle.json_terms.specs.Json.{Json}
 use Rattle.design_docs.specs.declared.design.Design.{Design}
+use Rattle.design_docs.specs.Design.{views_of, IsDesignOf}
 use Rattle.design_docs.specs.declared.design.View.{View as DesignView}
-use Rattle.view_ports.specs.Disk.{IfTold, Moves, MovesNone, Tells}
+use Rattle.view_ports.specs.Disk.{Disk, IfTold, Moves, MovesNone, Tells}
 use Rattle.view_ports.specs.File.{File}
 use Rattle.view_ports.specs.Faults.{Rose}
 use Rattle.view_ports.specs.declared.file_name.FileName.{FileName}
@@ -12,30 +14,32 @@ use Rattle.view_ports.specs.declared.folder.Folder.{Ghosts as Folders}
 use Rattle.view_ports.specs.declared.servers.Servers.{Ghosts as Servers}
 use Rattle.view_ports.proofs.Counting.{Rose-earlier}
 use Rattle.view_ports.proofs.DiskRuns.{moves_then, moves_wider, none_same, none_wider}
-use Rattle.view_ports.proofs.Told.{told_after, told_back, told_now, told_pair, told_then}
+use Rattle.view_ports.proofs.Told.{told_after, told_back, told_given, told_now, told_pair, told_then}
 use Rattle.gate_file.specs.declared.fault.GateFault.TheVariants as gate
 use Rattle.gate_file.specs.GateFile.{name_of}
 use Rattle.child_pool.specs.declared.pool.Pool.{Pool}
 use Rattle.child_pool.specs.declared.pool_fault.PoolFault.TheVariants as fault
 use Rattle.child_pool.specs.Pools.{languages_of}
 use Rattle.doc_file.specs.declared.docs.Docs.{Docs}
-use Rattle.doc_file.specs.Docs.{bytes_in, file_of, is_deleted, IsAt as AreAt, IsDocsFile, IsLoaded, IsOpen as AreDocumentsOpen, IsSpoiled}
+use Rattle.doc_file.specs.Docs.{bytes_in, file_of, is_deleted, seq_of as update_seq, IsAt as AreAt, IsDocsFile, IsLoaded, IsOpen as AreDocumentsOpen, IsSpoiled}
 use Rattle.doc_file.specs.History.{Write}
 use Rattle.view_index.specs.declared.fault.IndexFault.TheVariants as index
-use Rattle.view_index.specs.Held.{empty_views, or_empty, IsFileOf}
+use Rattle.view_index.specs.declared.index.Index.{Index}
+use Rattle.view_index.specs.Held.{empty_views, or_empty, IsDamagedAt, IsFileOf}
+use Rattle.view_index.specs.Index.{seq_of}
 use Rattle.view_model.specs.Picture.{Picture}
 use Rattle.view_updater.specs.declared.fault.UpdateFault.{UpdateFault}
 use Rattle.view_updater.specs.declared.fault.UpdateFault.TheVariants as update
 use Rattle.view_updater.specs.Updates.{IsBodyDamaged, IsLost}
-use Rattle.view_signature.specs.Signature.{digest_of}
+use Rattle.view_signature.specs.Signature.{digest_of, signature_of}
 use Rattle.view_groups.specs.declared.groups.Groups.{Groups}
-use Rattle.view_groups.specs.Brings.{side, Brings}
-use Rattle.view_groups.specs.Groups.{AreOpen as AreIndexesOpen}
+use Rattle.view_groups.specs.Brings.{side, Brings, Side}
+use Rattle.view_groups.specs.Groups.{AreOpen as AreIndexesOpen, IsGroup}
 use Rattle.view_groups.specs.Reached.{picture_for, sig_of, views_in, IsReached}
 use Rattle.view_engine.specs.declared.engine.Engine.{Engine}
 use Rattle.view_engine.specs.declared.request.Request.TheVariants.{View as ViewRequest}
 use Rattle.view_engine.specs.declared.request.ViewName.{ViewName}
-use Rattle.view_engine.specs.Disks.{HasIndexDamage, IfStopped, IsReasonOf, LiesOpen}
+use Rattle.view_engine.specs.Disks.{HasIndexDamage, IfStopped, IsAskedFor, IsReasonOf, LiesOpen, MovesIndexOf}
 use Rattle.view_engine.specs.Halts.{IsDamage}
 use Rattle.view_engine.specs.Updating.{AreShaped}
 use Rattle.view_engine.specs.View.{design_id}
@@ -47,6 +51,13 @@ use Rattle.view_engine.proofs.HaltedAs.{after_damage}
 use Rattle.view_engine.proofs.Bringing.{within_there}
 use Rattle.view_engine.proofs.Updated.{live_is_design}
 
+-- a relation of the disks that holds on a condition
+told_if : (S R : Disk FileName → Disk FileName → Type 0) (x y : Option (Disk FileName)) (H : Type 0) → Tells x y S → (H → Tells x y R) → Tells x y (λ a b. S a b × (H → R a b))
+told_if S R None None H first then = tt
+told_if S R None (Some b) H first then = first
+told_if S R (Some a) None H first then = first
+told_if S R (Some a) (Some b) H first then = (first, then)
+
 empty_length : (views : ℕ) → length (empty_views views) ≡ views
 empty_length zero = refl
 empty_length (suc views) = ap suc (empty_length views)
@@ -54,7 +65,8 @@ empty_length (suc views) = ap suc (empty_length views)
 module _ {F C : Type 0} (f : Folders F) (s : Servers C) (docs : Docs) (pool pool' : Pool) (groups groups' : Groups) (old mid new : F) (servers servers' : C) (name : ViewName) (id : List ℕ) (design : Design) (place : ℕ) (path : List ℕ)
     (read : Tells (f.disk old) (f.disk mid) MovesNone) (earlier : f.faults old ≤ f.faults mid)
     (plans : (history : List Write) → IfTold (f.disk old) (λ d. AreAt docs d.now history → IsPlan (languages_of pool) history name id design place path))
-    (is_open : LiesOpen f (record { docs = docs; pool = pool; groups = groups }) old) where
+    (is_open : LiesOpen f (record { docs = docs; pool = pool; groups = groups }) old)
+    (asked : IfTold (f.disk old) (λ d. (document : Json) × IsAskedFor docs d.now name document × IsDesignOf document design)) where
   abbrev engine : Engine
   engine = record { docs = docs; pool = pool; groups = groups }
 
@@ -78,6 +90,29 @@ module _ {F C : Type 0} (f : Folders F) (s : Servers C) (docs : Docs) (pool pool
         (none_wider IsOwn (λ image. Unit {0}) (λ files. Unit {0}) a b (λ image is. tt) (λ same. tt) none)
         (moves_wider IsOwn IsOwn (λ image. Unit {0}) (λ image. Unit {0}) (λ files. IsLost result ⊎ AreIndexesOpen groups' files) (λ files. Unit {0}) b c (λ n is. is) (λ image framed. tt) (λ others ended. tt) moves))
         read brings.others
+
+    -- the index is that of the design that was asked for, and where it is open and nothing was written since nothing was done
+    abbrev IsIdle : Type 0
+    IsIdle = (slot : ℕ) × (index : Index) × IsGroup groups slot (sig_of design) (views_in design) index × (seq_of index ≡ update_seq docs)
+
+    still_then : IsIdle → Tells (f.disk old) (f.disk new) MovesNone
+    still_then idle =
+        let same : new ≡ mid = ap (λ (there : Side F C). there.folder) (brings.idle idle.0 idle.1 idle.2 idle.3).1 in
+        subst (λ folder. Tells (f.disk old) (f.disk folder) MovesNone) (sym same) read
+
+    pub view_moves : Tells (f.disk old) (f.disk new) (MovesIndexOf engine name)
+    view_moves =
+        told_given (f.disk old) (f.disk new) (λ d. (document : Json) × IsAskedFor docs d.now name document × IsDesignOf document design)
+        (λ a b. Moves IsOwn (λ image. Unit {0}) (λ files. Unit {0}) a b × (IsIdle → MovesNone a b)) (MovesIndexOf engine name)
+        (λ a b is moves.
+        let sig : sig_of design ≡ signature_of is.0 = ap digest_of (is.2).2 in
+        record {
+          files = inr (is.0, is.1, subst (λ s. Moves (IsFileOf (View s)) (λ image. Unit {0}) (λ files. Unit {0}) a b) sig moves.0);
+          current = λ known.
+              let index_is = known is.0 is.1 in
+              moves.1 (index_is.0, index_is.1, subst (λ s. IsGroup groups index_is.0 s (views_in design) index_is.1) (sym sig)
+              (subst (λ (views : List DesignView). IsGroup groups index_is.0 (signature_of is.0) (length views) index_is.1) (sym (is.2).1) index_is.2), index_is.3);
+        }) asked (told_if (Moves IsOwn (λ image. Unit {0}) (λ files. Unit {0})) MovesNone (f.disk old) (f.disk new) IsIdle view_moved still_then)
 
     -- where no fault of the index came, the engine lies open
     pub view_open : (IsLost result → ⊥) → LiesOpen f engine' new
@@ -111,8 +146,21 @@ module _ {F C : Type 0} (f : Folders F) (s : Servers C) (docs : Docs) (pool pool
 
     -- the index
     module _ (n : FileName) (at : ℕ) (is : met ≡ update.Index (index.Store (gate.Damaged n at))) where
-      index_damaged : IfTold (f.disk old) (λ d. HasIndexDamage d.now n at)
-      index_damaged = told_before (λ files. HasIndexDamage files n at) (told_now (f.disk mid) _ _ (λ d damaged. let there = damaged n at (ap Err is) in (sig_of design, views_in design, (there.1, there.0))) brings.spoiled)
+      abbrev IsThere : (FileName → File) → Type 0
+      IsThere files = IsDamagedAt (View (sig_of design)) (views_in design) files n at × IsFileOf (View (sig_of design)) n
+
+      index_damaged : IfTold (f.disk old) (λ d. HasIndexDamage docs d.now name n at)
+      index_damaged =
+          told_pair (f.disk old) (λ d. (document : Json) × IsAskedFor docs d.now name document × IsDesignOf document design) (λ d. IsThere d.now) (λ d. HasIndexDamage docs d.now name n at)
+          (λ d is there.
+          let sig : sig_of design ≡ signature_of is.0 = ap digest_of (is.2).2 in
+          record {
+            document = is.0;
+            asked = is.1;
+            own = subst (λ s. IsFileOf (View s) n) sig there.1;
+            damage = subst (λ s. IsDamagedAt (View s) (length (views_of is.0)) d.now n at) sig
+                (subst (λ (views : List DesignView). IsDamagedAt (View (sig_of design)) (length views) d.now n at) (is.2).1 there.0);
+          }) asked (told_before IsThere (told_now (f.disk mid) _ (λ d. IsThere d.now) (λ d damaged. damaged n at (ap Err is)) brings.spoiled))
 
       shaped_there : (world : World) → IsPlan (languages_of pool) world.history name id design place path → AreShaped world → length (picture_for design world.pictures).rows ≡ views_in design
       shaped_there world plan shaped = by_picture (world.pictures (sig_of design)) refl

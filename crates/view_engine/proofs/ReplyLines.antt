@@ -17,6 +17,7 @@ use Rattle.view_engine.specs.declared.refusal.Refusal.{Refusal}
 use Rattle.view_engine.specs.declared.refusal.Refusal.TheVariants.{LineTooLong, NotJson, NotWhole, TooDeep, UnknownRequest, NotBuiltYet, BadId, BadMember, BadRev, DocumentTooLarge, DocumentTooDeep, InvalidDesign, Missing, Deleted, MissingNamedView, Conflict, UnknownLanguage, CompilationError, ServerFault, ServerReply, NoMemory}
 use Rattle.view_engine.specs.Answer.{answer, comma, info_text, more_rows, row_text, rows_text, write_text}
 use Rattle.view_engine.specs.Calls.{IsReplyLine}
+use Rattle.view_engine.specs.Cleanup.{done_text}
 use Rattle.view_engine.specs.DesignReasons.{design_reason}
 use Rattle.view_engine.specs.Refusals.{error_name, error_reason, refusal_text}
 
@@ -115,6 +116,9 @@ write_line id rev plain = record {
   plain = lines5 (codes "{\"ok\":true,\"id\":") (text_of (string id)) (codes ",\"rev\":\"") rev (codes "\"}")
       (line (codes "{\"ok\":true,\"id\":") refl) (line-quoted id) (line (codes ",\"rev\":\"") refl) plain (line (codes "\"}") refl);
 }
+
+pub done_line : IsReplyLine done_text
+done_line = record { some = λ none. cc; plain = line done_text refl }
 
 pub info_line : (info : Info) → info.doc_count < 2 ^ 64 → info.doc_del_count < 2 ^ 64 → info.update_seq < 2 ^ 64 → IsReplyLine (info_text info)
 info_line info few few_deleted few_writes = record {

@@ -32,6 +32,7 @@ use Rattle.view_engine.specs.declared.refusal.Refusal.TheVariants.{LineTooLong, 
 use Rattle.view_engine.specs.declared.request.Request.{Request}
 use Rattle.view_engine.specs.Answer.{answer, info_text, write_text}
 use Rattle.view_engine.specs.Calls.{AppendsReplyTo}
+use Rattle.view_engine.specs.Cleanup.{done_text}
 use Rattle.view_engine.specs.Halts.{halted_as}
 use Rattle.view_engine.specs.Refusals.{refusal_text, request_in, request_limit, request_of}
 use Rattle.view_engine.specs.Replies.{accepted_reply}
@@ -57,6 +58,9 @@ unlike_accepted docs id = unlike (accepted_reply docs id) refl
 
 pub unlike_info : (info : Info) → info_text info ≢ refusal_text ServerFault
 unlike_info info = unlike (info_text info) refl
+
+pub unlike_done : done_text ≢ refusal_text ServerFault
+unlike_done = unlike done_text refl
 
 pub unlike_answer : (rows : List Row) → answer rows ≢ refusal_text ServerFault
 unlike_answer rows = unlike (answer rows) refl

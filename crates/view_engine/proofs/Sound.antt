@@ -17,7 +17,7 @@ use Rattle.view_model.proofs.Standing.{updates_keep_pictures, writes_keep_pictur
 use Rattle.view_signature.specs.Signature.{digest_of, signature_of}
 use Rattle.view_engine.specs.declared.refusal.Refusal.{Refusal}
 use Rattle.view_engine.specs.declared.request.Request.{Request}
-use Rattle.view_engine.specs.declared.request.Request.TheVariants.{Delete, Get, Info, Put, View}
+use Rattle.view_engine.specs.declared.request.Request.TheVariants.{Cleanup, Delete, Get, Info, Put, View}
 use Rattle.view_engine.specs.declared.request.ViewName.{ViewName}
 use Rattle.view_engine.specs.Delete.{delete_write}
 use Rattle.view_engine.specs.Moments.{Moment}
@@ -27,6 +27,8 @@ use Rattle.view_engine.specs.Steps.{Answers, Does, DoesRequest, Makes, MayHaveCa
 use Rattle.view_engine.specs.Updating.{AreFit, AreShaped, IsBrought, IsSound}
 use Rattle.view_engine.specs.View.{design_id, DoesView}
 use Rattle.view_engine.specs.World.{World, written}
+use Rattle.view_engine.specs.Worlds.{IsBetween}
+use Rattle.view_engine.proofs.Between.{between_fewer, cleaned_fewer, partly_fewer, AreOfThem}
 
 -- ---- designs
 
@@ -99,10 +101,26 @@ module _ (functions : List ℕ → Functions) (honest : List ℕ → Type 0) (la
       (updates_keep_pictures signature_of (λ document. path_in languages (language_of document)) views_of functions honest before.history design path brought.next before.pictures after.pictures
       (fit_signed languages before.history was) (sound was) is leads brought.updated (λ does. brought.answerable does sound was) brought.set)
 
+  -- where some pictures are gone, the others stand
+  fewer_sound : (before after : World) → after.history ≡ before.history → AreOfThem before.pictures after.pictures → Sound before → Sound after
+  fewer_sound before after history fewer sound = λ fit.
+      let stand = sound (subst AreFit history fit) in
+      subst (λ (h : List Write). PicturesStand signature_of (λ document. path_in languages (language_of document)) views_of functions honest h after.pictures) (sym history) (record {
+        within = λ sig picture is. stand.within sig picture (fewer sig picture is);
+        owned = λ sig picture is. stand.owned sig picture (fewer sig picture is);
+        shaped = λ sig picture document is. stand.shaped sig picture document (fewer sig picture is);
+        are_true = λ sig picture document path is. stand.are_true sig picture document path (fewer sig picture is);
+      })
+
+  -- so a world between a sound one and another is sound
+  pub between_sound : (before after mid : World) → IsBetween before after mid → Sound before → Sound mid
+  between_sound before after mid between sound = fewer_sound before mid between.history (between_fewer before after mid between) sound
+
   -- what a request makes of a world is sound where that is
   pub made_sound : (world : World) (request : Result Request Refusal) (made : World) → Makes functions honest languages world request made → Sound world → Sound made
   made_sound world (Ok (View name None)) made makes sound = brought_sound makes.0 makes.1 world made (live_is_design world.history name.design makes.0 makes.3) makes.4 makes.5 sound
   made_sound world (Ok (View name (Some query))) made makes sound = absurd makes.1
+  made_sound world (Ok Cleanup) made makes sound = fewer_sound world made makes.history (partly_fewer world made makes) sound
   made_sound world (Ok (Put document)) made makes sound = subst Sound (sym makes.2) (written_sound world makes.0 sound)
   made_sound world (Ok (Delete id given)) made makes sound = subst Sound (sym makes.2) (written_sound world makes.0 sound)
   made_sound world (Ok other) made makes sound = absurd makes.1
@@ -124,6 +142,8 @@ module _ (functions : List ℕ → Functions) (honest : List ℕ → Type 0) (la
       subst (λ (m : Moment). Sound m.world) (sym does.2) (subst Sound (sym (does.1).wrote) (written_sound before.world (delete_write before.world id) sound))
   performs_sound before (Get id) reply after does sound = same_sound before after does.1 sound
   performs_sound before Info reply after does sound = same_sound before after does.1 sound
+  performs_sound before Cleanup reply after does sound =
+      subst (λ (m : Moment). Sound m.world) (sym does.2) (fewer_sound before.world does.0 (does.1).0.history (cleaned_fewer before.world does.0 (does.1).0) sound)
   performs_sound before (View name None) reply after does sound = view_sound before name reply after does sound
   performs_sound before other reply after does sound = absurd does
 

@@ -1,19 +1,20 @@
 -- A step is the performing of its line's request, told as its halt is told.
 use Rattle.std.specs.Prelude.{IfErr}
-use Rattle.std.proofs.Common.{◌≡◌, ◌≢◌, ◌⊎◌, ◌∙◌, ◌++◌, ℕ, List, [], ◌∷◌, Option, None, Some, Result, Ok, Err, inl, inr, refl, sym, ap, subst, append-nil, arith}
-use Rattle.view_ports.specs.Disk.{Disk, IfTold, Moves, MovesNone, Tells}
+use Rattle.std.proofs.Common.{◌≡◌, ◌≢◌, ◌⊎◌, ◌∙◌, ◌++◌, ℕ, List, [], ◌∷◌, Option, None, Some, Result, Ok, Err, inl, inr, ⊎_elim, refl, sym, ap, subst, append-nil, arith}
+use Rattle.view_ports.specs.Disk.{Disk, Framed, IfTold, LeavesOnly, Moves, MovesNone, Tells}
+use Rattle.view_ports.specs.File.{File}
 use Rattle.view_ports.specs.Functions.{Functions}
 use Rattle.view_ports.specs.declared.file_name.FileName.{FileName}
 use Rattle.view_ports.specs.Lines.{ended}
 use Rattle.view_ports.specs.declared.folder.Folder.{Ghosts as Folders}
 use Rattle.view_ports.specs.declared.servers.Servers.{Ghosts as Servers}
 use Rattle.view_ports.proofs.DiskRuns.{none_refl, none_same}
-use Rattle.view_ports.proofs.Told.{told_after, told_all, told_now, told_pair, told_refl}
+use Rattle.view_ports.proofs.Moments.{weaker}
+use Rattle.view_ports.proofs.Told.{told_after, told_all, told_map, told_now, told_pair, told_refl}
 use Rattle.child_pool.specs.Pools.{languages_of}
 use Rattle.doc_file.specs.declared.docs.Docs.{Docs}
 use Rattle.doc_file.specs.Docs.{IsAt as AreAt, IsDocsFile, IsOpen}
 use Rattle.view_groups.specs.Cleans.{IsIndexFile}
-use Rattle.view_index.specs.Held.{IsFileOf}
 use Rattle.view_ports.specs.declared.file_name.Stem.TheVariants.{View as ViewStem}
 use Rattle.view_engine.specs.declared.engine.Engine.{Engine}
 use Rattle.view_engine.specs.declared.halt.Halt.{Halt}
@@ -23,9 +24,9 @@ use Rattle.view_engine.specs.declared.halt.StepFault.TheVariants.{DiskFault, Dam
 use Rattle.view_engine.specs.declared.refusal.Refusal.{Refusal}
 use Rattle.view_engine.specs.declared.refusal.Refusal.TheVariants as refusal
 use Rattle.view_engine.specs.declared.request.Request.{Request}
-use Rattle.view_engine.specs.declared.request.Request.TheVariants.{Delete, Put, View}
+use Rattle.view_engine.specs.declared.request.Request.TheVariants.{Cleanup, Delete, Put, View}
 use Rattle.view_engine.specs.Calls.{CrashesAround, DoesBy, IsStep, IsToldAs, LeavesChild, Performed, RefusesUnread, Scene, StandsAt, StepsBy}
-use Rattle.view_engine.specs.Disks.{ChangesFiles, HasIndexDamage, IsOfIndex, IsReasonOf, IsView, LiesOpen, ReadsDocuments}
+use Rattle.view_engine.specs.Disks.{ChangesFiles, IsOfIndex, IsOnIndexes, IsReasonOf, LiesOpen, MeetsIndexDamage, MeetsIndexDamageIn, MovesIndexes, MovesIndexOf, ReadsDocuments}
 use Rattle.view_engine.specs.Halts.{halted_by, FitsFor, IsDamage, IsFullFor, LeavesFiles, WouldWrite, Writes}
 use Rattle.view_engine.specs.Moments.{Moment}
 use Rattle.view_engine.specs.Refusals.{request_of, refusal_text}
@@ -41,7 +42,8 @@ use Rattle.view_engine.proofs.Performing.{leaves_as}
 use Rattle.view_engine.proofs.ReplyLines.{refusal_line}
 use Rattle.view_engine.proofs.Rooms.{nothing_no_ok, refused_no_ok}
 use Rattle.view_engine.proofs.ServerFaults.{nothing_appended, reply_no_fault, told_is_fault}
-use Rattle.view_engine.proofs.Whole.{apart, documents_at, documents_open, kept_whole, told_leaves_none}
+use Rattle.view_engine.proofs.Slots.{first_damage_own}
+use Rattle.view_engine.proofs.Whole.{documents_at, documents_left, documents_open, kept_whole, told_leaves_none, LeavesDocuments}
 
 does_text : (functions : List ℕ → Functions) (honest : List ℕ → Type 0) (languages : List (List ℕ × List ℕ)) (before : Moment) (line text : List ℕ) (after : Moment) → line ≢ []
     → DoesRequestText functions honest languages before (request_of line) text after → Does functions honest languages before line text after
@@ -242,8 +244,10 @@ module _ {F : Type 0} (f : Folders F) (engine : Engine) (old new : F) (request :
   Why = IsReasonOf f engine old new request
 
   -- what is damaged of an index is a file of it
-  of_index : (name : FileName) (at : ℕ) (d : Disk FileName) → HasIndexDamage d.now name at → IsIndexFile name
-  of_index name at d damage = (damage.0, (damage.2).0)
+  of_index : (request : Result Request Refusal) (name : FileName) (at : ℕ) (files : FileName → File) → MeetsIndexDamage engine.docs files request name at → IsIndexFile name
+  of_index (Ok (View view limits)) name at files damage = (_, damage.own)
+  of_index (Ok Cleanup) name at files damage = (damage.sig, first_damage_own (ViewStem damage.sig) files name at damage.damage)
+  of_index other name at files damage = absurd damage
 
   why_failed : Why DiskFault → FitsFor engine.docs request
   why_failed (inl why) = why.1
@@ -255,11 +259,11 @@ module _ {F : Type 0} (f : Folders F) (engine : Engine) (old new : F) (request :
   why_unsound : (world : World) (name : FileName) (at : ℕ) → Why (Damaged name at)
       → IfTold (f.disk old) (λ d. AreAt engine.docs d.now world.history → ⊥) ⊎ IfTold (f.disk old) (λ d. IsIndexFile name × (IsAtWorld engine d.now world → AreShaped world → ⊥))
   why_unsound world name at (inl why) = inl ((why.1).1 world)
-  why_unsound world name at (inr why) = inr (told_pair (f.disk old) (λ d. HasIndexDamage d.now name at) _ _ (λ d damage never. (of_index name at d damage, never)) why.1 (why.2 world))
+  why_unsound world name at (inr why) = inr (told_pair (f.disk old) (λ d. MeetsIndexDamage engine.docs d.now request name at) _ _ (λ d damage never. (of_index request name at d.now damage, never)) why.1 (why.2 world))
 
-  why_damaged : (name : FileName) (at : ℕ) → Why (Damaged name at) → (ReadsDocuments request × IfTold (f.disk old) (λ d. IsDamage engine.docs d.now name at)) ⊎ (IsView request × IfTold (f.disk old) (λ d. IsIndexFile name))
+  why_damaged : (name : FileName) (at : ℕ) → Why (Damaged name at) → (ReadsDocuments request × IfTold (f.disk old) (λ d. IsDamage engine.docs d.now name at)) ⊎ (IsOnIndexes request × IfTold (f.disk old) (λ d. MeetsIndexDamage engine.docs d.now request name at))
   why_damaged name at (inl why) = inl (why.0, (why.1).0)
-  why_damaged name at (inr why) = inr (why.0, told_now (f.disk old) (λ d. HasIndexDamage d.now name at) (λ d. IsIndexFile name) (λ d damage. of_index name at d damage) why.1)
+  why_damaged name at (inr why) = inr (why.0, why.1)
 
 module _ {F C : Type 0} {f : Folders F} {s : Servers C} {old new : Scene F C} {line out out' : List ℕ} {fault : StepFault} (step : IsStep f s old new line out out' (Err fault)) where
   met : {other : StepFault} → fault ≡ other → IsReasonOf f old.engine old.folder new.folder (request_of line) other
@@ -299,15 +303,17 @@ full_writes docs (Ok (Put document)) name length full = tt
 full_writes docs (Ok (Delete id given)) name length full = tt
 full_writes docs other name length full = absurd full
 
--- a write is no view
-write_no_view : (request : Result Request Refusal) → Writes request → IsView request → ⊥
-write_no_view (Ok (View name limits)) writes view = writes
-write_no_view other writes view = view
+-- a write is no request on indexes
+write_no_index : (request : Result Request Refusal) → Writes request → IsOnIndexes request → ⊥
+write_no_index (Ok (View name limits)) writes is = writes
+write_no_index (Ok Cleanup) writes is = writes
+write_no_index other writes is = is
 
--- a request that reads documents is a view or none
-reads_either : (request : Result Request Refusal) → ReadsDocuments request → IsView request ⊎ (IsView request → ⊥)
+-- a request is one on indexes or none
+reads_either : (request : Result Request Refusal) → ReadsDocuments request → IsOnIndexes request ⊎ (IsOnIndexes request → ⊥)
 reads_either (Ok (View name limits)) reads = inl tt
-reads_either other reads = inr (λ view. view)
+reads_either (Ok Cleanup) reads = inl tt
+reads_either other reads = inr (λ is. is)
 
 -- a damaged place is one that an engine met which is open over these files, and none of the documents has changed since
 damage_named : (old new : Option (Disk FileName)) (docs : Docs) (name : FileName) (at : ℕ) (R : Disk FileName → Disk FileName → Type 0) → ((a b : Disk FileName) → R a b → (n : FileName) → IsDocsFile n → b.now n ≡ a.now n)
@@ -324,27 +330,26 @@ full_named old new docs request name length full is_open moves =
     told_now new (λ d. IsOpen docs d.now) (λ d. IsFullIn d.now request name length) (λ d opened. record { docs = docs; is_open = opened; full = full }) (open_none docs old new moves is_open)
 
 module _ {F C : Type 0} {f : Folders F} {s : Servers C} {old new : Scene F C} {line out out' : List ℕ} {fault : StepFault} where
-  -- only where the disk failed, or by a view, files have changed
-  pub step_kept : IsStep f s old new line out out' (Err fault) → fault ≢ DiskFault → (IsView (request_of line) → ⊥) → Tells (f.disk old.folder) (f.disk new.folder) MovesNone
+  -- only where the disk failed, or by a view or a cleanup, files have changed
+  pub step_kept : IsStep f s old new line out out' (Err fault) → fault ≢ DiskFault → (IsOnIndexes (request_of line) → ⊥) → Tells (f.disk old.folder) (f.disk new.folder) MovesNone
   step_kept step other no_view = (step.disk.documents no_view).unmoved (left_files fault other)
 
   module _ (is_open : LiesOpen f old.engine old.folder) (step : IsStep f s old new line out out' (Err fault)) where
     -- damage is met by a request that reads documents, in one of these, or else in an index
     pub step_damaged : (name : FileName) (at : ℕ) → fault ≡ Damaged name at
-        → (ReadsDocuments (request_of line) × IfTold (f.disk new.folder) (λ d. HasBodyDamage d.now name at)) ⊎ (IsView (request_of line) × IfTold (f.disk new.folder) (λ d. IsIndexFile name))
+        → (ReadsDocuments (request_of line) × IfTold (f.disk new.folder) (λ d. HasBodyDamage d.now name at)) ⊎ (IsOnIndexes (request_of line) × IfTold (f.disk old.folder) (λ d. MeetsIndexDamageIn d.now (request_of line) name at))
     step_damaged name at is = elim (why_damaged f old.engine old.folder new.folder (request_of line) name at (met step is)) [
       | inl damage ↦ inl (damage.0, by_kind damage.1 (reads_either (request_of line) damage.0))
-      | inr of_index ↦ inr (of_index.0, told_after (f.disk old.folder) (f.disk new.folder) (λ d. IsIndexFile name) (λ d. IsIndexFile name) _ (λ a b is moves. is) of_index.1 (step.disk.indexes of_index.0).1)
+      | inr of_index ↦ inr (of_index.0, told_pair (f.disk old.folder) (λ d. IsOpen old.engine.docs d.now) (λ d. MeetsIndexDamage old.engine.docs d.now (request_of line) name at) _
+          (λ d here damage. record { docs = old.engine.docs; is_open = here; damage = damage }) opened of_index.1)
     ]
       where
         opened : IfTold (f.disk old.folder) (λ d. IsOpen old.engine.docs d.now)
         opened = documents_open _ _ is_open
 
-        by_kind : IfTold (f.disk old.folder) (λ d. IsDamage old.engine.docs d.now name at) → IsView (request_of line) ⊎ (IsView (request_of line) → ⊥) → IfTold (f.disk new.folder) (λ d. HasBodyDamage d.now name at)
-        by_kind damage (inl view) =
-            let moved = step.disk.indexes view in
-            damage_named (f.disk old.folder) (f.disk new.folder) old.engine.docs name at (Moves (IsFileOf (ViewStem moved.0)) (λ image. Unit {0}) (λ files. Unit {0}))
-            (λ a b moves n of_docs. moves.others n (λ of_view. apart n (moved.0, of_view) of_docs)) opened damage moved.1
+        by_kind : IfTold (f.disk old.folder) (λ d. IsDamage old.engine.docs d.now name at) → IsOnIndexes (request_of line) ⊎ (IsOnIndexes (request_of line) → ⊥) → IfTold (f.disk new.folder) (λ d. HasBodyDamage d.now name at)
+        by_kind damage (inl is) = damage_named (f.disk old.folder) (f.disk new.folder) old.engine.docs name at LeavesDocuments
+            (λ a b left n of_docs. left n of_docs) opened damage (documents_left f old.engine old.folder new.folder (request_of line) is step.disk.indexes)
         by_kind damage (inr no_view) = damage_named (f.disk old.folder) (f.disk new.folder) old.engine.docs name at MovesNone (λ a b moves n of_docs. none_same a b moves n) opened damage
             (step_kept step (λ failed. let never : DiskFault ≡ Damaged name at = sym failed ∙ is in cc) no_view)
 
@@ -354,12 +359,37 @@ module _ {F C : Type 0} {f : Folders F} {s : Servers C} {old new : Scene F C} {l
     step_full_in name length is = elim (why_full f old.engine old.folder new.folder (request_of line) name length (met step is)) [
       | inl full ↦
           (let writes : Writes (request_of line) = full_writes old.engine.docs (request_of line) name length full.0 in
-          let none = step_kept step (λ failed. let never : DiskFault ≡ Full name length = sym failed ∙ is in cc) (write_no_view (request_of line) writes) in
+          let none = step_kept step (λ failed. let never : DiskFault ≡ Full name length = sym failed ∙ is in cc) (write_no_index (request_of line) writes) in
           inl (writes, full_named (f.disk old.folder) (f.disk new.folder) old.engine.docs (request_of line) name length full.0 (documents_open _ _ is_open) none))
       | inr of_index ↦ inr of_index
     ]
 
--- a request that is neither a write nor a view changes no file
+-- a request that is neither a write nor one on indexes changes no file
 pub step_still : {F C : Type 0} {f : Folders F} {s : Servers C} {old new : Scene F C} {line out out' : List ℕ} {result : Result (Unit {0}) StepFault} → IsStep f s old new line out out' result
     → (ChangesFiles (request_of line) → ⊥) → Tells (f.disk old.folder) (f.disk new.folder) MovesNone
-step_still step never = (step.disk.documents (λ view. never (inr view))).read (λ writes. never (inl writes))
+step_still step never = (step.disk.documents (λ is. never (inr is))).read (λ writes. never (inl writes))
+
+-- a request is one on indexes, or not
+on_indexes : (request : Result Request Refusal) → IsOnIndexes request ⊎ (IsOnIndexes request → ⊥)
+on_indexes (Ok (View name limits)) = inl tt
+on_indexes (Ok Cleanup) = inl tt
+on_indexes other = inr (λ is. is)
+
+-- whatever was done, the disk afterwards came behind the one before
+abbrev pub LeavesAny : Disk FileName → Disk FileName → Type 0
+LeavesAny = LeavesOnly (λ image. Unit {0})
+
+moves_on : (mine : FileName → Type 0) (leaves : (FileName → List ℕ) → Type 0) (ends : (FileName → File) → Type 0) (a b : Disk FileName) → Moves mine leaves ends a b → LeavesAny a b
+moves_on mine leaves ends a b moves = weaker (Framed mine a.now leaves) (λ image. Unit {0}) a b (λ image framed. tt) moves.moments
+
+indexes_on : {F : Type 0} (f : Folders F) (engine : Engine) (old new : F) (request : Result Request Refusal) → IsOnIndexes request → MovesIndexes f engine old new request → Tells (f.disk old) (f.disk new) LeavesAny
+indexes_on f engine old new (Ok (View name limits)) is moves = told_map (f.disk old) (f.disk new) (MovesIndexOf engine name) LeavesAny
+    (λ a b moved. ⊎_elim (λ none. moves_on _ _ _ a b none) (λ one. moves_on _ _ _ a b one.2) moved.files) moves
+indexes_on f engine old new (Ok Cleanup) is moves = told_map (f.disk old) (f.disk new) _ LeavesAny (λ a b moved. moves_on _ _ _ a b moved) moves
+indexes_on f engine old new other is moves = absurd is
+
+pub step_on : {F C : Type 0} {f : Folders F} {s : Servers C} {old new : Scene F C} {line out out' : List ℕ} {result : Result (Unit {0}) StepFault} → IsStep f s old new line out out' result → Tells (f.disk old.folder) (f.disk new.folder) LeavesAny
+step_on {f = f} {old = old} {new = new} {line = line} step = elim (on_indexes (request_of line)) [
+  | inl is ↦ indexes_on f old.engine old.folder new.folder (request_of line) is step.disk.indexes
+  | inr other ↦ told_map (f.disk old.folder) (f.disk new.folder) _ LeavesAny (λ a b moved. moves_on _ _ _ a b moved) (step.disk.documents other).own
+]

@@ -17,7 +17,7 @@ use Rattle.view_engine.specs.declared.request.Request.{Request}
 use Rattle.view_engine.specs.declared.request.Request.TheVariants.{View as ViewRequest}
 use Rattle.view_engine.specs.declared.request.ViewName.{ViewName}
 use Rattle.view_engine.specs.Calls.{AppendsReplyTo, CrashesAround, DoesBy, LeavesChild, LeavesMoment, Performed, Scene, StandsAt, Stays}
-use Rattle.view_engine.specs.Disks.{IfStopped, IsReasonOf, LiesOpen, MayGoOn, MovesOneIndex}
+use Rattle.view_engine.specs.Disks.{IfStopped, IsReasonOf, LiesOpen, MayGoOn, MovesIndexOf}
 use Rattle.view_engine.specs.Halts.{FitsFor, GoesOn}
 use Rattle.view_engine.specs.Moments.{Moment}
 use Rattle.view_engine.specs.Refusals.{refusal_text}
@@ -70,7 +70,7 @@ module _ {F C : Type 0} (f : Folders F) (s : Servers C) (old new : Scene F C) (n
 
   -- a view is performed as these parts say
   pub viewed : {out out' : List ℕ} {result : Result (Unit {0}) Halt} → ((before : Moment) → StandsAt f s old before → DoesBy f s old new before request out out' result) → OnOk result (AppendsReplyTo request out out') → OnErr result (out' ≡ out)
-      → (result ≡ Err (Refused ServerFault) → RoseBy 2 (s.faults old.servers) (s.faults new.servers)) → MovesOneIndex f old.folder new.folder
+      → (result ≡ Err (Refused ServerFault) → RoseBy 2 (s.faults old.servers) (s.faults new.servers)) → Tells (f.disk old.folder) (f.disk new.folder) (MovesIndexOf old.engine name)
       → (MayGoOn result → LiesOpen f new.engine new.folder) → IfErr result (IfStopped (IsReasonOf f old.engine old.folder new.folder request)) → Stays f s old new → Performed f s old new request out out' result
   viewed {result = result} does prints silent blames moved is_open why stays = record {
     does = does;
@@ -79,7 +79,7 @@ module _ {F C : Type 0} (f : Folders F) (s : Servers C) (old new : Scene F C) (n
     refused = refused_not result;
     blames = blames;
     fits = fits_always result;
-    disk = record { documents = λ no. absurd (no tt); indexes = λ is. moved; is_open = is_open };
+    disk = record { documents = λ no. absurd (no tt); indexes = moved; is_open = is_open };
     why = why;
     stays = stays;
   }

@@ -1,5 +1,5 @@
 -- What is kept of the documents is kept of the world, where no file of an index changes.
-use Rattle.std.proofs.Common.{◌≡◌, ◌⊎◌, ◌∙◌, ℕ, List, Option, None, Result, Ok, inl, inr, sym, subst, arith, []}
+use Rattle.std.proofs.Common.{◌≡◌, ◌⊎◌, ◌∙◌, ℕ, List, Option, None, Result, Ok, inl, inr, ⊎_elim, sym, subst, arith}
 use Rattle.view_ports.specs.Disk.{Disk, Framed, IfTold, IsImageOf, LeavesOnly, Moves, MovesNone, Tells}
 use Rattle.view_ports.specs.File.{File}
 use Rattle.view_ports.specs.declared.file_name.FileName.{FileName}
@@ -16,17 +16,18 @@ use Rattle.view_groups.specs.declared.groups.Groups.{Groups}
 use Rattle.view_groups.specs.Cleans.{IsIndexFile}
 use Rattle.view_groups.specs.Groups.{AreAt as AreIndexesAt, AreOpen as AreIndexesOpen}
 use Rattle.view_groups.specs.Pictures.{AreHeld, Pictures, StandFor}
-use Rattle.view_index.specs.Held.{IsFileOf}
 use Rattle.view_groups.proofs.Standing.{images_stand, others_matter_not, settled_stand}
 use Rattle.view_engine.specs.declared.engine.Engine.{Engine}
 use Rattle.view_engine.specs.declared.refusal.Refusal.{Refusal}
 use Rattle.view_engine.specs.declared.request.Request.{Request}
-use Rattle.view_engine.specs.declared.request.Request.TheVariants.{View as ViewRequest}
-use Rattle.view_engine.specs.Disks.{IsView, KeepsDisk, KeepsDocuments, LiesOpen, MovesOneIndex}
+use Rattle.view_engine.specs.declared.request.ViewName.{ViewName}
+use Rattle.view_engine.specs.declared.request.Request.TheVariants.{Cleanup, View as ViewRequest}
+use Rattle.view_engine.specs.Disks.{IsOnIndexes, KeepsDisk, KeepsDocuments, LiesOpen, MovesIndexes, MovesIndexOf}
 use Rattle.view_engine.specs.Halts.{DocumentsStandAround, MovesDocuments, Writes}
 use Rattle.view_engine.specs.Steps.{IsWrite}
 use Rattle.view_engine.specs.World.{World, NoneIsNewer, written}
 use Rattle.view_engine.specs.Worlds.{IsAtWorld, IsOpen, StandsEither, StandsFor}
+use Rattle.view_engine.proofs.Between.{stands_first}
 
 -- a file of an index is none of the documents
 pub apart : (name : FileName) → IsIndexFile name → IsDocsFile name → ⊥
@@ -78,7 +79,7 @@ image_stands engine files world at image is = record {
 module _ (engine : Engine) (world after : World) where
   pub leaves_before : (a b : Disk FileName) → MovesNone a b → IsAtWorld engine a.now world → LeavesOnly (StandsEither world after) a b
   leaves_before a b none at = weaker (Framed (λ n. ⊥) a.now (λ image. Unit {0})) (StandsEither world after) a b
-      (λ image framed. inl (image_stands engine a.now world at image (λ name. framed.outside name (λ never. never)))) none.moments
+      (λ image framed. stands_first world after image (image_stands engine a.now world at image (λ name. framed.outside name (λ never. never)))) none.moments
 
   pub told_leaves_before : (old new : Option (Disk FileName)) → Tells old new MovesNone → IfTold old (λ d. IsAtWorld engine d.now world) → Tells old new (LeavesOnly (StandsEither world after))
   told_leaves_before old new none at = told_given old new (λ d. IsAtWorld engine d.now world) MovesNone (LeavesOnly (StandsEither world after)) (λ a b here same. leaves_before a b same here) at none
@@ -101,18 +102,28 @@ module _ (engine : Engine) (world : World) (request : Result Request Refusal) wh
       by_side image (inl stands) = before image stands
       by_side image (inr (write, is, stands)) = made image write is stands
 
--- a view writes no document
-view_writes_none : (request : Result Request Refusal) → IsView request → Writes request → ⊥
-view_writes_none (Ok (ViewRequest name limits)) view writes = writes
-view_writes_none other view writes = absurd view
-
 -- where no file changes none of an index does
-pub moves_no_index : {F : Type 0} (f : Folders F) (old new : F) → Tells (f.disk old) (f.disk new) MovesNone → MovesOneIndex f old new
-moves_no_index f old new none = (
-  [],
-  told_map (f.disk old) (f.disk new) MovesNone (Moves (IsFileOf (View [])) (λ image. Unit {0}) (λ files. Unit {0}))
-      (λ a b same. none_wider (IsFileOf (View [])) (λ image. Unit {0}) (λ files. Unit {0}) a b (λ image is. tt) (λ kept. tt) same) none,
-)
+pub view_moves_none : {F : Type 0} (f : Folders F) (engine : Engine) (old new : F) (name : ViewName) → Tells (f.disk old) (f.disk new) MovesNone → Tells (f.disk old) (f.disk new) (MovesIndexOf engine name)
+view_moves_none f engine old new name none = told_map (f.disk old) (f.disk new) MovesNone (MovesIndexOf engine name) (λ a b same. record { files = inl same; current = λ is. same }) none
+
+-- a request that writes no document and changes no file changes none of an index
+moves_no_index : {F : Type 0} (f : Folders F) (engine : Engine) (old new : F) (request : Result Request Refusal) → ((Writes request → ⊥) → Tells (f.disk old) (f.disk new) MovesNone) → MovesIndexes f engine old new request
+moves_no_index f engine old new (Ok (ViewRequest name limits)) none = view_moves_none f engine old new name (none (λ writes. writes))
+moves_no_index f engine old new (Ok Cleanup) none = told_map (f.disk old) (f.disk new) MovesNone (Moves IsIndexFile (λ image. Unit {0}) (λ files. Unit {0}))
+    (λ a b same. none_wider IsIndexFile (λ image. Unit {0}) (λ files. Unit {0}) a b (λ image is. tt) (λ kept. tt) same) (none (λ writes. writes))
+moves_no_index f engine old new other none = tt
+
+-- the files of the documents are as they were
+abbrev pub LeavesDocuments : Disk FileName → Disk FileName → Type 0
+LeavesDocuments a b = (n : FileName) → IsDocsFile n → b.now n ≡ a.now n
+
+-- so a request on indexes leaves them
+pub documents_left : {F : Type 0} (f : Folders F) (engine : Engine) (old new : F) (request : Result Request Refusal) → IsOnIndexes request → MovesIndexes f engine old new request → Tells (f.disk old) (f.disk new) LeavesDocuments
+documents_left f engine old new (Ok (ViewRequest name limits)) is moves = told_map (f.disk old) (f.disk new) (MovesIndexOf engine name) LeavesDocuments
+    (λ a b moved n of_docs. ⊎_elim (λ none. none_same a b none n) (λ one. (one.2).others n (λ of_view. apart n (_, of_view) of_docs)) moved.files) moves
+documents_left f engine old new (Ok Cleanup) is moves = told_map (f.disk old) (f.disk new) (Moves IsIndexFile (λ image. Unit {0}) (λ files. Unit {0})) LeavesDocuments
+    (λ a b moved n of_docs. moved.others n (λ of_view. apart n of_view of_docs)) moves
+documents_left f engine old new other is moves = absurd is
 
 module _ {F : Type 0} {f : Folders F} {engine engine' : Engine} {old new : F} where
   module _ {request : Result Request Refusal} {GivenUp GoesOn : Type 0} (groups : engine'.groups ≡ engine.groups) where
@@ -120,7 +131,7 @@ module _ {F : Type 0} {f : Folders F} {engine engine' : Engine} {old new : F} wh
     pub kept_whole : LiesOpen f engine old → KeepsDocuments f engine.docs engine'.docs old new request GivenUp GoesOn → KeepsDisk f engine engine' old new request GivenUp GoesOn
     kept_whole is_open keeps = record {
       documents = λ other. keeps;
-      indexes = λ view. moves_no_index f old new (keeps.read (view_writes_none request view));
+      indexes = moves_no_index f engine old new request keeps.read;
       is_open = λ goes. told_pair (f.disk new) (λ d. AreDocumentsOpen engine'.docs d.now) (λ d. AreIndexesOpen engine.groups d.now) (λ d. IsOpen engine' d.now)
           (λ d here there. record { documents = here; indexes = subst (λ (g : Groups). AreIndexesOpen g d.now) (sym groups) there }) (keeps.is_open goes)
           (told_after (f.disk old) (f.disk new) (λ d. IsOpen engine d.now) (λ d. AreIndexesOpen engine.groups d.now) (MovesDocuments (λ image. Unit {0}))

@@ -17,7 +17,7 @@ use Rattle.doc_file.proofs.Stores.{at_holds}
 use Rattle.view_engine.specs.declared.engine.Engine.{Engine}
 use Rattle.view_engine.specs.declared.refusal.Refusal.{Refusal}
 use Rattle.view_engine.specs.declared.request.Request.{Request}
-use Rattle.view_engine.specs.declared.request.Request.TheVariants.{Delete, Put, View}
+use Rattle.view_engine.specs.declared.request.Request.TheVariants.{Cleanup, Delete, Put, View}
 use Rattle.view_engine.specs.Accepted.{after_exchange, after_request, is_ok}
 use Rattle.view_engine.specs.Engine.{IsAt}
 use Rattle.view_engine.specs.Moments.{Moment}
@@ -37,8 +37,12 @@ pub goes_on : (a b c : World) → GoesOnFrom a b → GoesOnFrom b c → GoesOnFr
 goes_on a b c first second = (second.0 ++ first.0, second.1 ∙ ap (λ (h : List Write). second.0 ++ h) first.1 ∙ sym (append_assoc second.0 first.0 a.history))
 
 -- a world of another's history goes on from what that goes on from
-grown_as : (before here after : World) → after.history ≡ here.history → GoesOnFrom before here → GoesOnFrom before after
+pub grown_as : (before here after : World) → after.history ≡ here.history → GoesOnFrom before here → GoesOnFrom before after
 grown_as before here after same grown = (grown.0, same ∙ grown.1)
+
+-- and what goes on from a world goes on from one of its history
+pub grows_as : (before here after : World) → here.history ≡ before.history → GoesOnFrom before after → GoesOnFrom here after
+grows_as before here after same grown = (grown.0, grown.1 ∙ ap (λ (h : List Write). grown.0 ++ h) (sym same))
 
 -- a step adds a write at most
 request_grows : (world : World) (request : Result Request Refusal) → GoesOnFrom world (after_request world request)
@@ -59,6 +63,7 @@ module _ (functions : List ℕ → Functions) (honest : List ℕ → Type 0) (la
   pub made_grows : (world : World) (request : Result Request Refusal) (made : World) → Makes functions honest languages world request made → GoesOnFrom world made
   made_grows world (Ok (View name None)) made makes = ([], (makes.5).history)
   made_grows world (Ok (View name (Some query))) made makes = absurd makes.1
+  made_grows world (Ok Cleanup) made makes = ([], makes.history)
   made_grows world (Ok (Put document)) made makes = (makes.0 ∷ [], ap (λ (w : World). w.history) makes.2)
   made_grows world (Ok (Delete id given)) made makes = (makes.0 ∷ [], ap (λ (w : World). w.history) makes.2)
   made_grows world (Ok other) made makes = absurd makes.1

@@ -1,23 +1,32 @@
 -- What a request promises of the files and their disk, and why it meets a fault.
-use Rattle.std.specs.Prelude.{◌≡◌, ◌⊎◌, ◌≤◌, ℕ, List, Result, Ok, Err, IfErr}
-use Rattle.view_ports.specs.Disk.{IfTold, LeavesOnly, Moves, MovesNone, Tells}
+use Rattle.std.specs.Prelude.{◌≡◌, ◌⊎◌, ◌≤◌, ℕ, List, length, Result, Ok, Err, IfErr}
+use Rattle.json_terms.specs.Json.{Json}
+use Rattle.design_docs.specs.Design.{views_of}
+use Rattle.gate_file.specs.Open.{IsFirstDamage}
+use Rattle.view_signature.specs.Signature.{signature_of}
+use Rattle.view_ports.specs.Disk.{Disk, IfTold, LeavesOnly, Moves, MovesNone, Tells}
 use Rattle.view_ports.specs.Faults.{Rose}
 use Rattle.view_ports.specs.declared.file_name.FileName.{FileName}
 use Rattle.view_ports.specs.declared.folder.Folder.{Ghosts as Folders}
 use Rattle.doc_file.specs.declared.docs.Docs.{Docs}
-use Rattle.doc_file.specs.Docs.{IsAt as AreAt, IsOpen}
+use Rattle.doc_file.specs.Docs.{bytes_in, last_of, seq_of as update_seq, IsAt as AreAt, IsLive, IsOpen}
 use Rattle.view_engine.specs.declared.halt.Halt.{Halt}
 use Rattle.view_engine.specs.declared.halt.Halt.TheVariants.{Refused, Stopped}
 use Rattle.view_engine.specs.declared.halt.StepFault.{StepFault}
 use Rattle.view_engine.specs.declared.halt.StepFault.TheVariants.{DiskFault, Damaged, Full, NoMemory}
 use Rattle.view_engine.specs.declared.refusal.Refusal.{Refusal}
 use Rattle.view_engine.specs.declared.request.Request.{Request}
-use Rattle.view_engine.specs.declared.request.Request.TheVariants.{Get, View as ViewRequest}
+use Rattle.view_engine.specs.declared.request.ViewName.{ViewName}
+use Rattle.view_engine.specs.View.{design_id}
+use Rattle.view_engine.specs.declared.request.Request.TheVariants.{Cleanup, Get, View as ViewRequest}
 use Rattle.view_ports.specs.File.{File}
 use Rattle.view_ports.specs.declared.file_name.Stem.TheVariants.{View}
+use Rattle.view_index.specs.declared.index.Index.{Index}
 use Rattle.view_index.specs.Held.{IsDamagedAt, IsFileOf}
+use Rattle.view_index.specs.Index.{seq_of}
 use Rattle.view_engine.specs.declared.engine.Engine.{Engine}
 use Rattle.view_groups.specs.Cleans.{IsIndexFile}
+use Rattle.view_groups.specs.Groups.{IsGroup}
 use Rattle.view_engine.specs.Updating.{AreShaped}
 use Rattle.view_engine.specs.Worlds.{IsAtWorld, IsOpen as IsEngineOpen}
 use Rattle.view_engine.specs.Halts.{DocumentsStandAround, FitsFor, GoesOn, IsDamage, IsFullFor, IsStill, LeavesFiles, MovesDocuments, WouldWrite, Writes}
@@ -44,6 +53,7 @@ IfStopped P (Stopped fault) = P fault
 abbrev pub ReadsDocuments : Result Request Refusal → Type 0
 ReadsDocuments (Ok (Get id)) = Unit {0}
 ReadsDocuments (Ok (ViewRequest name limits)) = Unit {0}
+ReadsDocuments (Ok Cleanup) = Unit {0}
 ReadsDocuments other = ⊥
 
 -- a view, which may open the index of its design and bring it up to date
@@ -51,17 +61,59 @@ abbrev pub IsView : Result Request Refusal → Type 0
 IsView (Ok (ViewRequest name limits)) = Unit {0}
 IsView other = ⊥
 
+-- a request that may change files of indexes: a view, or a cleanup
+abbrev pub IsOnIndexes : Result Request Refusal → Type 0
+IsOnIndexes (Ok (ViewRequest name limits)) = Unit {0}
+IsOnIndexes (Ok Cleanup) = Unit {0}
+IsOnIndexes other = ⊥
+
 -- a request that may change files
 abbrev pub ChangesFiles : Result Request Refusal → Type 0
-ChangesFiles request = Writes request ⊎ IsView request
+ChangesFiles request = Writes request ⊎ IsOnIndexes request
 
--- at this place a file of some index is damaged, as it is opened with some number of views
-abbrev pub HasIndexDamage : (FileName → File) → FileName → ℕ → Type 0
-HasIndexDamage files name at = (sig : List ℕ) × (views : ℕ) × ((name.stem ≡ View sig) × IsDamagedAt (View sig) views files name at)
+-- the design document that a view asks for is live in the documents' file, and is this one
+abbrev pub IsAskedFor : Docs → (FileName → File) → ViewName → Json → Type 0
+IsAskedFor docs files name document = IsLive (design_id name.design) (bytes_in docs files) (last_of docs (design_id name.design)) document
+
+-- the index of a design is open, and nothing was written since
+abbrev pub IsCurrent : Engine → Json → Type 0
+IsCurrent engine document =
+    (place : ℕ) × (index : Index) × IsGroup engine.groups place (signature_of document) (length (views_of document)) index × (seq_of index ≡ update_seq engine.docs)
+
+-- at this place a file of the index of the design that a view asks for is damaged, as it is opened with so many views as the design has
+pub record HasIndexDamage (docs : Docs) (files : FileName → File) (view : ViewName) (name : FileName) (at : ℕ) : Type 0 where
+  pub document : Json
+  pub asked : IsAskedFor docs files view document
+  pub own : IsFileOf (View (signature_of document)) name
+  pub damage : IsDamagedAt (View (signature_of document)) (length (views_of document)) files name at
+
+-- at this place a file of an index is damaged, of which a cleanup opens each pair that is to go
+pub record HasSlotDamage (files : FileName → File) (name : FileName) (at : ℕ) : Type 0 where
+  pub sig : List ℕ
+  pub damage : IsFirstDamage (View sig) files name at
+
+-- what a request may meet as damaged of an index
+abbrev pub MeetsIndexDamage : Docs → (FileName → File) → Result Request Refusal → FileName → ℕ → Type 0
+MeetsIndexDamage docs files (Ok (ViewRequest view limits)) name at = HasIndexDamage docs files view name at
+MeetsIndexDamage docs files (Ok Cleanup) name at = HasSlotDamage files name at
+MeetsIndexDamage docs files other name at = ⊥
 
 -- the file is one of an index, which the request may have opened
 abbrev pub IsOfIndex : Result Request Refusal → FileName → Type 0
 IsOfIndex request name = IsView request × IsIndexFile name
+
+-- an engine that is open over the files meets it at this place
+pub record MeetsIndexDamageIn (files : FileName → File) (request : Result Request Refusal) (name : FileName) (at : ℕ) : Type 0 where
+  pub docs : Docs
+  pub is_open : IsOpen docs files
+  pub damage : MeetsIndexDamage docs files request name at
+
+-- A view changes no file, or only those of the index of the design that it asks for, and none where this is open and nothing was written
+-- since.
+pub record MovesIndexOf (engine : Engine) (name : ViewName) (old new : Disk FileName) : Type 0 where
+  pub files : MovesNone old new
+      ⊎ ((document : Json) × IsAskedFor engine.docs old.now name document × Moves (IsFileOf (View (signature_of document))) (λ image. Unit {0}) (λ files. Unit {0}) old new)
+  pub current : ((document : Json) → IsAskedFor engine.docs old.now name document → IsCurrent engine document) → MovesNone old new
 
 module _ {F : Type 0} (f : Folders F) where
   -- for each world that the documents and the disk, where it is told, are at
@@ -91,15 +143,17 @@ module _ {F : Type 0} (f : Folders F) where
   abbrev pub LiesOpen : Engine → F → Type 0
   LiesOpen engine folder = IfTold (f.disk folder) (λ d. IsEngineOpen engine d.now)
 
-  -- only files of one index change
-  abbrev pub MovesOneIndex : F → F → Type 0
-  MovesOneIndex old new = (sig : List ℕ) × Tells (f.disk old) (f.disk new) (Moves (IsFileOf (View sig)) (λ image. Unit {0}) (λ files. Unit {0}))
+  -- which files of indexes a request changes: a view those of its design alone, if any, and a cleanup those of any index
+  abbrev pub MovesIndexes : Engine → F → F → Result Request Refusal → Type 0
+  MovesIndexes engine old new (Ok (ViewRequest name limits)) = Tells (f.disk old) (f.disk new) (MovesIndexOf engine name)
+  MovesIndexes engine old new (Ok Cleanup) = Tells (f.disk old) (f.disk new) (Moves IsIndexFile (λ image. Unit {0}) (λ files. Unit {0}))
+  MovesIndexes engine old new other = Unit {0}
 
   -- which files a request changes, whatever the folder holds, and where the engine is after it
   pub record KeepsDisk (engine engine' : Engine) (old new : F) (request : Result Request Refusal) (HasGivenUp GoesOn : Type 0) : Type 0 where
-    -- a request that is no view changes the documents alone, and a view only files of one index
-    pub documents : (IsView request → ⊥) → KeepsDocuments engine.docs engine'.docs old new request HasGivenUp GoesOn
-    pub indexes : IsView request → MovesOneIndex old new
+    -- a request that is no view and no cleanup changes the documents alone, and these change only files of indexes
+    pub documents : (IsOnIndexes request → ⊥) → KeepsDocuments engine.docs engine'.docs old new request HasGivenUp GoesOn
+    pub indexes : MovesIndexes engine old new request
     -- where the engine may go on, it lies open
     pub is_open : GoesOn → LiesOpen engine' new
 
@@ -120,12 +174,12 @@ module _ {F : Type 0} (f : Folders F) where
   IsReason docs old new request (Damaged name at) = ReadsDocuments request × IsReadReason docs old new (Damaged name at)
   IsReason docs old new request NoMemory = Unit {0}
 
-  -- the same of a view, which meets it in a file of an index: it is full, or damaged, and this in no world whose pictures have the shape
-  -- of their designs
+  -- the same of a view or a cleanup, which meet it in a file of an index: it is full, or damaged, and this in no world whose pictures
+  -- have the shape of their designs
   abbrev pub IsIndexReason : Engine → F → Result Request Refusal → StepFault → Type 0
   IsIndexReason engine old request (Full name length) = IsOfIndex request name
   IsIndexReason engine old request (Damaged name at) =
-      IsView request × IfTold (f.disk old) (λ d. HasIndexDamage d.now name at) × ((world : World) → IfTold (f.disk old) (λ d. IsAtWorld engine d.now world → AreShaped world → ⊥))
+      IsOnIndexes request × IfTold (f.disk old) (λ d. MeetsIndexDamage engine.docs d.now request name at) × ((world : World) → IfTold (f.disk old) (λ d. IsAtWorld engine d.now world → AreShaped world → ⊥))
   IsIndexReason engine old request other = ⊥
 
   -- of the documents or of an index

@@ -14,6 +14,7 @@ use Rattle.view_engine.specs.Moments.{Moment}
 use Rattle.view_engine.specs.Steps.{Answers, IsRefusedAs, Makes, Performs}
 use Rattle.view_engine.specs.Updating.{AreFit, AreShaped, IsSound}
 use Rattle.view_engine.specs.World.{World}
+use Rattle.view_engine.specs.Worlds.{IsBetween}
 
 -- among the last writes each id has the one that came last
 abbrev pub HasLastWrites : List Write → Type 0
@@ -48,6 +49,10 @@ module _ (functions : List ℕ → Functions) (honest : List ℕ → Type 0) (la
   -- and so does what a request makes
   abbrev pub MadeWorldsAreSound : Type 0
   MadeWorldsAreSound = (world : World) (request : Result Request Refusal) (made : World) → Makes functions honest languages world request made → IsSound functions honest languages world → IsSound functions honest languages made
+
+  -- and so is a world between a sound one and another
+  abbrev pub WorldsBetweenAreSound : Type 0
+  WorldsBetweenAreSound = (before after mid : World) → IsBetween before after mid → IsSound functions honest languages before → IsSound functions honest languages mid
 
   -- in a sound world each picture has the rows of as many views as its design
   abbrev pub SoundWorldsAreShaped : Type 0

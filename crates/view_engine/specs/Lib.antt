@@ -11,6 +11,7 @@ pub mod Put
 pub mod Delete
 pub mod Get
 pub mod View
+pub mod Cleanup
 pub mod ViewPlan
 pub mod Planning
 pub mod Steps
@@ -19,6 +20,7 @@ pub mod Halts
 pub mod Worlds
 pub mod Engine
 pub mod Disks
+pub mod Cleaning
 pub mod Openings
 pub mod ServerFaults
 pub mod Calls

@@ -1,5 +1,7 @@
 -- What planning a view promises, over a folder that tells its disk.
 use Rattle.std.specs.Prelude.{◌≡◌, ℕ, List, Result, Some, IfErr, IfOk}
+use Rattle.json_terms.specs.Json.{Json}
+use Rattle.design_docs.specs.Design.{IsDesignOf}
 use Rattle.view_ports.specs.Disk.{IfTold}
 use Rattle.view_ports.specs.declared.folder.Folder.{Ghosts as Folders}
 use Rattle.child_pool.specs.Languages.{path_in}
@@ -12,6 +14,7 @@ use Rattle.view_engine.specs.declared.halt.Halt.{Halt}
 use Rattle.view_engine.specs.declared.halt.Halt.TheVariants.{Refused}
 use Rattle.view_engine.specs.declared.refusal.Refusal.{Refusal}
 use Rattle.view_engine.specs.declared.request.ViewName.{ViewName}
+use Rattle.view_engine.specs.Disks.{IsAskedFor}
 use Rattle.view_engine.specs.View.{view_refusal}
 use Rattle.view_engine.specs.World.{of_history}
 use Rattle.view_engine.specs.ViewPlan.{IsPlan}
@@ -26,6 +29,10 @@ module _ {F : Type 0} (f : Folders F) (engine : Engine) (folder : F) (name : Vie
   PlansView = (history : List Write) → IfTold (f.disk folder) (λ d. AreAt engine.docs d.now history
       → IfOk result (λ plan. (path : List ℕ) → path_in (languages_of engine.pool) plan.design.language ≡ Some path
       → IsPlan (languages_of engine.pool) history name plan.id plan.design plan.place path))
+
+  -- whatever the folder holds, its design is that of the document that is asked for
+  abbrev pub ReadsDesign : Type 0
+  ReadsDesign = IfTold (f.disk folder) (λ d. IfOk result (λ plan. (document : Json) × IsAskedFor engine.docs d.now name document × IsDesignOf document plan.design))
 
   -- over a history it is refused only as the view is
   abbrev pub RefusesView : Type 0

@@ -11,7 +11,7 @@ use Rattle.child_pool.specs.declared.pool_fault.PoolFault.{PoolFault}
 use Rattle.child_pool.specs.Jobs.{Job}
 use Rattle.doc_file.specs.History.{Write, live_document}
 use Rattle.view_engine.specs.declared.request.Request.{Request}
-use Rattle.view_engine.specs.declared.request.Request.TheVariants.{Put, Delete, Get, View, Info}
+use Rattle.view_engine.specs.declared.request.Request.TheVariants.{Put, Delete, Get, View, Info, Cleanup}
 use Rattle.view_engine.specs.declared.request.ViewName.{ViewName}
 use Rattle.view_engine.specs.declared.refusal.Refusal.{Refusal}
 use Rattle.view_engine.specs.declared.refusal.Refusal.TheVariants.{NotBuiltYet, NoMemory}
@@ -22,6 +22,7 @@ use Rattle.view_engine.specs.Refusals.{request_of, refusal_text}
 use Rattle.view_engine.specs.Put.{DoesPut, IsPutRefused, put_write}
 use Rattle.view_engine.specs.Delete.{DoesDelete, IsDeleteRefused, delete_write}
 use Rattle.view_engine.specs.Get.{DoesGet, DoesInfo, get_refusal}
+use Rattle.view_engine.specs.Cleanup.{DoesCleanup, IsPartlyCleaned}
 use Rattle.view_engine.specs.View.{design_id, view_refusal, DoesView, IsBrokenOff, IsGivenUp, IsJobOf, IsServed}
 
 -- no server was called
@@ -63,11 +64,13 @@ module _ (functions : List ℕ → Functions) (honest : List ℕ → Type 0) (la
   MayHaveCalled before (Ok (View name None)) after = (after ≡ before) ⊎ ((view_refusal languages before.world name ≡ None) × AskedFor before name after)
   MayHaveCalled before other after = after ≡ before
 
-  -- the world that a request makes where it takes effect: one with its write, or with the next picture of its design
+  -- the world that a request makes where it takes effect: one with its write, or with the next picture of its design, or without some
+  -- pictures that no live design has
   abbrev pub Makes : World → Result Request Refusal → World → Type 0
   Makes world (Ok (View name None)) after =
       (design : Json) × (path : List ℕ) × (view_refusal languages world name ≡ None) × (live_document world.history (design_id name.design) ≡ Some design) × (path_in languages (language_of design) ≡ Some path)
       × IsBrought functions honest languages design path world after
+  Makes world (Ok Cleanup) after = IsPartlyCleaned world after
   Makes world request after = (write : Write) × IsWrite world request write × (after ≡ written world write)
 
   -- the refusal of a request before any server is asked
@@ -76,6 +79,7 @@ module _ (functions : List ℕ → Functions) (honest : List ℕ → Type 0) (la
   IsRefusedAs world (Delete id given) refusal = IsDeleteRefused world id given refusal
   IsRefusedAs world (Get id) refusal = get_refusal world id ≡ Some refusal
   IsRefusedAs world Info refusal = ⊥
+  IsRefusedAs world Cleanup refusal = ⊥
   IsRefusedAs world (View name None) refusal = view_refusal languages world name ≡ Some refusal
   IsRefusedAs world other refusal = refusal ≡ NotBuiltYet
 
@@ -85,6 +89,7 @@ module _ (functions : List ℕ → Functions) (honest : List ℕ → Type 0) (la
   Performs before (Delete id given) reply after = Acts (λ world new. DoesDelete world id given reply new) before after
   Performs before (Get id) reply after = ChangesNothing (DoesGet before.world id reply) before after
   Performs before Info reply after = ChangesNothing (DoesInfo before.world reply) before after
+  Performs before Cleanup reply after = Acts (λ world new. DoesCleanup world reply new) before after
   Performs before (View name None) reply after = DoesView functions honest languages before name reply after
   Performs before other reply after = ⊥
 

@@ -43,9 +43,14 @@ pub record StandsFor (image : FileName → List ℕ) (world : World) : Type 0 wh
   pub indexes : StandFor image world.pictures
   pub within : NoneIsNewer world
 
--- an image stands for the one world or the other
+-- a world between two: its history is that of the first, and so are its pictures, but for some that are gone in the second too
+pub record IsBetween (before after mid : World) : Type 0 where
+  pub history : mid.history ≡ before.history
+  pub pictures : (sig : List ℕ) → (mid.pictures sig ≡ before.pictures sig) ⊎ ((mid.pictures sig ≡ None) × (after.pictures sig ≡ None))
+
+-- an image stands for a world between two, which may be the first, or for the second
 abbrev pub StandsEither : World → World → (FileName → List ℕ) → Type 0
-StandsEither before after image = StandsFor image before ⊎ StandsFor image after
+StandsEither before after image = ((mid : World) × IsBetween before after mid × StandsFor image mid) ⊎ StandsFor image after
 
 module _ (functions : List ℕ → Functions) (honest : List ℕ → Type 0) (languages : List (List ℕ × List ℕ)) where
   -- an image stands for the world that the request makes

@@ -14,6 +14,7 @@ ghost use Rattle.view_engine.specs.Worlds.{IsChildless, Knows, width as width_of
 
 mod view;
 
+use crate::cleanup::cleanup;
 use crate::halt::{Halt, StepFault};
 use crate::line::read_request;
 use crate::reads::{get, info};
@@ -79,8 +80,8 @@ impl Engine {
     ///
     /// The line comes without its newline. Of a line of more than 2,097,152 bytes the first 2,097,153 are enough.
     /// On `NoMemory` nothing is appended and no document has changed. At each moment a crash leaves the documents and indexes before
-    /// the request or after it; once a write is answered those after it. Only a write that is accepted changes files of the
-    /// documents, and only a view those of indexes. After every other fault the engine is not to be used again.
+    /// the request or after it, or in a cleanup some of the indexes that are to go; once a write is answered those after it. Only a write that is accepted changes files of the
+    /// documents, and only a view or a cleanup those of indexes. After every other fault the engine is not to be used again.
     pub fn step<F: Folder, C: Servers>(
         &mut self,
         alloc: Global,
@@ -141,6 +142,7 @@ impl Engine {
                 None => self.view(alloc, folder, servers, view, out),
                 Some(_) => Err(Halt::Refused(Refusal::NotBuiltYet)),
             },
+            Request::Cleanup => cleanup(alloc, &self.docs, &mut self.groups, folder, out),
             _ => Err(Halt::Refused(Refusal::NotBuiltYet)),
         }
     }

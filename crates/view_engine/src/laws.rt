@@ -2,7 +2,7 @@
 
 ghost use Rattle.std.specs.Prelude.{List, ℕ};
 ghost use Rattle.doc_file.specs.History.{Write};
-ghost use Rattle.view_engine.specs.Laws.{HasLastWrites, HasLiveDocuments, IsAcceptedInTurn, IsInOrderOfId, IsNotRefusedAndDone, IsRefusedOnce, MadeWorldsAreSound, SoundWorldsAreShaped, StepsKeepSound};
+ghost use Rattle.view_engine.specs.Laws.{HasLastWrites, HasLiveDocuments, IsAcceptedInTurn, IsInOrderOfId, IsNotRefusedAndDone, IsRefusedOnce, MadeWorldsAreSound, SoundWorldsAreShaped, StepsKeepSound, WorldsBetweenAreSound};
 
 use view_ports::Servers;
 
@@ -26,13 +26,15 @@ pub fn writes_are_accepted_in_turn()
     ensures { IsAcceptedInTurn }
 {}
 
-/// A line that is answered leads from a sound world to a sound one, and so does what a request makes; and in a sound world each
-/// picture has as many views as its design.
+/// A line that is answered leads from a sound world to a sound one, and so does what a request makes; a world between a sound one and
+/// another is sound; and in a sound world each picture has as many views as its design.
 pub fn worlds_stay_sound<C: Servers>()
     ensures steps { (languages : List (List ℕ × List ℕ))
         → StepsKeepSound C.functions C.honest languages }
     ensures made { (languages : List (List ℕ × List ℕ))
         → MadeWorldsAreSound C.functions C.honest languages }
+    ensures between { (languages : List (List ℕ × List ℕ))
+        → WorldsBetweenAreSound C.functions C.honest languages }
     ensures shaped { (languages : List (List ℕ × List ℕ))
         → SoundWorldsAreShaped C.functions C.honest languages }
 {}

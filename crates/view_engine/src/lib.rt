@@ -2,6 +2,8 @@
 #![tactic(auto)]
 
 mod answer;
+mod cleanup;
+mod design;
 mod engine;
 mod fault_line;
 mod forms;

@@ -44,7 +44,7 @@ use Rattle.view_index.specs.Opens.{FindsDamage, IsOpenFault}
 use Rattle.view_updater.specs.declared.fault.UpdateFault.{UpdateFault}
 use Rattle.view_updater.specs.declared.fault.UpdateFault.TheVariants.{Docs as OfDocuments, Index as OfIndex, NoMemory, Pool as OfPool}
 use Rattle.view_updater.specs.Faults.{by_index, by_pool}
-use Rattle.view_updater.specs.Updates.{documents_since, side as side_of_index, EndsAt as EndsIndex, HasAskedFor, IsBodyDamaged, IsBreak, IsFileFault, IsIdleEnd, IsLost, IsMade, IsMadeBy as IsMadeOf, IsMetAs, IsOfIndex}
+use Rattle.view_updater.specs.Updates.{documents_since, side as side_of_index, Side as IndexSide, EndsAt as EndsIndex, HasAskedFor, IsBodyDamaged, IsBreak, IsFileFault, IsIdleEnd, IsLost, IsMade, IsMadeBy as IsMadeOf, IsMetAs, IsOfIndex}
 use Rattle.view_updater.proofs.Ends.{index_of_no_documents, index_of_no_pool, index_stored}
 use Rattle.view_groups.specs.declared.groups.Groups.{Groups}
 use Rattle.view_groups.specs.Brings.{side, Brings, EndsAt, HasAsked, IsGroupFault, IsIdle, IsMadeBy, MayLeave, Side}
@@ -55,6 +55,7 @@ use Rattle.view_groups.specs.Reached.{picture_for, sig_of, views_in, IsReached, 
 use Rattle.view_groups.specs.Updating.{UpdatesAt}
 use Rattle.view_groups.proofs.Closing.{other_at, set_at, set_held, set_there, unset, AreSetAt}
 use Rattle.view_groups.proofs.Opening.{at_holds, damaged_of}
+use Rattle.view_groups.proofs.Places.{one_index}
 use Rattle.view_groups.proofs.Standing.{open_still, settled_stand}
 use Rattle.view_groups.proofs.Telling.{told_never}
 
@@ -91,6 +92,9 @@ refused fault = Err fault
 
 abbrev unopened : IndexFault → Result ℕ IndexFault
 unopened fault = Err fault
+
+abbrev opened_at : ℕ → Result ℕ IndexFault
+opened_at place = Ok place
 
 abbrev pub placed : ℕ → Result (Unit {0}) UpdateFault → Result ℕ UpdateFault
 placed place (Ok done) = Ok place
@@ -211,6 +215,7 @@ module _ {F C : Type 0} (f : Folders F) (s : Servers C) (docs : Docs) (design : 
         (λ image is. inl (now_stands history pictures d.now image k (λ n of_pair. is n))) (λ kept. k.indexes)) reached;
     asks = λ history pictures. told_all (f.disk folder) _ (λ d k. inl ((refl, refl), (tt, tt)));
     asked = inl ((refl, refl), tt);
+    idle = λ place index group last. (inr refl, refl);
     sound = λ history pictures. told_all (f.disk folder) _ (λ d k shaped name at. (λ is. cc, λ is. cc));
     read = λ history. told_all (f.disk folder) (λ d. AreDocumentsAt docs d.now history → (name : FileName) (at : ℕ) → refused NoMemory ≢ Err (OfDocuments (Damaged name at))) (λ d k name at is. cc);
     file = tt;
@@ -247,6 +252,7 @@ module _ {F C : Type 0} (f : Folders F) (s : Servers C) (docs : Docs) (design : 
             (opens.stands pictures (told_now (f.disk folder) _ _ (λ d k. within_of newest newest_is history pictures d.now k) reached));
         asks = λ history pictures. told_all (f.disk folder) _ (λ d k. inl ((refl, refl), (open_idle fault, tt)));
         asked = inl ((refl, refl), open_idle fault);
+        idle = λ place index group last. absurd (let no : unopened fault ≡ Ok place = (opens.found place index group).0 in cc);
         sound = λ history pictures. told_now (f.disk folder) _ _ (λ d never k shaped name at. (
           λ is. index_of_no_documents fault (Damaged name at) (let same : by_index fault ≡ OfDocuments (Damaged name at) = cc in same),
           λ is. never (fit_of newest newest_is history pictures d.now k shaped) name at (ap (λ e. Err e) (index_stored fault (Damaged name at) (let same : by_index fault ≡ OfIndex (fault_of.Store (Damaged name at)) = cc in same))),
@@ -460,6 +466,19 @@ module _ {F C : Type 0} (f : Folders F) (s : Servers C) (docs : Docs) (design : 
       asked_some (inl idle) = inl (idle.0, idle_placed place result idle.1)
       asked_some (inr some) = inr (some.0, asked_placed s servers servers' pool pool' design some.0 place result some.1)
 
+      -- where it was open, and nothing was written since, nothing is done
+      idle_there : (p : ℕ) (index : Index) → IsGroup groups p (sig_of design) (views_in design) index → seq_of index ≡ documents_seq docs → ((placed place result ≡ Ok p) ⊎ (placed place result ≡ Err NoMemory)) × (left ≡ given)
+      idle_there p index was last =
+          let found = opens.found p index was in
+          let in_place : p ≡ place = let ok : opened_at place ≡ Ok p = found.0 in cc in
+          let there_too : slice_get (open_of mid_groups) place ≡ Some index = (λ i. slice_get (open_of (found.1 i)) (sym in_place i)) ∙ was.there in
+          let it : index ≡ at.before = one_index mid_groups place index at.before there_too at.there.there in
+          let still = at.updates.idle (sym (ap seq_of it) ∙ last) in
+          let same = still.1 in (
+            inl (ap (placed place) still.0 ∙ ap (λ k. Ok k) (sym in_place)),
+            λ i. side ((ap (λ (x : IndexSide F C). x.folder) same ∙ found.2) i) ((same i).servers) ((same i).pool) ((at.kept (ap (λ (x : IndexSide F C). x.index) same) ∙ found.1) i),
+          )
+
       -- what is known once it is open is known before
       known_before : (history : List Write) (pictures : Pictures) (N : Type 0) → IfTold (f.disk mid) (λ d. IsThere history pictures d → N) → IfTold (f.disk folder) (λ d. IsReached docs groups design history pictures d.now → N)
       known_before history pictures N after = told_never {X = Unit {0}} (f.disk folder) (f.disk mid) (λ d. IsReached docs groups design history pictures d.now) (λ u a b. IsBegun history pictures a b) (λ u d. IsThere history pictures d) N
@@ -511,6 +530,7 @@ module _ {F C : Type 0} (f : Folders F) (s : Servers C) (docs : Docs) (design : 
         stands = stands;
         asks = λ history pictures. known_before history pictures _ (told_now (f.disk mid) _ _ (λ d asks known. asked history pictures d.now known.1 (asks known.0)) (at.updates.asks history));
         asked = asked_some at.updates.asked;
+        idle = idle_there;
         sound = λ history pictures. told_now (f.disk folder) _ _ (λ d never reached shaped name k. (λ is. never reached name k (unplaced place result (OfDocuments (Damaged name k)) is), λ is. at.updates.whole name k (unplaced place result (OfIndex (fault_of.Store (Damaged name k))) is)))
             (known_before history pictures ((name : FileName) (k : ℕ) → result ≢ Err (OfDocuments (Damaged name k))) (told_now (f.disk mid) _ _ (λ d never known. never known.0) (at.updates.sound history)));
         read = λ history. read_before history (at.updates.sound history);

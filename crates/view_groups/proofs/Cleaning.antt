@@ -1,7 +1,7 @@
 -- What is left once all listed indexes are removed that are not kept.
 use Rattle.std.specs.Prelude.{◌≡◌, ◌⊎◌, ◌≤◌, ℕ, List, [], ◌∷◌, length, true, false, Option, Some, None, Result, Ok, Err, IfErr, OnOk, Contains, refl}
 use Rattle.std.proofs.Common.{ap, ◌∙◌, subst, inl, inr, ⊎_elim, arith}
-use Rattle.view_ports.specs.Disk.{IfTold, Moves, Tells}
+use Rattle.view_ports.specs.Disk.{Disk, IfTold, Moves, MovesNone, Tells}
 use Rattle.view_ports.specs.Faults.{Rose}
 use Rattle.view_ports.specs.File.{File}
 use Rattle.view_ports.specs.FolderCalls.{IsListing, Passes}
@@ -10,7 +10,7 @@ use Rattle.view_ports.specs.declared.file_name.Stem.TheVariants.{View}
 use Rattle.view_ports.specs.declared.folder.Folder.{Ghosts as Folders}
 use Rattle.view_ports.specs.declared.folder.FolderFault.{FolderFault}
 use Rattle.view_ports.specs.declared.folder.FolderFault.TheVariants.{Failed, NoMemory as FolderNoMemory}
-use Rattle.view_ports.proofs.DiskRuns.{moves_passes, moves_then}
+use Rattle.view_ports.proofs.DiskRuns.{moves_passes, moves_then, none_passes}
 use Rattle.view_ports.proofs.Told.{told_after, told_all, told_back, told_given, told_map, told_pair, told_then}
 use Rattle.gate_file.specs.declared.fault.GateFault.TheVariants.{DiskFault, Damaged}
 use Rattle.gate_file.specs.declared.root.Root.{Root}
@@ -26,10 +26,11 @@ use Rattle.view_index.specs.Held.{HoldsIndex, HoldsPicture}
 use Rattle.view_index.specs.Removes.{IsRemoveFault}
 use Rattle.view_index.proofs.Carried.{picture_of_root}
 use Rattle.view_groups.specs.declared.groups.Groups.{Groups}
-use Rattle.view_groups.specs.Cleans.{Cleans, EndsAt, IsIndexFile}
+use Rattle.view_groups.specs.Cleans.{AreCleared, Cleans, EndsAt, IsDamageOf, IsIndexFile}
 use Rattle.view_groups.specs.Groups.{AreAt, AreOpen}
 use Rattle.view_groups.specs.Pictures.{Pictures}
-use Rattle.view_groups.specs.Removing.{AreLeft, IsNamed, RemovesEach, StandsForFewer}
+use Rattle.view_groups.specs.Removing.{AreLeft, AreRemoved, AreSameOrEmpty, IsNamed, RemovesEach, StandsForFewer}
+use Rattle.view_groups.proofs.Damages.{damage_before}
 use Rattle.view_groups.proofs.Removing.{fewer_refl, none_gone}
 use Rattle.view_groups.proofs.Standing.{images_stand, others_matter_not}
 
@@ -47,7 +48,10 @@ empty_none sig views files picture holds empty =
     only_none views (root_of (side_in (View sig) image)) (image (name_of (side_in (View sig) image))) picture none.stands holds.stands.stands
 
 -- a pair is listed, or has no bytes
-listed_or_empty : (files : FileName → File) (names : List FileName) → IsListing files names → (sig : List ℕ) → IsNamed names (View sig) ⊎ ((n : FileName) → n.stem ≡ View sig → (files n).seen ≡ [])
+abbrev AreListedOrEmpty : List FileName → (FileName → File) → Type 0
+AreListedOrEmpty names files = (sig : List ℕ) → IsNamed names (View sig) ⊎ ((n : FileName) → n.stem ≡ View sig → (files n).seen ≡ [])
+
+listed_or_empty : (files : FileName → File) (names : List FileName) → IsListing files names → AreListedOrEmpty names files
 listed_or_empty files names listing sig = by_sides (side false) (side true)
   where
     by_bytes : (n : FileName) (bytes : List ℕ) → (files n).seen ≡ bytes → Contains names n ⊎ ((files n).seen ≡ [])
@@ -62,6 +66,17 @@ listed_or_empty files names listing sig = by_sides (side false) (side true)
     by_sides (inl low) high = inl (side_of (View sig) false, low, refl)
     by_sides (inr low) (inl high) = inl (side_of (View sig) true, high, refl)
     by_sides (inr low) (inr high) = inr (λ n of_pair. ⊎_elim (λ is. ap (λ k. (files k).seen) is ∙ low) (λ is. ap (λ k. (files k).seen) is ∙ high) (sides (View sig) n of_pair))
+
+-- files that stay or are emptied are such still
+listed_still : (names : List FileName) (files files' : FileName → File) → AreSameOrEmpty files files' → AreListedOrEmpty names files → AreListedOrEmpty names files'
+listed_still names files files' each listed sig = ⊎_elim
+    (λ named. inl named)
+    (λ empty. inr (λ n of_pair. ⊎_elim (λ same. ap (λ (f : File). f.seen) (same n of_pair) ∙ empty n of_pair) (λ none. ap (λ (f : File). f.seen) (none n of_pair)) (each sig)))
+    (listed sig)
+
+-- nothing changed while the names were listed
+same_passes : (a b : Disk FileName) → Passes a b → AreSameOrEmpty a.now b.now
+same_passes a b same sig = inl (λ n of_pair. same.same n)
 
 no_want : (P : Type 0) → IsRemoveFault NoMemory → P
 no_want P is = absurd (⊎_elim (λ disk. let no : ⊥ = cc in no) (λ damage. let was = damage.2 in let no : ⊥ = cc in no) is)
@@ -104,6 +119,11 @@ module _ {F : Type 0} (f : Folders F) (kept : List (List ℕ)) (groups : Groups)
     cleans = record {
       stands = stands;
       sound = λ pictures. told_back (f.disk old) (f.disk mid) _ _ Passes (λ a b same never here. never ((others_matter_not groups a.now b.now pictures (λ n is. same.same n)).0 here)) passes (removes.sound pictures);
+      empty = cleared result removes.each removes.empty;
+      unmoved = λ want. no_want ((groups' ≡ groups) × Tells (f.disk old) (f.disk new) MovesNone) (subst (λ r. IfErr r IsRemoveFault) want removes.faults);
+      damaged = told_back (f.disk old) (f.disk mid) (λ d. (name : FileName) (at : ℕ) → result ≡ Err (Store (Damaged name at)) → IsDamageOf kept d.now name at)
+          (λ d. (name : FileName) (at : ℕ) → result ≡ Err (Store (Damaged name at)) → IsDamageOf kept d.now name at) Passes
+          (λ a b same finds name at failed. damage_before kept a.now b.now (same_passes a b same) name at (finds name at failed)) passes removes.damaged;
       others = told_then (f.disk old) (f.disk mid) (f.disk new) Passes (Moves IsIndexFile (λ image. Unit {0}) (λ files. Unit {0})) (Moves IsIndexFile (λ image. Unit {0}) (λ files. Unit {0}))
           (λ a b c same moved. moves_then IsIndexFile (λ image. Unit {0}) (λ image. Unit {0}) (λ image. Unit {0}) (λ files. Unit {0}) (λ files. Unit {0}) (λ files. Unit {0}) a b c
           (λ image is. tt) (λ ended image is. tt) (λ one_ended other_ended. tt) (moves_passes IsIndexFile (λ image. Unit {0}) (λ files. Unit {0}) a b (λ image is. tt) (λ all. tt) same) moved) passes removes.others;
@@ -115,6 +135,19 @@ module _ {F : Type 0} (f : Folders F) (kept : List (List ℕ)) (groups : Groups)
         by_result : (r : Result (Unit {0}) IndexFault) → IfErr r (λ e. e ≡ NoMemory) → IfErr r IsRemoveFault → OnOk r (IfTold (f.disk new) (λ d. AreOpen groups' d.now)) → IfTold (f.disk new) (λ d. AreOpen groups' d.now)
         by_result (Ok done) want faults are = are
         by_result (Err fault) want faults are = no_want (IfTold (f.disk new) (λ d. AreOpen groups' d.now)) (subst IsRemoveFault want faults)
+
+        listed : IfTold (f.disk mid) (λ d. AreListedOrEmpty names d.now)
+        listed = told_after (f.disk old) (f.disk mid) (λ d. IsListing d.now names) (λ d. AreListedOrEmpty names d.now) Passes
+            (λ a b here same. listed_still names a.now b.now (same_passes a b same) (listed_or_empty a.now names here)) listing passes
+
+        cleared : (r : Result (Unit {0}) IndexFault) → OnOk r (Tells (f.disk mid) (f.disk new) (λ a b. AreSameOrEmpty a.now b.now)) → OnOk r (IfTold (f.disk new) (λ d. AreRemoved kept (IsNamed names) d.now))
+            → OnOk r (IfTold (f.disk new) (λ d. AreCleared kept d.now))
+        cleared (Ok done) each removed =
+            told_pair (f.disk new) (λ d. AreListedOrEmpty names d.now) (λ d. AreRemoved kept (IsNamed names) d.now) (λ d. AreCleared kept d.now)
+            (λ d rest gone name sig is unkept. ⊎_elim (λ named. ap (λ (f : File). f.seen) (gone sig named unkept name is)) (λ empty. empty name is) (rest sig))
+            (told_after (f.disk mid) (f.disk new) (λ d. AreListedOrEmpty names d.now) (λ d. AreListedOrEmpty names d.now) (λ a b. AreSameOrEmpty a.now b.now) (λ a b here same. listed_still names a.now b.now same here) listed each)
+            removed
+        cleared (Err fault) each removed = tt
 
         named : (r : Result (Unit {0}) IndexFault) → IfErr r IsRemoveFault → IfErr r (λ e. (e ≡ Store DiskFault) ⊎ (e ≡ NoMemory) ⊎ ((name : FileName) × (at : ℕ) × (e ≡ Store (Damaged name at))))
         named (Ok done) faults = tt
@@ -128,7 +161,7 @@ module _ {F : Type 0} (f : Folders F) (kept : List (List ℕ)) (groups : Groups)
   module _ (fault : FolderFault) (rose : fault ≡ Failed → Rose (f.faults old) (f.faults mid)) where
     ends_failed : (reason : FolderFault) (pictures : Pictures) (files : FileName → File) → AreAt groups files pictures → EndsAt kept groups pictures (Err (folder_fault reason)) files
     ends_failed Failed pictures files at = tt
-    ends_failed FolderNoMemory pictures files at = (pictures, fewer_refl kept pictures, at)
+    ends_failed FolderNoMemory pictures files at = at
 
     undamaged : (reason : FolderFault) (name : FileName) (at : ℕ) → folder_fault reason ≡ Store (Damaged name at) → ⊥
     undamaged Failed name at is = cc
@@ -148,6 +181,9 @@ module _ {F : Type 0} (f : Folders F) (kept : List (List ℕ)) (groups : Groups)
           (λ a b here same. moves_passes IsIndexFile (StandsForFewer kept pictures) (EndsAt kept groups pictures (Err (folder_fault fault))) a b (λ image is. (pictures, fewer_refl kept pictures, images_stand a.now pictures image here.held is))
           (λ all. ends_failed fault pictures b.now ((others_matter_not groups a.now b.now pictures (λ n is. all n)).0 here)) same) at passes;
       sound = λ pictures. told_all (f.disk old) _ (λ d here name at failed. undamaged fault name at (cc));
+      empty = tt;
+      unmoved = λ want. (refl, told_map (f.disk old) (f.disk mid) Passes MovesNone none_passes passes);
+      damaged = told_all (f.disk old) _ (λ d name at failed. absurd (undamaged fault name at (cc)));
       others = told_map (f.disk old) (f.disk mid) Passes (Moves IsIndexFile (λ image. Unit {0}) (λ files. Unit {0})) (λ a b same. moves_passes IsIndexFile (λ image. Unit {0}) (λ files. Unit {0}) a b (λ image is. tt) (λ all. tt) same) passes;
       is_open = λ are want. open_mid are;
       faults = named_failed fault;

@@ -36,6 +36,7 @@ use Rattle.view_groups.specs.Groups.{open_of, AreAt, AreOpen, IsClosed, IsGroup}
 use Rattle.view_groups.specs.Openings.{EndsOpen, IsFit, IsWithin, OpensGroup}
 use Rattle.view_groups.specs.Pictures.{Pictures, StandsOf}
 use Rattle.view_groups.proofs.Closing.{closed_at, closed_each, closed_open, set_held, unset}
+use Rattle.view_groups.proofs.Places.{none_there, one_place, IsAbsent}
 use Rattle.view_groups.proofs.Standing.{settled_stand}
 use Rattle.view_groups.proofs.Telling.{told_from}
 
@@ -86,14 +87,15 @@ module _ {F : Type 0} (f : Folders F) (own : List ℕ) (views newest : ℕ) wher
     others = told_refl (f.disk folder) _ (λ d. moves_none (IsFileOf (View own)) (λ image. Unit {0}) (λ files. Unit {0}) d (λ image is. tt) tt);
     is_open = λ are. are;
     place = (index, group);
+    found = λ at other its. (ap (λ p. Ok p) (one_place groups (View own) place at index other group.there its.there group.named its.named), refl, refl);
     faults = tt;
     cause = record { later = omega arith; failed = tt };
   }
 
   -- ---- one of another number of views was closed before
 
-  pub after_close : (groups mid groups' : Groups) (old new : F) (result : Result ℕ IndexFault) → IsClosed (View own) groups mid → OpensGroup own views newest f mid groups' old new result → OpensGroup own views newest f groups groups' old new result
-  after_close groups mid groups' old new result closed opens =
+  pub after_close : (groups mid groups' : Groups) (old new : F) (result : Result ℕ IndexFault) → IsAbsent groups own views → IsClosed (View own) groups mid → OpensGroup own views newest f mid groups' old new result → OpensGroup own views newest f groups groups' old new result
+  after_close groups mid groups' old new result absent closed opens =
       let still : (pictures : Pictures) (d : Disk FileName) → AreAt groups d.now pictures → AreAt mid d.now pictures = λ pictures d at.
       let here = at.held own in
       closed_at own d.now pictures pictures (pictures own) (unset own pictures) d.now (λ n other. refl) groups mid closed here.0 at here.1 in
@@ -104,6 +106,7 @@ module _ {F : Type 0} (f : Folders F) (own : List ℕ) (views newest : ℕ) wher
         others = opens.others;
         is_open = λ are. opens.is_open (told_now (f.disk old) _ _ (λ d here. closed_open own d.now d.now (λ n other. refl) groups mid closed here) are);
         place = opens.place;
+        found = λ place index group. absurd (absent place index group);
         faults = opens.faults;
         cause = opens.cause;
       }
@@ -183,6 +186,7 @@ module _ {F : Type 0} (f : Folders F) (own : List ℕ) (views newest : ℕ) wher
         others = opens.others;
         is_open = λ are. told_after (f.disk old) (f.disk new) _ (λ d. AreOpen groups d.now) _ (λ a b here moves. closed_open own a.now b.now moves.others groups groups (closed_by groups refl) here) are opens.others;
         place = tt;
+        found = λ place index group. absurd (none_there groups own views none place index group);
         faults = opens.faults;
         cause = record { later = opens.cause.later; failed = opens.cause.failed };
       }
@@ -204,6 +208,7 @@ module _ {F : Type 0} (f : Folders F) (own : List ℕ) (views newest : ℕ) wher
         others = opens.others;
         is_open = λ are. told_after (f.disk old) (f.disk new) _ (λ d. AreOpen groups' d.now) _ (λ a b here moves. closed_open own a.now b.now moves.others groups groups' (closed_by groups' same) here) are opens.others;
         place = tt;
+        found = λ place index group. absurd (none_there groups own views none place index group);
         faults = inr (inl refl);
         cause = record { later = opens.cause.later; failed = λ is. let no : ⊥ = cc in absurd no };
       }
@@ -248,6 +253,7 @@ module _ {F : Type 0} (f : Folders F) (own : List ℕ) (views newest : ℕ) wher
             number = opens.fresh.number;
           },
         );
+        found = λ at other group. absurd (none_there groups own views none at other group);
         faults = tt;
         cause = record { later = opens.cause.later; failed = tt };
       }

@@ -3,16 +3,17 @@ use Rattle.std.specs.Prelude.{◌≡◌, ◌≢◌, ◌<◌, ◌+◌, ℕ, List,
 use Rattle.std.specs.List.{AllWithin, HoldsAt}
 use Rattle.std.specs.Option.{MatchOption}
 use Rattle.std.proofs.Common.{arith, ap, sym, ◌∙◌, subst, suc, ⊎_elim}
-use Rattle.std.proofs.lemmas.Bool.{cases_eq}
+use Rattle.std.proofs.lemmas.Bool.{cases_eq, cases_lt}
 use Rattle.std.proofs.lemmas.List.{get_or-set_other, get_or-set_same, length-set, get_or-drop, get_or-take, length-drop, length-take}
 use Rattle.std.proofs.lemmas.Option.{get_or_from_slice_get, slice_get-get_or, slice_get_within}
 use Rattle.std.proofs.lemmas.List.Elements.{All-append, All-contains_itself, All-drop, All-from_all_within, All-same, All-take}
 use Rattle.view_ports.specs.declared.file_name.Stem.{Stem}
-use Rattle.view_ports.specs.declared.file_name.Stem.TheVariants.{Docs as DocsStem}
+use Rattle.view_ports.specs.declared.file_name.Stem.TheVariants.{Docs as DocsStem, View}
 use Rattle.view_index.specs.declared.index.Index.{Index}
 use Rattle.view_index.specs.Calls.{stem_of}
+use Rattle.view_index.specs.Index.{views_of}
 use Rattle.view_groups.specs.declared.groups.Groups.{Groups}
-use Rattle.view_groups.specs.Groups.{open_of, IsClosed, IsPlaceOf}
+use Rattle.view_groups.specs.Groups.{open_of, IsClosed, IsGroup, IsPlaceOf}
 
 -- an element at a place within a list
 get : {X : Type 0} (xs : List X) (i : ℕ) → i < length xs → X
@@ -26,6 +27,38 @@ place_found groups stem None none = All-from_all_within (λ index. stem_of index
 place_found groups stem (Some i) found =
     let index = get (open_of groups) i found.0 in
     (slice_index_or (open_of groups) i index, slice_get-get_or (open_of groups) i index found.0, found.1 index)
+
+-- no two open indexes are of the same files
+pub one_place : (groups : Groups) (stem : Stem) (i j : ℕ) (one other : Index) → slice_get (open_of groups) i ≡ Some one → slice_get (open_of groups) j ≡ Some other → stem_of one ≡ stem → stem_of other ≡ stem → i ≡ j
+one_place groups stem i j one other at_one at_other of_one of_other =
+    let xs = open_of groups in
+    let first = slice_get_within xs i one at_one in
+    let second = slice_get_within xs j other at_other in
+    let stem_first : stem_of (slice_index_or xs i one) ≡ stem = ap stem_of (get_or_from_slice_get xs i one one at_one) ∙ of_one in
+    let stem_second : stem_of (slice_index_or xs j one) ≡ stem = ap stem_of (get_or_from_slice_get xs j other one at_other) ∙ of_other in
+    ⊎_elim
+    (λ lower. absurd (groups.apart i j one lower second (stem_first ∙ sym stem_second)))
+    (λ below. ⊎_elim (λ upper. absurd (groups.apart j i one upper first (stem_second ∙ sym stem_first))) (λ above. omega (arith, below, above)) (cases_lt j i))
+    (cases_lt i j)
+
+-- the one index in a place
+pub one_index : (groups : Groups) (place : ℕ) (one other : Index) → slice_get (open_of groups) place ≡ Some one → slice_get (open_of groups) place ≡ Some other → one ≡ other
+one_index groups place one other first second = sym (get_or_from_slice_get (open_of groups) place one one first) ∙ get_or_from_slice_get (open_of groups) place other one second
+
+-- ---- none is open as a signature's, of so many views
+
+module _ (groups : Groups) (own : List ℕ) (views : ℕ) where
+  abbrev pub IsAbsent : Type 0
+  IsAbsent = (place : ℕ) (index : Index) → IsGroup groups place own views index → ⊥
+
+  pub none_there : All (λ index. stem_of index ≢ View own) (open_of groups) → IsAbsent
+  none_there none place index group = none place index (slice_get_within (open_of groups) place index group.there) (ap stem_of (get_or_from_slice_get (open_of groups) place index index group.there) ∙ group.named)
+
+  pub other_number : (place : ℕ) (found : IsPlaceOf groups (View own) (Some place)) → views_of found.0 ≢ views → IsAbsent
+  other_number place found differs at index group =
+      let same : at ≡ place = one_place groups (View own) at place index found.0 group.there found.1 group.named found.2 in
+      let it : index ≡ found.0 = one_index groups place index found.0 (subst (λ (k : ℕ). slice_get (open_of groups) k ≡ Some index) same group.there) found.1 in
+      differs (sym (ap views_of it) ∙ group.number)
 
 -- ---- one is closed
 

@@ -11,21 +11,23 @@ use Rattle.view_ports.specs.declared.file_name.Stem.{Stem}
 use Rattle.view_ports.specs.declared.file_name.Stem.TheVariants.{View}
 use Rattle.view_ports.specs.declared.folder.Folder.{Ghosts as Folders}
 use Rattle.view_ports.proofs.DiskRuns.{moves_none, moves_then, moves_wider}
-use Rattle.view_ports.proofs.Told.{told_after, told_all, told_map, told_now, told_refl, told_still, told_then}
+use Rattle.view_ports.proofs.Told.{told_after, told_all, told_back, told_map, told_now, told_pair, told_refl, told_still, told_then}
 use Rattle.gate_file.specs.declared.fault.GateFault.TheVariants.{DiskFault, Damaged}
+use Rattle.gate_file.specs.Open.{IsFirstDamage}
 use Rattle.view_index.specs.declared.fault.IndexFault.{IndexFault}
 use Rattle.view_index.specs.declared.fault.IndexFault.TheVariants.{Store}
 use Rattle.view_index.specs.Held.{HoldsIndex, IsFileOf, Stands}
 use Rattle.view_index.specs.Opens.{FindsDamage}
-use Rattle.view_index.specs.Removes.{Removes}
+use Rattle.view_index.specs.Removes.{AreEmpty, Removes}
 use Rattle.view_groups.specs.declared.groups.Groups.{Groups}
-use Rattle.view_groups.specs.Cleans.{AreFewer, IsIndexFile}
+use Rattle.view_groups.specs.Cleans.{AreFewer, IsDamageOf, IsIndexFile}
 use Rattle.view_groups.specs.Groups.{AreAt, AreOpen, IsClosed}
 use Rattle.view_groups.specs.Pictures.{Pictures}
-use Rattle.view_groups.specs.Removing.{AreLeft, IsNamed, RemovesEach, StandsForFewer}
+use Rattle.view_groups.specs.Removing.{AreLeft, AreRemoved, AreSameOrEmpty, IsNamed, RemovesEach, StandsForFewer}
 use Rattle.view_groups.proofs.Closing.{closed_at, closed_open, set_at, set_stand, set_there, unset}
-use Rattle.view_groups.proofs.Standing.{images_stand, same_or_not}
-use Rattle.view_groups.proofs.Telling.{told_by, told_each, told_from, told_never}
+use Rattle.view_groups.proofs.Damages.{damage_before}
+use Rattle.view_groups.proofs.Standing.{images_stand, other_stem, same_or_not}
+use Rattle.view_groups.proofs.Telling.{told_by, told_each, told_ended, told_from, told_never}
 
 abbrev pub well : Result (Unit {0}) IndexFault
 well = Ok tt
@@ -56,6 +58,9 @@ module _ (kept : List (List ℕ)) where
           (λ image is. (pictures, fewer_refl pictures, images_stand d.now pictures image here.held is))
           (pictures, record { fewer = fewer_refl pictures; gone = λ sig listed unkept. absurd (never sig listed unkept) }, here)) at;
       sound = λ pictures. told_all (f.disk folder) (λ d. AreAt groups d.now pictures → (name : FileName) (at : ℕ) → well ≡ Err (Store (Damaged name at)) → ⊥) (λ d here name at failed. cc);
+      each = told_refl (f.disk folder) (λ a b. AreSameOrEmpty a.now b.now) (λ d sig. inl (λ n is. refl));
+      empty = told_all (f.disk folder) (λ d. AreRemoved kept IsToGo d.now) (λ d sig listed unkept. absurd (never sig listed unkept));
+      damaged = told_all (f.disk folder) (λ d. (name : FileName) (at : ℕ) → well ≡ Err (Store (Damaged name at)) → IsDamageOf kept d.now name at) (λ d name at failed. let no : ⊥ = cc in absurd no);
       others = told_refl (f.disk folder) (Moves IsIndexFile (λ image. Unit {0}) (λ files. Unit {0})) (λ d. moves_none IsIndexFile (λ image. Unit {0}) (λ files. Unit {0}) d (λ image is. tt) tt);
       is_open = λ are. are;
       faults = tt;
@@ -69,6 +74,9 @@ module _ (kept : List (List ℕ)) where
       stands = λ pictures at. told_map (f.disk old) (f.disk new) _ _
           (λ a b moved. record { moments = moved.moments; others = moved.others; ended = by_result result pictures b.now moved.ended }) (removes.stands pictures at);
       sound = removes.sound;
+      each = removes.each;
+      empty = removed_of result removes.empty;
+      damaged = removes.damaged;
       others = removes.others;
       is_open = removes.is_open;
       faults = removes.faults;
@@ -79,11 +87,18 @@ module _ (kept : List (List ℕ)) where
         by_result (Ok done) pictures files left = (left.0, record { fewer = (left.1).fewer; gone = λ sig listed unkept. (left.1).gone sig (within sig listed) unkept }, left.2)
         by_result (Err fault) pictures files left = tt
 
+        removed_of : (r : Result (Unit {0}) IndexFault) → OnOk r (IfTold (f.disk new) (λ d. AreRemoved kept IsToGo d.now)) → OnOk r (IfTold (f.disk new) (λ d. AreRemoved kept IsToGo' d.now))
+        removed_of (Ok done) removed = told_now (f.disk new) (λ d. AreRemoved kept IsToGo d.now) (λ d. AreRemoved kept IsToGo' d.now) (λ d gone sig listed unkept. gone sig (within sig listed) unkept) removed
+        removed_of (Err fault) removed = tt
+
     -- what was to go is of no matter to a refusal
     pub removes_failed : (IsToGo IsToGo' : Stem → Type 0) (groups groups' : Groups) (old new : F) (fault : IndexFault) → RemovesEach kept IsToGo f groups groups' old new (Err fault) → RemovesEach kept IsToGo' f groups groups' old new (Err fault)
     removes_failed IsToGo IsToGo' groups groups' old new fault removes = record {
       stands = λ pictures at. told_map (f.disk old) (f.disk new) _ _ (λ a b moved. record { moments = moved.moments; others = moved.others; ended = tt }) (removes.stands pictures at);
       sound = removes.sound;
+      each = tt;
+      empty = tt;
+      damaged = removes.damaged;
       others = removes.others;
       is_open = removes.is_open;
       faults = removes.faults;
@@ -132,6 +147,10 @@ module _ (kept : List (List ℕ)) where
         sound = λ pictures. told_now (f.disk old) _ (λ d. AreAt groups d.now pictures → (name : FileName) (at : ℕ) → result ≡ Err (Store (Damaged name at)) → ⊥)
             (λ d never here name at failed. let holds = here.held own in never holds.0 holds.1 name at failed)
             (told_each (f.disk old) (λ views d. HoldsIndex (View own) views d.now (pictures own) → FindsDamage (λ name at. ⊥) result) (λ views. removes.sound views (pictures own)));
+        each = each_of result removes.empty;
+        empty = empty_of result removes.empty;
+        damaged = told_now (f.disk old) (λ d. FindsDamage (IsFirstDamage (View own) d.now) result) (λ d. (name : FileName) (at : ℕ) → result ≡ Err (Store (Damaged name at)) → IsDamageOf kept d.now name at)
+            (λ d finds name at failed. record { sig = own; unkept = unkept; damage = finds name at failed }) removes.damaged;
         others = told_map (f.disk old) (f.disk new) _ (Moves IsIndexFile (λ image. Unit {0}) (λ files. Unit {0}))
             (λ a b moved. moves_wider (IsFileOf (View own)) IsIndexFile (λ image. Unit {0}) (λ image. Unit {0}) (λ files. Unit {0}) (λ files. Unit {0}) a b (λ n is. (own, is)) (λ image framed. tt) (λ others ended. tt) moved) removes.others;
         is_open = λ are. by_result result (told_after (f.disk old) (f.disk new) (λ d. AreOpen groups d.now) (λ d. AreOpen groups' d.now) _ (λ a b here moved. closed_open own a.now b.now moved.others groups groups' closed here) are removes.others);
@@ -142,6 +161,16 @@ module _ (kept : List (List ℕ)) where
           by_result : (r : Result (Unit {0}) IndexFault) → IfTold (f.disk new) (λ d. AreOpen groups' d.now) → OnOk r (IfTold (f.disk new) (λ d. AreOpen groups' d.now))
           by_result (Ok done) are = are
           by_result (Err fault) are = tt
+
+          each_of : (r : Result (Unit {0}) IndexFault) → IfTold (f.disk new) (λ d. OnOk r (AreEmpty (View own) d.now)) → OnOk r (Tells (f.disk old) (f.disk new) (λ a b. AreSameOrEmpty a.now b.now))
+          each_of (Ok done) empty = told_ended (f.disk old) (f.disk new) (λ d. AreEmpty (View own) d.now) (Moves (IsFileOf (View own)) (λ image. Unit {0}) (λ files. Unit {0})) (λ a b. AreSameOrEmpty a.now b.now)
+              (λ a b none moved sig. ⊎_elim (λ same. inr (subst (λ s. AreEmpty (View s) b.now) (sym same) none)) (λ differs. inl (λ n of_pair. moved.others n (other_stem sig own differs n of_pair))) (same_or_not sig own))
+              empty removes.others
+          each_of (Err fault) empty = tt
+
+          empty_of : (r : Result (Unit {0}) IndexFault) → IfTold (f.disk new) (λ d. OnOk r (AreEmpty (View own) d.now)) → OnOk r (IfTold (f.disk new) (λ d. AreRemoved kept (λ s. s ≡ View own) d.now))
+          empty_of (Ok done) empty = told_now (f.disk new) (λ d. AreEmpty (View own) d.now) (λ d. AreRemoved kept (λ s. s ≡ View own) d.now) (λ d none sig is unlisted. subst (λ s. AreEmpty s d.now) (sym is) none) empty
+          empty_of (Err fault) empty = tt
 
     -- some, and then others
     module _ (One Other : Stem → Type 0) (first second third : Groups) (old mid new : F) (result : Result (Unit {0}) IndexFault)
@@ -181,6 +210,11 @@ module _ (kept : List (List ℕ)) where
             late.others (began pictures at);
         sound = λ pictures. told_never (f.disk old) (f.disk mid) (λ d. AreAt first d.now pictures) (Begun pictures) (λ left d. AreAt second d.now left) ((name : FileName) (at : ℕ) → result ≡ Err (Store (Damaged name at)) → ⊥)
             (λ a b left begun. begun.ended.1) (λ left. late.sound left) (λ at. began pictures at);
+        each = each_both result late.each;
+        empty = empty_both result late.each late.empty;
+        damaged = told_back (f.disk old) (f.disk mid) (λ d. (name : FileName) (at : ℕ) → result ≡ Err (Store (Damaged name at)) → IsDamageOf kept d.now name at)
+            (λ d. (name : FileName) (at : ℕ) → result ≡ Err (Store (Damaged name at)) → IsDamageOf kept d.now name at) (λ a b. AreSameOrEmpty a.now b.now)
+            (λ a b same finds name at failed. damage_before kept a.now b.now same name at (finds name at failed)) early.each late.damaged;
         others = told_then (f.disk old) (f.disk mid) (f.disk new) _ _ (Moves IsIndexFile (λ image. Unit {0}) (λ files. Unit {0}))
             (λ a b c one other. moves_then IsIndexFile (λ image. Unit {0}) (λ image. Unit {0}) (λ image. Unit {0}) (λ files. Unit {0}) (λ files. Unit {0}) (λ files. Unit {0}) a b c
             (λ image is. tt) (λ ended image is. tt) (λ one_ended other_ended. tt) one other) early.others late.others;
@@ -192,6 +226,30 @@ module _ (kept : List (List ℕ)) where
           by_fault : (r : Result (Unit {0}) IndexFault) → IfErr r (λ e. e ≡ Store DiskFault → Rose (f.faults mid) (f.faults new)) → IfErr r (λ e. e ≡ Store DiskFault → Rose (f.faults old) (f.faults new))
           by_fault (Ok done) rose = tt
           by_fault (Err fault) rose = λ is. let rises = rose is in omega (arith, early.cause.later, rises)
+
+          same_both : (a b c : FileName → File) → AreSameOrEmpty a b → AreSameOrEmpty b c → AreSameOrEmpty a c
+          same_both a b c one other sig = ⊎_elim
+              (λ stays. ⊎_elim (λ stayed. inl (λ n of_pair. stays n of_pair ∙ stayed n of_pair)) (λ empty. inr (λ n of_pair. stays n of_pair ∙ empty n of_pair)) (one sig))
+              (λ empty. inr empty)
+              (other sig)
+
+          each_both : (r : Result (Unit {0}) IndexFault) → OnOk r (Tells (f.disk mid) (f.disk new) (λ a b. AreSameOrEmpty a.now b.now)) → OnOk r (Tells (f.disk old) (f.disk new) (λ a b. AreSameOrEmpty a.now b.now))
+          each_both (Ok done) each = told_then (f.disk old) (f.disk mid) (f.disk new) (λ a b. AreSameOrEmpty a.now b.now) (λ a b. AreSameOrEmpty a.now b.now) (λ a b. AreSameOrEmpty a.now b.now)
+              (λ a b c one other. same_both a.now b.now c.now one other) early.each each
+          each_both (Err fault) each = tt
+
+          -- those that were emptied first stay so
+          empty_still : (files files' : FileName → File) → AreRemoved kept One files → AreSameOrEmpty files files' → AreRemoved kept One files'
+          empty_still files files' removed each sig is unkept = ⊎_elim (λ same n of_pair. same n of_pair ∙ removed sig is unkept n of_pair) (λ empty. empty) (each sig)
+
+          empty_both : (r : Result (Unit {0}) IndexFault) → OnOk r (Tells (f.disk mid) (f.disk new) (λ a b. AreSameOrEmpty a.now b.now)) → OnOk r (IfTold (f.disk new) (λ d. AreRemoved kept Other d.now))
+              → OnOk r (IfTold (f.disk new) (λ d. AreRemoved kept Both d.now))
+          empty_both (Ok done) each removed =
+              told_pair (f.disk new) (λ d. AreRemoved kept One d.now) (λ d. AreRemoved kept Other d.now) (λ d. AreRemoved kept Both d.now)
+              (λ d one other sig is unkept. ⊎_elim (λ first. one sig first unkept) (λ second. other sig second unkept) is)
+              (told_after (f.disk mid) (f.disk new) (λ d. AreRemoved kept One d.now) (λ d. AreRemoved kept One d.now) (λ a b. AreSameOrEmpty a.now b.now) (λ a b gone same. empty_still a.now b.now gone same) early.empty each)
+              removed
+          empty_both (Err fault) each removed = tt
 
 -- the names so far and the next one
 pub named_more : (names : List FileName) (i : ℕ) (d : FileName) → i < length names → (stem : Stem) → IsNamed (take (i + 1) names) stem → IsNamed (take i names) stem ⊎ (stem ≡ (slice_index_or names i d).stem)

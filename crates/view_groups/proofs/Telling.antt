@@ -2,6 +2,13 @@
 use Rattle.std.specs.Prelude.{Option, Some, None}
 use Rattle.view_ports.specs.Disk.{IfTold, Tells}
 
+-- with what is known of the disk after
+pub told_ended : {D : Type 0} (old new : Option D) (P : D → Type 0) (R S : D → D → Type 0) → ((a b : D) → P b → R a b → S a b) → IfTold new P → Tells old new R → Tells old new S
+told_ended None None P R S then known told = tt
+told_ended None (Some b) P R S then known told = absurd told
+told_ended (Some a) None P R S then known told = absurd told
+told_ended (Some a) (Some b) P R S then known told = then a b known told
+
 module _ {D X : Type 0} where
   -- what is known for each is known for all
   pub told_each : (now : Option D) (P : X → D → Type 0) → ((x : X) → IfTold now (P x)) → IfTold now (λ d. (x : X) → P x d)

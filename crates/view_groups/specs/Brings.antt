@@ -13,7 +13,7 @@ use Rattle.gate_file.specs.declared.fault.GateFault.TheVariants.{DiskFault, Dama
 use Rattle.gate_file.specs.GateFile.{name_of}
 use Rattle.design_docs.specs.declared.design.Design.{Design}
 use Rattle.doc_file.specs.declared.docs.Docs.{Docs}
-use Rattle.doc_file.specs.Docs.{file_of, IsAt as AreDocumentsAt, IsDocsFile, IsLoaded as AreLoaded}
+use Rattle.doc_file.specs.Docs.{file_of, seq_of as written, IsAt as AreDocumentsAt, IsDocsFile, IsLoaded as AreLoaded}
 use Rattle.doc_file.specs.History.{Write}
 use Rattle.child_pool.specs.declared.pool.Pool.{Pool}
 use Rattle.child_pool.specs.declared.pool_fault.PoolFault.TheVariants.{ServerFault, UnknownLanguage}
@@ -23,9 +23,9 @@ use Rattle.view_model.specs.Picture.{Picture}
 use Rattle.view_index.specs.declared.fault.IndexFault.TheVariants.{Store}
 use Rattle.view_index.specs.declared.index.Index.{Index}
 use Rattle.view_index.specs.Held.{or_empty, IsDamagedAt, IsFileOf}
-use Rattle.view_index.specs.Index.{picture_of}
+use Rattle.view_index.specs.Index.{picture_of, seq_of}
 use Rattle.view_updater.specs.declared.fault.UpdateFault.{UpdateFault}
-use Rattle.view_updater.specs.declared.fault.UpdateFault.TheVariants.{Docs as OfDocuments, Index as OfIndex, Pool as OfPool}
+use Rattle.view_updater.specs.declared.fault.UpdateFault.TheVariants.{Docs as OfDocuments, Index as OfIndex, NoMemory as OutOfMemory, Pool as OfPool}
 use Rattle.view_updater.specs.Updates.{documents_since, HasAskedFor, IsBodyDamaged, IsFileFault, IsIdleEnd, IsLost, IsMade, IsOfIndex}
 use Rattle.view_groups.specs.declared.groups.Groups.{Groups}
 use Rattle.view_groups.specs.Groups.{AreAt, AreOpen, IsGroup}
@@ -98,6 +98,9 @@ module _ {F C : Type 0} (f : Folders F) (s : Servers C) (docs : Docs) (design : 
         → (IsIdle × (IsIdleEnd result × OnOk result ((picture_for design pictures).seq ≡ length history))) ⊎ HasAsked (documents_since (picture_for design pictures).seq history) result)
     -- whatever is told, some documents were asked for, all or the first ones, or nothing was
     pub asked : (IsIdle × IsIdleEnd result) ⊎ ((documents : List (List (List ℕ × Json))) × HasAsked documents result)
+    -- where the index of the design is open and nothing was written since, nothing is done
+    pub idle : (place : ℕ) (index : Index) → IsGroup old.groups place (sig_of design) (views_in design) index → seq_of index ≡ written docs
+        → ((result ≡ Ok place) ⊎ (result ≡ Err OutOfMemory)) × (new ≡ old)
     -- nothing is damaged where the picture of the design has the rows of as many views as the design
     pub sound : (history : List Write) (pictures : Pictures) → IfTold (f.disk old.folder) (λ d. IsReached docs old.groups design history pictures d.now
         → length (picture_for design pictures).rows ≡ views_in design

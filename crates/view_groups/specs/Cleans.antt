@@ -1,12 +1,13 @@
 -- Removing the files of indexes that no design has.
-use Rattle.std.specs.Prelude.{◌≡◌, ◌⊎◌, ℕ, List, None, Result, Ok, Err, IfErr, Contains}
+use Rattle.std.specs.Prelude.{◌≡◌, ◌⊎◌, ℕ, List, [], None, Result, Ok, Err, IfErr, OnOk, Contains}
 use Rattle.view_ports.specs.Causes.{HasCauseIf}
-use Rattle.view_ports.specs.Disk.{IfTold, Moves, Tells}
+use Rattle.view_ports.specs.Disk.{IfTold, Moves, MovesNone, Tells}
 use Rattle.view_ports.specs.File.{File}
 use Rattle.view_ports.specs.declared.file_name.FileName.{FileName}
 use Rattle.view_ports.specs.declared.file_name.Stem.TheVariants.{View}
 use Rattle.view_ports.specs.declared.folder.Folder.{Ghosts as Folders}
 use Rattle.gate_file.specs.declared.fault.GateFault.TheVariants.{DiskFault, Damaged}
+use Rattle.gate_file.specs.Open.{IsFirstDamage}
 use Rattle.view_index.specs.declared.fault.IndexFault.{IndexFault}
 use Rattle.view_index.specs.declared.fault.IndexFault.TheVariants.{NoMemory, Store}
 use Rattle.view_groups.specs.declared.groups.Groups.{Groups}
@@ -27,11 +28,21 @@ module _ (kept : List (List ℕ)) where
     pub stay : (sig : List ℕ) → Contains kept sig → left sig ≡ pictures sig
     pub gone : (sig : List ℕ) → (Contains kept sig → ⊥) → left sig ≡ None
 
-  -- so it ends: want of memory may leave some that are not kept
+  -- no file of an index that isn't kept has bytes
+  abbrev pub AreCleared : (FileName → File) → Type 0
+  AreCleared files = (name : FileName) (sig : List ℕ) → name.stem ≡ View sig → (Contains kept sig → ⊥) → (files name).seen ≡ []
+
+  -- at this place a file of an index that isn't kept is damaged
+  pub record IsDamageOf (files : FileName → File) (name : FileName) (at : ℕ) : Type 0 where
+    pub sig : List ℕ
+    pub unkept : Contains kept sig → ⊥
+    pub damage : IsFirstDamage (View sig) files name at
+
+  -- so it ends: want of memory leaves all
   abbrev pub EndsAt : Groups → Pictures → Result (Unit {0}) IndexFault → (FileName → File) → Type 0
   EndsAt groups pictures (Ok done) files = (left : Pictures) × AreKept pictures left × AreAt groups files left
   EndsAt groups pictures (Err (Store fault)) files = Unit {0}
-  EndsAt groups pictures (Err other) files = (left : Pictures) × AreFewer pictures left × AreAt groups files left
+  EndsAt groups pictures (Err other) files = AreAt groups files pictures
 
   module _ {F : Type 0} (f : Folders F) (groups groups' : Groups) (old new : F) where
     pub record Cleans (result : Result (Unit {0}) IndexFault) : Type 0 where
@@ -39,6 +50,12 @@ module _ (kept : List (List ℕ)) where
       -- they were
       pub stands : (pictures : Pictures) → IfTold (f.disk old) (λ d. AreAt groups d.now pictures)
           → Tells (f.disk old) (f.disk new) (Moves IsIndexFile (λ image. (fewer : Pictures) × AreFewer pictures fewer × StandFor image fewer) (EndsAt groups' pictures result))
+      -- whatever the files held
+      pub empty : OnOk result (IfTold (f.disk new) (λ d. AreCleared d.now))
+      -- for want of memory nothing is done
+      pub unmoved : result ≡ Err NoMemory → (groups' ≡ groups) × Tells (f.disk old) (f.disk new) MovesNone
+      -- what is damaged is a file of an index that isn't kept, and none is where files hold pictures
+      pub damaged : IfTold (f.disk old) (λ d. (name : FileName) (at : ℕ) → result ≡ Err (Store (Damaged name at)) → IsDamageOf d.now name at)
       pub sound : (pictures : Pictures) → IfTold (f.disk old) (λ d. AreAt groups d.now pictures → (name : FileName) (at : ℕ) → result ≡ Err (Store (Damaged name at)) → ⊥)
       -- whatever the files hold
       pub others : Tells (f.disk old) (f.disk new) (Moves IsIndexFile (λ image. Unit {0}) (λ files. Unit {0}))

@@ -43,5 +43,7 @@ module _ (own : List ℕ) (views newest : ℕ) where
       pub others : Tells (f.disk old) (f.disk new) (Moves (IsFileOf (View own)) (λ image. Unit {0}) (λ files. Unit {0}))
       pub is_open : IfTold (f.disk old) (λ d. AreOpen groups d.now) → IfTold (f.disk new) (λ d. AreOpen groups' d.now)
       pub place : IfOk result (λ place. (index : Index) × IsGroup groups' place own views index)
+      -- one that is open, of so many views, is found in its place, and nothing is done
+      pub found : (place : ℕ) (index : Index) → IsGroup groups place own views index → (result ≡ Ok place) × (groups' ≡ groups) × (new ≡ old)
       pub faults : IfErr result IsOpenFault
       pub cause : IsCounted f old new result

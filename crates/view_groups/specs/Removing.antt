@@ -1,7 +1,8 @@
 -- What removing the indexes of some files promises, one after another.
-use Rattle.std.specs.Prelude.{◌≡◌, ℕ, List, None, Result, Err, IfErr, OnOk, Contains}
+use Rattle.std.specs.Prelude.{◌≡◌, ◌⊎◌, ℕ, List, None, Result, Err, IfErr, OnOk, Contains}
 use Rattle.view_ports.specs.Causes.{HasCauseIf}
 use Rattle.view_ports.specs.Disk.{IfTold, Moves, Tells}
+use Rattle.view_ports.specs.File.{File}
 use Rattle.view_ports.specs.declared.file_name.FileName.{FileName}
 use Rattle.view_ports.specs.declared.file_name.Stem.{Stem}
 use Rattle.view_ports.specs.declared.file_name.Stem.TheVariants.{View}
@@ -9,15 +10,20 @@ use Rattle.view_ports.specs.declared.folder.Folder.{Ghosts as Folders}
 use Rattle.gate_file.specs.declared.fault.GateFault.TheVariants.{DiskFault, Damaged}
 use Rattle.view_index.specs.declared.fault.IndexFault.{IndexFault}
 use Rattle.view_index.specs.declared.fault.IndexFault.TheVariants.{Store}
-use Rattle.view_index.specs.Removes.{IsRemoveFault}
+use Rattle.view_index.specs.Held.{IsFileOf}
+use Rattle.view_index.specs.Removes.{AreEmpty, IsRemoveFault}
 use Rattle.view_groups.specs.declared.groups.Groups.{Groups}
-use Rattle.view_groups.specs.Cleans.{AreFewer, IsIndexFile}
+use Rattle.view_groups.specs.Cleans.{AreFewer, IsDamageOf, IsIndexFile}
 use Rattle.view_groups.specs.Groups.{AreAt, AreOpen}
 use Rattle.view_groups.specs.Pictures.{Pictures, StandFor}
 
 -- these names have one of this pair
 abbrev pub IsNamed : List FileName → Stem → Type 0
 IsNamed names stem = (name : FileName) × Contains names name × (name.stem ≡ stem)
+
+-- the files of each index are as they were, or nothing is pending of them and they have no bytes
+abbrev pub AreSameOrEmpty : (FileName → File) → (FileName → File) → Type 0
+AreSameOrEmpty old new = (sig : List ℕ) → ((name : FileName) → IsFileOf (View sig) name → new name ≡ old name) ⊎ AreEmpty (View sig) new
 
 module _ (kept : List (List ℕ)) where
   -- an image stands for some of the pictures, and for each that is kept
@@ -29,12 +35,20 @@ module _ (kept : List (List ℕ)) where
     pub fewer : AreFewer kept pictures left
     pub gone : (sig : List ℕ) → IsToGo (View sig) → (Contains kept sig → ⊥) → left sig ≡ None
 
+  -- the files of those that were to go have no bytes, but for those that are kept
+  abbrev pub AreRemoved : (Stem → Type 0) → (FileName → File) → Type 0
+  AreRemoved IsToGo files = (sig : List ℕ) → IsToGo (View sig) → (Contains kept sig → ⊥) → AreEmpty (View sig) files
+
   module _ (IsToGo : Stem → Type 0) {F : Type 0} (f : Folders F) (groups groups' : Groups) (old new : F) where
     -- the indexes that were to go are removed, but for those that are kept
     pub record RemovesEach (result : Result (Unit {0}) IndexFault) : Type 0 where
       pub stands : (pictures : Pictures) → IfTold (f.disk old) (λ d. AreAt groups d.now pictures)
           → Tells (f.disk old) (f.disk new) (Moves IsIndexFile (StandsForFewer pictures) (λ files. OnOk result ((left : Pictures) × AreLeft IsToGo pictures left × AreAt groups' files left)))
       pub sound : (pictures : Pictures) → IfTold (f.disk old) (λ d. AreAt groups d.now pictures → (name : FileName) (at : ℕ) → result ≡ Err (Store (Damaged name at)) → ⊥)
+      -- whatever the files held
+      pub each : OnOk result (Tells (f.disk old) (f.disk new) (λ a b. AreSameOrEmpty a.now b.now))
+      pub empty : OnOk result (IfTold (f.disk new) (λ d. AreRemoved IsToGo d.now))
+      pub damaged : IfTold (f.disk old) (λ d. (name : FileName) (at : ℕ) → result ≡ Err (Store (Damaged name at)) → IsDamageOf kept d.now name at)
       pub others : Tells (f.disk old) (f.disk new) (Moves IsIndexFile (λ image. Unit {0}) (λ files. Unit {0}))
       pub is_open : IfTold (f.disk old) (λ d. AreOpen groups d.now) → OnOk result (IfTold (f.disk new) (λ d. AreOpen groups' d.now))
       pub faults : IfErr result IsRemoveFault

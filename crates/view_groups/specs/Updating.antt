@@ -18,4 +18,6 @@ module _ {F C : Type 0} (f : Folders F) (s : Servers C) (docs : Docs) (design : 
     pub after : Index
     pub there : IsGroup old.groups place (sig_of design) (views_in design) before
     pub placed : open_of new.groups ≡ slice_set (open_of old.groups) place after
+    -- where it is as it was, so are they all
+    pub kept : after ≡ before → new.groups ≡ old.groups
     pub updates : Updates f s docs design (side_of_index old.folder old.servers old.pool before) (side_of_index new.folder new.servers new.pool after) result

@@ -8,7 +8,7 @@ use Rattle.view_ports.specs.declared.file_name.FileName.{FileName}
 use Rattle.view_ports.specs.declared.file_name.Stem.{Stem}
 use Rattle.view_ports.proofs.DiskRuns.{moves_then, moves_wider}
 use Rattle.view_ports.proofs.Images.{IsImage-settled}
-use Rattle.view_ports.proofs.Told.{told_given, told_map, told_then}
+use Rattle.view_ports.proofs.Told.{told_after, told_given, told_map, told_then}
 use Rattle.gate_file.specs.declared.gate.GateFile.{GateFile}
 use Rattle.gate_file.specs.GateFile.{name_of, root_of}
 use Rattle.gate_file.specs.Open.{side_of}
@@ -23,6 +23,7 @@ use Rattle.view_index.specs.Calls.{stem_of, IsAt}
 use Rattle.view_index.specs.Held.{or_empty, up_to, HoldsIndex, HoldsPicture, IsFileOf, Stands}
 use Rattle.view_index.specs.Index.{file_of, seq_of, views_of}
 use Rattle.view_index.specs.Opens.{IsLoaded, Shows}
+use Rattle.view_index.specs.Removes.{AreEmpty}
 use Rattle.view_index.proofs.Carried.{picture_of_root}
 use Rattle.view_index.proofs.Loaded.{other_views, rows_held}
 
@@ -38,6 +39,10 @@ up_to_past views newest (Some p) past = let test : nat_le p.seq newest ≡ false
 
 -- ---- a side is cleared
 
+-- the other file of the pair has no bytes
+abbrev pub IsOtherEmpty : Stem → FileName → (FileName → File) → Type 0
+IsOtherEmpty stem own files = (n : FileName) → n.stem ≡ stem → n ≢ own → files n ≡ settled []
+
 own_or_other : (stem : Stem) (own n : FileName) → own.stem ≡ stem → n.stem ≡ stem → (n ≡ own) ⊎ (n ≢ own)
 own_or_other stem own n own_of n_of = by_side (sides stem n n_of) (sides stem own own_of)
   where
@@ -47,14 +52,27 @@ own_or_other stem own n own_of n_of = by_side (sides stem n n_of) (sides stem ow
     by_side (inr high) (inl own_low) = inr (λ same. apart stem (sym high ∙ same ∙ own_low))
     by_side (inr high) (inr own_high) = inl (high ∙ sym own_high)
 
+-- whatever the pair held
+both_empty : (stem : Stem) (own : FileName) (old new : FileName → File) → own.stem ≡ stem → IsOtherEmpty stem own old → OthersStay (λ n. n ≡ own) old new → new own ≡ settled [] → AreEmpty stem new
+both_empty stem own old new own_of other others done = λ n of_pair. ⊎_elim (λ same. ap new same ∙ done) (λ differs. others n differs ∙ other n of_pair differs) (own_or_other stem own n own_of of_pair)
+
+-- the side that was opened is cleared
+pub cleared_empty : {E : Type 0} (stem : Stem) (own : FileName) → own.stem ≡ stem → (result : Result (Unit {0}) E) (mid new : Option (Disk FileName)) → IfTold mid (λ d. IsOtherEmpty stem own d.now)
+    → Tells mid new (Empties own result) → IfTold new (λ d. OnOk result (AreEmpty stem d.now))
+cleared_empty {E} stem own own_of result mid new other clears =
+    told_after mid new (λ d. IsOtherEmpty stem own d.now) (λ d. OnOk result (AreEmpty stem d.now)) (Empties own result) (λ b d empty moved. by_result result b.now d.now empty moved.others moved.ended) other clears
+  where
+    by_result : (r : Result (Unit {0}) E) (old new : FileName → File) → IsOtherEmpty stem own old → OthersStay (λ n. n ≡ own) old new → OnOk r (new own ≡ settled []) → OnOk r (AreEmpty stem new)
+    by_result (Ok v) old new empty others done = both_empty stem own old new own_of empty others done
+    by_result (Err e) old new empty others done = tt
+
 module _ (stem : Stem) (views : ℕ) (gate : GateFile) (old : FileName → File) (is_open : IsOpenPair stem gate old) where
   others_empty : (n : FileName) → n.stem ≡ stem → n ≢ name_of gate → old n ≡ settled []
   others_empty n of_pair differs = is_open.other n of_pair differs
 
   -- without bytes the files stand for no picture
   cleared : (new : FileName → File) → OthersStay (λ n. n ≡ name_of gate) old new → new (name_of gate) ≡ settled [] → HoldsIndex stem views new None
-  cleared new others done = empty_holds stem (HoldsPicture views) (picture_of_root views) new
-      (λ n of_pair. ⊎_elim (λ same. ap new same ∙ done) (λ differs. others n differs ∙ others_empty n of_pair differs) (own_or_other stem (name_of gate) n is_open.own of_pair)) None tt
+  cleared new others done = empty_holds stem (HoldsPicture views) (picture_of_root views) new (both_empty stem (name_of gate) old new is_open.own is_open.other others done) None tt
 
   -- what a crash leaves meanwhile stands for the picture, or for none
   while_cleared : (picture : Option Picture) → HoldsPicture views (root_of gate) (own_bytes gate old) picture → (image : FileName → List ℕ) → IsImage (old (name_of gate)) (image (name_of gate)) ⊎ (image (name_of gate) ≡ [])

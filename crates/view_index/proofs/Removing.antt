@@ -1,12 +1,12 @@
 -- An index whose files are opened and then cleared.
 use Rattle.std.specs.Prelude.{◌≡◌, ◌⊎◌, ℕ, List, Option, None, Result, Ok, Err, IfOk, IsErr, OnOk}
-use Rattle.std.proofs.Common.{subst, inl}
+use Rattle.std.proofs.Common.{sym, ◌∙◌, subst, inl}
 use Rattle.view_ports.specs.Disk.{Disk, IfTold, Moves, Tells}
 use Rattle.view_ports.specs.File.{File}
 use Rattle.view_ports.specs.declared.file_name.FileName.{FileName}
 use Rattle.view_ports.specs.declared.file_name.Stem.{Stem}
 use Rattle.view_ports.proofs.DiskRuns.{moves_then}
-use Rattle.view_ports.proofs.Told.{told_given, told_then}
+use Rattle.view_ports.proofs.Told.{told_after, told_all, told_given, told_then}
 use Rattle.gate_file.specs.declared.gate.GateFile.{GateFile}
 use Rattle.gate_file.specs.GateFile.{name_of, root_of}
 use Rattle.gate_file.specs.Open.{opened, IsOpened, WhileOpening}
@@ -15,8 +15,9 @@ use Rattle.gate_file.specs.Pair.{IsOpenPair, own_bytes}
 use Rattle.gate_file.proofs.Opened.{opened_holds, opened_open, opening_stands}
 use Rattle.view_model.specs.Picture.{Picture}
 use Rattle.view_index.specs.Held.{HoldsIndex, HoldsPicture, IsFileOf, Stands}
+use Rattle.view_index.specs.Removes.{AreEmpty}
 use Rattle.view_index.proofs.Carried.{picture_of_root}
-use Rattle.view_index.proofs.Emptying.{clear_pair}
+use Rattle.view_index.proofs.Emptying.{cleared_empty, clear_pair, IsOtherEmpty}
 
 module _ (stem : Stem) (views : ℕ) (gate : GateFile) (picture : Option Picture) where
   abbrev IsThere : (FileName → File) → Type 0
@@ -44,6 +45,15 @@ module _ (stem : Stem) (views : ℕ) (gate : GateFile) (picture : Option Picture
       (λ image stands. inl stands) (λ there image either. either) (λ there done. done) first
       (clear_pair stem views gate b d picture result first.ended.0 first.ended.1 second))
       (opens old mid gate_is moves holds) clears
+
+-- whatever the files held, they have no bytes in the end
+pub removed_empty : {E : Type 0} (stem : Stem) (gate : GateFile) (result : Result (Unit {0}) E) (old mid new : Option (Disk FileName)) → (name_of gate).stem ≡ stem
+    → Tells old mid (λ a b. Moves (IsFileOf stem) (WhileOpening stem a.now) (IsOpened gate a.now) a b) → Tells mid new (Empties (name_of gate) result) → IfTold new (λ d. OnOk result (AreEmpty stem d.now))
+removed_empty stem gate result old mid new own_of moves clears =
+    cleared_empty stem (name_of gate) own_of result mid new
+    (told_after old mid (λ d. Unit {0}) (λ d. IsOtherEmpty stem (name_of gate) d.now) (λ a b. Moves (IsFileOf stem) (WhileOpening stem a.now) (IsOpened gate a.now) a b)
+    (λ a b any moved n of_pair differs. moved.ended.other n (of_pair ∙ sym own_of) differs) (told_all old (λ d. Unit {0}) (λ d. tt)) moves)
+    clears
 
 -- what was opened, by its result
 pub opened_by : {E : Type 0} (stem : Stem) (gate : GateFile) (result : Result GateFile E) → result ≡ Ok gate → (old mid : Option (Disk FileName))

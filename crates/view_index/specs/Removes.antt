@@ -1,7 +1,8 @@
 -- What removing an index promises.
-use Rattle.std.specs.Prelude.{◌≡◌, ◌⊎◌, ℕ, Result, IfErr, OnOk, Option, None}
+use Rattle.std.specs.Prelude.{◌≡◌, ◌⊎◌, ℕ, [], Result, IfErr, OnOk, Option, None}
 use Rattle.view_ports.specs.Causes.{RisesBy}
 use Rattle.view_ports.specs.Disk.{IfTold, Moves, Tells}
+use Rattle.view_ports.specs.File.{File, settled}
 use Rattle.view_ports.specs.declared.file_name.FileName.{FileName}
 use Rattle.view_ports.specs.declared.file_name.Stem.{Stem}
 use Rattle.view_ports.specs.declared.folder.Folder.{Ghosts as Folders}
@@ -18,6 +19,10 @@ use Rattle.view_index.specs.Opens.{FindsDamage}
 abbrev pub IsRemoveFault : IndexFault → Type 0
 IsRemoveFault fault = (fault ≡ Store DiskFault) ⊎ ((name : FileName) × (at : ℕ) × (fault ≡ Store (Damaged name at)))
 
+-- nothing is pending of the files of this index, and they have no bytes
+abbrev pub AreEmpty : Stem → (FileName → File) → Type 0
+AreEmpty stem files = (name : FileName) → IsFileOf stem name → files name ≡ settled []
+
 -- The files of an index are emptied.
 module _ {F : Type 0} (f : Folders F) (stem : Stem) (old new : F) where
   pub record Removes (result : Result (Unit {0}) IndexFault) : Type 0 where
@@ -26,6 +31,8 @@ module _ {F : Type 0} (f : Folders F) (stem : Stem) (old new : F) where
         (Moves (IsFileOf stem) (λ image. Stands stem views image picture ⊎ Stands stem views image None) (λ files. OnOk result (HoldsIndex stem views files None)))
     -- files that hold a picture or none are never damaged
     pub sound : (views : ℕ) (picture : Option Picture) → IfTold (f.disk old) (λ d. HoldsIndex stem views d.now picture → FindsDamage (λ name at. ⊥) result)
+    -- whatever they held, they have no bytes in the end
+    pub empty : IfTold (f.disk new) (λ d. OnOk result (AreEmpty stem d.now))
     pub damaged : IfTold (f.disk old) (λ d. FindsDamage (IsFirstDamage stem d.now) result)
     -- files of other names are as they were
     pub others : Tells (f.disk old) (f.disk new) (Moves (IsFileOf stem) (λ image. Unit {0}) (λ files. Unit {0}))

@@ -16,7 +16,7 @@ use Rattle.design_docs.specs.Design.{map_sources}
 use Rattle.query_protocol.specs.CommandLines.{document_of}
 use Rattle.doc_file.specs.declared.docs.Docs.{Docs}
 use Rattle.doc_file.specs.Changes.{IsSpoiledAfter}
-use Rattle.doc_file.specs.Docs.{bytes_in, file_of, IsAt as AreAt, IsLoaded as AreLoaded}
+use Rattle.doc_file.specs.Docs.{bytes_in, file_of, seq_of as written, IsAt as AreAt, IsLoaded as AreLoaded}
 use Rattle.doc_file.specs.History.{Write, mapped_after}
 use Rattle.child_pool.specs.declared.doc_rows.DocRowLists.{DocRowLists}
 use Rattle.child_pool.specs.declared.pool.Pool.{Pool}
@@ -169,6 +169,8 @@ module _ {F C : Type 0} (f : Folders F) (s : Servers C) (docs : Docs) (design : 
         → (IsIdle × (IsIdleEnd result × OnOk result (seq_of old.index ≡ length history))) ⊎ HasAsked (documents_since (seq_of old.index) history) result)
     -- whatever is told, some documents were asked for, all or the first ones, or nothing was
     pub asked : (IsIdle × IsIdleEnd result) ⊎ ((documents : List (List (List ℕ × Json))) × HasAsked documents result)
+    -- where nothing was written since, nothing is done
+    pub idle : seq_of old.index ≡ written docs → (result ≡ Ok tt) × (new ≡ old)
     -- whatever is told: files of other names are as they were, the index is open still where nothing of it failed, and a refusal leaves
     -- the rows and the sequence of the last commit
     pub others : Tells (f.disk old.folder) (f.disk new.folder) (Moves (IsFileOf (stem_of old.index)) (λ image. Unit {0}) (λ files. IsLost result ⊎ IsOpen new.index files))

@@ -3,27 +3,25 @@
 ghost use Rattle.std.specs.Prelude.{◌≡◌, ◌≢◌, ◌++◌, ◌<◌, ◌≤◌, bytes_eq, IfErr, IfOk, OnErr, OnOk, None, Ok, IfSome, option_map, map, length};
 ghost use Rattle.std.specs.Map.{lookup};
 ghost use Rattle.view_ports.specs.Lines.{ended};
-ghost use Rattle.json_terms.specs.Seen.{json};
-ghost use Rattle.design_docs.specs.Design.{IsDesignOf};
-ghost use Rattle.design_docs.specs.Faults.{HasDesign};
 ghost use Rattle.design_docs.specs.Laws.{entry_of as named};
 ghost use Rattle.view_engine.specs.Answer.{answer};
 ghost use Rattle.view_engine.specs.Calls.{scene, IsReplyLine, Performed};
 ghost use Rattle.view_engine.specs.Disks.{LiesOpen, Reads};
 ghost use Rattle.view_engine.specs.View as spec;
-ghost use Rattle.view_engine.specs.Planning.{HasPath, PlansView, RefusesView};
+ghost use Rattle.view_engine.specs.Planning.{HasPath, PlansView, ReadsDesign, RefusesView};
 ghost use Rattle.view_engine.specs.ViewPlan.{met_by, met_by_pool, source_at, IsUpdateFault, ShowsRows};
 
 use crate::answer::write_answer;
+use crate::design::design_of;
 use crate::engine::Engine;
 use crate::halt::{Halt, StepFault};
 use crate::refusal::Refusal;
 use crate::reply::Reply;
 use crate::request::{Request, ViewName};
 use child_pool::PoolFault;
-use design_docs::{DESIGN_PREFIX, Design, DesignFault, View, read_design};
+use design_docs::{DESIGN_PREFIX, Design, View};
 use doc_file::DocFault;
-use json_terms::{Chars, NoMemory, Row, Term};
+use json_terms::{Chars, NoMemory, Row};
 use std::alloc::Global;
 use view_index::IndexFault;
 use view_ports::{Folder, Servers};
@@ -73,6 +71,7 @@ impl Engine {
     /// What a view request is about, or why it is refused before any server is asked.
     fn plan<F: Folder>(&self, alloc: Global, folder: &mut F, name: &ViewName) -> Result<Plan, Halt>
         ensures plan { PlansView F.Folder self.now folder.old name.now result }
+        ensures read { ReadsDesign F.Folder self.now folder.old name.now result }
         ensures few { IfOk result (λ plan. length plan.design.views ≤ 32) }
         ensures within { IfOk result (λ plan. plan.place < length plan.design.views) }
         ensures known { IfOk result (HasPath self.now) }
@@ -93,18 +92,6 @@ impl Engine {
             Some(_path) => Ok(Plan { id, design, place }),
             None => Err(Halt::Refused(Refusal::UnknownLanguage(design.language))),
         }
-    }
-}
-
-/// The design of a document that has one.
-fn design_of(alloc: Global, document: &Term) -> Result<Design, NoMemory>
-    requires { HasDesign (json document.now) }
-    ensures { IfOk result (λ design. IsDesignOf (json document.now) design) }
-{
-    match read_design(alloc, document) {
-        Ok(design) => Ok(design),
-        Err(DesignFault::NoMemory) => Err(NoMemory),
-        Err(_fault) => unreachable!(),
     }
 }
 

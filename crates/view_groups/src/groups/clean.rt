@@ -12,8 +12,8 @@ use view_ports::{FileName, Folder, Stem};
 impl Groups {
     /// Takes the bytes of all files away that are of an index, but for those of these signatures.
     ///
-    /// At each moment a crash leaves the picture of each signature wholly or not at all. Want of memory may leave some of them.
-    /// After a fault of the disk and damage nothing of this is to be used again.
+    /// At each moment a crash leaves the picture of each signature wholly or not at all. For want of memory nothing is done. After
+    /// a fault of the disk and damage nothing of this is to be used again.
     pub fn clean_up<F: Folder>(
         &mut self,
         alloc: Global,

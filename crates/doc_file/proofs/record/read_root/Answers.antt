@@ -2,11 +2,12 @@
 use Rattle.std.proofs.Common.{◌≡◌, ℕ, List, [], Option, None, Some, option_map, Result, Ok, Err, IfOk, IfSome, IsTrue, sym, ap, ◌∙◌, subst}
 use Rattle.doc_file.specs.declared.entry.Entry.{Entry}
 use Rattle.doc_file.specs.declared.record.RootRecord.{RootRecord}
-use Rattle.doc_file.specs.Record.{IsRoot, record_bytes}
+use Rattle.doc_file.specs.Record.{rise, IsRoot, record_bytes}
 use Rattle.doc_file.specs.Reading.{root_in}
 use Rattle.std.specs.List.{list_all}
 use Rattle.doc_file.specs.Counts.{has_room}
 use Rattle.doc_file.proofs.CountsKept.{room_of_entries}
+use Rattle.doc_file.proofs.Rises.{rise_of_entries}
 use Rattle.doc_file.proofs.Entries.{root_in-spelled, root_in-read}
 use Rattle.doc_file.proofs.record.read_root.Goals as goal
 
@@ -52,3 +53,12 @@ room_root bytes (Ok (Some r)) h = room_of_entries r.entries.items (root_in-read 
 
 pub returns-clause-room : goal.returns-clause-room
 returns-clause-room c = room_root c.args.bytes.now c.parse_root.result c.parse_root.ensures
+
+order_root : {E : Type 0} (bytes : List ℕ) (result : Result (Option RootRecord) E) → IfOk result (λ found. option_map {U = ℕ × List Entry} (λ r. (r.seq, r.entries.items)) found ≡ root_in bytes)
+    → IfOk result (λ found. IfSome found (λ root. IsTrue (rise root.entries.items)))
+order_root bytes (Err e) h = tt
+order_root bytes (Ok None) h = tt
+order_root bytes (Ok (Some r)) h = rise_of_entries r.entries.items (root_in-read bytes r.seq r.entries.items (sym h)).root.each
+
+pub returns-clause-order : goal.returns-clause-order
+returns-clause-order c = order_root c.args.bytes.now c.parse_root.result c.parse_root.ensures

@@ -8,7 +8,8 @@ use Rattle.view_ports.proofs.Told.{told_all, told_still}
 use Rattle.view_ports.specs.declared.file_name.FileName.{FileName}
 use Rattle.gate_file.specs.declared.fault.GateFault.TheVariants.{DiskFault, Damaged, Full}
 use Rattle.child_pool.specs.declared.pool_fault.PoolFault.TheVariants.{ServerFault, UnknownLanguage}
-use Rattle.doc_file.specs.Docs.{seq_of as documents_seq, IsAt as AreAt}
+use Rattle.doc_file.specs.declared.docs.Docs.{Docs}
+use Rattle.doc_file.specs.Docs.{info_of, seq_of as documents_seq, IsAt as AreAt}
 use Rattle.doc_file.specs.declared.docs.Info.{Info}
 use Rattle.view_model.specs.Picture.{Picture}
 use Rattle.view_index.specs.Calls.{next_picture, stem_of, IsOpen}
@@ -63,6 +64,10 @@ commit_full index fault (inr (inl long)) name length is = ap (λ (n : FileName).
 commit_full index fault (inr (inr (inl spent))) name length is = ap (λ (n : FileName). n.stem) (let same : name ≡ name_of (file_of index) = cc in same)
 commit_full index fault (inr (inr (inr want))) name length is = cc
 
+-- something was written since, where the index is not of the newest write
+written_since : (seq : ℕ) (info : Info) (last : ℕ) (docs : Docs) → seq ≡ last → info ≡ info_of docs → seq ≢ info.update_seq → last ≢ documents_seq docs
+written_since seq info last docs seq_is kept differs same = differs (seq_is ∙ same ∙ sym (ap (λ (i : Info). i.update_seq) kept))
+
 pub returns-then-seq-newest : goal.returns-then-seq-newest
 returns-then-seq-newest g c =
     let old = side c.args.folder.now c.args.servers.now c.args.pool.now c.args.index.now in
@@ -74,6 +79,7 @@ returns-then-seq-newest g c =
       stands = idle_stands g.F.Folder g.C.Servers docs c.args.design.now old c.requires.number newest;
       asks = λ history. told_all disk (λ d. AreAt docs d.now history → _) (λ d here. inl ((refl, refl), (tt, newest ∙ here.count)));
       asked = inl ((refl, refl), tt);
+      idle = λ same. (refl, refl);
       others = told_still disk (λ d. IsOpen c.args.index.now d.now) _
           (λ d is. moves_none (IsFileOf stem) (λ image. Unit {0}) (λ files. IsLost well ⊎ IsOpen c.args.index.now files) d (λ image left. tt) (inr is)) c.requires.index;
       same = (refl, refl);
@@ -108,6 +114,7 @@ returns-in-Err g c =
       stands = refused_stands g.F.Folder g.C.Servers docs design old c.requires.number new c.in-Err.ensures.reads.disk fault file rows c.roll_back-in-Err.ensures.pending;
       asks = λ history. asked_over g.F.Folder g.C.Servers docs design old mid c.requires.number rolled back c.exchange.new.folder last (refused fault) (refused fault) (λ mapped met. met) (λ none. none) history (c.in-Err.ensures.asks history);
       asked = asked_some g.F.Folder g.C.Servers docs design old mid c.requires.number rolled back c.exchange.new.folder last (refused fault) (refused fault) (λ mapped met. met) (λ none. none) c.in-Err.ensures.asked;
+      idle = λ same. absurd (written_since c.seq.result c.info-newest.result (seq_of index) docs c.seq.ensures c.info-newest.ensures.kept c.if-seq-newest.false same);
       others = refused_others g.F.Folder g.C.Servers docs design old c.requires.number new c.in-Err.ensures.reads.disk (refused fault) file c.requires.index;
       same = (same_stem index last file, same_views index last rows);
       settled = (record { next = c.roll_back-in-Err.ensures.next; pending = c.roll_back-in-Err.ensures.pending }, rows);
@@ -147,6 +154,7 @@ returns-in-Err-commit g c =
           last c.roll_back-in-Err-commit.ensures.same.file rows c.roll_back-in-Err-commit.ensures.pending fault refl;
       asks = λ history. asked_over g.F.Folder g.C.Servers docs design old mid c.requires.number rolled back c.commit.new.folder last well (refused (by_index fault)) (commit_met fault) (λ none. absurd none) history (ex.asks history);
       asked = asked_some g.F.Folder g.C.Servers docs design old mid c.requires.number rolled back c.commit.new.folder last well (refused (by_index fault)) (commit_met fault) (λ none. absurd none) ex.asked;
+      idle = λ same. absurd (written_since c.seq.result c.info-newest.result (seq_of index) docs c.seq.ensures c.info-newest.ensures.kept c.if-seq-newest.false same);
       others = others_refused g.F.Folder g.C.Servers docs design old mid c.requires.number rolled back ex.same.file ex.picture ex.reads.disk committed c.commit.new.folder newest (Err fault) commits last
           c.roll_back-in-Err-commit.ensures.same.file c.requires.index fault refl;
       same = (stem, same_views index last rows);
@@ -193,6 +201,7 @@ returns g c =
           ));
       asks = λ history. asked_over g.F.Folder g.C.Servers docs design old mid c.requires.number rolled back c.commit.new.folder committed well well (λ mapped met. met) (λ none. none) history (ex.asks history);
       asked = asked_some g.F.Folder g.C.Servers docs design old mid c.requires.number rolled back c.commit.new.folder committed well well (λ mapped met. met) (λ none. none) ex.asked;
+      idle = λ same. absurd (written_since c.seq.result c.info-newest.result (seq_of index) docs c.seq.ensures c.info-newest.ensures.kept c.if-seq-newest.false same);
       others = others_then g.F.Folder g.C.Servers docs design old mid c.requires.number rolled back ex.same.file ex.picture ex.reads.disk committed c.commit.new.folder newest well_index commits committed well (λ files ended. inr ended);
       same = (stem, views);
       settled = tt;

@@ -14,7 +14,7 @@ use Rattle.doc_file.specs.declared.rev.Rev.{Rev}
 use Rattle.doc_file.specs.Held.{find_last}
 use Rattle.doc_file.specs.Stored.{generation_in, write_of}
 use Rattle.doc_file.proofs.Standing.{generation_room}
-use Rattle.doc_file.proofs.Storing.{counted_now, others_published, others_still, publishes, room_now, stays_at, told_at, told_open}
+use Rattle.doc_file.proofs.Storing.{counted_now, order_now, others_published, others_still, publishes, room_now, stays_at, told_at, told_open}
 use Rattle.doc_file.proofs.docs.Docs.store.Goals as goal
 
 -- a file whose disk failed was not full
@@ -95,6 +95,11 @@ invariant_of-self-2-clause-counted g c =
 pub invariant_of-self-2-clause-room : goal.invariant_of-self-2-clause-room
 invariant_of-self-2-clause-room g c =
     room_now c.args.self.now c.args.id (option_map json c.args.content) c.in_ok-rev.field-0 c.start-start.result c.start-start.ensures c.as_slice.result.now c.as_slice.ensures.value c.in_ok-rev.ensures
+    c.requires.room c.requires.storable c.as_slice-2.result.now c.as_slice-2.ensures.value c.in_ok-rev.field-0.body refl
+
+pub invariant_of-self-2-clause-order : goal.invariant_of-self-2-clause-order
+invariant_of-self-2-clause-order g c =
+    order_now c.args.self.now c.args.id (option_map json c.args.content) c.in_ok-rev.field-0 c.start-start.result c.start-start.ensures c.as_slice.result.now c.as_slice.ensures.value c.in_ok-rev.ensures
     c.requires.room c.requires.storable c.as_slice-2.result.now c.as_slice-2.ensures.value c.in_ok-rev.field-0.body refl
 
 pub returns-clause-stored : goal.returns-clause-stored

@@ -11,6 +11,7 @@ use Rattle.view_engine.specs.declared.request.Request.TheVariants.{Get, View as 
 use Rattle.view_engine.specs.Answer.{info_text}
 use Rattle.view_engine.specs.Steps.{IsRefusedAs}
 use Rattle.view_engine.proofs.Acting.{acted, refused_at_once}
+use Rattle.view_engine.proofs.CleanedUp.{cleaned}
 use Rattle.view_engine.proofs.Performing.{unbuilt}
 use Rattle.view_engine.proofs.Reading.{read_done}
 use Rattle.view_engine.proofs.ServerFaults.{unlike_info}
@@ -36,6 +37,9 @@ returns-in-Ok g c =
 pub returns-in-Info : goal.returns-in-Info
 returns-in-Info g c = acted c.in-Info.is c.requires.open (spent_here (documents_open _ _ c.requires.open) c.in-Err.ensures.silent refl)
 
+pub returns-in-Cleanup : goal.returns-in-Cleanup
+returns-in-Cleanup g c = cleaned c.in-Cleanup.is c.requires.open c.cleanup.ensures
+
 pub returns-in-View : goal.returns-in-View
 returns-in-View g c =
     refused_at_once tt (λ is. cc) (λ before. inr (
@@ -50,6 +54,6 @@ returns g c =
     let other = c.in_default in
     refused_at_once tt (λ is. cc) (λ before. inr (
       NotBuiltYet,
-      unbuilt g.C.Servers.functions g.C.Servers.honest (languages_of c.args.self.now.pool) before.world c.args.request other.not-Put other.not-Delete other.not-Get other.not-Info (λ view. other.not-View view None),
+      unbuilt g.C.Servers.functions g.C.Servers.honest (languages_of c.args.self.now.pool) before.world c.args.request other.not-Put other.not-Delete other.not-Get other.not-Info other.not-Cleanup (λ view. other.not-View view None),
       (refl, refl),
     )) c.requires.open

@@ -8,7 +8,7 @@ use Rattle.design_docs.specs.Laws.{entry_of as named}
 use Rattle.design_docs.proofs.ViewOrder.{views_are_few}
 use Rattle.child_pool.specs.Languages.{path_in}
 use Rattle.child_pool.specs.Pools.{languages_of}
-use Rattle.doc_file.specs.Docs.{IsAt}
+use Rattle.doc_file.specs.Docs.{bytes_in, last_of, IsAt, IsLive}
 use Rattle.doc_file.specs.History.{live_document}
 use Rattle.view_engine.specs.declared.refusal.Refusal.TheVariants.{MissingNamedView, UnknownLanguage}
 use Rattle.view_engine.specs.View.{design_id, view_refusal}
@@ -63,6 +63,15 @@ returns-in-Some-path_of-clause-plan g c = λ history.
     (λ d live at path known. subst (λ i. IsPlan languages history name i design place path) c.as_str-2.ensures
     (planned languages history name id document design is (live at) (stored_design name id document is c.in-Ok.ensures.body) c.in_ok-design.ensures place there shown path known))
     (c.in-Ok.ensures.document history)
+
+pub returns-in-Some-path_of-clause-read : goal.returns-in-Some-path_of-clause-read
+returns-in-Some-path_of-clause-read g c =
+    let docs = c.args.self.now.docs in
+    let id = c.as_str-2.result.now in
+    let document = json c.in-Ok.document in
+    let is : id ≡ design_id c.args.name.now.design = c.as_str-2.ensures ∙ c.in_ok-id.ensures ∙ ap design_id c.as_str.ensures in
+    told_now (g.F.Folder.disk c.args.folder.now) (λ d. IsLive id (bytes_in docs d.now) (last_of docs id) document) _
+    (λ d live. (document, subst (λ (i : List ℕ). IsLive i (bytes_in docs d.now) (last_of docs i) document) is live, c.in_ok-design.ensures)) c.in-Ok.ensures.live
 
 pub returns-in-Some-path_of-clause-few : goal.returns-in-Some-path_of-clause-few
 returns-in-Some-path_of-clause-few g c =

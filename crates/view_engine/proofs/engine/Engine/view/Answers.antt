@@ -34,7 +34,7 @@ returns-in-Ok-update g c =
     let known = c.in-Ok.ensures.known in
     shown_then g.F.Folder g.C.Servers args.docs args.pool args.groups c.args.folder.now c.plan.new.folder c.args.servers.now c.args.name c.args.out.now.items
     c.update.new.pool c.update.new.self c.update.new.folder c.update.new.servers plan.id plan.design plan.place known.0 c.in-Ok.ensures.within known.1
-    c.in-Ok.ensures.reads.disk c.in-Ok.ensures.reads.later (λ history. told_now (g.F.Folder.disk c.args.folder.now) _ _ (λ d is there. is there known.0 known.1) (c.in-Ok.ensures.plan history)) c.requires.open
+    c.in-Ok.ensures.reads.disk c.in-Ok.ensures.reads.later (λ history. told_now (g.F.Folder.disk c.args.folder.now) _ _ (λ d is there. is there known.0 known.1) (c.in-Ok.ensures.plan history)) c.requires.open c.in-Ok.ensures.read
     c.in-Ok-update.place c.in-Ok-update.ensures c.index.result.now c.index.ensures c.rows.result.now c.rows.ensures.rows c.rows.ensures.parts c.append_rows.result c.append_rows.ensures.ok c.append_rows.ensures.line c.append_rows.ensures.silent c.append_rows.ensures.memory
 
 pub returns : goal.returns
@@ -46,5 +46,5 @@ returns g c =
     let brings = c.in-Err-update.ensures in
     rw c.halt_of.ensures (refused_then g.F.Folder g.C.Servers args.docs args.pool args.groups c.args.folder.now c.plan.new.folder c.args.servers.now c.args.name c.args.out.now.items
     c.update.new.pool c.update.new.self c.update.new.folder c.update.new.servers plan.id plan.design plan.place known.0 c.in-Ok.ensures.within known.1
-    c.in-Ok.ensures.reads.disk c.in-Ok.ensures.reads.later (λ history. told_now (g.F.Folder.disk c.args.folder.now) _ _ (λ d is there. is there known.0 known.1) (c.in-Ok.ensures.plan history)) c.requires.open
+    c.in-Ok.ensures.reads.disk c.in-Ok.ensures.reads.later (λ history. told_now (g.F.Folder.disk c.args.folder.now) _ _ (λ d is there. is there known.0 known.1) (c.in-Ok.ensures.plan history)) c.requires.open c.in-Ok.ensures.read
     met (brings.file, λ is. let none = brings.unknown (ap Err is) in let clash : ⊥ = cc in clash) brings)

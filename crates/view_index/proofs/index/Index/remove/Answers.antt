@@ -14,9 +14,10 @@ use Rattle.gate_file.specs.Open.{IsOpened, WhileOpening}
 use Rattle.gate_file.specs.Opens.{Empties}
 use Rattle.gate_file.proofs.Opened.{undamaged}
 use Rattle.view_index.specs.Held.{HoldsIndex, HoldsPicture, IsFileOf, Stands}
+use Rattle.view_index.specs.Removes.{AreEmpty}
 use Rattle.view_index.proofs.Emptying.{others_cleared}
 use Rattle.view_index.proofs.Opening.{others_stay, stands_failed}
-use Rattle.view_index.proofs.Removing.{failed_done, opened_by, removed}
+use Rattle.view_index.proofs.Removing.{failed_done, opened_by, removed, removed_empty}
 use Rattle.view_index.proofs.index.Index.remove.Goals as goal
 
 pub returns-in_err-file : goal.returns-in_err-file
@@ -32,6 +33,7 @@ returns-in_err-file g c =
           (stands_failed stem views c.from_residual.result (λ files done. HoldsIndex stem views files None) old new picture ends c.from_residual.ensures.0 holds c.open.ensures.disk);
       sound = λ views picture. told_now old _ _
           (λ d damaged holds n at failed. let was : c.open.result ≡ Err (Damaged n at) = search rules in undamaged stem (HoldsPicture views) d.now picture n at holds (damaged n at was)) c.open.ensures.damaged;
+      empty = told_all new _ (λ d. failed_done c.from_residual.result (AreEmpty stem d.now) c.from_residual.ensures.0);
       damaged = told_now old _ _ (λ d damaged n at failed. let was : c.open.result ≡ Err (Damaged n at) = search rules in damaged n at was) c.open.ensures.damaged;
       others = others_stay stem 0 old new (λ old image. WhileOpening stem old image) ends c.open.ensures.disk;
       faults = search rules;
@@ -53,6 +55,7 @@ returns-in_err-clear g c =
           (λ a b moved. record { moments = moved.moments; others = moved.others; ended = failed_done c.from_residual-in_err-clear.result (HoldsIndex stem views b.now None) c.from_residual-in_err-clear.ensures.0 })
           (removed stem views file picture c.clear.result old mid new c.in_ok-file.ensures.opened opens clears holds);
       sound = λ views picture. told_all old _ (λ d holds n at failed. let no : ⊥ = search rules in no);
+      empty = told_all new _ (λ d. failed_done c.from_residual-in_err-clear.result (AreEmpty stem d.now) c.from_residual-in_err-clear.ensures.0);
       damaged = told_all old _ (λ d n at failed. let no : ⊥ = search rules in absurd no);
       others = others_cleared stem (name_of file) c.in_ok-file.ensures.named c.clear.result old mid new (others_stay stem 0 old mid (λ old image. WhileOpening stem old image) (IsOpened file) opens) clears;
       faults = search rules;
@@ -74,6 +77,8 @@ returns g c =
           (λ a b moved. record { moments = moved.moments; others = moved.others; ended = on_ok c.clear.result c.in_ok-clear.field-0 (HoldsIndex stem views b.now None) c.in_ok-clear.was moved.ended })
           (removed stem views file picture c.clear.result old mid new c.in_ok-file.ensures.opened opens clears holds);
       sound = λ views picture. told_all old _ (λ d holds n at failed. let no : ⊥ = search rules in no);
+      empty = told_now new _ _ (λ d done. on_ok c.clear.result c.in_ok-clear.field-0 (AreEmpty stem d.now) c.in_ok-clear.was done)
+          (removed_empty stem file c.clear.result old mid new c.in_ok-file.ensures.named opens clears);
       damaged = told_all old _ (λ d n at failed. let no : ⊥ = search rules in absurd no);
       others = others_cleared stem (name_of file) c.in_ok-file.ensures.named c.clear.result old mid new (others_stay stem 0 old mid (λ old image. WhileOpening stem old image) (IsOpened file) opens) clears;
       faults = search rules;

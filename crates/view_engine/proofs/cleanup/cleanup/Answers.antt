@@ -1,0 +1,48 @@
+-- A cleanup is what reading the live designs and removing the other indexes come to.
+use Rattle.std.proofs.Common.{◌≡◌, ◌++◌, ◌∙◌, ℕ, List, Ok, Err, refl, sym, ap, subst, arith}
+use Rattle.std.proofs.lemmas.Grind.{common_steps}
+use Rattle.view_ports.specs.Disk.{IfTold}
+use Rattle.view_ports.specs.Lines.{ended}
+use Rattle.view_ports.proofs.Told.{told_now}
+use Rattle.view_updater.proofs.OnlyReading.{failed_as}
+use Rattle.doc_file.specs.Docs.{IsAt}
+use Rattle.doc_file.specs.History.{Write}
+use Rattle.view_engine.specs.Cleaning.{AreLiveSignatures, CleansUp}
+use Rattle.view_engine.specs.Cleanup.{done_text}
+use Rattle.view_engine.specs.declared.halt.Halt.TheVariants.{Stopped}
+use Rattle.view_engine.specs.declared.halt.StepFault.TheVariants.{NoMemory}
+use Rattle.view_engine.proofs.CleansThen.{cleans_none, cleans_then}
+use Rattle.view_engine.proofs.cleanup.cleanup.Goals as goal
+
+pub returns-in_err-kept : goal.returns-in_err-kept
+returns-in_err-kept g c =
+    let halt = c.in_err-kept.field-0.0 in
+    let reads = c.in_err-kept.ensures.reads in
+    subst (λ r. CleansUp g.F.Folder c.args.docs.now c.args.groups.now c.args.groups.now c.args.folder.now c.live_signatures.new.folder c.args.out.now.items c.args.out.now.items r)
+    (sym (failed_as c.from_residual.result halt c.from_residual.ensures))
+    (cleans_none g.F.Folder c.args.docs.now c.args.groups.now c.args.folder.now c.live_signatures.new.folder c.args.out.now.items halt c.in_err-kept.ensures.stopped reads.disk reads.why reads.later)
+
+pub returns-in_err-append_done : goal.returns-in_err-append_done
+returns-in_err-append_done g c =
+    let reads = c.in_ok-kept.ensures.reads in
+    subst (λ (out : List ℕ). CleansUp g.F.Folder c.args.docs.now c.args.groups.now c.args.groups.now c.args.folder.now c.live_signatures.new.folder c.args.out.now.items out c.from_residual-in_err-append_done.result) (sym c.in_err-append_done.ensures.silent)
+    (subst (λ r. CleansUp g.F.Folder c.args.docs.now c.args.groups.now c.args.groups.now c.args.folder.now c.live_signatures.new.folder c.args.out.now.items c.args.out.now.items r)
+    (sym (failed_as c.from_residual-in_err-append_done.result (Stopped NoMemory) c.from_residual-in_err-append_done.ensures))
+    (cleans_none g.F.Folder c.args.docs.now c.args.groups.now c.args.folder.now c.live_signatures.new.folder c.args.out.now.items (Stopped NoMemory) tt reads.disk tt reads.later))
+
+pub returns-in-Ok : goal.returns-in-Ok
+returns-in-Ok g c =
+    let docs = c.args.docs.now in
+    let reads = c.in_ok-kept.ensures.reads in
+    cleans_then g.F.Folder docs c.args.groups.now c.args.folder.now c.clean_up.new.self c.live_signatures.new.folder c.clean_up.new.folder c.as_slice.result.now reads.disk reads.later
+    (λ history. told_now (g.F.Folder.disk c.args.folder.now) _ (λ d. IsAt docs d.now history → AreLiveSignatures history c.as_slice.result.now) (λ d live at. subst (AreLiveSignatures history) (sym c.as_slice.ensures.value) (live at)) (c.in_ok-kept.ensures.history history))
+    (Ok tt) c.in-Ok.ensures c.in_ok-append_done.ensures.ok tt
+
+pub returns : goal.returns
+returns g c =
+    let docs = c.args.docs.now in
+    let reads = c.in_ok-kept.ensures.reads in
+    let silent : c.truncate.new.self.items ≡ c.args.out.now.items = grind (arith, common_steps) in
+    rw c.halt_of.ensures (cleans_then g.F.Folder docs c.args.groups.now c.args.folder.now c.clean_up.new.self c.live_signatures.new.folder c.clean_up.new.folder c.as_slice.result.now reads.disk reads.later
+    (λ history. told_now (g.F.Folder.disk c.args.folder.now) _ (λ d. IsAt docs d.now history → AreLiveSignatures history c.as_slice.result.now) (λ d live at. subst (AreLiveSignatures history) (sym c.as_slice.ensures.value) (live at)) (c.in_ok-kept.ensures.history history))
+    (Err c.in-Err.fault) c.in-Err.ensures tt silent)

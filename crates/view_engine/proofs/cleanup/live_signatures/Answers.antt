@@ -1,0 +1,58 @@
+-- Id by id.
+use Rattle.std.proofs.Common.{take, take_all, ◌≡◌, ◌+◌, ◌≤◌, ◌∙◌, List, [], length, Ok, Err, sym, ap, subst, arith}
+use Rattle.view_ports.proofs.Told.{told_all, told_now, told_pair}
+use Rattle.view_updater.proofs.OnlyReading.{failed_as}
+use Rattle.doc_file.specs.Docs.{IsAt}
+use Rattle.view_engine.specs.Cleaning.{IsSignatureOf}
+use Rattle.doc_file.specs.Designs.{AreDesignsOf}
+use Rattle.view_engine.specs.Disks.{Reads}
+use Rattle.view_engine.specs.declared.halt.Halt.TheVariants.{Stopped}
+use Rattle.view_engine.specs.declared.halt.StepFault.TheVariants.{NoMemory}
+use Rattle.view_engine.proofs.LiveSignatures.{at_history_before, live_signatures, no_signatures, one_signature_more, reads_done, reads_failed, reads_nothing, reads_spent, AreSignaturesOf}
+use Rattle.view_engine.proofs.OnDisk.{reads_then}
+use Rattle.view_engine.proofs.cleanup.live_signatures.Goals as goal
+
+pub loop-id-init : goal.loop-id-init
+loop-id-init g c = (
+  reads_nothing g.F.Folder c.args.docs.now c.args.folder.now,
+  λ history. told_all (g.F.Folder.disk c.args.folder.now) _ (λ d at. subst (AreSignaturesOf history []) (sym c.in_ok-signatures.ensures.items) (no_signatures history)),
+)
+
+pub returns-in_err-signature_in-clause-reads : goal.returns-in_err-signature_in-clause-reads
+returns-in_err-signature_in-clause-reads g c =
+    let halt = c.in_err-signature_in.field-0.0 in
+    subst (λ r. Reads g.F.Folder c.args.docs.now c.args.folder.now c.signature_in.new.folder r) (sym (failed_as c.from_residual-in_err-signature_in.result halt c.from_residual-in_err-signature_in.ensures))
+    (reads_failed g.F.Folder c.args.docs.now c.args.folder.now c.signature_in.new.folder _ _ halt (reads_then c.loop-id.invariant.0 c.in_err-signature_in.ensures.reads))
+
+pub returns-in_err-push-clause-reads : goal.returns-in_err-push-clause-reads
+returns-in_err-push-clause-reads g c =
+    let here = reads_then c.loop-id.invariant.0 c.in_ok-signature_in.ensures.reads in
+    subst (λ r. Reads g.F.Folder c.args.docs.now c.args.folder.now c.signature_in.new.folder r) (sym (failed_as c.from_residual-in_err-push.result (Stopped NoMemory) c.from_residual-in_err-push.ensures))
+    (reads_spent g.F.Folder c.args.docs.now c.args.folder.now c.signature_in.new.folder _ (record { disk = here.disk; why = tt; later = here.later }))
+
+pub loop-id-preserved : goal.loop-id-preserved
+loop-id-preserved g c =
+    let docs = c.args.docs.now in
+    let here = reads_then c.loop-id.invariant.0 c.in_ok-signature_in.ensures.reads in
+    let disk = g.F.Folder.disk c.args.folder.now in
+    let ids = c.deref-id-items.result.now in
+    let i = c.loop-id.id-index in (
+      record { disk = here.disk; why = tt; later = here.later },
+      λ history. told_pair disk (λ d. IsAt docs d.now history → AreSignaturesOf history (take i ids) c.loop-id.signatures.items) _ (λ d. IsAt docs d.now history → AreSignaturesOf history (take (i + 1) ids) c.push.new.self.items)
+          (λ d before one at. subst (AreSignaturesOf history (take (i + 1) ids)) (sym c.in_ok-push.ensures.items) (one_signature_more history ids c.loop-id.signatures.items i c.id-item.result c.in_ok-signature_in.field-0 c.loop-id-test.true c.id-item.is (before at)
+          (subst (λ id. IsSignatureOf history id c.in_ok-signature_in.field-0) c.as_str.ensures (one at))))
+          (c.loop-id.invariant.1 history)
+          (at_history_before g.F.Folder docs c.args.folder.now c.loop-id.folder history _ (c.loop-id.invariant.0).disk (c.in_ok-signature_in.ensures.history history)),
+    )
+
+pub returns-clause-history : goal.returns-clause-history
+returns-clause-history g c = λ history.
+    let docs = c.args.docs.now in
+    let ids = c.deref-id-items.result.now in
+    let whole : take c.loop-id.id-index ids ≡ ids = take_all c.loop-id.id-index ids c.loop-id-test.false in
+    told_now (g.F.Folder.disk c.args.folder.now) (λ d. IsAt docs d.now history → AreSignaturesOf history (take c.loop-id.id-index ids) c.loop-id.signatures.items) _
+    (λ d are at. live_signatures history ids c.loop-id.signatures.items (subst (AreDesignsOf history) (sym c.deref-id-items.ensures.value) (c.in_ok-ids.ensures.history d.now history at))
+    (subst (λ (l : List (List _)). AreSignaturesOf history l c.loop-id.signatures.items) whole (are at))) (c.loop-id.invariant.1 history)
+
+pub returns-clause-reads : goal.returns-clause-reads
+returns-clause-reads g c = reads_done g.F.Folder c.args.docs.now c.args.folder.now c.loop-id.folder _ c.loop-id.signatures c.loop-id.invariant.0

@@ -1,0 +1,12 @@
+-- The ids so far were read, and over each history the signatures are those of their designs.
+use Rattle.std.specs.Prelude.{List, take}
+use Rattle.view_ports.specs.Disk.{IfTold}
+use Rattle.doc_file.specs.Docs.{IsAt}
+use Rattle.doc_file.specs.History.{Write}
+use Rattle.view_engine.specs.Disks.{Reads}
+use Rattle.view_engine.proofs.LiveSignatures.{so_far, AreSignaturesOf}
+use Rattle.view_engine.proofs.cleanup.live_signatures.Given as goal
+
+abbrev pub invariant-loop-id : goal.invariant-loop-id
+invariant-loop-id g l = Reads g.F.Folder l.docs l.initial.folder l.folder so_far
+    × ((history : List Write) → IfTold (g.F.Folder.disk l.initial.folder) (λ d. IsAt l.docs d.now history → AreSignaturesOf history (take l.id-index l.id-items) l.signatures.items))

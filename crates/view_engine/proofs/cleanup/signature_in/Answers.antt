@@ -1,0 +1,21 @@
+-- The signature is that of the live document's design.
+use Rattle.std.proofs.Common.{◌≡◌, Some, sym}
+use Rattle.json_terms.specs.Seen.{json}
+use Rattle.view_ports.proofs.Told.{told_now}
+use Rattle.doc_file.specs.Docs.{IsAt}
+use Rattle.doc_file.specs.History.{live_document}
+use Rattle.view_engine.specs.Cleaning.{IsSignatureOf}
+use Rattle.view_engine.proofs.Reading.{read_of_get}
+use Rattle.view_engine.proofs.cleanup.signature_in.Goals as goal
+
+pub returns-in-Err-clause-reads : goal.returns-in-Err-clause-reads
+returns-in-Err-clause-reads g c =
+    rw c.from.ensures (read_of_get c.args.id.now c.in-Err.fault c.in-Err.ensures.disk c.in-Err.ensures.cause c.in-Err.ensures.deleted.1 c.in-Err.ensures.damaged c.in-Err.ensures.sound c.in-Err.ensures.faults)
+
+pub returns-clause-history : goal.returns-clause-history
+returns-clause-history g c = λ history.
+    let docs = c.args.docs.now in
+    let id = c.args.id.now in
+    let document = json c.in-Ok.document in
+    told_now (g.F.Folder.disk c.args.folder.now) (λ d. IsAt docs d.now history → live_document history id ≡ Some document) (λ d. IsAt docs d.now history → IsSignatureOf history id c.in_ok-signature.field-0)
+    (λ d live at. (document, live at, sym (c.in_ok-signature.ensures.document document c.in_ok-design.ensures))) (c.in-Ok.ensures.document history)

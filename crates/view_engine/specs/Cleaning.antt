@@ -1,0 +1,80 @@
+-- What a cleanup promises, over the documents and the indexes.
+use Rattle.std.specs.Prelude.{◌≡◌, ◌⊎◌, ◌≤◌, ◌++◌, ℕ, List, Result, Ok, Err, Some, IfErr, OnErr, OnOk, Contains}
+use Rattle.json_terms.specs.Json.{Json}
+use Rattle.view_signature.specs.Signature.{signature_of}
+use Rattle.view_ports.specs.Disk.{IfTold, Moves, MovesNone, Tells}
+use Rattle.view_ports.specs.File.{File}
+use Rattle.view_ports.specs.Lines.{ended}
+use Rattle.view_ports.specs.declared.file_name.FileName.{FileName}
+use Rattle.view_ports.specs.declared.folder.Folder.{Ghosts as Folders}
+use Rattle.doc_file.specs.declared.docs.Docs.{Docs}
+use Rattle.doc_file.specs.Docs.{IsAt as AreAt}
+use Rattle.doc_file.specs.declared.fault.DocFault.TheVariants as doc
+use Rattle.doc_file.specs.History.{Write, live_document}
+use Rattle.gate_file.specs.declared.fault.GateFault.TheVariants as gate
+use Rattle.view_index.specs.declared.fault.IndexFault.{IndexFault}
+use Rattle.view_index.specs.declared.fault.IndexFault.TheVariants as index
+use Rattle.view_groups.specs.declared.groups.Groups.{Groups}
+use Rattle.view_groups.specs.Cleans.{IsIndexFile}
+use Rattle.view_groups.specs.Groups.{AreAt as AreIndexesAt, AreOpen as AreIndexesOpen}
+use Rattle.view_groups.specs.Pictures.{StandFor}
+use Rattle.view_engine.specs.declared.halt.Halt.{Halt}
+use Rattle.view_engine.specs.declared.halt.Halt.TheVariants.{Refused, Stopped}
+use Rattle.view_engine.specs.declared.halt.StepFault.{StepFault}
+use Rattle.view_engine.specs.declared.halt.StepFault.TheVariants.{DiskFault, Damaged, Full, NoMemory}
+use Rattle.view_engine.specs.Cleanup.{done_text, IsCleaned, IsLiveSignature, IsPartlyCleaned}
+use Rattle.view_engine.specs.Disks.{HasSlotDamage, IfStopped, IsReadReason, MayGoOn}
+use Rattle.view_engine.specs.Halts.{halted_as}
+use Rattle.view_engine.specs.World.{World}
+
+-- these are the signatures of the live designs of a history
+abbrev pub AreLiveSignatures : List Write → List (List ℕ) → Type 0
+AreLiveSignatures history sigs = (sig : List ℕ) → (Contains sigs sig → IsLiveSignature history sig) × (IsLiveSignature history sig → Contains sigs sig)
+
+-- this is the signature of the design of the live document of an id
+abbrev pub IsSignatureOf : List Write → List ℕ → List ℕ → Type 0
+IsSignatureOf history id sig = (document : Json) × (live_document history id ≡ Some document) × (signature_of document ≡ sig)
+
+-- how removing indexes may fail
+abbrev pub IsCleanFault : IndexFault → Type 0
+IsCleanFault fault = (fault ≡ index.Store gate.DiskFault) ⊎ (fault ≡ index.NoMemory) ⊎ ((name : FileName) × (at : ℕ) × (fault ≡ index.Store (gate.Damaged name at)))
+
+-- and as what a request meets it
+abbrev pub met_by_index : IndexFault → Halt
+met_by_index (index.Store fault) = halted_as (doc.Gate fault)
+met_by_index other = Stopped NoMemory
+
+-- it isn't refused
+abbrev pub IsStopped : Halt → Type 0
+IsStopped (Refused refusal) = ⊥
+IsStopped (Stopped fault) = Unit {0}
+
+-- an image of the files of indexes stands for what is left of the pictures by a part of a cleanup
+abbrev pub StandsCleaned : World → (FileName → List ℕ) → Type 0
+StandsCleaned world image = (mid : World) × IsPartlyCleaned world mid × StandFor image mid.pictures
+
+-- the indexes are left at the pictures of a cleaned world
+abbrev pub EndsCleaned : Groups → World → Result (Unit {0}) Halt → (FileName → File) → Type 0
+EndsCleaned groups world (Ok done) files = (after : World) × IsCleaned world after × AreIndexesAt groups files after.pictures
+EndsCleaned groups world (Err halt) files = Unit {0}
+
+module _ {F : Type 0} (f : Folders F) (docs : Docs) (groups groups' : Groups) (old new : F) where
+  -- why it is stopped: as reading documents is, or by a file of an index that is damaged, which there is in no world
+  abbrev pub IsCleanupReason : StepFault → Type 0
+  IsCleanupReason (Damaged name at) = IsReadReason f docs old new (Damaged name at)
+      ⊎ (IfTold (f.disk old) (λ d. HasSlotDamage d.now name at) × ((world : World) → IfTold (f.disk old) (λ d. AreIndexesAt groups d.now world.pictures → ⊥)))
+  IsCleanupReason fault = IsReadReason f docs old new fault
+
+  pub record CleansUp (out out' : List ℕ) (result : Result (Unit {0}) Halt) : Type 0 where
+    -- a crash leaves at each moment what a part of a cleanup leaves, and of each file of no index what it might have left before
+    pub stands : (world : World) → IfTold (f.disk old) (λ d. AreAt docs d.now world.history × AreIndexesAt groups d.now world.pictures)
+        → Tells (f.disk old) (f.disk new) (Moves IsIndexFile (StandsCleaned world) (EndsCleaned groups' world result))
+    -- whatever the folder holds, only files of indexes change, and none for want of memory; where it may go on, the indexes are open
+    pub others : Tells (f.disk old) (f.disk new) (Moves IsIndexFile (λ image. Unit {0}) (λ files. Unit {0}))
+    pub unmoved : result ≡ Err (Stopped NoMemory) → (groups' ≡ groups) × Tells (f.disk old) (f.disk new) MovesNone
+    pub is_open : MayGoOn result → IfTold (f.disk old) (λ d. AreIndexesOpen groups d.now) → IfTold (f.disk new) (λ d. AreIndexesOpen groups' d.now)
+    pub prints : OnOk result (out' ≡ out ++ ended done_text)
+    pub silent : OnErr result (out' ≡ out)
+    pub stopped : IfErr result IsStopped
+    pub why : IfErr result (IfStopped IsCleanupReason)
+    pub later : f.faults old ≤ f.faults new
