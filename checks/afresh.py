@@ -1,9 +1,10 @@
-"""Random writes, design changes, views and kills beside a short model: python3 afresh.py PROGRAM SERVERS SCRIPTS
+"""Random writes, design changes, views, cleanups and kills beside a short model: python3 afresh.py PROGRAM SERVERS SCRIPTS
 
 PROGRAM is the built couchview, SERVERS the folder of the example query servers. Each script is a database of its own: some
 300 writes over plain documents and three design documents in three languages, in runs that end or are killed. The model
-says each reply, and has no indexes: a view maps all live documents and sorts their rows. It ends with status 1 and a
-complaint that has the script's number and the line.
+says each reply, and has no indexes: a view maps all live documents and sorts their rows. Behind a cleanup at the end of a run
+there are no more indexes with bytes than live designs that differ. It ends with status 1 and a complaint that has the script's
+number and the line.
 """
 import json
 import os
@@ -113,6 +114,15 @@ class Model:
         return show({"total_rows": len(rows), "offset": 0, "rows": rows})
 
 
+    def designs(self):
+        """The live designs that differ in their language or views, in some order."""
+        live = [body for name, (_, _, body) in self.documents.items() if name[0] == "_" and body is not None]
+        return {show([body["language"], body["views"]]) for body in live}
+
+
+CLEANUP = '{"cleanup":true}', lambda model: show({"ok": True})
+
+
 class Script:
     """Random lines, and the model's replies to them."""
 
@@ -136,7 +146,9 @@ class Script:
         if kind < 0.35:
             words = self.chance.choice("abc"), self.chance.choice("vvw")
             return show({"view": list(words)}), lambda model: model.view(*words)
-        design = kind < 0.45
+        if kind < 0.38:
+            return CLEANUP
+        design = kind < 0.48
         name = "_design/" + self.chance.choice("abc") if design else "d%d" % self.chance.randrange(25)
         rev = None if self.chance.random() < 0.05 else self.model.rev(name)
         if self.chance.random() < 0.2:
@@ -172,6 +184,11 @@ def run(step, pairs):
     want(step + ", replies", len(replies), len(pairs))
 
 
+def indexes():
+    """How many indexes have bytes in the folder."""
+    return len({name[:32] for name in os.listdir(".") if len(name) == 34 and os.path.getsize(name) > 0})
+
+
 def killed(step, script, seconds):
     """A run that is killed. What it answered is right and is there, and of the writes a first part; the rest is forgotten."""
     writes, documents = script.model.writes, dict(script.model.documents)
@@ -187,7 +204,7 @@ def killed(step, script, seconds):
     replies = child.communicate()[0].decode().split("\n")[:-1]
     for (line, wanted), got in zip(pairs, replies):
         want("%s, %s" % (step, line), got, wanted)
-    answered = writes + sum(reply.startswith('{"ok"') for reply in replies)
+    answered = writes + sum(reply.startswith('{"ok":true,"id"') for reply in replies)
     info = subprocess.run(WORDS, input=b'{"info":true}\n', stdout=subprocess.PIPE, timeout=600).stdout
     script.model.writes = json.loads(info)["update_seq"]
     want(step + ", acknowledged writes are there", answered <= script.model.writes, True)
@@ -207,7 +224,8 @@ def main():
                 midst += killed(step, script, seconds)
                 continue
             began = time.monotonic()
-            run(step, script.lines(LINES))
+            run(step, script.lines(LINES) + [(CLEANUP[0], CLEANUP[1](script.model))])
+            want(step + ", indexes", indexes() <= len(script.model.designs()), True)
             seconds = time.monotonic() - began
         writes += script.model.writes
         os.chdir("..")

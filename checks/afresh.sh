@@ -1,5 +1,5 @@
 #!/bin/sh
-# Random writes, design changes, views and kills, each reply beside that of a model that maps all documents for each view. A
+# Random writes, design changes, views, cleanups and kills, each reply beside that of a model that maps all documents for each view. A
 # word is how many such databases there are (5 without one).
 name=afresh
 . "$(dirname "$0")/prepare.sh"

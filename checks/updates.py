@@ -114,6 +114,34 @@ def counts():
     print("updates: %d documents asked for by the first view, one behind a change, none else" % DOCUMENTS)
 
 
+def comes_back():
+    """A design that changes and comes back finds its index: of the last view's lines one is a document, written meanwhile."""
+    sources = [SOURCE.replace("n % 10", "n").replace("['n'] % 10", "['n']")]
+    sources.append(sources[0].replace("doc.n,", "doc.m,").replace("doc['n'],", "doc.get('m'),"))
+    numbers = dict(zip("abcde", (1, 2, 2, 2, 3)))
+
+    def design(source, rev=None):
+        named = {"_id": "_design/d"} if rev is None else {"_id": "_design/d", "_rev": rev}
+        return json.dumps({"put": dict(named, language=LANGUAGE, views={"v": {"map": source}})})
+
+    def rev(reply):
+        return json.loads(reply)["rev"]
+
+    first = rev(run([design(sources[0])])[0])
+    run([put(name, n) for name, n in numbers.items()] + [VIEW])
+    second = rev(run([design(sources[1], first), VIEW])[0])
+    run([put("f", 9), design(sources[0], second)])
+    mapped()
+    rows = json.loads(run([VIEW])[0])["rows"]
+    want("rows of a design that comes back", [(row["id"], row["key"]) for row in rows], [*numbers.items(), ("f", 9)])
+    with open(LOG) as log:
+        lines = [json.loads(line) for line in log]
+    want("its lines", [line[0] for line in lines], ["reset", "add_fun", "map_doc"])
+    want("its document", lines[2][1]["_id"], "f")
+    mapped()
+    print("updates: a design that comes back asks for the one document that was written meanwhile")
+
+
 def kills():
     """Kills the program in the midst of updates. Each time there are new documents, and the next run finds all rows."""
     WORDS[2] = "%s=%s" % (LANGUAGE, slow_server())
@@ -147,7 +175,7 @@ def kills():
     print("updates: %d kills, %d of them in the midst of an update" % (KILLS, midst))
 
 
-for step in counts, kills:
+for step in counts, comes_back, kills:
     os.makedirs(step.__name__)
     os.chdir(step.__name__)
     step()

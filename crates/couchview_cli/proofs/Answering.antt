@@ -21,7 +21,7 @@ use Rattle.view_engine.specs.Worlds.{HasRoomAt}
 use Rattle.view_engine.specs.Calls.{IsStep, Scene}
 use Rattle.view_engine.specs.Disks.{IsReasonOf, LiesOpen}
 use Rattle.view_engine.specs.Worlds.{languages as languages_of}
-use Rattle.view_engine.proofs.Stepping.{step_damaged, step_full, step_full_in, step_kept, step_room_left, step_sound, step_on, step_still, step_stopped}
+use Rattle.view_engine.proofs.Stepping.{step_damaged, step_filled, step_full, step_full_in, step_kept, step_room_left, step_sound, step_on, step_still, step_stopped}
 use Rattle.view_ports.specs.declared.folder.Folder.{Ghosts as Folders}
 use Rattle.view_ports.specs.declared.servers.Servers.{Ghosts as Servers}
 use Rattle.couchview_cli.specs.Session.{Answered, IsAnswered, IsUnanswered}
@@ -112,6 +112,7 @@ module _ {F C : Type 0} {f : Folders F} {s : Servers C} {old new : Scene F C} {l
           moments = stopped.0;
           whole = step_sound step before at;
           full = step_full step before at;
+          filled = step_filled step before at;
           room = step_room_left step before at;
           last = (stopped.1).after;
           called = (stopped.1).allowed;

@@ -254,7 +254,8 @@ module _ {F C : Type 0} (f : Folders F) (s : Servers C) (r : Responds (Session F
           until = on_lines start cut.mid cut.exchanges cut.leads;
           since = stopped.on;
           found = stopped.found;
-          still = λ none silent. stays_still_then (f.disk start.folder.now) (f.disk cut.mid.folder.now) (f.disk last.folder.now) (still start cut.mid cut.exchanges cut.leads none) (stopped.still silent);
+          still = still start cut.mid cut.exchanges cut.leads;
+          kept = stopped.still;
           twice = rose_on (2 * server_faults cut.exchanges) (s.faults start.servers.now) (s.faults cut.mid.servers.now) (s.faults last.servers.now) (twice start cut.mid cut.exchanges cut.leads) stopped.stays.server_faults;
         };
       }

@@ -6,6 +6,7 @@ use Rattle.view_engine.specs.Moments.{Moment}
 use Rattle.view_engine.specs.declared.refusal.Refusal.{Refusal}
 use Rattle.view_engine.specs.declared.refusal.Refusal.TheVariants.{NoMemory}
 use Rattle.view_engine.specs.declared.request.Request.{Request}
+use Rattle.view_groups.specs.Cleans.{IsIndexFile}
 use Rattle.view_engine.specs.Refusals.{request_limit, refusal_text, request_of}
 use Rattle.view_ports.specs.Lines.{ended, kept}
 use Rattle.view_ports.proofs.KeptLines.{kept-cases, kept-nil, kept-none}
@@ -14,14 +15,15 @@ use Rattle.view_ports.specs.Disk.{IfTold, LeavesOnly, Tells}
 use Rattle.view_ports.specs.declared.file_name.FileName.{FileName}
 use Rattle.view_ports.proofs.Told.{told_now}
 use Rattle.view_engine.specs.declared.halt.StepFault.{StepFault}
-use Rattle.view_engine.specs.declared.halt.StepFault.TheVariants.{DiskFault, Full}
+use Rattle.view_engine.specs.declared.halt.StepFault.TheVariants.{Damaged, DiskFault, Full}
 use Rattle.view_engine.specs.Worlds.{HasBodyDamage, HasRoomAt, IsFullAt, IsFullIn, StandsAround}
 use Rattle.view_ports.specs.declared.folder.Folder.{Ghosts as Folders}
 use Rattle.view_ports.specs.declared.servers.Servers.{Ghosts as Servers}
 use Rattle.view_engine.specs.Accepted.{is_ok}
 use Rattle.view_engine.specs.Calls.{Scene}
 use Rattle.view_engine.proofs.RequestLimit.{Answers-cut, request_limit-is, request_of-long}
-use Rattle.view_engine.specs.Disks.{ChangesFiles, IsOfIndex, IsOnIndexes, MeetsIndexDamageIn, ReadsDocuments}
+use Rattle.view_engine.specs.Disks.{ChangesFiles, IsOfIndex, IsOnIndexes, IsShapedFor, IsView, MeetsIndexDamageIn, ReadsDocuments}
+use Rattle.view_engine.specs.FullIndex.{IsIndexFullFor}
 use Rattle.view_engine.specs.Halts.{Writes}
 use Rattle.view_engine.specs.ServerFaults.{says_server_fault}
 use Rattle.couchview_cli.specs.Reading.{IsFoundOn, IsReplied}
@@ -74,8 +76,9 @@ module _ {functions : List ℕ → Functions} {honest : List ℕ → Type 0} {la
   pub IsHalted-kept : (line : List ℕ) → IsHalted functions honest languages fault old new before (kept request_limit line) HasLeft → IsHalted functions honest languages fault old new before line HasLeft
   IsHalted-kept line halted = record {
     moments = subst (λ r. Tells old new (LeavesOnly (StandsAround functions honest languages before.world r))) (request_kept line) halted.moments;
-    whole = halted.whole;
+    whole = subst (λ r. IfTold old (λ d. (name : FileName) (at : ℕ) → fault ≡ Damaged name at → IsIndexFile name × (IsShapedFor r before.world → ⊥))) (request_kept line) halted.whole;
     full = subst (λ r. IfTold old (λ d. (name : FileName) (length : Option ℕ) → fault ≡ Full name length → IsFullAt d.now before.world r name length ⊎ IsOfIndex r name)) (request_kept line) halted.full;
+    filled = subst (λ r. IfTold new (λ d. (name : FileName) (length : Option ℕ) → fault ≡ Full name length → IsView r → IsIndexFullFor functions honest languages d.now before.world r name length)) (request_kept line) halted.filled;
     room = subst (λ r. IfTold old (λ d. fault ≡ DiskFault → HasRoomAt d.now before.world r)) (request_kept line) halted.room;
     last = halted.last;
     called = subst (λ r. IfTold old (λ d. MayHaveCalled functions honest languages before r halted.last)) (request_kept line) halted.called;

@@ -19,7 +19,7 @@ use Rattle.view_engine.specs.Engine.{HasStopped}
 use Rattle.view_engine.specs.Moments.{Moment}
 use Rattle.view_engine.specs.Accepted.{accepted}
 use Rattle.view_engine.specs.Steps.{Answers, MayHaveCalled}
-use Rattle.view_engine.specs.Updating.{AreShaped}
+use Rattle.view_engine.specs.Disks.{IsShapedFor}
 use Rattle.view_engine.specs.World.{World}
 use Rattle.view_engine.specs.Worlds.{at_start, StandsAround, StandsFor, width as width_of}
 use Rattle.view_groups.specs.Cleans.{IsIndexFile}
@@ -130,12 +130,13 @@ module _ (languages : List (List ℕ × List ℕ)) (opening : World) where
           closes = closes_after before.held mid held (text_of off.exchanges) fault status off.wrote closes;
           halts = off.halts.found.halts;
           cause = cause;
-          whole = told_first s.functions s.honest begun old new world come.moved ((name : FileName) (at : ℕ) → fault ≡ Damaged name at → IsIndexFile name × (AreShaped world → ⊥)) halted.whole;
+          whole = told_first s.functions s.honest begun old new world come.moved ((name : FileName) (at : ℕ) → fault ≡ Damaged name at → IsIndexFile name × (IsShapedFor (request_of off.line) world → ⊥)) halted.whole;
           mid = old;
           until = come.moved.moments;
           holds = holds_at old (s.may_follow off.mid.servers) (s.faults off.mid.servers) off.mid.engine off.moment come.stands;
           fits = off.fits;
           full = halted.full;
+          filled = halted.filled;
           room = halted.room;
           kept = off.halts.kept;
           since = halted.moments;

@@ -81,7 +81,8 @@ module _ (IsOver : Type 0) (held now : Option (List ℕ)) (bytes : List ℕ) (ol
     pub until : ComesTo old mid
     pub since : ComesTo mid new
     pub found : IsFoundOn mid new line fault
-    pub still : NoneChanges exchanges → (ChangesFiles (request_of line) → ⊥) → Tells old new MovesNone
+    pub still : NoneChanges exchanges → Tells old mid MovesNone
+    pub kept : (ChangesFiles (request_of line) → ⊥) → Tells mid new MovesNone
     pub twice : RoseBy (2 * server_faults exchanges) faults faults'
 
   abbrev pub AreRepliedBy : LoopEnd StepFault → Type 0

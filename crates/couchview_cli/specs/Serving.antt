@@ -21,8 +21,9 @@ use Rattle.view_engine.specs.declared.refusal.Refusal.{Refusal}
 use Rattle.view_engine.specs.declared.request.Request.{Request}
 use Rattle.view_engine.specs.World.{World}
 use Rattle.view_engine.specs.Moments.{Moment}
-use Rattle.view_engine.specs.Disks.{IsOfIndex, IsOnIndexes}
-use Rattle.view_engine.specs.Updating.{AreShaped, IsSound}
+use Rattle.view_engine.specs.Disks.{IsOfIndex, IsOnIndexes, IsShapedFor, IsView}
+use Rattle.view_engine.specs.FullIndex.{IsIndexFullFor}
+use Rattle.view_engine.specs.Updating.{IsSound}
 use Rattle.view_engine.specs.Worlds.{at_start, GoesOnFrom, HasRoomAt, Holds, IsFullAt, StandsAround, StandsFor}
 use Rattle.view_groups.specs.Cleans.{IsIndexFile}
 use Rattle.view_engine.specs.Refusals.{request_of}
@@ -116,7 +117,8 @@ module _ (functions : List ℕ → Functions) (honest : List ℕ → Type 0) (la
   -- not. Its request took effect wholly or not at all. The last line that is written names the fault, unless the sink fails.
   -- Want of memory doesn't cut a run short: such a line is answered. `mid` is the disk before the line in hand: nothing is
   -- pending there, its files hold the world, and a file that is full is one of them. No file changes since but in a view or a cleanup, or where the
-  -- disk failed, and there the line's write would have passed no limit. A file that is damaged is one of an index, and none is where the
+  -- disk failed, and there the line's write would have passed no limit. A file of an index is full only where it would be with the next
+  -- picture of the view's design. A file that is damaged is one of an index, and none is where the
   -- pictures have the shape of their designs. `last` is how the query servers were left.
   pub record IsCutShort (before after : Outside) (AtEnd : List Call → Type 0) (status : ℕ) : Type 0 where
     pub bytes : List ℕ
@@ -137,12 +139,13 @@ module _ (functions : List ℕ → Functions) (honest : List ℕ → Type 0) (la
     pub closes : Closes before.held after.held (text_of exchanges) fault status
     pub halts : fault ≢ NoMemory
     pub cause : fault ≡ DiskFault → Rose before.disk_faults after.disk_faults
-    pub whole : IfTold before.disk (λ d. (name : FileName) (at : ℕ) → fault ≡ Damaged name at → IsIndexFile name × (AreShaped moment.world → ⊥))
+    pub whole : IfTold before.disk (λ d. (name : FileName) (at : ℕ) → fault ≡ Damaged name at → IsIndexFile name × (IsShapedFor (request_of line) moment.world → ⊥))
     pub mid : Option (Disk FileName)
     pub until : Tells before.disk mid (LeavesOnly (StandsSince functions honest languages opening moment.world))
     pub holds : IfTold mid (λ d. Holds d.now moment.world)
     pub fits : HaveRoom functions honest languages opening moment.world before.disk mid exchanges
     pub full : IfTold mid (λ d. (name : FileName) (length : Option ℕ) → fault ≡ Full name length → IsFullAt d.now moment.world (request_of line) name length ⊎ IsOfIndex (request_of line) name)
+    pub filled : IfTold after.disk (λ d. (name : FileName) (length : Option ℕ) → fault ≡ Full name length → IsView (request_of line) → IsIndexFullFor functions honest languages d.now moment.world (request_of line) name length)
     pub room : IfTold mid (λ d. fault ≡ DiskFault → HasRoomAt d.now moment.world (request_of line))
     pub kept : fault ≢ DiskFault → (IsOnIndexes (request_of line) → ⊥) → Tells mid after.disk MovesNone
     pub since : Tells mid after.disk (LeavesOnly (StandsAround functions honest languages moment.world (request_of line)))

@@ -16,9 +16,10 @@ use Rattle.view_engine.specs.Calls.{KeepsChild, Scene, StandsAt, Stays, scene}
 use Rattle.view_engine.specs.Refusals.{refusal_text, request_of}
 use Rattle.view_engine.specs.Moments.{Moment}
 use Rattle.view_engine.specs.ServerFaults.{is_server_fault}
-use Rattle.view_engine.specs.Disks.{ChangesFiles, IsOfIndex, IsOnIndexes}
+use Rattle.view_engine.specs.Disks.{ChangesFiles, IsOfIndex, IsOnIndexes, IsShapedFor, IsView}
+use Rattle.view_engine.specs.FullIndex.{IsIndexFullFor}
 use Rattle.view_engine.specs.Steps.{Answers, MayHaveCalled}
-use Rattle.view_engine.specs.Updating.{AreShaped, IsSound}
+use Rattle.view_engine.specs.Updating.{IsSound}
 use Rattle.view_groups.specs.Cleans.{IsIndexFile}
 use Rattle.view_engine.specs.World.{World}
 use Rattle.view_engine.specs.Worlds.{at_start, GoesOnFrom, HasRoomAt, IsFullAt, StandsAround, StandsEither, languages as languages_of}
@@ -52,11 +53,13 @@ module _ (functions : List ℕ → Functions) (honest : List ℕ → Type 0) whe
   StepsOf origin = Steps functions honest origin.languages origin.opening origin.disk
 
   -- a line was not answered, since the folder failed, or a file is damaged or full: the request took effect wholly or not at all, and
-  -- may have called query servers. Damage is that of an index alone, and not where the pictures have the shape of their designs.
+  -- may have called query servers. Damage is that of an index alone, and not where the pictures have the
+  -- shape that is asked.
   pub record IsHalted (languages : List (List ℕ × List ℕ)) (fault : StepFault) (old new : Option (Disk FileName)) (before : Moment) (line : List ℕ) (HasLeft : Moment → Type 0) : Type 0 where
     pub moments : Tells old new (LeavesOnly (StandsAround functions honest languages before.world (request_of line)))
-    pub whole : IfTold old (λ d. (name : FileName) (at : ℕ) → fault ≡ Damaged name at → IsIndexFile name × (AreShaped before.world → ⊥))
+    pub whole : IfTold old (λ d. (name : FileName) (at : ℕ) → fault ≡ Damaged name at → IsIndexFile name × (IsShapedFor (request_of line) before.world → ⊥))
     pub full : IfTold old (λ d. (name : FileName) (length : Option ℕ) → fault ≡ Full name length → IsFullAt d.now before.world (request_of line) name length ⊎ IsOfIndex (request_of line) name)
+    pub filled : IfTold new (λ d. (name : FileName) (length : Option ℕ) → fault ≡ Full name length → IsView (request_of line) → IsIndexFullFor functions honest languages d.now before.world (request_of line) name length)
     pub room : IfTold old (λ d. fault ≡ DiskFault → HasRoomAt d.now before.world (request_of line))
     pub last : Moment
     pub called : IfTold old (λ d. MayHaveCalled functions honest languages before (request_of line) last)

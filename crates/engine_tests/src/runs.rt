@@ -74,8 +74,6 @@ const REFUSED: &str = r#"{"info":true
 {"error":"bad_request","reason":"not built yet"}
 {"compact_docs":true}
 {"error":"bad_request","reason":"not built yet"}
-{"cleanup":true}
-{"error":"bad_request","reason":"not built yet"}
 {"all_docs":{"reduce":false}}
 {"error":"bad_request","reason":"not built yet"}
 {"put":{}}
@@ -253,7 +251,7 @@ const STATES: &str = r#"{"info":true}
 {"info":true}
 {"doc_count":1,"doc_del_count":0,"update_seq":6}"#;
 
-/// A view has the rows of the last writes, and none where its design is deleted.
+/// A view has the rows of the last writes, and none where its design is deleted, and a cleanup changes no document.
 const VIEW: &str = r#"{"put":{"_id":"_design/s","language":"field","views":{"by_n":{"map":"n"}}}}
 {"ok":true,"id":"_design/s","rev":"1-00000000000000000000000000000001"}
 {"put":{"_id":"a","n":2}}
@@ -271,7 +269,13 @@ const VIEW: &str = r#"{"put":{"_id":"_design/s","language":"field","views":{"by_
 {"delete":"_design/s","rev":"1-00000000000000000000000000000001"}
 {"ok":true,"id":"_design/s","rev":"2-00000000000000000000000000000006"}
 {"view":["s","by_n"]}
-{"error":"not_found","reason":"deleted"}"#;
+{"error":"not_found","reason":"deleted"}
+{"cleanup":true}
+{"ok":true}
+{"cleanup":true}
+{"ok":true}
+{"info":true}
+{"doc_count":1,"doc_del_count":2,"update_seq":6}"#;
 
 pub const RUNS: [&str; 8] = [
     REFUSED, PEOPLE, ORDER, KNOWN, LANGUAGES, DESIGNS, STATES, VIEW,

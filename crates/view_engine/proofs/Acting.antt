@@ -1,5 +1,5 @@
 -- A request on the documents alone, as the engine performs it.
-use Rattle.std.specs.Prelude.{OnOk}
+use Rattle.std.specs.Prelude.{IfErr, OnOk}
 use Rattle.std.proofs.Common.{◌≡◌, ◌≢◌, ◌≤◌, ◌∙◌, ℕ, List, length, Option, Some, None, inl, inr, Result, Ok, Err, refl, sym, ap, subst, arith}
 use Rattle.std.proofs.lemmas.Result.{IfErr-weaker}
 use Rattle.json_terms.specs.Json.{members_of, object}
@@ -26,10 +26,10 @@ use Rattle.view_engine.specs.declared.halt.StepFault.TheVariants.{DiskFault, Dam
 use Rattle.view_engine.specs.declared.refusal.Refusal.{Refusal}
 use Rattle.view_engine.specs.declared.refusal.Refusal.TheVariants.{ServerFault}
 use Rattle.view_engine.specs.declared.request.Request.{Request}
-use Rattle.view_engine.specs.declared.request.Request.TheVariants.{Put, Delete, Get, Info}
+use Rattle.view_engine.specs.declared.request.Request.TheVariants.{Cleanup, Put, Delete, Get, Info, View}
 use Rattle.view_engine.specs.Calls.{scene, ActsHere, AppendsReplyTo, CrashesAround, DoesBy, DoesHere, DoesHereBy, IsRefusedHere, KeepsChild, LeavesChild, LeavesMoment, LeavesWorld, Performed, RefusesUnread, Scene, StandsAt}
 use Rattle.view_engine.specs.Delete.{delete_write}
-use Rattle.view_engine.specs.Disks.{HasGivenUp, IfStopped, IsReason, IsReasonOf, KeepsDocuments, LiesOpen, MayGoOn}
+use Rattle.view_engine.specs.Disks.{HasGivenUp, IfStopped, IsReason, IsReasonOf, IsView, KeepsDocuments, LiesOpen, MayGoOn}
 use Rattle.view_engine.specs.Halts.{DocumentsStandAround, MovesDocuments}
 use Rattle.view_engine.specs.Put.{put_write}
 use Rattle.view_engine.specs.Worlds.{IsAtWorld, StandsAround, StandsEither, StandsFor}
@@ -39,6 +39,7 @@ use Rattle.view_engine.specs.Steps.{DoesRequest, DoesRequestText, IsRefusedAs, I
 use Rattle.view_engine.specs.World.{World, NoneIsNewer, written}
 use Rattle.view_engine.proofs.OnDisk.{documents_reason, documents_still}
 use Rattle.view_engine.proofs.Between.{stands_first}
+use Rattle.view_engine.proofs.Cleared.{clears_none, clears_other}
 use Rattle.view_engine.proofs.Whole.{documents_at, documents_open, indexes_at, kept_whole, leaves_around, told_leaves_before, told_leaves_none}
 use Rattle.view_engine.proofs.Performing.{none_called}
 use Rattle.view_engine.proofs.ServerFaults.{err_unblamed}
@@ -217,11 +218,16 @@ module _ {F C : Type 0} (f : Folders F) (s : Servers C) (docs docs' : Docs) (poo
   prints_here request (Ok value) done = record { reply = done.reply; line = done.line; appended = done.appended; unlike = done.unlike }
   prints_here request (Err halt) done = tt
 
+-- a view isn't one of these, so that it meets no full file here
+full_here : {F : Type 0} (f : Folders F) (docs : Docs) (old new : F) (request : Request) (P : Type 0) (name : FileName) (length : Option ℕ) → IsReason f docs old new (Ok request) (Full name length) → IsView (Ok request) → P
+full_here f docs old new (View view limits) P name length why is = absurd why.0
+full_here f docs old new other P name length why is = absurd is
+
 -- what a request function promises of the documents is what the engine promises of the request
 pub acted : {F C : Type 0} {f : Folders F} {s : Servers C} {docs docs' : Docs} {pool : Pool} {groups : Groups} {old new : F} {servers : C} {request made : Request} {out out' : List ℕ} {result : Result (Unit {0}) Halt}
-    → request ≡ made → LiesOpen f (record { docs = docs; pool = pool; groups = groups }) old → ActsHere f docs docs' old new made out out' result
+    → request ≡ made → (made ≡ Cleanup → ⊥) → LiesOpen f (record { docs = docs; pool = pool; groups = groups }) old → ActsHere f docs docs' old new made out out' result
     → Performed f s (scene (record { docs = docs; pool = pool; groups = groups }) old servers) (scene (record { docs = docs'; pool = pool; groups = groups }) new servers) (Ok request) out out' result
-acted {f = f} {s = s} {docs = docs} {docs' = docs'} {pool = pool} {groups = groups} {old = old} {new = new} {servers = servers} {request = request} {made = made} {out = out} {out' = out'} {result = result} is is_open acts =
+acted {f = f} {s = s} {docs = docs} {docs' = docs'} {pool = pool} {groups = groups} {old = old} {new = new} {servers = servers} {request = request} {made = made} {out = out} {out' = out'} {result = result} is other is_open acts =
     subst (λ (r : Request). Performed f s (scene (record { docs = docs; pool = pool; groups = groups }) old servers) (scene (record { docs = docs'; pool = pool; groups = groups }) new servers) (Ok r) out out' result) (sym is) (record {
       does = λ before at. does_here f s docs docs' pool groups old new servers out out' made before at result acts.disk acts.does;
       prints = prints_here f s docs docs' pool groups old new servers out out' made result acts.does;
@@ -230,6 +236,9 @@ acted {f = f} {s = s} {docs = docs} {docs' = docs'} {pool = pool} {groups = grou
       blames = λ is. absurd (acts.unblamed is);
       fits = acts.fits;
       disk = kept_whole refl is_open acts.disk;
+      cleared = clears_other f docs old new (Ok made) _ _ (λ same. other (let one : made ≡ Cleanup = cc in one));
+      filled = λ before at name length is view.
+          full_here f docs old new made _ name length (subst (λ (r : Result (Unit {0}) Halt). IfErr r (IfStopped (IsReason f docs old new (Ok made)))) is acts.why) view;
       why = IfErr-weaker result (IfStopped (IsReason f docs old new (Ok made))) (IfStopped (IsReasonOf f (record { docs = docs; pool = pool; groups = groups }) old new (Ok made)))
           (λ halt is. documents_reason f (record { docs = docs; pool = pool; groups = groups }) old new (Ok made) halt is) acts.why;
       stays = record { languages = refl; width = refl; disk_faults = acts.later; server_faults = omega arith };
@@ -256,14 +265,16 @@ module _ {F C : Type 0} {f : Folders F} {s : Servers C} {now : Scene F C} {reque
     blames = λ never. absurd cc;
     fits = tt;
     disk = kept_whole refl is_open (documents_still (documents_open _ _ is_open));
+    cleared = clears_none f now.engine.docs now.folder now.folder request _ _ (told_refl (f.disk now.folder) MovesNone none_refl) (λ done. done);
+    filled = λ before at name length never. absurd cc;
     why = inl tt;
     stays = record { languages = refl; width = refl; disk_faults = omega arith; server_faults = omega arith };
   }
 
   -- nothing was called, and the request is refused
-  pub refused_at_once : {refusal : Refusal} → RefusesUnread request (Err (Refused refusal)) → refusal ≢ ServerFault → ((before : Moment) → DoesRequest s.functions s.honest (languages_of now.engine.pool) before request (refusal_text refusal) before)
+  pub refused_at_once : {refusal : Refusal} → (request ≡ Ok Cleanup → ⊥) → RefusesUnread request (Err (Refused refusal)) → refusal ≢ ServerFault → ((before : Moment) → DoesRequest s.functions s.honest (languages_of now.engine.pool) before request (refusal_text refusal) before)
       → LiesOpen f now.engine now.folder → Performed f s now now request out out (Err (Refused refusal))
-  refused_at_once {refusal} unread other does is_open = record {
+  refused_at_once {refusal} no_cleanup unread other does is_open = record {
     does = λ before at. record {
       after = before;
       is_at = at;
@@ -278,6 +289,8 @@ module _ {F C : Type 0} {f : Folders F} {s : Servers C} {now : Scene F C} {reque
     blames = λ never. absurd (err_unblamed (Refused refusal) (λ same. other (let is_fault : refusal ≡ ServerFault = cc in is_fault)) never);
     fits = tt;
     disk = kept_whole refl is_open (documents_still (documents_open _ _ is_open));
+    cleared = clears_other f now.engine.docs now.folder now.folder request _ _ no_cleanup;
+    filled = λ before at name length never. absurd cc;
     why = tt;
     stays = record { languages = refl; width = refl; disk_faults = omega arith; server_faults = omega arith };
   }

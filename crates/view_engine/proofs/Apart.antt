@@ -21,7 +21,7 @@ use Rattle.view_model.specs.Picture.{Picture}
 use Rattle.view_model.specs.Standing.{AreSetAt}
 use Rattle.view_groups.specs.declared.groups.Groups.{Groups}
 use Rattle.view_groups.specs.Groups.{open_of, AreAt as AreIndexesAt}
-use Rattle.view_groups.specs.Pictures.{AreHeld, Pictures, StandFor}
+use Rattle.view_groups.specs.Pictures.{AreHeld, Pictures}
 use Rattle.view_groups.specs.Reached.{sig_of}
 use Rattle.view_groups.proofs.Standing.{images_stand_around}
 use Rattle.view_engine.specs.declared.engine.Engine.{Engine}

@@ -1,6 +1,6 @@
 -- Images that a crash leaves of worlds between two, and what a cleanup makes of the pictures of a world.
-use Rattle.std.proofs.Common.{◌≡◌, ◌⊎◌, ◌≤◌, ◌∙◌, ℕ, List, length, Option, Some, None, inl, inr, ⊎_elim, refl, sym, ap, subst}
-use Rattle.view_groups.specs.Pictures.{Pictures, StandFor, StandsOf}
+use Rattle.std.proofs.Common.{◌≡◌, ◌⊎◌, ◌≤◌, ◌∙◌, ℕ, List, length, Option, Some, None, inl, inr, ⊎_elim, refl, sym, subst}
+use Rattle.view_groups.specs.Pictures.{Pictures, StandsOf}
 use Rattle.view_model.specs.Picture.{Picture}
 use Rattle.view_ports.specs.declared.file_name.FileName.{FileName}
 use Rattle.doc_file.specs.Held.{Stands}

@@ -74,7 +74,7 @@ module _ {F C : Type 0} (f : Folders F) (s : Servers C) (docs : Docs) (pool pool
     abbrev seq : ℕ
     seq = (picture_for design world.pictures).seq
 
-    reached : (d : Disk FileName) → IsAtWorld engine d.now world → IsReached docs groups design world.history world.pictures d.now
+    pub reached : (d : Disk FileName) → IsAtWorld engine d.now world → IsReached docs groups design world.history world.pictures d.now
     reached d here = record { documents = here.documents; indexes = here.indexes; within = within_there engine d.now world design here }
 
     -- ---- what was asked for

@@ -1,6 +1,6 @@
 -- A cleanup of the documents and the indexes, as the engine performs it.
 use Rattle.std.specs.Prelude.{OnOk}
-use Rattle.std.proofs.Common.{◌≡◌, ◌∙◌, ℕ, List, Option, Some, None, inl, inr, ⊎_elim, Result, Ok, Err, refl, sym, ap, subst, arith}
+use Rattle.std.proofs.Common.{◌≡◌, ℕ, List, Option, Some, None, inl, inr, ⊎_elim, Result, Ok, Err, refl, sym, subst, arith}
 use Rattle.std.proofs.lemmas.Result.{IfErr-weaker}
 use Rattle.view_ports.specs.Disk.{Disk, Framed, IfTold, LeavesOnly, Moves, Tells}
 use Rattle.view_ports.specs.File.{File}
@@ -13,7 +13,7 @@ use Rattle.view_ports.proofs.Told.{told_after, told_all, told_given, told_now, t
 use Rattle.child_pool.specs.declared.pool.Pool.{Pool}
 use Rattle.child_pool.specs.Pools.{languages_of}
 use Rattle.doc_file.specs.declared.docs.Docs.{Docs}
-use Rattle.doc_file.specs.Docs.{IsAt as AreAt, IsDocsFile, IsOpen as AreDocumentsOpen}
+use Rattle.doc_file.specs.Docs.{IsAt as AreAt, IsOpen as AreDocumentsOpen}
 use Rattle.doc_file.specs.Held.{Stands}
 use Rattle.doc_file.specs.History.{Write}
 use Rattle.view_groups.specs.declared.groups.Groups.{Groups}
@@ -22,15 +22,14 @@ use Rattle.view_groups.specs.Groups.{AreAt as AreIndexesAt, AreOpen as AreIndexe
 use Rattle.view_engine.specs.declared.engine.Engine.{Engine}
 use Rattle.view_engine.specs.declared.halt.Halt.{Halt}
 use Rattle.view_engine.specs.declared.halt.Halt.TheVariants.{Refused, Stopped}
-use Rattle.view_engine.specs.declared.halt.StepFault.{StepFault}
 use Rattle.view_engine.specs.declared.halt.StepFault.TheVariants.{DiskFault, Damaged, Full, NoMemory}
 use Rattle.view_engine.specs.declared.refusal.Refusal.TheVariants.{ServerFault}
 use Rattle.view_engine.specs.declared.request.Request.{Request}
 use Rattle.view_engine.specs.declared.request.Request.TheVariants.{Cleanup}
 use Rattle.view_engine.specs.Calls.{scene, AppendsReplyTo, CrashesAround, DoesBy, KeepsChild, LeavesChild, Performed, Scene, StandsAt}
 use Rattle.view_engine.specs.Cleaning.{CleansUp, EndsCleaned, IsCleanupReason, StandsCleaned}
-use Rattle.view_engine.specs.Cleanup.{done_text, IsCleaned, IsPartlyCleaned}
-use Rattle.view_engine.specs.Disks.{IfStopped, IsReasonOf, LiesOpen}
+use Rattle.view_engine.specs.Cleanup.{done_text, IsCleaned}
+use Rattle.view_engine.specs.Disks.{ClearsIndexes, HasReply, MayWant, IfStopped, IsReasonOf, LiesOpen}
 use Rattle.view_engine.specs.Moments.{Moment, with_world}
 use Rattle.view_engine.specs.Steps.{DoesRequestText, MayHaveCalled}
 use Rattle.view_engine.specs.World.{World}
@@ -172,6 +171,14 @@ module _ {F C : Type 0} (f : Folders F) (s : Servers C) (docs : Docs) (pool : Po
   reason (Stopped (Full name length)) why = absurd why
   reason (Stopped NoMemory) why = inl tt
 
+  clears_done : (result : Result (Unit {0}) Halt) → CleansUp f docs groups groups' old new out out' result → ClearsIndexes f docs old new (HasReply result) (MayWant result)
+  clears_done (Ok done) cleans = record { spared = cleans.spared; empty = λ is. cleans.empty; unmoved = λ wants. absurd wants }
+  clears_done (Err (Refused refusal)) cleans = absurd cleans.stopped
+  clears_done (Err (Stopped DiskFault)) cleans = record { spared = cleans.spared; empty = λ is. absurd is; unmoved = λ wants. absurd wants }
+  clears_done (Err (Stopped (Damaged name at))) cleans = record { spared = cleans.spared; empty = λ is. absurd is; unmoved = λ wants. absurd wants }
+  clears_done (Err (Stopped (Full name length))) cleans = record { spared = cleans.spared; empty = λ is. absurd is; unmoved = λ wants. absurd wants }
+  clears_done (Err (Stopped NoMemory)) cleans = record { spared = cleans.spared; empty = λ is. absurd is; unmoved = λ wants. (cleans.unmoved refl).1 }
+
   cleaned_up : (result : Result (Unit {0}) Halt) → LiesOpen f before_it old → CleansUp f docs groups groups' old new out out' result → Performed f s now later (Ok Cleanup) out out' result
   cleaned_up result is_open cleans = record {
     does = λ before at. does_clean before at result is_open cleans;
@@ -188,6 +195,8 @@ module _ {F C : Type 0} (f : Folders F) (s : Servers C) (docs : Docs) (pool : Po
           (λ a b here moves. open_beside_indexes docs a.now b.now (λ n of_docs. moves.others n (λ of_view. apart n of_view of_docs)) here.documents) is_open cleans.others)
           (cleans.is_open goes (told_now (f.disk old) (λ d. IsOpen before_it d.now) (λ d. AreIndexesOpen groups d.now) (λ d here. here.indexes) is_open));
     };
+    cleared = clears_done result cleans;
+    filled = λ before at name length is view. absurd view;
     why = IfErr-weaker result (IfStopped (IsCleanupReason f docs groups groups' old new)) (IfStopped (IsReasonOf f before_it old new (Ok Cleanup))) reason cleans.why;
     stays = record { languages = refl; width = refl; disk_faults = cleans.later; server_faults = omega arith };
   }

@@ -1,5 +1,5 @@
 -- What reading the live designs and then removing the other indexes comes to.
-use Rattle.std.specs.Prelude.{◌≡◌, ◌⊎◌, ◌≤◌, ◌++◌, ℕ, List, [], ◌∷◌, Bool, true, false, bytes_eq, Option, None, Result, Ok, Err, IfErr, OnErr, OnOk, Contains}
+use Rattle.std.specs.Prelude.{◌≡◌, ◌⊎◌, ◌≤◌, ◌++◌, ℕ, List, [], ◌∷◌, Bool, true, false, bytes_eq, Result, Ok, Err, IfErr, OnErr, OnOk, Contains}
 use Rattle.std.proofs.Common.{refl, sym, ap, ◌∙◌, subst, inl, inr, ⊎_elim, arith}
 use Rattle.std.proofs.lemmas.List.Elements.{Contains-append_cases, Contains-append_left, Contains-append_right, Contains-push, Contains-push_cases}
 use Rattle.std.proofs.lemmas.Slice.Eq.{bytes_eq-Decides}
@@ -8,10 +8,9 @@ use Rattle.view_ports.specs.Faults.{Rose}
 use Rattle.view_ports.specs.File.{File}
 use Rattle.view_ports.specs.Lines.{ended}
 use Rattle.view_ports.specs.declared.file_name.FileName.{FileName}
-use Rattle.view_ports.specs.declared.file_name.Stem.TheVariants.{View}
 use Rattle.view_ports.specs.declared.folder.Folder.{Ghosts as Folders}
 use Rattle.view_ports.proofs.Counting.{Rose-earlier}
-use Rattle.view_ports.proofs.DiskRuns.{moves_then, none_same, none_wider}
+use Rattle.view_ports.proofs.DiskRuns.{moves_then, moves_wider, none_same, none_wider}
 use Rattle.view_ports.proofs.Told.{told_after, told_back, told_given, told_map, told_now, told_pair, told_then}
 use Rattle.gate_file.specs.declared.fault.GateFault.TheVariants as gate
 use Rattle.gate_file.proofs.Looks.{told_none_then}
@@ -21,19 +20,18 @@ use Rattle.doc_file.specs.History.{Write}
 use Rattle.view_index.specs.declared.fault.IndexFault.{IndexFault}
 use Rattle.view_index.specs.declared.fault.IndexFault.TheVariants as index
 use Rattle.view_groups.specs.declared.groups.Groups.{Groups}
-use Rattle.view_groups.specs.Cleans.{AreFewer, AreKept, Cleans, EndsAt, IsDamageOf, IsIndexFile}
+use Rattle.view_groups.specs.Cleans.{AreCleared, AreFewer, AreKept, Cleans, EndsAt, IsDamageOf, IsIndexFile, IsUnkept}
 use Rattle.view_groups.specs.Groups.{AreAt as AreIndexesAt, AreOpen as AreIndexesOpen}
 use Rattle.view_groups.specs.Pictures.{Pictures, StandFor}
 use Rattle.view_groups.proofs.Standing.{images_stand}
+use Rattle.view_groups.proofs.Telling.{told_each}
 use Rattle.view_engine.specs.declared.halt.Halt.{Halt}
 use Rattle.view_engine.specs.declared.halt.Halt.TheVariants.{Refused, Stopped}
 use Rattle.view_engine.specs.declared.halt.StepFault.TheVariants.{DiskFault, Damaged, Full, NoMemory}
 use Rattle.view_engine.specs.Cleaning.{met_by_index, AreLiveSignatures, CleansUp, EndsCleaned, IsCleanFault, IsCleanupReason, IsStopped, StandsCleaned}
-use Rattle.view_engine.specs.Cleanup.{done_text, IsCleaned, IsLiveSignature, IsPartlyCleaned}
-use Rattle.view_engine.specs.Disks.{HasSlotDamage, IfStopped, IsReadReason, MayGoOn, Reads}
-use Rattle.view_engine.specs.Halts.{GoesOn}
+use Rattle.view_engine.specs.Cleanup.{done_text, IsCleaned, IsPartlyCleaned}
+use Rattle.view_engine.specs.Disks.{IfStopped, IsOfNone, IsReadReason, MayGoOn}
 use Rattle.view_engine.specs.World.{World}
-use Rattle.view_engine.proofs.LiveSignatures.{so_far}
 
 -- a signature is among some, or not
 contains_or_not : (sigs : List (List ℕ)) (sig : List ℕ) → Contains sigs sig ⊎ (Contains sigs sig → ⊥)
@@ -89,6 +87,8 @@ module _ {F : Type 0} (f : Folders F) (docs : Docs) (groups : Groups) (old : F) 
       stands = λ world at. told_given (f.disk old) (f.disk mid) (λ d. AreAt docs d.now world.history × AreIndexesAt groups d.now world.pictures) MovesNone (Moves IsIndexFile (StandsCleaned world) (λ files. Unit {0}))
           (λ a b here same. none_wider IsIndexFile (StandsCleaned world) (λ files. Unit {0}) a b (λ image of_files. (world, same_world world, images_stand a.now world.pictures image here.1.held of_files)) (λ kept. tt) same) at none;
       others = told_map (f.disk old) (f.disk mid) MovesNone (Moves IsIndexFile (λ image. Unit {0}) (λ files. Unit {0})) (λ a b same. none_wider IsIndexFile (λ image. Unit {0}) (λ files. Unit {0}) a b (λ image of_files. tt) (λ kept. tt) same) none;
+      spared = λ history at. told_map (f.disk old) (f.disk mid) MovesNone _ (λ a b same. none_wider (IsOfNone history) (λ image. Unit {0}) (λ files. Unit {0}) a b (λ image of_files. tt) (λ kept. tt) same) none;
+      empty = tt;
       unmoved = λ spent. (refl, none);
       is_open = λ goes are. told_after (f.disk old) (f.disk mid) (λ d. AreIndexesOpen groups d.now) (λ d. AreIndexesOpen groups d.now) MovesNone (λ a b here same. subst (AreIndexesOpen groups) (λ i. λ n. sym (none_same a b same n) i) here) are none;
       prints = tt;
@@ -130,11 +130,38 @@ module _ {F : Type 0} (f : Folders F) (docs : Docs) (groups : Groups) (old : F) 
         (told_pair (f.disk old) (λ d. AreAt docs d.now world.history × AreIndexesAt groups d.now world.pictures) (λ d. AreAt docs d.now world.history → AreLiveSignatures world.history kept) _ (λ d here lives. (lives here.0, here.1)) at (live world.history)) read)
         (cleans.stands world.pictures (told_behind (λ files. AreIndexesAt groups files world.pictures) (told_now (f.disk old) _ _ (λ d here. here.1) at)))
 
+    -- only files of indexes change that aren't kept
+    unkept_alone : Tells (f.disk old) (f.disk new) (Moves (IsUnkept kept) (λ image. Unit {0}) (λ files. Unit {0}))
+    unkept_alone =
+        told_then (f.disk old) (f.disk mid) (f.disk new) MovesNone (Moves (IsUnkept kept) (λ image. Unit {0}) (λ files. Unit {0})) (Moves (IsUnkept kept) (λ image. Unit {0}) (λ files. Unit {0}))
+        (λ a b c none moved. moves_then (IsUnkept kept) (λ image. Unit {0}) (λ image. Unit {0}) (λ image. Unit {0}) (λ files. Unit {0}) (λ files. Unit {0}) (λ files. Unit {0}) a b c (λ image is. tt) (λ one image is. tt) (λ one other. tt)
+        (none_wider (IsUnkept kept) (λ image. Unit {0}) (λ files. Unit {0}) a b (λ image of_files. tt) (λ same. tt) none) moved) read cleans.others
+
+    wider : (mine : FileName → Type 0) (a b : Disk FileName) → ((n : FileName) → IsUnkept kept n → mine n) → Moves (IsUnkept kept) (λ image. Unit {0}) (λ files. Unit {0}) a b → Moves mine (λ image. Unit {0}) (λ files. Unit {0}) a b
+    wider mine a b within moved = moves_wider (IsUnkept kept) mine (λ image. Unit {0}) (λ image. Unit {0}) (λ files. Unit {0}) (λ files. Unit {0}) a b within (λ image framed. tt) (λ rest ended. tt) moved
+
     others : Tells (f.disk old) (f.disk new) (Moves IsIndexFile (λ image. Unit {0}) (λ files. Unit {0}))
-    others =
-        told_then (f.disk old) (f.disk mid) (f.disk new) MovesNone (Moves IsIndexFile (λ image. Unit {0}) (λ files. Unit {0})) (Moves IsIndexFile (λ image. Unit {0}) (λ files. Unit {0}))
-        (λ a b c none moved. moves_then IsIndexFile (λ image. Unit {0}) (λ image. Unit {0}) (λ image. Unit {0}) (λ files. Unit {0}) (λ files. Unit {0}) (λ files. Unit {0}) a b c (λ image is. tt) (λ one image is. tt) (λ one other. tt)
-        (none_wider IsIndexFile (λ image. Unit {0}) (λ files. Unit {0}) a b (λ image of_files. tt) (λ same. tt) none) moved) read cleans.others
+    others = told_map (f.disk old) (f.disk new) _ _ (λ a b moved. wider IsIndexFile a b (λ n is. (is.0, is.1)) moved) unkept_alone
+
+    -- over documents at a history, what is kept are its live signatures
+    lives_at : (history : List Write) → IfTold (f.disk old) (λ d. AreAt docs d.now history) → IfTold (f.disk old) (λ d. AreLiveSignatures history kept)
+    lives_at history at = told_pair (f.disk old) (λ d. AreAt docs d.now history) (λ d. AreAt docs d.now history → AreLiveSignatures history kept) _ (λ d here lives. lives here) at (live history)
+
+    -- what is no live design's isn't kept
+    spared : (history : List Write) → IfTold (f.disk old) (λ d. AreAt docs d.now history) → Tells (f.disk old) (f.disk new) (Moves (IsOfNone history) (λ image. Unit {0}) (λ files. Unit {0}))
+    spared history at =
+        told_given (f.disk old) (f.disk new) (λ d. AreLiveSignatures history kept) _ (Moves (IsOfNone history) (λ image. Unit {0}) (λ files. Unit {0}))
+        (λ a b lives moved. wider (IsOfNone history) a b (λ n is. (is.0, is.1, λ lived. is.2 ((lives is.0).1 lived))) moved) (lives_at history at) unkept_alone
+
+    abbrev IsCleared : List Write → (FileName → File) → Type 0
+    IsCleared history files = (name : FileName) → IsOfNone history name → (files name).seen ≡ []
+
+    empty : (some : Result (Unit {0}) IndexFault) → OnOk some (IfTold (f.disk new) (λ d. AreCleared kept d.now))
+        → OnOk (ended_as some) ((history : List Write) → IfTold (f.disk old) (λ d. AreAt docs d.now history) → IfTold (f.disk new) (λ d. IsCleared history d.now))
+    empty (Ok done) cleared = λ history at. told_pair (f.disk new) (λ d. AreLiveSignatures history kept) (λ d. AreCleared kept d.now) _
+        (λ d lives none name is. none name (is.0, is.1, λ there. is.2 ((lives is.0).0 there)))
+        (told_after (f.disk old) (f.disk new) (λ d. AreLiveSignatures history kept) (λ d. AreLiveSignatures history kept) _ (λ a b lives moved. lives) (lives_at history at) unkept_alone) cleared
+    empty (Err fault) cleared = tt
 
     -- only for want of memory it is met as that
     wanted : (some : Result (Unit {0}) IndexFault) → IfErr some IsCleanFault → ended_as some ≡ Err (Stopped NoMemory) → some ≡ Err index.NoMemory
@@ -159,7 +186,10 @@ module _ {F : Type 0} (f : Folders F) (docs : Docs) (groups : Groups) (old : F) 
 
     damaged_why : (name : FileName) (at : ℕ) → r ≡ Err (index.Store (gate.Damaged name at)) → Why (index.Store (gate.Damaged name at))
     damaged_why name at is = inr (
-      told_before (λ files. HasSlotDamage files name at) (told_now (f.disk mid) _ _ (λ d damaged. let there = damaged name at is in record { sig = there.sig; damage = there.damage }) cleans.damaged),
+      told_pair (f.disk old) (λ d. (history : List Write) → AreAt docs d.now history → AreLiveSignatures history kept) (λ d. IsDamageOf kept d.now name at) _
+          (λ d lives there. record { sig = there.sig; damage = there.damage; unlived = λ history here lived. there.unkept ((lives history here there.sig).1 lived) })
+          (told_each (f.disk old) (λ history d. AreAt docs d.now history → AreLiveSignatures history kept) live)
+          (told_before (λ files. IsDamageOf kept files name at) (told_now (f.disk mid) _ _ (λ d damaged. damaged name at is) cleans.damaged)),
       λ world. told_before (λ files. AreIndexesAt groups files world.pictures → ⊥) (told_now (f.disk mid) _ _ (λ d never here. never here name at is) (cleans.sound world.pictures)),
     )
 
@@ -174,6 +204,8 @@ module _ {F : Type 0} (f : Folders F) (docs : Docs) (groups : Groups) (old : F) 
       others = others;
       unmoved = λ is. let none = cleans.unmoved (wanted r cleans.faults is) in (none.0, told_none_then (f.disk old) (f.disk mid) (f.disk new) read none.1);
       is_open = λ goes are. cleans.is_open (told_behind (AreIndexesOpen groups) are) (goes_on r cleans.faults goes);
+      spared = spared;
+      empty = empty r cleans.empty;
       prints = by_ok r prints;
       silent = by_err r silent;
       stopped = stopped_as r cleans.faults;

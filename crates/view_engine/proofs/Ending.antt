@@ -1,7 +1,7 @@
 -- A view, performed: refused before any server is asked, refused by the update of its index, or answered.
 use Rattle.std.specs.Prelude.{◌≡◌, ◌≢◌, ◌<◌, ◌≤◌, ◌++◌, ℕ, List, [], length, Option, None, Some, Result, Ok, Err, IfErr, OnErr, OnOk, slice_get, slice_index_or}
 use Rattle.std.specs.List.{AllByRecursion}
-use Rattle.std.proofs.Common.{refl, sym, ap, ◌∙◌, subst, inl, ⊎_elim, arith}
+use Rattle.std.proofs.Common.{refl, sym, ap, ◌∙◌, subst, inl, arith}
 use Rattle.std.proofs.lemmas.List.{length-map}
 use Rattle.json_terms.specs.declared.term.Row.{Row}
 use Rattle.json_terms.specs.Json.{Json}
@@ -12,9 +12,9 @@ use Rattle.view_ports.specs.Lines.{ended}
 use Rattle.view_ports.specs.declared.file_name.FileName.{FileName}
 use Rattle.view_ports.specs.declared.folder.Folder.{Ghosts as Folders}
 use Rattle.view_ports.specs.declared.servers.Servers.{Ghosts as Servers}
-use Rattle.view_ports.proofs.DiskRuns.{none_same, none_wider}
+use Rattle.view_ports.proofs.DiskRuns.{none_same}
 use Rattle.view_ports.proofs.Moments.{weaker}
-use Rattle.view_ports.proofs.Told.{told_after, told_all, told_given, told_map}
+use Rattle.view_ports.proofs.Told.{told_after, told_all, told_given}
 use Rattle.child_pool.specs.declared.pool.Pool.{Pool}
 use Rattle.child_pool.specs.Languages.{path_in}
 use Rattle.child_pool.specs.Pools.{languages_of}
@@ -35,18 +35,19 @@ use Rattle.view_groups.specs.Groups.{open_of}
 use Rattle.view_engine.specs.declared.engine.Engine.{Engine}
 use Rattle.view_engine.specs.declared.halt.Halt.{Halt}
 use Rattle.view_engine.specs.declared.halt.Halt.TheVariants.{Refused, Stopped}
-use Rattle.view_engine.specs.declared.halt.StepFault.TheVariants.{NoMemory}
+use Rattle.view_engine.specs.declared.halt.StepFault.TheVariants.{Full, NoMemory}
 use Rattle.view_engine.specs.declared.refusal.Refusal.TheVariants.{ServerFault}
 use Rattle.view_engine.specs.declared.request.Request.TheVariants.{View as ViewRequest}
 use Rattle.view_engine.specs.declared.request.ViewName.{ViewName}
 use Rattle.view_engine.specs.Answer.{answer}
 use Rattle.view_engine.specs.Calls.{scene, IsReplyLine, LeavesMoment, Performed, Scene, StandsAt}
-use Rattle.view_engine.specs.Disks.{IsAskedFor, LiesOpen, Reads}
+use Rattle.view_engine.specs.Disks.{IfStopped, IsAskedFor, IsReadReason, LiesOpen, Reads}
 use Rattle.view_engine.specs.Halts.{GoesOn}
 use Rattle.view_engine.specs.Moments.{Moment}
 use Rattle.view_engine.specs.Steps.{MayHaveCalled}
 use Rattle.view_engine.specs.ViewPlan.{met_by, IsPlan, IsUpdateFault}
 use Rattle.view_engine.specs.Worlds.{IsAtWorld, IsOpen, StandsAround, StandsEither}
+use Rattle.view_engine.proofs.Filling.{filled_then}
 use Rattle.view_engine.proofs.OnDisk.{documents_reason, read_halted}
 use Rattle.view_engine.proofs.Performing.{none_called}
 use Rattle.view_engine.proofs.Planned.{refused_leaves, shown_leaves, spent_leaves, stopped_leaves}
@@ -92,6 +93,7 @@ module _ {F C : Type 0} (f : Folders F) (s : Servers C) (docs : Docs) (pool : Po
       tt refl (λ is. absurd (other (let same : halt ≡ Refused ServerFault = cc in same)))
       (view_moves_none f engine old mid name reads.disk)
       (λ goes. open_still engine (f.disk old) (f.disk mid) reads.disk is_open)
+      (λ before at file limit is. let full : halt ≡ Stopped (Full file limit) = cc in absurd (subst (IfStopped (IsReadReason f docs old mid)) full reads.why))
       (documents_reason f engine old mid (Ok (ViewRequest name None)) halt (read_halted f docs old mid (Ok (ViewRequest name None)) halt tt reads.why))
       (record { languages = refl; width = refl; disk_faults = reads.later; server_faults = omega arith })
 
@@ -120,6 +122,7 @@ module _ {F C : Type 0} (f : Folders F) (s : Servers C) (docs : Docs) (pool : Po
           tt refl (λ is. brings.blames (ap Err (met_server_fault id met (let same : met_by id met ≡ Refused ServerFault = cc in same))))
           (view_moves f s docs pool pool' groups groups' old mid new servers servers' name id design place path read earlier plans is_open asked (Err met) brings)
           (λ goes. view_open f s docs pool pool' groups groups' old mid new servers servers' name id design place path read earlier plans is_open asked (Err met) brings (goes_on_of_none met id kind goes))
+          (λ before at file limit is. filled_then f s docs pool pool' groups groups' old mid new servers servers' name id design place path within path_is read plans met kind.0 brings before at file limit (let full : met_by id met ≡ Stopped (Full file limit) = cc in full))
           (view_why f s docs pool pool' groups groups' old mid new servers servers' name id design place path read earlier plans is_open asked met brings)
           (record { languages = brings.keeps.languages; width = brings.keeps.width; disk_faults = omega (arith, earlier, brings.later.0); server_faults = brings.later.1 })
 
@@ -147,6 +150,7 @@ module _ {F C : Type 0} (f : Folders F) (s : Servers C) (docs : Docs) (pool : Po
           (record { reply = answer printed; line = line; appended = appended; unlike = λ other. unlike_answer printed }) tt (λ is. let clash : ⊥ = cc in absurd clash)
           (view_moves f s docs pool pool' groups groups' old mid new servers servers' name id design place path read earlier plans is_open asked (Ok slot) brings)
           (λ goes. view_open f s docs pool pool' groups groups' old mid new servers servers' name id design place path read earlier plans is_open asked (Ok slot) brings (λ lost. lost))
+          (λ before at file limit is. absurd cc)
           tt
           (record { languages = brings.keeps.languages; width = brings.keeps.width; disk_faults = omega (arith, earlier, brings.later.0); server_faults = brings.later.1 })
       shown_then {out'} (Err halt) appended line silent memory = subst (λ (h : Halt). Performed f s now later (Ok (ViewRequest name None)) out out' (Err h)) (sym memory)
@@ -157,5 +161,6 @@ module _ {F C : Type 0} (f : Folders F) (s : Servers C) (docs : Docs) (pool : Po
           tt silent (λ is. let clash : ⊥ = cc in absurd clash)
           (view_moves f s docs pool pool' groups groups' old mid new servers servers' name id design place path read earlier plans is_open asked (Ok slot) brings)
           (λ goes. view_open f s docs pool pool' groups groups' old mid new servers servers' name id design place path read earlier plans is_open asked (Ok slot) brings (λ lost. lost))
+          (λ before at file limit is. absurd cc)
           (inl tt)
           (record { languages = brings.keeps.languages; width = brings.keeps.width; disk_faults = omega (arith, earlier, brings.later.0); server_faults = brings.later.1 }))

@@ -20,6 +20,7 @@ pub mod Keeping
 pub mod Performing
 pub mod Between
 pub mod Slots
+pub mod Cleared
 pub mod Stepping
 pub mod AcceptedWrites
 pub mod Worlds
@@ -41,6 +42,7 @@ pub mod Planned
 pub mod Beside
 pub mod Sound
 pub mod Reasons
+pub mod Filling
 pub mod Ending
 pub mod CleanedUp
 pub mod LiveSignatures

@@ -1,6 +1,6 @@
 -- The signatures of the live designs, collected id by id.
-use Rattle.std.specs.Prelude.{◌≡◌, ◌⊎◌, ◌<◌, ◌+◌, ◌++◌, ℕ, List, [], ◌∷◌, length, take, slice_index_or, Some, true, All, Contains, Result, Ok, Err}
-use Rattle.std.proofs.Common.{refl, sym, ap, ◌∙◌, subst, inl, inr, ⊎_elim, arith}
+use Rattle.std.specs.Prelude.{◌≡◌, ◌<◌, ◌+◌, ◌++◌, ℕ, List, [], ◌∷◌, length, take, slice_index_or, Some, true, Contains, Result, Ok, Err}
+use Rattle.std.proofs.Common.{sym, ap, ◌∙◌, subst, ⊎_elim, arith}
 use Rattle.std.proofs.lemmas.List.{take_more}
 use Rattle.std.proofs.lemmas.List.Elements.{All-contains, Contains-append_left, Contains-push, Contains-push_cases}
 use Rattle.json_terms.specs.Json.{Json}
@@ -14,7 +14,6 @@ use Rattle.doc_file.specs.Docs.{IsAt}
 use Rattle.doc_file.specs.History.{Write, live_document}
 use Rattle.view_signature.specs.Signature.{signature_of}
 use Rattle.view_engine.specs.Cleaning.{AreLiveSignatures, IsSignatureOf}
-use Rattle.view_engine.specs.Cleanup.{IsLiveSignature}
 use Rattle.doc_file.specs.Designs.{AreDesignsOf}
 use Rattle.view_engine.specs.declared.halt.Halt.{Halt}
 use Rattle.view_engine.specs.declared.halt.Halt.TheVariants.{Stopped}

@@ -75,14 +75,14 @@ module _ {F C : Type 0} (f : Folders F) (s : Servers C) (docs : Docs) (pool pool
     abbrev world : World
     world = before.world
 
-    at_mid : StandsAt f s (scene engine mid servers) before
+    pub at_mid : StandsAt f s (scene engine mid servers) before
     at_mid = record { documents = world_none engine engine (f.disk old) (f.disk mid) refl refl read world at.documents; child = at.child }
 
     -- what is told of the disk in the middle was told before
     told_first : (P : Type 0) → IfTold (f.disk mid) (λ d. P) → IfTold (f.disk old) (λ d. P)
     told_first P known = told_back (f.disk old) (f.disk mid) (λ d. P) (λ d. P) MovesNone (λ a b none is. is) read known
 
-    planned : IfTold (f.disk old) (λ d. IsPlan (languages_of pool) world.history name id design place path × AreStored world.history)
+    pub planned : IfTold (f.disk old) (λ d. IsPlan (languages_of pool) world.history name id design place path × AreStored world.history)
     planned = told_pair (f.disk old) (λ d. IsAtWorld engine d.now world) (λ d. AreAt docs d.now world.history → IsPlan (languages_of pool) world.history name id design place path) _ (λ d here is. (is here.documents, here.documents.stored)) at.documents (plans world.history)
 
     known : (documents : List (List (List ℕ × Json))) → IfTold (f.disk old) (λ d. documents ≡ documents_since (picture_for design world.pictures).seq world.history) → IfTold (f.disk old) (λ d. IsKnown (languages_of pool) before name id design place path documents)

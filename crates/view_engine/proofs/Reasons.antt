@@ -21,7 +21,7 @@ use Rattle.child_pool.specs.declared.pool.Pool.{Pool}
 use Rattle.child_pool.specs.declared.pool_fault.PoolFault.TheVariants as fault
 use Rattle.child_pool.specs.Pools.{languages_of}
 use Rattle.doc_file.specs.declared.docs.Docs.{Docs}
-use Rattle.doc_file.specs.Docs.{bytes_in, file_of, is_deleted, seq_of as update_seq, IsAt as AreAt, IsDocsFile, IsLoaded, IsOpen as AreDocumentsOpen, IsSpoiled}
+use Rattle.doc_file.specs.Docs.{file_of, seq_of as update_seq, IsAt as AreAt, IsDocsFile, IsLoaded, IsOpen as AreDocumentsOpen}
 use Rattle.doc_file.specs.History.{Write}
 use Rattle.view_index.specs.declared.fault.IndexFault.TheVariants as index
 use Rattle.view_index.specs.declared.index.Index.{Index}
@@ -110,8 +110,13 @@ module _ {F C : Type 0} (f : Folders F) (s : Servers C) (docs : Docs) (pool pool
           files = inr (is.0, is.1, subst (λ s. Moves (IsFileOf (View s)) (λ image. Unit {0}) (λ files. Unit {0}) a b) sig moves.0);
           current = λ known.
               let index_is = known is.0 is.1 in
-              moves.1 (index_is.0, index_is.1, subst (λ s. IsGroup groups index_is.0 s (views_in design) index_is.1) (sym sig)
-              (subst (λ (views : List DesignView). IsGroup groups index_is.0 (signature_of is.0) (length views) index_is.1) (sym (is.2).1) index_is.2), index_is.3);
+              moves.1 (
+                index_is.0,
+                index_is.1,
+                subst (λ s. IsGroup groups index_is.0 s (views_in design) index_is.1) (sym sig)
+                    (subst (λ (views : List DesignView). IsGroup groups index_is.0 (signature_of is.0) (length views) index_is.1) (sym (is.2).1) index_is.2),
+                index_is.3,
+              );
         }) asked (told_if (Moves IsOwn (λ image. Unit {0}) (λ files. Unit {0})) MovesNone (f.disk old) (f.disk new) IsIdle view_moved still_then)
 
     -- where no fault of the index came, the engine lies open

@@ -1,16 +1,12 @@
 -- The pictures of a world stay true over what requests make of it.
-use Rattle.std.specs.Prelude.{true, bytes_eq, option_and_then, Contains, if◌then◌else◌}
-use Rattle.std.proofs.Common.{◌≡◌, ℕ, List, [], ◌∷◌, Bool, Option, Some, None, Result, Ok, Err, inl, inr, refl, sym, ap, ◌∙◌, subst}
-use Rattle.std.proofs.lemmas.Bool.{cases_Bool}
-use Rattle.std.proofs.lemmas.List.Elements.{Contains-append_left, Contains-append_right, Contains-push}
+use Rattle.std.proofs.Common.{◌≡◌, ℕ, List, [], ◌∷◌, Some, None, Result, Ok, Err, inl, inr, refl, sym, subst}
+use Rattle.std.proofs.lemmas.List.Elements.{Contains-append_right}
 use Rattle.json_terms.specs.Json.{Json, members_of, object}
 use Rattle.design_docs.specs.Design.{language_of, views_of}
-use Rattle.design_docs.specs.Documents.{is_design_id}
 use Rattle.view_ports.specs.Exchanges.{Exchange}
 use Rattle.view_ports.specs.Functions.{Functions}
 use Rattle.child_pool.specs.Languages.{path_in}
-use Rattle.doc_file.specs.History.{Write, last_write, live_document}
-use Rattle.doc_file.proofs.Histories.{last_write-id}
+use Rattle.doc_file.specs.History.{Write, live_document}
 use Rattle.view_model.specs.Standing.{AreSigned, IsDesignIn, PicturesStand}
 use Rattle.view_model.proofs.Designs.{digests_tell_designs}
 use Rattle.view_model.proofs.Standing.{updates_keep_pictures, writes_keep_pictures}
@@ -28,6 +24,7 @@ use Rattle.view_engine.specs.Updating.{AreFit, AreShaped, IsBrought, IsSound}
 use Rattle.view_engine.specs.View.{design_id, DoesView}
 use Rattle.view_engine.specs.World.{World, written}
 use Rattle.view_engine.specs.Worlds.{IsBetween}
+use Rattle.view_engine.proofs.Updated.{live_is_design}
 use Rattle.view_engine.proofs.Between.{between_fewer, cleaned_fewer, partly_fewer, AreOfThem}
 
 -- ---- designs
@@ -46,37 +43,9 @@ fit_before write history fit = record {
 pub fit_signed : (languages : List (List ℕ × List ℕ)) (history : List Write) → AreFit history → AreSigned signature_of (λ document. path_in languages (language_of document)) views_of history
 fit_signed languages history fit = digests_tell_designs digest_of (path_in languages) history fit.apart
 
--- a last write is one of the history
-last_stored : (history : List Write) (id : List ℕ) (write : Write) → last_write history id ≡ Some write → Contains history write
-last_stored [] id write is = absurd (let clash : None ≡ Some write = is in cc)
-last_stored (newest ∷ older) id write is = elim (cases_Bool (bytes_eq id newest.id)) [
-  | inl here ↦ (let same : Some newest ≡ Some write = sym (ap (λ (b : Bool). if b then Some newest else last_write older id) here) ∙ is in
-      let one : newest ≡ write = cc in
-      subst (Contains (newest ∷ older)) one (Contains-append_left (newest ∷ []) older newest (Contains-push [] newest)))
-  | inr there ↦ Contains-append_right (newest ∷ []) older write (last_stored older id write (sym (ap (λ (b : Bool). if b then Some newest else last_write older id) there) ∙ is))
-]
-
--- a live document is one of the history's, under its id
-live_stored : (history : List Write) (id : List ℕ) (document : Json) → live_document history id ≡ Some document → Contains history (record { id = id; document = Some document })
-live_stored history id document live = by_last (last_write history id) refl live
-  where
-    by_write : (write : Write) (stored : Option Json) → write.document ≡ stored → last_write history id ≡ Some write → stored ≡ Some document → Contains history (record { id = id; document = Some document })
-    by_write write stored has is same =
-        let named : write.id ≡ id = last_write-id history id write is in
-        let whole : write ≡ record { id = id; document = Some document } = λ i. record { id = named i; document = (has ∙ same) i } in
-        subst (Contains history) whole (last_stored history id write is)
-
-    by_last : (last : Option Write) → last_write history id ≡ last → live_document history id ≡ Some document → Contains history (record { id = id; document = Some document })
-    by_last None is live = absurd (let clash : None ≡ Some document = sym (ap (λ (o : Option Write). option_and_then (λ (w : Write). w.document) o) is) ∙ live in cc)
-    by_last (Some write) is live = by_write write write.document refl is (sym (ap (λ (o : Option Write). option_and_then (λ (w : Write). w.document) o) is) ∙ live)
-
--- the id of a design document is one
-named_design : (name : List ℕ) → is_design_id (design_id name) ≡ true
-named_design name = refl
-
 -- the live document of a design's name is a design of the history
-pub live_is_design : (history : List Write) (name : List ℕ) (design : Json) → live_document history (design_id name) ≡ Some design → IsDesignIn history design
-live_is_design history name design live = record { id = design_id name; design = named_design name; stored = live_stored history (design_id name) design live }
+named_is_design : (history : List Write) (name : List ℕ) (design : Json) → live_document history (design_id name) ≡ Some design → IsDesignIn history design
+named_is_design history name design live = live_is_design history (design_id name) design refl live
 
 -- ---- worlds
 
@@ -118,7 +87,7 @@ module _ (functions : List ℕ → Functions) (honest : List ℕ → Type 0) (la
 
   -- what a request makes of a world is sound where that is
   pub made_sound : (world : World) (request : Result Request Refusal) (made : World) → Makes functions honest languages world request made → Sound world → Sound made
-  made_sound world (Ok (View name None)) made makes sound = brought_sound makes.0 makes.1 world made (live_is_design world.history name.design makes.0 makes.3) makes.4 makes.5 sound
+  made_sound world (Ok (View name None)) made makes sound = brought_sound makes.0 makes.1 world made (named_is_design world.history name.design makes.0 makes.3) makes.4 makes.5 sound
   made_sound world (Ok (View name (Some query))) made makes sound = absurd makes.1
   made_sound world (Ok Cleanup) made makes sound = fewer_sound world made makes.history (partly_fewer world made makes) sound
   made_sound world (Ok (Put document)) made makes sound = subst Sound (sym makes.2) (written_sound world makes.0 sound)
@@ -131,7 +100,7 @@ module _ (functions : List ℕ → Functions) (honest : List ℕ → Type 0) (la
 
   view_sound : (before : Moment) (name : ViewName) (reply : List ℕ) (after : Moment) → DoesView functions honest languages before name reply after → Sound before.world → Sound after.world
   view_sound before name reply after does sound = elim does.called.holds [
-    | inl answered ↦ brought_sound does.design does.job.path before.world after.world (live_is_design (before.world).history name.design does.design does.is_job.live) does.is_job.path_is answered.brought sound
+    | inl answered ↦ brought_sound does.design does.job.path before.world after.world (named_is_design (before.world).history name.design does.design does.is_job.live) does.is_job.path_is answered.brought sound
     | inr refused ↦ subst Sound (sym refused.same) sound
   ]
 
@@ -160,7 +129,7 @@ module _ (functions : List ℕ → Functions) (honest : List ℕ → Type 0) (la
   called_sound before (Ok (View name None)) after (inl same) sound = same_sound before after same sound
   called_sound before (Ok (View name None)) after (inr asked) sound = elim (asked.1).world [
     | inl same ↦ subst Sound (sym same) sound
-    | inr brought ↦ brought_sound (asked.1).design (asked.1).job.path before.world after.world (live_is_design (before.world).history name.design (asked.1).design (asked.1).is_job.live) (asked.1).is_job.path_is brought sound
+    | inr brought ↦ brought_sound (asked.1).design (asked.1).job.path before.world after.world (named_is_design (before.world).history name.design (asked.1).design (asked.1).is_job.live) (asked.1).is_job.path_is brought sound
   ]
   called_sound before other after same sound = same_sound before after same sound
 

@@ -26,12 +26,12 @@ use Rattle.view_engine.specs.declared.refusal.Refusal.TheVariants as refusal
 use Rattle.view_engine.specs.declared.request.Request.{Request}
 use Rattle.view_engine.specs.declared.request.Request.TheVariants.{Cleanup, Delete, Put, View}
 use Rattle.view_engine.specs.Calls.{CrashesAround, DoesBy, IsStep, IsToldAs, LeavesChild, Performed, RefusesUnread, Scene, StandsAt, StepsBy}
-use Rattle.view_engine.specs.Disks.{ChangesFiles, IsOfIndex, IsOnIndexes, IsReasonOf, LiesOpen, MeetsIndexDamage, MeetsIndexDamageIn, MovesIndexes, MovesIndexOf, ReadsDocuments}
+use Rattle.view_engine.specs.Disks.{ChangesFiles, IsOfIndex, IsOnIndexes, IsReasonOf, IsShapedFor, IsView, LiesOpen, MayWant, MeetsIndexDamage, MeetsIndexDamageIn, MovesIndexes, MovesIndexOf, ReadsDocuments}
+use Rattle.view_engine.specs.FullIndex.{IsIndexFullFor}
 use Rattle.view_engine.specs.Halts.{halted_by, FitsFor, IsDamage, IsFullFor, LeavesFiles, WouldWrite, Writes}
 use Rattle.view_engine.specs.Moments.{Moment}
 use Rattle.view_engine.specs.Refusals.{request_of, refusal_text}
 use Rattle.view_engine.specs.Steps.{Does, DoesRequest, DoesRequestText, MayHaveCalled}
-use Rattle.view_engine.specs.Updating.{AreShaped}
 use Rattle.view_engine.specs.World.{World}
 use Rattle.view_engine.specs.Worlds.{HasBodyDamage, HasRoomAt, IsAtWorld, IsFullAt, IsFullIn}
 use Rattle.view_engine.proofs.Acting.{refused_at_once, spent_at_once}
@@ -42,6 +42,7 @@ use Rattle.view_engine.proofs.Performing.{leaves_as}
 use Rattle.view_engine.proofs.ReplyLines.{refusal_line}
 use Rattle.view_engine.proofs.Rooms.{nothing_no_ok, refused_no_ok}
 use Rattle.view_engine.proofs.ServerFaults.{nothing_appended, reply_no_fault, told_is_fault}
+use Rattle.view_engine.proofs.Cleared.{clears_ends}
 use Rattle.view_engine.proofs.Slots.{first_damage_own}
 use Rattle.view_engine.proofs.Whole.{documents_at, documents_left, documents_open, kept_whole, told_leaves_none, LeavesDocuments}
 
@@ -106,6 +107,8 @@ module _ {F C : Type 0} {f : Folders F} {s : Servers C} where
     asked = tt;
     idle = λ none. refl;
     disk = kept_whole refl is_open (documents_still (documents_open _ _ is_open));
+    cleared = λ some. absurd (some refl);
+    filled = λ before at name length never. absurd cc;
     why = tt;
     stays = record { languages = refl; width = refl; disk_faults = omega arith; server_faults = omega arith };
   }
@@ -130,6 +133,8 @@ module _ {F C : Type 0} {f : Folders F} {s : Servers C} where
       asked = tt;
       idle = λ none. absurd (some none);
       disk = disk_ends (λ never. never) (λ goes. tt) performed.disk;
+      cleared = λ filled. clears_ends f old.engine.docs old.folder new.folder (request_of line) (λ done. tt) (λ wants. let no : ⊥ = cc in no) performed.cleared;
+      filled = λ before at name length never. absurd cc;
       why = tt;
       stays = performed.stays;
     }
@@ -154,6 +159,8 @@ module _ {F C : Type 0} {f : Folders F} {s : Servers C} where
       asked = tt;
       idle = λ none. absurd (some none);
       disk = disk_ends (λ never. absurd never) (λ goes. tt) performed.disk;
+      cleared = λ filled. clears_ends f old.engine.docs old.folder new.folder (request_of line) (λ done. tt) (λ wants. tt) performed.cleared;
+      filled = λ before at name length never. absurd cc;
       why = tt;
       stays = performed.stays;
     }
@@ -171,6 +178,8 @@ module _ {F C : Type 0} {f : Folders F} {s : Servers C} where
           asked = some;
           idle = λ none. absurd (some none);
           disk = disk_ends (λ given. tt) (λ goes. tt) performed.disk;
+          cleared = λ filled. clears_ends f old.engine.docs old.folder new.folder (request_of line) (λ done. tt) (λ wants. tt) performed.cleared;
+          filled = λ before at name length never. absurd cc;
           why = inl tt;
           stays = performed.stays;
         })
@@ -185,6 +194,9 @@ module _ {F C : Type 0} {f : Folders F} {s : Servers C} where
           asked = some;
           idle = λ none. absurd (some none);
           disk = disk_ends (λ left. left) (λ goes. goes) performed.disk;
+          cleared = λ filled. clears_ends f old.engine.docs old.folder new.folder (request_of line) (λ done. let no : ⊥ = cc in no)
+              (λ wants. let same : fault ≡ NoMemory = cc in subst (λ (e : StepFault). MayWant (Err (Stopped e))) (sym same) tt) performed.cleared;
+          filled = λ before at name length is view. performed.filled before at name length (let same : fault ≡ Full name length = cc in ap (λ (e : StepFault). Err (Stopped e)) same) view;
           why = performed.why;
           stays = performed.stays;
         })
@@ -194,7 +206,7 @@ module _ {F C : Type 0} {f : Folders F} {s : Servers C} where
       → Performed f s now now request out out (Err (halted_by refused))
   unread refusal.NoMemory unblamed is is_open = spent_at_once is_open
   unread {now = now} {request = request} other unblamed is is_open =
-      refused_at_once (read_as request other (is (λ same. let never : ⊥ = cc in never))) (λ same. unblamed (is (λ spent. let never : refusal.NoMemory ≡ refusal.ServerFault = sym spent ∙ same in cc) ∙ ap Err same)) (λ before. subst (λ (r : Result Request Refusal). DoesRequest s.functions s.honest (languages_of now.engine.pool) before r (refusal_text other) before)
+      refused_at_once (λ same. let never : Err other ≡ Ok Cleanup = sym (is (λ spent. let no : ⊥ = cc in no)) ∙ same in let no : ⊥ = cc in no) (read_as request other (is (λ same. let never : ⊥ = cc in never))) (λ same. unblamed (is (λ spent. let never : refusal.NoMemory ≡ refusal.ServerFault = sym spent ∙ same in cc) ∙ ap Err same)) (λ before. subst (λ (r : Result Request Refusal). DoesRequest s.functions s.honest (languages_of now.engine.pool) before r (refusal_text other) before)
       (sym (is (λ same. let never : ⊥ = cc in never))) (refl, refl)) is_open
 
 -- the same request
@@ -233,6 +245,12 @@ told_full (Some d) docs world request P full known = λ name length is. elim (fu
   | inr of_index ↦ inr of_index
 ]
 
+-- what is told of each full file is told of all
+told_filled : (disk : Option (Disk FileName)) (P : FileName → Option ℕ → Type 0) (V : Type 0) (Q : Disk FileName → FileName → Option ℕ → Type 0)
+    → ((name : FileName) (length : Option ℕ) → P name length → V → IfTold disk (λ d. Q d name length)) → IfTold disk (λ d. (name : FileName) (length : Option ℕ) → P name length → V → Q d name length)
+told_filled None P V Q each = tt
+told_filled (Some d) P V Q each = each
+
 -- where the disk failed the request would have passed no limit of the file
 told_room : (disk : Option (Disk FileName)) (docs : Docs) (world : World) (request : Result Request Refusal) (A : Type 0) → (A → FitsFor docs request) → IfTold disk (λ d. AreAt docs d.now world.history)
     → IfTold disk (λ d. A → HasRoomAt d.now world request)
@@ -257,7 +275,7 @@ module _ {F : Type 0} (f : Folders F) (engine : Engine) (old new : F) (request :
   why_full name length why = why
 
   why_unsound : (world : World) (name : FileName) (at : ℕ) → Why (Damaged name at)
-      → IfTold (f.disk old) (λ d. AreAt engine.docs d.now world.history → ⊥) ⊎ IfTold (f.disk old) (λ d. IsIndexFile name × (IsAtWorld engine d.now world → AreShaped world → ⊥))
+      → IfTold (f.disk old) (λ d. AreAt engine.docs d.now world.history → ⊥) ⊎ IfTold (f.disk old) (λ d. IsIndexFile name × (IsAtWorld engine d.now world → IsShapedFor request world → ⊥))
   why_unsound world name at (inl why) = inl ((why.1).1 world)
   why_unsound world name at (inr why) = inr (told_pair (f.disk old) (λ d. MeetsIndexDamage engine.docs d.now request name at) _ _ (λ d damage never. (of_index request name at d.now damage, never)) why.1 (why.2 world))
 
@@ -275,9 +293,9 @@ module _ {F C : Type 0} {f : Folders F} {s : Servers C} {old new : Scene F C} {l
     step_stopped other = stopped_by f s old new before line out out' fault other (step.does before at)
 
     -- a damaged place is one of an index, and the world's pictures have not the shape of their designs
-    pub step_sound : IfTold (f.disk old.folder) (λ d. (name : FileName) (at : ℕ) → fault ≡ Damaged name at → IsIndexFile name × (AreShaped before.world → ⊥))
+    pub step_sound : IfTold (f.disk old.folder) (λ d. (name : FileName) (at : ℕ) → fault ≡ Damaged name at → IsIndexFile name × (IsShapedFor (request_of line) before.world → ⊥))
     step_sound =
-        told_sound (f.disk old.folder) (λ d. AreAt old.engine.docs d.now before.world.history) (λ d. IsAtWorld old.engine d.now before.world) (AreShaped before.world) (λ name at. fault ≡ Damaged name at)
+        told_sound (f.disk old.folder) (λ d. AreAt old.engine.docs d.now before.world.history) (λ d. IsAtWorld old.engine d.now before.world) (IsShapedFor (request_of line) before.world) (λ name at. fault ≡ Damaged name at)
         (λ name at is. why_unsound f old.engine old.folder new.folder (request_of line) before.world name at (met is)) (documents_at _ _ before.world at.documents) at.documents
 
     -- where the disk failed there was room for what the line writes
@@ -291,6 +309,14 @@ module _ {F C : Type 0} {f : Folders F} {s : Servers C} {old new : Scene F C} {l
     step_full =
         told_full (f.disk old.folder) old.engine.docs before.world (request_of line) (λ name length. fault ≡ Full name length)
         (λ name length is. why_full f old.engine old.folder new.folder (request_of line) name length (met is)) (documents_at _ _ before.world at.documents)
+
+    -- where it is one of an index, it would be full with the next picture of the view's design
+    pub step_filled : IfTold (f.disk new.folder) (λ d. (name : FileName) (length : Option ℕ) → fault ≡ Full name length → IsView (request_of line)
+        → IsIndexFullFor s.functions s.honest (languages_of old.engine.pool) d.now before.world (request_of line) name length)
+    step_filled =
+        told_filled (f.disk new.folder) (λ name length. fault ≡ Full name length) (IsView (request_of line))
+        (λ d name length. IsIndexFullFor s.functions s.honest (languages_of old.engine.pool) d.now before.world (request_of line) name length)
+        (λ name length is view. step.filled before at name length (ap Err is) view)
 
 left_files : (fault : StepFault) → fault ≢ DiskFault → LeavesFiles (Stopped fault)
 left_files DiskFault other = other refl
@@ -340,8 +366,11 @@ module _ {F C : Type 0} {f : Folders F} {s : Servers C} {old new : Scene F C} {l
         → (ReadsDocuments (request_of line) × IfTold (f.disk new.folder) (λ d. HasBodyDamage d.now name at)) ⊎ (IsOnIndexes (request_of line) × IfTold (f.disk old.folder) (λ d. MeetsIndexDamageIn d.now (request_of line) name at))
     step_damaged name at is = elim (why_damaged f old.engine old.folder new.folder (request_of line) name at (met step is)) [
       | inl damage ↦ inl (damage.0, by_kind damage.1 (reads_either (request_of line) damage.0))
-      | inr of_index ↦ inr (of_index.0, told_pair (f.disk old.folder) (λ d. IsOpen old.engine.docs d.now) (λ d. MeetsIndexDamage old.engine.docs d.now (request_of line) name at) _
-          (λ d here damage. record { docs = old.engine.docs; is_open = here; damage = damage }) opened of_index.1)
+      | inr of_index ↦ inr (
+        of_index.0,
+        told_pair (f.disk old.folder) (λ d. IsOpen old.engine.docs d.now) (λ d. MeetsIndexDamage old.engine.docs d.now (request_of line) name at) _
+            (λ d here damage. record { docs = old.engine.docs; is_open = here; damage = damage }) opened of_index.1,
+      )
     ]
       where
         opened : IfTold (f.disk old.folder) (λ d. IsOpen old.engine.docs d.now)

@@ -90,7 +90,7 @@ no_picture views None = ap (λ rows. record { seq = 0; rows = rows }) (empty_row
 no_picture views (Some picture) = refl
 
 -- what was set is there
-set_there : (own : List ℕ) (next : Picture) (before after : List ℕ → Option Picture) → AreSetAt own (Some next) before after → after own ≡ Some next
+pub set_there : (own : List ℕ) (next : Picture) (before after : List ℕ → Option Picture) → AreSetAt own (Some next) before after → after own ≡ Some next
 set_there own next before after set = set own ∙ ap (λ b. if b then Some next else before own) ((bytes_eq-Decides own own).1 refl)
 
 -- ---- what is known once the request is planned, where the folder tells its disk

@@ -1,8 +1,9 @@
 -- A view, as the engine performs it.
-use Rattle.std.specs.Prelude.{◌≡◌, ◌≢◌, ◌⊎◌, ℕ, List, length, None, Result, Ok, Err, IfErr, OnErr, OnOk}
+use Rattle.std.specs.Prelude.{◌≡◌, ◌≢◌, ◌⊎◌, ℕ, List, length, Option, None, Result, Ok, Err, IfErr, OnErr, OnOk}
 use Rattle.std.proofs.Common.{refl}
-use Rattle.view_ports.specs.Disk.{Moves, Tells}
+use Rattle.view_ports.specs.Disk.{IfTold, Tells}
 use Rattle.view_ports.specs.Faults.{RoseBy}
+use Rattle.view_ports.specs.declared.file_name.FileName.{FileName}
 use Rattle.view_ports.specs.declared.folder.Folder.{Ghosts as Folders}
 use Rattle.view_ports.specs.declared.servers.Servers.{Ghosts as Servers}
 use Rattle.view_ports.proofs.Told.{told_now}
@@ -18,6 +19,7 @@ use Rattle.view_engine.specs.declared.request.Request.TheVariants.{View as ViewR
 use Rattle.view_engine.specs.declared.request.ViewName.{ViewName}
 use Rattle.view_engine.specs.Calls.{AppendsReplyTo, CrashesAround, DoesBy, LeavesChild, LeavesMoment, Performed, Scene, StandsAt, Stays}
 use Rattle.view_engine.specs.Disks.{IfStopped, IsReasonOf, LiesOpen, MayGoOn, MovesIndexOf}
+use Rattle.view_engine.specs.FullIndex.{IsIndexFull}
 use Rattle.view_engine.specs.Halts.{FitsFor, GoesOn}
 use Rattle.view_engine.specs.Moments.{Moment}
 use Rattle.view_engine.specs.Refusals.{refusal_text}
@@ -68,11 +70,16 @@ module _ {F C : Type 0} (f : Folders F) (s : Servers C) (old new : Scene F C) (n
   fits_always (Ok done) = tt
   fits_always (Err halt) = tt
 
+  -- where a file of the index is full
+  abbrev pub FillsIndex : Result (Unit {0}) Halt → Type 0
+  FillsIndex result = (before : Moment) → StandsAt f s old before → (file : FileName) (limit : Option ℕ) → result ≡ Err (Stopped (Full file limit))
+      → IfTold (f.disk new.folder) (λ d. IsIndexFull s.functions s.honest (languages_of old.engine.pool) d.now before.world name file limit)
+
   -- a view is performed as these parts say
   pub viewed : {out out' : List ℕ} {result : Result (Unit {0}) Halt} → ((before : Moment) → StandsAt f s old before → DoesBy f s old new before request out out' result) → OnOk result (AppendsReplyTo request out out') → OnErr result (out' ≡ out)
       → (result ≡ Err (Refused ServerFault) → RoseBy 2 (s.faults old.servers) (s.faults new.servers)) → Tells (f.disk old.folder) (f.disk new.folder) (MovesIndexOf old.engine name)
-      → (MayGoOn result → LiesOpen f new.engine new.folder) → IfErr result (IfStopped (IsReasonOf f old.engine old.folder new.folder request)) → Stays f s old new → Performed f s old new request out out' result
-  viewed {result = result} does prints silent blames moved is_open why stays = record {
+      → (MayGoOn result → LiesOpen f new.engine new.folder) → FillsIndex result → IfErr result (IfStopped (IsReasonOf f old.engine old.folder new.folder request)) → Stays f s old new → Performed f s old new request out out' result
+  viewed {result = result} does prints silent blames moved is_open filled why stays = record {
     does = does;
     prints = prints;
     silent = silent;
@@ -80,6 +87,8 @@ module _ {F C : Type 0} (f : Folders F) (s : Servers C) (old new : Scene F C) (n
     blames = blames;
     fits = fits_always result;
     disk = record { documents = λ no. absurd (no tt); indexes = moved; is_open = is_open };
+    cleared = tt;
+    filled = λ before at file limit is view. filled before at file limit is;
     why = why;
     stays = stays;
   }

@@ -1,9 +1,10 @@
 -- What a request promises, whole: over the documents alone, over the engine, and as the step of a line.
-use Rattle.std.specs.Prelude.{◌≡◌, ◌≢◌, ◌⊎◌, ◌≤◌, ◌++◌, ℕ, List, [], true, false, Result, Ok, Err, IfErr, OnErr, OnOk, Some}
+use Rattle.std.specs.Prelude.{◌≡◌, ◌≢◌, ◌⊎◌, ◌≤◌, ◌++◌, ℕ, List, [], true, false, Result, Ok, Err, IfErr, OnErr, OnOk, Option, Some}
 use Rattle.json_terms.specs.Json.{object, members_of}
 use Rattle.view_ports.specs.Disk.{IfTold, LeavesOnly, Tells}
 use Rattle.view_ports.specs.Faults.{RoseBy}
 use Rattle.view_ports.specs.Lines.{ended, IsLine}
+use Rattle.view_ports.specs.declared.file_name.FileName.{FileName}
 use Rattle.view_ports.specs.declared.folder.Folder.{Ghosts as Folders}
 use Rattle.view_ports.specs.declared.servers.Servers.{Ghosts as Servers}
 use Rattle.child_pool.specs.Pools.{languages_of, width_of}
@@ -13,14 +14,15 @@ use Rattle.view_engine.specs.declared.engine.Engine.{Engine}
 use Rattle.view_engine.specs.declared.halt.Halt.{Halt}
 use Rattle.view_engine.specs.declared.halt.Halt.TheVariants.{Refused, Stopped}
 use Rattle.view_engine.specs.declared.halt.StepFault.{StepFault}
-use Rattle.view_engine.specs.declared.halt.StepFault.TheVariants.{NoMemory}
+use Rattle.view_engine.specs.declared.halt.StepFault.TheVariants.{Full, NoMemory}
 use Rattle.view_engine.specs.declared.refusal.Refusal.{Refusal}
 use Rattle.view_engine.specs.declared.refusal.Refusal.TheVariants.{ServerFault}
 use Rattle.view_engine.specs.declared.request.Request.{Request}
 use Rattle.view_engine.specs.declared.request.Request.TheVariants.{Put, Delete, Get, Info}
 use Rattle.view_engine.specs.Accepted.{is_ok}
 use Rattle.view_engine.specs.Delete.{DoesDelete, IsDeleteRefused}
-use Rattle.view_engine.specs.Disks.{HasGivenUp, IfStopped, IsReason, IsReasonOf, KeepsDisk, KeepsDocuments, MayGoOn, OverWorld}
+use Rattle.view_engine.specs.Disks.{Clears, HasGivenUp, HasReply, IfStopped, IsReason, IsReasonOf, KeepsDisk, KeepsDocuments, IsView, MayGoOn, MayWant, OverWorld}
+use Rattle.view_engine.specs.FullIndex.{IsIndexFullFor}
 use Rattle.view_engine.specs.Engine.{Appends, HasChild, IsAt, Leaves}
 use Rattle.view_engine.specs.Get.{get_refusal, DoesGet, DoesInfo}
 use Rattle.view_engine.specs.Halts.{FitsFor, HasGoneOn, HasLeftFiles}
@@ -189,6 +191,11 @@ module _ {F C : Type 0} (f : Folders F) (s : Servers C) where
       -- what is written passes no limit of the file
       pub fits : OnOk result (FitsFor old.engine.docs request)
       pub disk : KeepsDisk f old.engine new.engine old.folder new.folder request (HasGivenUp result) (MayGoOn result)
+      -- a cleanup removes the files of indexes that no live design has, and no others
+      pub cleared : Clears f old.engine.docs old.folder new.folder request (HasReply result) (MayWant result)
+      -- a file of an index is full only where it would be with the next picture of the view's design
+      pub filled : (before : Moment) → StandsAt old before → (name : FileName) (length : Option ℕ) → result ≡ Err (Stopped (Full name length)) → IsView request
+          → IfTold (f.disk new.folder) (λ d. IsIndexFullFor s.functions s.honest Languages d.now before.world request name length)
       pub why : IfErr result (IfStopped (IsReasonOf f old.engine old.folder new.folder request))
       pub stays : Stays old new
 
@@ -212,6 +219,11 @@ module _ {F C : Type 0} (f : Folders F) (s : Servers C) where
       pub asked : OnErr result (line ≢ [])
       pub idle : line ≡ [] → new.folder ≡ old.folder
       pub disk : KeepsDisk f old.engine new.engine old.folder new.folder (request_of line) (HasLeftFiles result) (HasGoneOn result)
+      -- a cleanup removes the files of indexes that no live design has, and no others
+      pub cleared : line ≢ [] → Clears f old.engine.docs old.folder new.folder (request_of line) (result ≡ Ok tt) (result ≡ Err NoMemory)
+      -- a file of an index is full only where it would be with the next picture of the view's design
+      pub filled : (before : Moment) → StandsAt old before → (name : FileName) (length : Option ℕ) → result ≡ Err (Full name length) → IsView (request_of line)
+          → IfTold (f.disk new.folder) (λ d. IsIndexFullFor s.functions s.honest Languages d.now before.world (request_of line) name length)
       pub why : IfErr result (IsReasonOf f old.engine old.folder new.folder (request_of line))
       pub stays : Stays old new
 

@@ -1,5 +1,5 @@
 -- What a cleanup promises, over the documents and the indexes.
-use Rattle.std.specs.Prelude.{◌≡◌, ◌⊎◌, ◌≤◌, ◌++◌, ℕ, List, Result, Ok, Err, Some, IfErr, OnErr, OnOk, Contains}
+use Rattle.std.specs.Prelude.{◌≡◌, ◌⊎◌, ◌≤◌, ◌++◌, ℕ, List, [], Result, Ok, Err, Some, IfErr, OnErr, OnOk, Contains}
 use Rattle.json_terms.specs.Json.{Json}
 use Rattle.view_signature.specs.Signature.{signature_of}
 use Rattle.view_ports.specs.Disk.{IfTold, Moves, MovesNone, Tells}
@@ -21,9 +21,9 @@ use Rattle.view_groups.specs.Pictures.{StandFor}
 use Rattle.view_engine.specs.declared.halt.Halt.{Halt}
 use Rattle.view_engine.specs.declared.halt.Halt.TheVariants.{Refused, Stopped}
 use Rattle.view_engine.specs.declared.halt.StepFault.{StepFault}
-use Rattle.view_engine.specs.declared.halt.StepFault.TheVariants.{DiskFault, Damaged, Full, NoMemory}
+use Rattle.view_engine.specs.declared.halt.StepFault.TheVariants.{Damaged, NoMemory}
 use Rattle.view_engine.specs.Cleanup.{done_text, IsCleaned, IsLiveSignature, IsPartlyCleaned}
-use Rattle.view_engine.specs.Disks.{HasSlotDamage, IfStopped, IsReadReason, MayGoOn}
+use Rattle.view_engine.specs.Disks.{HasSlotDamage, IfStopped, IsOfNone, IsReadReason, MayGoOn}
 use Rattle.view_engine.specs.Halts.{halted_as}
 use Rattle.view_engine.specs.World.{World}
 
@@ -62,7 +62,7 @@ module _ {F : Type 0} (f : Folders F) (docs : Docs) (groups groups' : Groups) (o
   -- why it is stopped: as reading documents is, or by a file of an index that is damaged, which there is in no world
   abbrev pub IsCleanupReason : StepFault → Type 0
   IsCleanupReason (Damaged name at) = IsReadReason f docs old new (Damaged name at)
-      ⊎ (IfTold (f.disk old) (λ d. HasSlotDamage d.now name at) × ((world : World) → IfTold (f.disk old) (λ d. AreIndexesAt groups d.now world.pictures → ⊥)))
+      ⊎ (IfTold (f.disk old) (λ d. HasSlotDamage docs d.now name at) × ((world : World) → IfTold (f.disk old) (λ d. AreIndexesAt groups d.now world.pictures → ⊥)))
   IsCleanupReason fault = IsReadReason f docs old new fault
 
   pub record CleansUp (out out' : List ℕ) (result : Result (Unit {0}) Halt) : Type 0 where
@@ -73,6 +73,9 @@ module _ {F : Type 0} (f : Folders F) (docs : Docs) (groups groups' : Groups) (o
     pub others : Tells (f.disk old) (f.disk new) (Moves IsIndexFile (λ image. Unit {0}) (λ files. Unit {0}))
     pub unmoved : result ≡ Err (Stopped NoMemory) → (groups' ≡ groups) × Tells (f.disk old) (f.disk new) MovesNone
     pub is_open : MayGoOn result → IfTold (f.disk old) (λ d. AreIndexesOpen groups d.now) → IfTold (f.disk new) (λ d. AreIndexesOpen groups' d.now)
+    -- over documents at a history only files of indexes change that no live design has, and in the end none of these has bytes
+    pub spared : (history : List Write) → IfTold (f.disk old) (λ d. AreAt docs d.now history) → Tells (f.disk old) (f.disk new) (Moves (IsOfNone history) (λ image. Unit {0}) (λ files. Unit {0}))
+    pub empty : OnOk result ((history : List Write) → IfTold (f.disk old) (λ d. AreAt docs d.now history) → IfTold (f.disk new) (λ d. (name : FileName) → IsOfNone history name → (d.now name).seen ≡ []))
     pub prints : OnOk result (out' ≡ out ++ ended done_text)
     pub silent : OnErr result (out' ≡ out)
     pub stopped : IfErr result IsStopped

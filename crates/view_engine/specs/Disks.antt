@@ -1,5 +1,5 @@
 -- What a request promises of the files and their disk, and why it meets a fault.
-use Rattle.std.specs.Prelude.{◌≡◌, ◌⊎◌, ◌≤◌, ℕ, List, length, Result, Ok, Err, IfErr}
+use Rattle.std.specs.Prelude.{◌≡◌, ◌⊎◌, ◌≤◌, ℕ, List, [], length, Result, Ok, Err, IfErr}
 use Rattle.json_terms.specs.Json.{Json}
 use Rattle.design_docs.specs.Design.{views_of}
 use Rattle.gate_file.specs.Open.{IsFirstDamage}
@@ -18,6 +18,8 @@ use Rattle.view_engine.specs.declared.refusal.Refusal.{Refusal}
 use Rattle.view_engine.specs.declared.request.Request.{Request}
 use Rattle.view_engine.specs.declared.request.ViewName.{ViewName}
 use Rattle.view_engine.specs.View.{design_id}
+use Rattle.view_engine.specs.Cleanup.{IsLiveSignature}
+use Rattle.doc_file.specs.History.{Write}
 use Rattle.view_engine.specs.declared.request.Request.TheVariants.{Cleanup, Get, View as ViewRequest}
 use Rattle.view_ports.specs.File.{File}
 use Rattle.view_ports.specs.declared.file_name.Stem.TheVariants.{View}
@@ -43,6 +45,19 @@ HasGivenUp (Err halt) = LeavesFiles halt
 abbrev pub MayGoOn : {T : Type 0} → Result T Halt → Type 0
 MayGoOn (Ok done) = Unit {0}
 MayGoOn (Err halt) = GoesOn halt
+
+-- it was done or refused, so that there is a reply
+abbrev pub HasReply : Result (Unit {0}) Halt → Type 0
+HasReply (Ok done) = Unit {0}
+HasReply (Err (Refused refusal)) = Unit {0}
+HasReply (Err (Stopped fault)) = ⊥
+
+-- it was refused, or memory ran out, so that the reply may be that
+abbrev pub MayWant : Result (Unit {0}) Halt → Type 0
+MayWant (Ok done) = ⊥
+MayWant (Err (Refused refusal)) = Unit {0}
+MayWant (Err (Stopped NoMemory)) = Unit {0}
+MayWant (Err (Stopped other)) = ⊥
 
 -- what is said of its fault, where it is stopped by one
 abbrev pub IfStopped : (StepFault → Type 0) → Halt → Type 0
@@ -87,15 +102,21 @@ pub record HasIndexDamage (docs : Docs) (files : FileName → File) (view : View
   pub own : IsFileOf (View (signature_of document)) name
   pub damage : IsDamagedAt (View (signature_of document)) (length (views_of document)) files name at
 
--- at this place a file of an index is damaged, of which a cleanup opens each pair that is to go
-pub record HasSlotDamage (files : FileName → File) (name : FileName) (at : ℕ) : Type 0 where
+-- at this place a slot of an index is damaged that no live design has, where the documents are at a history: a cleanup opens it to
+-- remove it
+pub record HasSlotDamage (docs : Docs) (files : FileName → File) (name : FileName) (at : ℕ) : Type 0 where
   pub sig : List ℕ
   pub damage : IsFirstDamage (View sig) files name at
+  pub unlived : (history : List Write) → AreAt docs files history → IsLiveSignature history sig → ⊥
+
+-- a file of an index that no live design of a history has
+abbrev pub IsOfNone : List Write → FileName → Type 0
+IsOfNone history name = (sig : List ℕ) × (name.stem ≡ View sig) × (IsLiveSignature history sig → ⊥)
 
 -- what a request may meet as damaged of an index
 abbrev pub MeetsIndexDamage : Docs → (FileName → File) → Result Request Refusal → FileName → ℕ → Type 0
 MeetsIndexDamage docs files (Ok (ViewRequest view limits)) name at = HasIndexDamage docs files view name at
-MeetsIndexDamage docs files (Ok Cleanup) name at = HasSlotDamage files name at
+MeetsIndexDamage docs files (Ok Cleanup) name at = HasSlotDamage docs files name at
 MeetsIndexDamage docs files other name at = ⊥
 
 -- the file is one of an index, which the request may have opened
@@ -107,6 +128,11 @@ pub record MeetsIndexDamageIn (files : FileName → File) (request : Result Requ
   pub docs : Docs
   pub is_open : IsOpen docs files
   pub damage : MeetsIndexDamage docs files request name at
+
+-- the shape that a view asks of the pictures of a world, which is that of their designs; a cleanup asks for none
+abbrev pub IsShapedFor : Result Request Refusal → World → Type 0
+IsShapedFor (Ok Cleanup) world = Unit {0}
+IsShapedFor other world = AreShaped world
 
 -- A view changes no file, or only those of the index of the design that it asks for, and none where this is open and nothing was written
 -- since.
@@ -149,6 +175,18 @@ module _ {F : Type 0} (f : Folders F) where
   MovesIndexes engine old new (Ok Cleanup) = Tells (f.disk old) (f.disk new) (Moves IsIndexFile (λ image. Unit {0}) (λ files. Unit {0}))
   MovesIndexes engine old new other = Unit {0}
 
+  -- What a cleanup does with files, whatever those of indexes hold. Over documents at a history only those change of indexes that no live
+  -- design has, and where it is done none of these has bytes. For want of memory none changes.
+  pub record ClearsIndexes (docs : Docs) (old new : F) (Done Wants : Type 0) : Type 0 where
+    pub spared : (history : List Write) → IfTold (f.disk old) (λ d. AreAt docs d.now history) → Tells (f.disk old) (f.disk new) (Moves (IsOfNone history) (λ image. Unit {0}) (λ files. Unit {0}))
+    pub empty : Done → (history : List Write) → IfTold (f.disk old) (λ d. AreAt docs d.now history) → IfTold (f.disk new) (λ d. (name : FileName) → IsOfNone history name → (d.now name).seen ≡ [])
+    pub unmoved : Wants → Tells (f.disk old) (f.disk new) MovesNone
+
+  -- the same where the request is one
+  abbrev pub Clears : Docs → F → F → Result Request Refusal → Type 0 → Type 0 → Type 0
+  Clears docs old new (Ok Cleanup) Done Wants = ClearsIndexes docs old new Done Wants
+  Clears docs old new other Done Wants = Unit {0}
+
   -- which files a request changes, whatever the folder holds, and where the engine is after it
   pub record KeepsDisk (engine engine' : Engine) (old new : F) (request : Result Request Refusal) (HasGivenUp GoesOn : Type 0) : Type 0 where
     -- a request that is no view and no cleanup changes the documents alone, and these change only files of indexes
@@ -175,11 +213,11 @@ module _ {F : Type 0} (f : Folders F) where
   IsReason docs old new request NoMemory = Unit {0}
 
   -- the same of a view or a cleanup, which meet it in a file of an index: it is full, or damaged, and this in no world whose pictures
-  -- have the shape of their designs
+  -- have the shape that is asked
   abbrev pub IsIndexReason : Engine → F → Result Request Refusal → StepFault → Type 0
   IsIndexReason engine old request (Full name length) = IsOfIndex request name
   IsIndexReason engine old request (Damaged name at) =
-      IsOnIndexes request × IfTold (f.disk old) (λ d. MeetsIndexDamage engine.docs d.now request name at) × ((world : World) → IfTold (f.disk old) (λ d. IsAtWorld engine d.now world → AreShaped world → ⊥))
+      IsOnIndexes request × IfTold (f.disk old) (λ d. MeetsIndexDamage engine.docs d.now request name at) × ((world : World) → IfTold (f.disk old) (λ d. IsAtWorld engine d.now world → IsShapedFor request world → ⊥))
   IsIndexReason engine old request other = ⊥
 
   -- of the documents or of an index

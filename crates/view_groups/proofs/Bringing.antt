@@ -44,10 +44,10 @@ use Rattle.view_index.specs.Opens.{FindsDamage, IsOpenFault}
 use Rattle.view_updater.specs.declared.fault.UpdateFault.{UpdateFault}
 use Rattle.view_updater.specs.declared.fault.UpdateFault.TheVariants.{Docs as OfDocuments, Index as OfIndex, NoMemory, Pool as OfPool}
 use Rattle.view_updater.specs.Faults.{by_index, by_pool}
-use Rattle.view_updater.specs.Updates.{documents_since, side as side_of_index, Side as IndexSide, EndsAt as EndsIndex, HasAskedFor, IsBodyDamaged, IsBreak, IsFileFault, IsIdleEnd, IsLost, IsMade, IsMadeBy as IsMadeOf, IsMetAs, IsOfIndex}
+use Rattle.view_updater.specs.Updates.{documents_since, side as side_of_index, Side as IndexSide, EndsAt as EndsIndex, HasAskedFor, IsBodyDamaged, IsBreak, IsFileFault, IsFullWith, IsIdleEnd, IsLost, IsMade, IsMadeBy as IsMadeOf, IsMetAs, IsOfIndex}
 use Rattle.view_updater.proofs.Ends.{index_of_no_documents, index_of_no_pool, index_stored}
 use Rattle.view_groups.specs.declared.groups.Groups.{Groups}
-use Rattle.view_groups.specs.Brings.{side, Brings, EndsAt, HasAsked, IsGroupFault, IsIdle, IsMadeBy, MayLeave, Side}
+use Rattle.view_groups.specs.Brings.{side, Brings, EndsAt, HasAsked, IsGroupFault, IsIdle, IsMadeBy, IsNext, MayLeave, Side}
 use Rattle.view_groups.specs.Groups.{open_of, AreAt, AreOpen, IsGroup}
 use Rattle.view_groups.specs.Openings.{EndsOpen, IsFit, IsWithin, OpensGroup}
 use Rattle.view_groups.specs.Pictures.{Pictures, StandsOf}
@@ -220,6 +220,7 @@ module _ {F C : Type 0} (f : Folders F) (s : Servers C) (docs : Docs) (design : 
     read = λ history. told_all (f.disk folder) (λ d. AreDocumentsAt docs d.now history → (name : FileName) (at : ℕ) → refused NoMemory ≢ Err (OfDocuments (Damaged name at))) (λ d k name at is. cc);
     file = tt;
     full = λ name size is. let no : ⊥ = cc in absurd no;
+    filled = λ history pictures reached name size is. let no : ⊥ = cc in absurd no;
     spoiled = told_all (f.disk folder) (λ d. (name : FileName) (at : ℕ) → refused NoMemory ≡ Err (OfIndex (fault_of.Store (Damaged name at))) → IsSpoiled d.now name at) (λ d name at is. let no : ⊥ = cc in absurd no);
     body = told_all (f.disk folder) (λ d. FindsBody d.now (refused NoMemory)) (λ d own loaded name at is. let no : ⊥ = cc in absurd no);
     others = told_still (f.disk folder) (λ d. AreOpen groups d.now) _
@@ -261,6 +262,7 @@ module _ {F C : Type 0} (f : Folders F) (s : Servers C) (docs : Docs) (design : 
             (λ d k name at is. index_of_no_documents fault (Damaged name at) (let same : by_index fault ≡ OfDocuments (Damaged name at) = cc in same));
         file = open_file fault opens.faults;
         full = λ name size is. absurd (open_room fault opens.faults name size (index_stored fault (Full name size) (let same : by_index fault ≡ OfIndex (fault_of.Store (Full name size)) = cc in same)));
+        filled = λ history pictures reached name size is. absurd (open_room fault opens.faults name size (index_stored fault (Full name size) (let same : by_index fault ≡ OfIndex (fault_of.Store (Full name size)) = cc in same)));
         spoiled = told_now (f.disk folder) (λ d. FindsDamage (IsDamagedAt (View (sig_of design)) (views_in design) d.now) (unopened fault))
             (λ d. (name : FileName) (at : ℕ) → refused (by_index fault) ≡ Err (OfIndex (fault_of.Store (Damaged name at))) → IsSpoiled d.now name at)
             (λ d found name at is.
@@ -443,6 +445,20 @@ module _ {F C : Type 0} (f : Folders F) (s : Servers C) (docs : Docs) (design : 
           (λ image before. inl before) (λ was image either. around_placed history pictures image either) (λ was done. ends_at history pictures b.now c.now was.1 second.others result done) first.1 second)
           (begun history pictures reached) (moving history pictures (there history pictures reached))
 
+      -- where its file is full, the index is at its picture still
+      abbrev Filling : ℕ → List Write → Pictures → FileName → Option ℕ → Disk FileName → Disk FileName → Type 0
+      Filling n history pictures name size a b = IsAt at.after b.now (pictures (sig_of design)) × ((next : Picture) × Next n history pictures next × IsFullWith at.after next name size)
+
+      filled : (history : List Write) (pictures : Pictures) → IfTold (f.disk folder) (λ d. IsReached docs groups design history pictures d.now) → (name : FileName) (size : Option ℕ) → result ≡ Err (OfIndex (fault_of.Store (Full name size)))
+          → Tells (f.disk folder) (f.disk new) (λ a b. (index : Index) × (next : Picture) × IsAt index b.now (pictures (sig_of design)) × IsNext f s docs design given left history pictures next × IsFullWith index next name size)
+      filled history pictures reached name size is =
+          told_then (f.disk folder) (f.disk mid) (f.disk new) (IsBegun history pictures) (Filling (views_in design) history pictures name size)
+          (λ a b. (index : Index) × (next : Picture) × IsAt index b.now (pictures (sig_of design)) × IsNext f s docs design given left history pictures next × IsFullWith index next name size)
+          (λ a b c first full. (at.after, full.1.0, full.0, full.1.1, full.1.2))
+          (begun history pictures reached)
+          (subst (λ (n : ℕ). Tells (f.disk mid) (f.disk new) (Filling n history pictures name size)) at.there.number
+          (at.updates.filled history (pictures (sig_of design)) (told_now (f.disk mid) (IsThere history pictures) _ (λ d k. record { documents = k.0; at = before_at d.now pictures k.1 }) (there history pictures reached)) name size is))
+
       asked : (history : List Write) (pictures : Pictures) (files : FileName → File) → AreAt mid_groups files pictures
           → (((servers' ≡ servers) × (pool' ≡ pool)) × (IsIdleEnd result × OnOk result (seq_of at.before ≡ length history))) ⊎ HasAskedFor s servers servers' pool pool' design (documents_since (seq_of at.before) history) result
           → (IsIdle f s docs design given left × (IsIdleEnd (placed place result) × OnOk (placed place result) ((picture_for design pictures).seq ≡ length history)))
@@ -536,6 +552,7 @@ module _ {F C : Type 0} (f : Folders F) (s : Servers C) (docs : Docs) (design : 
         read = λ history. read_before history (at.updates.sound history);
         file = file_placed place result at.updates.file;
         full = λ name size is. at.updates.full name size (unplaced place result (OfIndex (fault_of.Store (Full name size))) is) ∙ at.there.named;
+        filled = λ history pictures reached name size is. filled history pictures reached name size (unplaced place result (OfIndex (fault_of.Store (Full name size))) is);
         spoiled = told_all (f.disk folder) (λ d. (name : FileName) (k : ℕ) → placed place result ≡ Err (OfIndex (fault_of.Store (Damaged name k))) → IsSpoiled d.now name k)
             (λ d name k is. absurd (at.updates.whole name k (unplaced place result (OfIndex (fault_of.Store (Damaged name k))) is)));
         body = found_before at.updates.damaged;

@@ -26,7 +26,7 @@ use Rattle.view_index.specs.Held.{HoldsIndex, HoldsPicture}
 use Rattle.view_index.specs.Removes.{IsRemoveFault}
 use Rattle.view_index.proofs.Carried.{picture_of_root}
 use Rattle.view_groups.specs.declared.groups.Groups.{Groups}
-use Rattle.view_groups.specs.Cleans.{AreCleared, Cleans, EndsAt, IsDamageOf, IsIndexFile}
+use Rattle.view_groups.specs.Cleans.{AreCleared, Cleans, EndsAt, IsDamageOf, IsIndexFile, IsUnkept}
 use Rattle.view_groups.specs.Groups.{AreAt, AreOpen}
 use Rattle.view_groups.specs.Pictures.{Pictures}
 use Rattle.view_groups.specs.Removing.{AreLeft, AreRemoved, AreSameOrEmpty, IsNamed, RemovesEach, StandsForFewer}
@@ -124,9 +124,9 @@ module _ {F : Type 0} (f : Folders F) (kept : List (List ℕ)) (groups : Groups)
       damaged = told_back (f.disk old) (f.disk mid) (λ d. (name : FileName) (at : ℕ) → result ≡ Err (Store (Damaged name at)) → IsDamageOf kept d.now name at)
           (λ d. (name : FileName) (at : ℕ) → result ≡ Err (Store (Damaged name at)) → IsDamageOf kept d.now name at) Passes
           (λ a b same finds name at failed. damage_before kept a.now b.now (same_passes a b same) name at (finds name at failed)) passes removes.damaged;
-      others = told_then (f.disk old) (f.disk mid) (f.disk new) Passes (Moves IsIndexFile (λ image. Unit {0}) (λ files. Unit {0})) (Moves IsIndexFile (λ image. Unit {0}) (λ files. Unit {0}))
-          (λ a b c same moved. moves_then IsIndexFile (λ image. Unit {0}) (λ image. Unit {0}) (λ image. Unit {0}) (λ files. Unit {0}) (λ files. Unit {0}) (λ files. Unit {0}) a b c
-          (λ image is. tt) (λ ended image is. tt) (λ one_ended other_ended. tt) (moves_passes IsIndexFile (λ image. Unit {0}) (λ files. Unit {0}) a b (λ image is. tt) (λ all. tt) same) moved) passes removes.others;
+      others = told_then (f.disk old) (f.disk mid) (f.disk new) Passes (Moves (IsUnkept kept) (λ image. Unit {0}) (λ files. Unit {0})) (Moves (IsUnkept kept) (λ image. Unit {0}) (λ files. Unit {0}))
+          (λ a b c same moved. moves_then (IsUnkept kept) (λ image. Unit {0}) (λ image. Unit {0}) (λ image. Unit {0}) (λ files. Unit {0}) (λ files. Unit {0}) (λ files. Unit {0}) a b c
+          (λ image is. tt) (λ ended image is. tt) (λ one_ended other_ended. tt) (moves_passes (IsUnkept kept) (λ image. Unit {0}) (λ files. Unit {0}) a b (λ image is. tt) (λ all. tt) same) moved) passes removes.others;
       is_open = λ are want. by_result result want removes.faults (removes.is_open (open_mid are));
       faults = named result removes.faults;
       cause = record { later = omega (arith, later, removes.cause.later); failed = rising result removes.cause.failed };
@@ -144,7 +144,7 @@ module _ {F : Type 0} (f : Folders F) (kept : List (List ℕ)) (groups : Groups)
             → OnOk r (IfTold (f.disk new) (λ d. AreCleared kept d.now))
         cleared (Ok done) each removed =
             told_pair (f.disk new) (λ d. AreListedOrEmpty names d.now) (λ d. AreRemoved kept (IsNamed names) d.now) (λ d. AreCleared kept d.now)
-            (λ d rest gone name sig is unkept. ⊎_elim (λ named. ap (λ (f : File). f.seen) (gone sig named unkept name is)) (λ empty. empty name is) (rest sig))
+            (λ d rest gone name is. ⊎_elim (λ named. ap (λ (f : File). f.seen) (gone is.0 named is.2 name is.1)) (λ empty. empty name is.1) (rest is.0))
             (told_after (f.disk mid) (f.disk new) (λ d. AreListedOrEmpty names d.now) (λ d. AreListedOrEmpty names d.now) (λ a b. AreSameOrEmpty a.now b.now) (λ a b here same. listed_still names a.now b.now same here) listed each)
             removed
         cleared (Err fault) each removed = tt
@@ -184,7 +184,7 @@ module _ {F : Type 0} (f : Folders F) (kept : List (List ℕ)) (groups : Groups)
       empty = tt;
       unmoved = λ want. (refl, told_map (f.disk old) (f.disk mid) Passes MovesNone none_passes passes);
       damaged = told_all (f.disk old) _ (λ d name at failed. absurd (undamaged fault name at (cc)));
-      others = told_map (f.disk old) (f.disk mid) Passes (Moves IsIndexFile (λ image. Unit {0}) (λ files. Unit {0})) (λ a b same. moves_passes IsIndexFile (λ image. Unit {0}) (λ files. Unit {0}) a b (λ image is. tt) (λ all. tt) same) passes;
+      others = told_map (f.disk old) (f.disk mid) Passes (Moves (IsUnkept kept) (λ image. Unit {0}) (λ files. Unit {0})) (λ a b same. moves_passes (IsUnkept kept) (λ image. Unit {0}) (λ files. Unit {0}) a b (λ image is. tt) (λ all. tt) same) passes;
       is_open = λ are want. open_mid are;
       faults = named_failed fault;
       cause = record { later = later; failed = λ is. rose (failed_disk fault is) };

@@ -20,7 +20,7 @@ use Rattle.view_index.specs.Held.{HoldsIndex, IsFileOf, Stands}
 use Rattle.view_index.specs.Opens.{FindsDamage}
 use Rattle.view_index.specs.Removes.{AreEmpty, Removes}
 use Rattle.view_groups.specs.declared.groups.Groups.{Groups}
-use Rattle.view_groups.specs.Cleans.{AreFewer, IsDamageOf, IsIndexFile}
+use Rattle.view_groups.specs.Cleans.{AreFewer, IsDamageOf, IsIndexFile, IsUnkept}
 use Rattle.view_groups.specs.Groups.{AreAt, AreOpen, IsClosed}
 use Rattle.view_groups.specs.Pictures.{Pictures}
 use Rattle.view_groups.specs.Removing.{AreLeft, AreRemoved, AreSameOrEmpty, IsNamed, RemovesEach, StandsForFewer}
@@ -61,7 +61,7 @@ module _ (kept : List (List ℕ)) where
       each = told_refl (f.disk folder) (λ a b. AreSameOrEmpty a.now b.now) (λ d sig. inl (λ n is. refl));
       empty = told_all (f.disk folder) (λ d. AreRemoved kept IsToGo d.now) (λ d sig listed unkept. absurd (never sig listed unkept));
       damaged = told_all (f.disk folder) (λ d. (name : FileName) (at : ℕ) → well ≡ Err (Store (Damaged name at)) → IsDamageOf kept d.now name at) (λ d name at failed. let no : ⊥ = cc in absurd no);
-      others = told_refl (f.disk folder) (Moves IsIndexFile (λ image. Unit {0}) (λ files. Unit {0})) (λ d. moves_none IsIndexFile (λ image. Unit {0}) (λ files. Unit {0}) d (λ image is. tt) tt);
+      others = told_refl (f.disk folder) (Moves (IsUnkept kept) (λ image. Unit {0}) (λ files. Unit {0})) (λ d. moves_none (IsUnkept kept) (λ image. Unit {0}) (λ files. Unit {0}) d (λ image is. tt) tt);
       is_open = λ are. are;
       faults = tt;
       cause = record { later = omega arith; failed = tt };
@@ -151,8 +151,8 @@ module _ (kept : List (List ℕ)) where
         empty = empty_of result removes.empty;
         damaged = told_now (f.disk old) (λ d. FindsDamage (IsFirstDamage (View own) d.now) result) (λ d. (name : FileName) (at : ℕ) → result ≡ Err (Store (Damaged name at)) → IsDamageOf kept d.now name at)
             (λ d finds name at failed. record { sig = own; unkept = unkept; damage = finds name at failed }) removes.damaged;
-        others = told_map (f.disk old) (f.disk new) _ (Moves IsIndexFile (λ image. Unit {0}) (λ files. Unit {0}))
-            (λ a b moved. moves_wider (IsFileOf (View own)) IsIndexFile (λ image. Unit {0}) (λ image. Unit {0}) (λ files. Unit {0}) (λ files. Unit {0}) a b (λ n is. (own, is)) (λ image framed. tt) (λ others ended. tt) moved) removes.others;
+        others = told_map (f.disk old) (f.disk new) _ (Moves (IsUnkept kept) (λ image. Unit {0}) (λ files. Unit {0}))
+            (λ a b moved. moves_wider (IsFileOf (View own)) (IsUnkept kept) (λ image. Unit {0}) (λ image. Unit {0}) (λ files. Unit {0}) (λ files. Unit {0}) a b (λ n is. (own, is, unkept)) (λ image framed. tt) (λ others ended. tt) moved) removes.others;
         is_open = λ are. by_result result (told_after (f.disk old) (f.disk new) (λ d. AreOpen groups d.now) (λ d. AreOpen groups' d.now) _ (λ a b here moved. closed_open own a.now b.now moved.others groups groups' closed here) are removes.others);
         faults = removes.faults;
         cause = removes.cause;
@@ -215,8 +215,8 @@ module _ (kept : List (List ℕ)) where
         damaged = told_back (f.disk old) (f.disk mid) (λ d. (name : FileName) (at : ℕ) → result ≡ Err (Store (Damaged name at)) → IsDamageOf kept d.now name at)
             (λ d. (name : FileName) (at : ℕ) → result ≡ Err (Store (Damaged name at)) → IsDamageOf kept d.now name at) (λ a b. AreSameOrEmpty a.now b.now)
             (λ a b same finds name at failed. damage_before kept a.now b.now same name at (finds name at failed)) early.each late.damaged;
-        others = told_then (f.disk old) (f.disk mid) (f.disk new) _ _ (Moves IsIndexFile (λ image. Unit {0}) (λ files. Unit {0}))
-            (λ a b c one other. moves_then IsIndexFile (λ image. Unit {0}) (λ image. Unit {0}) (λ image. Unit {0}) (λ files. Unit {0}) (λ files. Unit {0}) (λ files. Unit {0}) a b c
+        others = told_then (f.disk old) (f.disk mid) (f.disk new) _ _ (Moves (IsUnkept kept) (λ image. Unit {0}) (λ files. Unit {0}))
+            (λ a b c one other. moves_then (IsUnkept kept) (λ image. Unit {0}) (λ image. Unit {0}) (λ image. Unit {0}) (λ files. Unit {0}) (λ files. Unit {0}) (λ files. Unit {0}) a b c
             (λ image is. tt) (λ ended image is. tt) (λ one_ended other_ended. tt) one other) early.others late.others;
         is_open = λ are. late.is_open (early.is_open are);
         faults = late.faults;

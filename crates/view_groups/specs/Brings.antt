@@ -22,11 +22,12 @@ use Rattle.child_pool.specs.Pools.{HasItsChildren}
 use Rattle.view_model.specs.Picture.{Picture}
 use Rattle.view_index.specs.declared.fault.IndexFault.TheVariants.{Store}
 use Rattle.view_index.specs.declared.index.Index.{Index}
+use Rattle.view_index.specs.Calls.{IsAt}
 use Rattle.view_index.specs.Held.{or_empty, IsDamagedAt, IsFileOf}
 use Rattle.view_index.specs.Index.{picture_of, seq_of}
 use Rattle.view_updater.specs.declared.fault.UpdateFault.{UpdateFault}
 use Rattle.view_updater.specs.declared.fault.UpdateFault.TheVariants.{Docs as OfDocuments, Index as OfIndex, NoMemory as OutOfMemory, Pool as OfPool}
-use Rattle.view_updater.specs.Updates.{documents_since, HasAskedFor, IsBodyDamaged, IsFileFault, IsIdleEnd, IsLost, IsMade, IsOfIndex}
+use Rattle.view_updater.specs.Updates.{documents_since, HasAskedFor, IsBodyDamaged, IsFileFault, IsFullWith, IsIdleEnd, IsLost, IsMade, IsOfIndex}
 use Rattle.view_groups.specs.declared.groups.Groups.{Groups}
 use Rattle.view_groups.specs.Groups.{AreAt, AreOpen, IsGroup}
 use Rattle.view_groups.specs.Pictures.{Pictures}
@@ -107,10 +108,14 @@ module _ {F C : Type 0} (f : Folders F) (s : Servers C) (docs : Docs) (design : 
         → (name : FileName) (at : ℕ) → (result ≢ Err (OfDocuments (Damaged name at))) × (result ≢ Err (OfIndex (Store (Damaged name at)))))
     -- nor are the documents over a history, whatever the indexes are
     pub read : (history : List Write) → IfTold (f.disk old.folder) (λ d. AreDocumentsAt docs d.now history → (name : FileName) (at : ℕ) → result ≢ Err (OfDocuments (Damaged name at)))
-    -- a fault of the index is one of its file: what is full or damaged is a file of the design's index, which is damaged as it is opened;
+    -- a fault of the index is one of its file: what is full or damaged is a file of the design's index, which is damaged as it is opened,
+    -- and full only where it would be with a picture that the update makes;
     -- a fault of the documents is one of reading them, and where they are loaded what is damaged is the body of a last write
     pub file : IfErr result IsGroupFault
     pub full : (name : FileName) (length : Option ℕ) → result ≡ Err (OfIndex (Store (Full name length))) → IsFileOf (View (sig_of design)) name
+    pub filled : (history : List Write) (pictures : Pictures) → IfTold (f.disk old.folder) (λ d. IsReached docs old.groups design history pictures d.now)
+        → (name : FileName) (length : Option ℕ) → result ≡ Err (OfIndex (Store (Full name length)))
+        → Tells (f.disk old.folder) (f.disk new.folder) (λ a b. (index : Index) × (next : Picture) × IsAt index b.now (pictures (sig_of design)) × IsNext history pictures next × IsFullWith index next name length)
     pub spoiled : IfTold (f.disk old.folder) (λ d. (name : FileName) (at : ℕ) → result ≡ Err (OfIndex (Store (Damaged name at)))
         → IsDamagedAt (View (sig_of design)) (views_in design) d.now name at × IsFileOf (View (sig_of design)) name)
     pub body : IfTold (f.disk old.folder) (λ d. IsDocsFile (name_of (file_of docs)) → AreLoaded docs d.now

@@ -28,9 +28,13 @@ module _ (kept : List (List ℕ)) where
     pub stay : (sig : List ℕ) → Contains kept sig → left sig ≡ pictures sig
     pub gone : (sig : List ℕ) → (Contains kept sig → ⊥) → left sig ≡ None
 
-  -- no file of an index that isn't kept has bytes
+  -- a file of an index that isn't kept
+  abbrev pub IsUnkept : FileName → Type 0
+  IsUnkept name = (sig : List ℕ) × (name.stem ≡ View sig) × (Contains kept sig → ⊥)
+
+  -- none of these files has bytes
   abbrev pub AreCleared : (FileName → File) → Type 0
-  AreCleared files = (name : FileName) (sig : List ℕ) → name.stem ≡ View sig → (Contains kept sig → ⊥) → (files name).seen ≡ []
+  AreCleared files = (name : FileName) → IsUnkept name → (files name).seen ≡ []
 
   -- at this place a file of an index that isn't kept is damaged
   pub record IsDamageOf (files : FileName → File) (name : FileName) (at : ℕ) : Type 0 where
@@ -57,8 +61,8 @@ module _ (kept : List (List ℕ)) where
       -- what is damaged is a file of an index that isn't kept, and none is where files hold pictures
       pub damaged : IfTold (f.disk old) (λ d. (name : FileName) (at : ℕ) → result ≡ Err (Store (Damaged name at)) → IsDamageOf d.now name at)
       pub sound : (pictures : Pictures) → IfTold (f.disk old) (λ d. AreAt groups d.now pictures → (name : FileName) (at : ℕ) → result ≡ Err (Store (Damaged name at)) → ⊥)
-      -- whatever the files hold
-      pub others : Tells (f.disk old) (f.disk new) (Moves IsIndexFile (λ image. Unit {0}) (λ files. Unit {0}))
+      -- whatever the files hold, those of indexes that are kept and of no index are as they were
+      pub others : Tells (f.disk old) (f.disk new) (Moves IsUnkept (λ image. Unit {0}) (λ files. Unit {0}))
       pub is_open : IfTold (f.disk old) (λ d. AreOpen groups d.now) → IfErr result (λ e. e ≡ NoMemory) → IfTold (f.disk new) (λ d. AreOpen groups' d.now)
       pub faults : IfErr result (λ e. (e ≡ Store DiskFault) ⊎ (e ≡ NoMemory) ⊎ ((name : FileName) × (at : ℕ) × (e ≡ Store (Damaged name at))))
       pub cause : HasCauseIf (λ e. e ≡ Store DiskFault) (f.faults old) (f.faults new) result

@@ -1,5 +1,5 @@
 -- How an update ends: what the folder and the index are at, and what was asked.
-use Rattle.std.specs.Prelude.{◌≡◌, ◌⊎◌, ◌≤◌, ℕ, List, map, length, Result, Ok, Err, IfOk, OnOk, Option, Some}
+use Rattle.std.specs.Prelude.{◌≡◌, ◌⊎◌, ◌≤◌, ℕ, List, map, length, Result, Ok, Err, IfOk, OnOk, Option, Some, None}
 use Rattle.std.proofs.Common.{refl, sym, ap, ◌∙◌, subst, inl, inr}
 use Rattle.json_terms.specs.Json.{Json}
 use Rattle.raw_collation.specs.Sorting.{sorted_rows}
@@ -24,10 +24,14 @@ use Rattle.child_pool.specs.PoolCalls.{path_for, MapsAll}
 use Rattle.child_pool.specs.Pools.{HasItsChildren}
 use Rattle.view_model.specs.Picture.{Picture}
 use Rattle.gate_file.specs.declared.fault.GateFault.{GateFault}
+use Rattle.gate_file.specs.declared.fault.GateFault.TheVariants.{DiskFault, Full}
+use Rattle.gate_file.specs.Calls.{too_long, used_up}
+use Rattle.gate_file.specs.GateFile.{length_of, name_of}
+use Rattle.gate_file.specs.Publish.{IsTooLong, IsUsedUp}
 use Rattle.view_index.specs.declared.fault.IndexFault.{IndexFault}
 use Rattle.view_index.specs.declared.fault.IndexFault.TheVariants as fault_of
 use Rattle.view_index.specs.declared.index.Index.{Index}
-use Rattle.view_index.specs.Calls.{next_picture, stem_of, Commits, IsAt, IsOpen}
+use Rattle.view_index.specs.Calls.{next_picture, next_size, stem_of, Commits, IsAt, IsOpen}
 use Rattle.view_index.specs.Changed.{changed_rows}
 use Rattle.view_index.specs.Held.{or_empty, IsFileOf, Stands}
 use Rattle.view_index.specs.Index.{file_of, next_in, picture_of, seq_of, views_of}
@@ -38,7 +42,7 @@ use Rattle.view_updater.specs.declared.fault.UpdateFault.{UpdateFault}
 use Rattle.view_updater.specs.declared.fault.UpdateFault.TheVariants.{Docs as OfDocuments, Index as OfIndex, NoMemory, Pool as OfPool}
 use Rattle.view_updater.specs.Exchanges.{AsksSome, BreaksOff, HasExchanged, TakesIn}
 use Rattle.view_updater.specs.Faults.{by_index, by_pool}
-use Rattle.view_updater.specs.Updates.{documents_since, side, EndsAt, HasAsked, IsBreak, IsIdle, IsIdleEnd, IsLost, IsMade, IsMadeBy, IsMetAs, IsNext, IsReached, Side, StandsAround}
+use Rattle.view_updater.specs.Updates.{documents_since, side, EndsAt, HasAsked, IsBreak, IsFullWith, IsIdle, IsIdleEnd, IsLost, IsMade, IsMadeBy, IsMetAs, IsNext, IsReached, Side, StandsAround}
 use Rattle.view_updater.proofs.Carrying.{at_still, open_still, same_stem, same_views, stands_now, views_by_picture}
 use Rattle.view_updater.proofs.Nexts.{no_documents_since, nothing_updated, rows_updated}
 
@@ -130,6 +134,39 @@ unlike (fault_of.Summer fault) pool.UnknownLanguage is = cc
 pub commit_met : (fault : IndexFault) (mapped : Result DocRowLists PoolFault) → IsMetAs mapped well → IsMetAs mapped (refused (by_index fault))
 commit_met fault (Err pool_fault) met = absurd (well_met pool_fault met)
 commit_met fault (Ok lists) met = λ pool_fault is. unlike fault pool_fault (let same : by_index fault ≡ by_pool pool_fault = cc in same)
+
+-- how a commit is refused
+abbrev pub IsOfCommit : Index → IndexFault → Type 0
+IsOfCommit index fault = (fault ≡ fault_of.Store DiskFault) ⊎ (fault ≡ fault_of.Store (too_long (file_of index))) ⊎ (fault ≡ fault_of.Store (used_up (file_of index))) ⊎ (fault ≡ fault_of.NoMemory)
+
+-- the file was full with the record of this picture, and was left as it was
+pub record IsFilled {F : Type 0} (index now : Index) (old new : F) (next : Picture) (name : FileName) (size : Option ℕ) : Type 0 where
+  pub file : file_of now ≡ file_of index
+  pub folder : new ≡ old
+  pub full : IsFullWith now next name size
+
+module _ {F : Type 0} (f : Folders F) (index index' now : Index) (old new : F) (seq : ℕ) (fault : IndexFault) (commits : Commits f index index' old new seq (Err fault)) (file_now : file_of now ≡ file_of index') where
+  too_long_filled : (name : FileName) (limit : ℕ) → name ≡ name_of (file_of index) → limit ≡ length_of (file_of index) → IsTooLong (file_of index) (next_size seq index) → IsFilled index now old new (next_picture seq index) name (Some limit)
+  too_long_filled name limit name_is limit_is long =
+      let kept = commits.full (inl long) in
+      let file : file_of now ≡ file_of index = file_now ∙ kept.0 in
+      record { file = file; folder = kept.1; full = subst (λ gate. (name ≡ name_of gate) × (limit ≡ length_of gate) × IsTooLong gate (next_size seq index)) (sym file) (name_is, limit_is, long) }
+
+  used_up_filled : (name : FileName) → name ≡ name_of (file_of index) → IsUsedUp (file_of index) (next_size seq index) → IsFilled index now old new (next_picture seq index) name None
+  used_up_filled name name_is spent =
+      let kept = commits.full (inr spent) in
+      let file : file_of now ≡ file_of index = file_now ∙ kept.0 in
+      record { file = file; folder = kept.1; full = subst (λ gate. (name ≡ name_of gate) × IsUsedUp gate (next_size seq index)) (sym file) (name_is, spent) }
+
+  -- a commit that found the file full
+  pub is_filled : IsOfCommit index fault → (name : FileName) (size : Option ℕ) → fault ≡ fault_of.Store (Full name size) → IsFilled index now old new (next_picture seq index) name size
+  is_filled (inl disk) name size is = absurd (let no : ⊥ = cc in no)
+  is_filled (inr (inl long)) name None is = absurd (let no : ⊥ = cc in no)
+  is_filled (inr (inl long)) name (Some limit) is =
+      too_long_filled name limit (let same : name ≡ name_of (file_of index) = cc in same) (let same : limit ≡ length_of (file_of index) = cc in same) (commits.long.only (ap Err long))
+  is_filled (inr (inr (inl spent))) name None is = used_up_filled name (let same : name ≡ name_of (file_of index) = cc in same) (commits.spent.only (ap Err spent))
+  is_filled (inr (inr (inl spent))) name (Some limit) is = absurd (let no : ⊥ = cc in no)
+  is_filled (inr (inr (inr want))) name size is = absurd (let no : ⊥ = cc in no)
 
 -- ---- the exchange was made, and then the commit
 
@@ -275,6 +312,18 @@ module _ {F C : Type 0} (f : Folders F) (s : Servers C) (docs : Docs) (design : 
           mid_at known =
               told_after (f.disk old.folder) (f.disk mid.folder) (λ d. Known d.now) (λ d. IsAt mid.index d.now picture) MovesNone
               (λ a b is none. at_still old.index mid.index a.now b.now (file ∙ back.file) (none_same a b none) picture (rows ∙ back.rows) (pending_now history is.1) is.0.at) known moves
+
+          -- the file was full: nothing was written, and the index is at its picture
+          pub commit_filled : (now : Index) → picture_of now ≡ picture_of old.index → ArePending now → (name : FileName) (size : Option ℕ) → IsFilled mid.index now mid.folder folder next name size
+              → IfTold (f.disk old.folder) (λ d. IsReached docs old.index history picture d.now)
+              → Tells (f.disk old.folder) (f.disk folder) (λ a b. IsAt now b.now picture × ((next : Picture) × IsNext f s docs design old (left folder now) history picture next × IsFullWith now next name size))
+          commit_filled now rows_now pending name size full reached =
+              told_given (f.disk old.folder) (f.disk folder) (λ d. Known d.now) MovesNone
+              (λ a b. IsAt now b.now picture × ((next : Picture) × IsNext f s docs design old (left folder now) history picture next × IsFullWith now next name size))
+              (λ a b is none. (
+                at_still old.index now a.now b.now (full.file ∙ file ∙ back.file) (none_same a b none) picture rows_now pending is.0.at,
+                (next, known_next (left folder now) a.now is, full.full),
+              )) (is_known reached) (subst (λ (left : F). Tells (f.disk old.folder) (f.disk left) MovesNone) (sym full.folder) moves)
 
           of_old : Tells (f.disk mid.folder) (f.disk folder) (Moves (IsFileOf (stem_of mid.index))
               (λ image. Stands (stem_of mid.index) (views_of mid.index) image picture ⊎ Stands (stem_of mid.index) (views_of mid.index) image (Some next)) (λ files. OnOk committed (IsAt index files (Some next))))

@@ -10,7 +10,9 @@ use Rattle.view_ports.specs.declared.file_name.FileName.{FileName}
 use Rattle.view_ports.specs.declared.folder.Folder.{Ghosts as Folders}
 use Rattle.view_ports.specs.declared.servers.Servers.{Ghosts as Servers}
 use Rattle.gate_file.specs.declared.fault.GateFault.TheVariants.{DiskFault, Damaged, Full}
-use Rattle.gate_file.specs.GateFile.{name_of}
+use Rattle.gate_file.specs.GateFile.{length_of, name_of}
+use Rattle.gate_file.specs.Publish.{IsTooLong, IsUsedUp}
+use Rattle.index_record.specs.Record.{record_bytes}
 use Rattle.design_docs.specs.declared.design.Design.{Design}
 use Rattle.design_docs.specs.Design.{map_sources}
 use Rattle.query_protocol.specs.CommandLines.{document_of}
@@ -32,7 +34,7 @@ use Rattle.view_index.specs.declared.fault.IndexFault.TheVariants.{Store}
 use Rattle.view_index.specs.declared.index.Index.{Index}
 use Rattle.view_index.specs.Calls.{stem_of, IsAt, IsOpen, IsSettled}
 use Rattle.view_index.specs.Held.{or_empty, IsFileOf, Stands}
-use Rattle.view_index.specs.Index.{picture_of, seq_of, views_of}
+use Rattle.view_index.specs.Index.{file_of as index_file, picture_of, seq_of, views_of}
 use Rattle.view_updater.specs.declared.fault.UpdateFault.{UpdateFault}
 use Rattle.view_updater.specs.declared.fault.UpdateFault.TheVariants.{Docs as OfDocuments, Index as OfIndex, NoMemory, Pool as OfPool}
 use Rattle.view_updater.specs.Faults.{by_pool}
@@ -92,6 +94,12 @@ IsBreak (Ok done) = ⊥
 IsBreak (Err NoMemory) = Unit {0}
 IsBreak (Err (OfDocuments fault)) = Unit {0}
 IsBreak (Err other) = ⊥
+
+-- with the record of this picture the file of the index would be too long, or else has one commit too many
+abbrev pub IsFullWith : Index → Picture → FileName → Option ℕ → Type 0
+IsFullWith index picture name None = (name ≡ name_of (index_file index)) × IsUsedUp (index_file index) (length (record_bytes picture.seq picture.rows))
+IsFullWith index picture name (Some limit) =
+    (name ≡ name_of (index_file index)) × (limit ≡ length_of (index_file index)) × IsTooLong (index_file index) (length (record_bytes picture.seq picture.rows))
 
 -- how an update may end before anything was asked
 abbrev pub IsIdleEnd : {T : Type 0} → Result T UpdateFault → Type 0
@@ -186,6 +194,10 @@ module _ {F C : Type 0} (f : Folders F) (s : Servers C) (docs : Docs) (design : 
     pub file : IfErr result IsFileFault
     pub full : (name : FileName) (length : Option ℕ) → result ≡ Err (OfIndex (Store (Full name length))) → name.stem ≡ stem_of old.index
     pub damaged : IfTold (f.disk old.folder) (λ d. AreLoaded docs d.now → (name : FileName) (at : ℕ) → result ≡ Err (OfDocuments (Damaged name at)) → IsBodyDamaged docs d.now name at)
+    -- the file of the index is full only where it would be with a picture that the update makes, and then the index is at its own still
+    pub filled : (history : List Write) (picture : Option Picture) → IfTold (f.disk old.folder) (λ d. IsReached docs old.index history picture d.now)
+        → (name : FileName) (length : Option ℕ) → result ≡ Err (OfIndex (Store (Full name length)))
+        → Tells (f.disk old.folder) (f.disk new.folder) (λ a b. IsAt new.index b.now picture × ((next : Picture) × IsNext history picture next × IsFullWith new.index next name length))
     -- the pool's languages and width never change; servers are blamed only where two faults were counted, and a language is unknown
     -- only where it has no path
     pub keeps : StaysAsMade old.pool new.pool

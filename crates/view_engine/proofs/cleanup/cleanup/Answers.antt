@@ -1,14 +1,10 @@
 -- A cleanup is what reading the live designs and removing the other indexes come to.
-use Rattle.std.proofs.Common.{◌≡◌, ◌++◌, ◌∙◌, ℕ, List, Ok, Err, refl, sym, ap, subst, arith}
+use Rattle.std.proofs.Common.{◌≡◌, ℕ, List, Ok, Err, sym, subst, arith}
 use Rattle.std.proofs.lemmas.Grind.{common_steps}
-use Rattle.view_ports.specs.Disk.{IfTold}
-use Rattle.view_ports.specs.Lines.{ended}
 use Rattle.view_ports.proofs.Told.{told_now}
 use Rattle.view_updater.proofs.OnlyReading.{failed_as}
 use Rattle.doc_file.specs.Docs.{IsAt}
-use Rattle.doc_file.specs.History.{Write}
 use Rattle.view_engine.specs.Cleaning.{AreLiveSignatures, CleansUp}
-use Rattle.view_engine.specs.Cleanup.{done_text}
 use Rattle.view_engine.specs.declared.halt.Halt.TheVariants.{Stopped}
 use Rattle.view_engine.specs.declared.halt.StepFault.TheVariants.{NoMemory}
 use Rattle.view_engine.proofs.CleansThen.{cleans_none, cleans_then}

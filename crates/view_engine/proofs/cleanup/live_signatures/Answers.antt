@@ -1,5 +1,5 @@
 -- Id by id.
-use Rattle.std.proofs.Common.{take, take_all, ◌≡◌, ◌+◌, ◌≤◌, ◌∙◌, List, [], length, Ok, Err, sym, ap, subst, arith}
+use Rattle.std.proofs.Common.{take, take_all, ◌≡◌, ◌+◌, List, [], sym, subst}
 use Rattle.view_ports.proofs.Told.{told_all, told_now, told_pair}
 use Rattle.view_updater.proofs.OnlyReading.{failed_as}
 use Rattle.doc_file.specs.Docs.{IsAt}

@@ -15,9 +15,8 @@ use Rattle.view_model.specs.Picture.{Picture}
 use Rattle.view_index.specs.Calls.{next_picture, stem_of, IsOpen}
 use Rattle.view_index.specs.Held.{IsFileOf}
 use Rattle.view_index.specs.declared.fault.IndexFault.{IndexFault}
-use Rattle.view_index.specs.declared.fault.IndexFault.TheVariants.{NoMemory, Store}
+use Rattle.view_index.specs.declared.fault.IndexFault.TheVariants.{Store}
 use Rattle.view_index.specs.declared.index.Index.{Index}
-use Rattle.gate_file.specs.Calls.{too_long, used_up}
 use Rattle.gate_file.specs.GateFile.{name_of}
 use Rattle.view_index.specs.Index.{both_in, file_of, is_touched, seq_of}
 use Rattle.view_index.specs.ViewRows.{next_rows}
@@ -27,7 +26,7 @@ use Rattle.view_updater.specs.Faults.{by_index}
 use Rattle.view_updater.specs.Updates.{side, EndsAt, IsFileFault, IsLost, IsOfIndex, Updates}
 use Rattle.view_updater.proofs.Carrying.{same_stem, same_views, views_by_picture}
 use Rattle.view_updater.proofs.Exchanging.{as_made}
-use Rattle.view_updater.proofs.Ends.{asked_over, asked_some, commit_met, commit_refused, committed_stands, idle_stands, index_of_no_documents, index_of_no_pool, index_stored, known_next, others_refused, others_then, refused, refused_others, refused_stands, well, IsBack}
+use Rattle.view_updater.proofs.Ends.{asked_over, asked_some, commit_filled, commit_met, commit_refused, committed_stands, idle_stands, index_of_no_documents, index_of_no_pool, index_stored, is_filled, known_next, others_refused, others_then, refused, refused_others, refused_stands, well, IsBack, IsOfCommit}
 use Rattle.view_updater.proofs.OnlyReading.{FindsBodies}
 use Rattle.view_updater.proofs.updating.update.Goals as goal
 
@@ -38,10 +37,6 @@ well_index = Ok tt
 -- a fault that was counted later was counted
 rose_later : (a b c : ℕ) → a ≤ b → Rose b c → Rose a c
 rose_later a b c later rose = omega arith
-
--- how a commit is refused
-abbrev IsOfCommit : Index → IndexFault → Type 0
-IsOfCommit index fault = (fault ≡ Store DiskFault) ⊎ (fault ≡ Store (too_long (file_of index))) ⊎ (fault ≡ Store (used_up (file_of index))) ⊎ (fault ≡ NoMemory)
 
 -- a commit never finds damage
 commit_whole : (index : Index) (fault : IndexFault) → IsOfCommit index fault → (name : FileName) (at : ℕ) → fault ≡ Store (Damaged name at) → ⊥
@@ -89,6 +84,7 @@ returns-then-seq-newest g c =
       whole = λ name at is. cc;
       file = tt;
       full = λ name length is. cc;
+      filled = λ history picture reached name length is. cc;
       damaged = told_all disk (λ d. FindsBodies docs well d.now) (λ d loaded name at is. cc);
       later = (omega arith, omega arith);
       keeps = as_made c.args.pool.now;
@@ -123,6 +119,7 @@ returns-in-Err g c =
       whole = λ name at is. let same : fault ≡ OfIndex (Store (Damaged name at)) = cc in c.in-Err.ensures.reads.faults (subst IsOfIndex (sym same) tt);
       file = c.in-Err.ensures.reads.file;
       full = λ name length is. let same : fault ≡ OfIndex (Store (Full name length)) = cc in absurd (c.in-Err.ensures.reads.faults (subst IsOfIndex (sym same) tt));
+      filled = λ history picture reached name length is. let same : fault ≡ OfIndex (Store (Full name length)) = cc in absurd (c.in-Err.ensures.reads.faults (subst IsOfIndex (sym same) tt));
       damaged = c.in-Err.ensures.reads.damaged;
       later = (c.in-Err.ensures.reads.later, c.in-Err.ensures.later);
       keeps = c.in-Err.ensures.keeps;
@@ -166,6 +163,11 @@ returns-in-Err-commit g c =
       file = commit_file c.exchange.new.index fault commits.faults;
       full = λ name length is. let same : by_index fault ≡ OfIndex (Store (Full name length)) = cc in
           commit_full c.exchange.new.index fault commits.faults name length (index_stored fault (Full name length) same) ∙ same_stem index c.exchange.new.index (ex.same.file ∙ back.file);
+      filled = λ history picture reached name length is. let same : by_index fault ≡ OfIndex (Store (Full name length)) = cc in
+          commit_filled g.F.Folder g.C.Servers docs design old mid c.requires.number rolled back ex.same.file ex.picture ex.reads.disk committed c.commit.new.folder newest (Err fault) commits newest_is ex.asks
+          history picture last rows c.roll_back-in-Err-commit.ensures.pending name length
+          (is_filled g.F.Folder c.exchange.new.index committed last c.exchange.new.folder c.commit.new.folder newest fault commits c.roll_back-in-Err-commit.ensures.same.file commits.faults name length (index_stored fault (Full name length) same))
+          reached;
       damaged = told_all (g.F.Folder.disk c.args.folder.now) (λ d. FindsBodies docs (refused (by_index fault)) d.now)
           (λ d loaded name at is. absurd (index_of_no_documents fault (Damaged name at) (let same : by_index fault ≡ OfDocuments (Damaged name at) = cc in same)));
       later = (omega (arith, ex.reads.later, commits.cause.later), ex.later);
@@ -210,6 +212,7 @@ returns g c =
       whole = λ name at is. cc;
       file = tt;
       full = λ name length is. cc;
+      filled = λ history picture reached name length is. cc;
       damaged = told_all (g.F.Folder.disk c.args.folder.now) (λ d. FindsBodies docs well d.now) (λ d loaded name at is. cc);
       later = (omega (arith, ex.reads.later, commits.cause.later), ex.later);
       keeps = ex.keeps;

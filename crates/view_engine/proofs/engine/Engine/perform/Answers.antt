@@ -1,5 +1,5 @@
 -- Each request is performed as the call that does it promises.
-use Rattle.std.proofs.Common.{◌∙◌, None, arith, inr, refl, sym, ap, subst}
+use Rattle.std.proofs.Common.{◌≡◌, ◌∙◌, None, arith, inr, refl, sym, ap, subst}
 use Rattle.view_ports.specs.Disk.{MovesNone}
 use Rattle.view_ports.proofs.DiskRuns.{none_refl}
 use Rattle.view_ports.proofs.Told.{told_all, told_refl}
@@ -7,7 +7,7 @@ use Rattle.child_pool.specs.Pools.{languages_of}
 use Rattle.doc_file.specs.Docs.{info_of}
 use Rattle.view_engine.specs.declared.refusal.Refusal.TheVariants.{NotBuiltYet}
 use Rattle.view_engine.specs.declared.request.Request.{Request}
-use Rattle.view_engine.specs.declared.request.Request.TheVariants.{Get, View as ViewRequest}
+use Rattle.view_engine.specs.declared.request.Request.TheVariants.{Cleanup, Get, View as ViewRequest}
 use Rattle.view_engine.specs.Answer.{info_text}
 use Rattle.view_engine.specs.Steps.{IsRefusedAs}
 use Rattle.view_engine.proofs.Acting.{acted, refused_at_once}
@@ -20,29 +20,29 @@ use Rattle.view_engine.proofs.Whole.{documents_open}
 use Rattle.view_engine.proofs.engine.Engine.perform.Goals as goal
 
 pub returns-in-Put : goal.returns-in-Put
-returns-in-Put g c = acted c.in-Put.is c.requires.open c.put.ensures.acts
+returns-in-Put g c = acted c.in-Put.is (λ is. cc) c.requires.open c.put.ensures.acts
 
 pub returns-in-Delete : goal.returns-in-Delete
-returns-in-Delete g c = acted c.in-Delete.is c.requires.open c.delete.ensures.acts
+returns-in-Delete g c = acted c.in-Delete.is (λ is. cc) c.requires.open c.delete.ensures.acts
 
 pub returns-in-Get : goal.returns-in-Get
-returns-in-Get g c = acted (c.in-Get.is ∙ ap Get (sym c.as_str.ensures)) c.requires.open c.get.ensures.acts
+returns-in-Get g c = acted (c.in-Get.is ∙ ap Get (sym c.as_str.ensures)) (λ is. cc) c.requires.open c.get.ensures.acts
 
 pub returns-in-Ok : goal.returns-in-Ok
 returns-in-Ok g c =
     let disk = g.F.Folder.disk c.args.folder.now in
-    acted c.in-Info.is c.requires.open (read_done (documents_open _ _ c.requires.open) (told_refl disk MovesNone none_refl) (omega arith) tt (info_text (info_of c.args.self.now.docs)) c.in-Ok.ensures.line (λ other. unlike_info (info_of c.args.self.now.docs)) c.in-Ok.ensures.ok
+    acted c.in-Info.is (λ is. cc) c.requires.open (read_done (documents_open _ _ c.requires.open) (told_refl disk MovesNone none_refl) (omega arith) tt (info_text (info_of c.args.self.now.docs)) c.in-Ok.ensures.line (λ other. unlike_info (info_of c.args.self.now.docs)) c.in-Ok.ensures.ok
     (λ world. told_all disk _ (λ d at. (c.info.ensures.done d.now world.history at, refl))))
 
 pub returns-in-Info : goal.returns-in-Info
-returns-in-Info g c = acted c.in-Info.is c.requires.open (spent_here (documents_open _ _ c.requires.open) c.in-Err.ensures.silent refl)
+returns-in-Info g c = acted c.in-Info.is (λ is. cc) c.requires.open (spent_here (documents_open _ _ c.requires.open) c.in-Err.ensures.silent refl)
 
 pub returns-in-Cleanup : goal.returns-in-Cleanup
 returns-in-Cleanup g c = cleaned c.in-Cleanup.is c.requires.open c.cleanup.ensures
 
 pub returns-in-View : goal.returns-in-View
 returns-in-View g c =
-    refused_at_once tt (λ is. cc) (λ before. inr (
+    refused_at_once (λ is. let clash : ViewRequest c.in-View.view c.in-View.query ≡ Cleanup = sym c.in-View.is ∙ (let one : c.args.request ≡ Cleanup = cc in one) in cc) tt (λ is. cc) (λ before. inr (
       NotBuiltYet,
       subst (λ (r : Request). IsRefusedAs g.C.Servers.functions g.C.Servers.honest (languages_of c.args.self.now.pool) before.world r NotBuiltYet)
           (sym (c.in-View.is ∙ ap (ViewRequest c.in-View.view) c.in-Some.is)) refl,
@@ -52,7 +52,7 @@ returns-in-View g c =
 pub returns : goal.returns
 returns g c =
     let other = c.in_default in
-    refused_at_once tt (λ is. cc) (λ before. inr (
+    refused_at_once (λ is. other.not-Cleanup (let one : c.args.request ≡ Cleanup = cc in one)) tt (λ is. cc) (λ before. inr (
       NotBuiltYet,
       unbuilt g.C.Servers.functions g.C.Servers.honest (languages_of c.args.self.now.pool) before.world c.args.request other.not-Put other.not-Delete other.not-Get other.not-Info other.not-Cleanup (λ view. other.not-View view None),
       (refl, refl),
