@@ -33,6 +33,8 @@ def blocks(path):
     start = None
     for number, line in enumerate(lines):
         if not line.startswith("```"):
+            if start is None and line.startswith('{"'):
+                fail("%s:%d" % (path, number + 1), "a request or reply outside a block")
             continue
         if start is None:
             start = number

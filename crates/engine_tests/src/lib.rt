@@ -2,6 +2,8 @@
 #![tactic(auto)]
 
 #[cfg(test)]
+mod queries;
+#[cfg(test)]
 mod replies;
 #[cfg(test)]
 mod request_tests;

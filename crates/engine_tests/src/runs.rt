@@ -1,6 +1,8 @@
 //! Request lines, each with its reply line behind it. Each run of them begins with a new folder, and its designs are of the
 //! language `field`, whose map functions name a member.
 
+use crate::queries::QUERIES;
+
 /// Lines that are refused while nothing was written.
 const REFUSED: &str = r#"{"info":true
 {"error":"bad_request","reason":"line is not JSON"}
@@ -59,7 +61,9 @@ const REFUSED: &str = r#"{"info":true
 {"get":"a"}
 {"error":"not_found","reason":"missing"}
 {"view":["a","b"],"query":{}}
-{"error":"bad_request","reason":"not built yet"}
+{"error":"not_found","reason":"missing"}
+{"view":["a","b"],"query":{"update":false}}
+{"error":"not_found","reason":"missing"}
 {"cursor":"12345678901234567890123456789012","view":["a","b"]}
 {"error":"bad_request","reason":"not built yet"}
 {"cursor":"c","view":["a","b"],"query":{}}
@@ -277,6 +281,6 @@ const VIEW: &str = r#"{"put":{"_id":"_design/s","language":"field","views":{"by_
 {"info":true}
 {"doc_count":1,"doc_del_count":2,"update_seq":6}"#;
 
-pub const RUNS: [&str; 8] = [
-    REFUSED, PEOPLE, ORDER, KNOWN, LANGUAGES, DESIGNS, STATES, VIEW,
+pub const RUNS: [&str; 9] = [
+    REFUSED, PEOPLE, ORDER, KNOWN, LANGUAGES, DESIGNS, STATES, VIEW, QUERIES,
 ];

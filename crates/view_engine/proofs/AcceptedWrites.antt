@@ -10,7 +10,6 @@ use Rattle.doc_file.specs.Writes.{content_of}
 use Rattle.view_ports.specs.Exchanges.{Exchange, LeadsTo}
 use Rattle.view_engine.specs.declared.request.Request.{Request}
 use Rattle.view_engine.specs.declared.request.Request.TheVariants.{Cleanup, Put, Delete, Get, View, Info}
-use Rattle.view_engine.specs.declared.request.ViewName.{ViewName}
 use Rattle.view_engine.specs.declared.refusal.Refusal.{Refusal}
 use Rattle.view_engine.specs.declared.refusal.Refusal.TheVariants.{NoMemory}
 use Rattle.view_ports.specs.Functions.{Functions}
@@ -20,6 +19,7 @@ use Rattle.view_engine.specs.Refusals.{request_of, refusal_text}
 use Rattle.view_engine.specs.Steps.{Answers, Does, DoesRequest, MayHaveCalled, Performs, Refuses}
 use Rattle.view_engine.specs.Accepted.{is_ok, accepted, after_exchange, after_request, EachOk}
 use Rattle.view_engine.specs.View.{DoesView}
+use Rattle.view_engine.specs.ViewQuery.{ViewQuery, view_query}
 
 -- ---- worlds of one history
 
@@ -72,11 +72,12 @@ module _ (functions : List ℕ → Functions) (honest : List ℕ → Type 0) (la
       rw text (same_moment before after done.1)
 
   -- a view adds no write
-  view-accepted : (before : Moment) (name : ViewName) (reply : List ℕ) (after : Moment) → DoesView functions honest languages before name reply after → (after.world).history ≡ (before.world).history
-  view-accepted before name reply after does = elim does.called.holds [
+  view-accepted : (before : Moment) (name : ViewQuery) (reply : List ℕ) (after : Moment) → DoesView functions honest languages before name reply after → (after.world).history ≡ (before.world).history
+  view-accepted before name reply after (inl does) = elim does.called.holds [
     | inl answered ↦ answered.brought.history
     | inr refused ↦ ap (λ (w : World). w.history) refused.same
   ]
+  view-accepted before name reply after (inr kept) = same_moment before after kept.same
 
   -- a request that is done adds its write, if it is a put or a deletion
   performs-accepted : (before : Moment) (request : Request) (e : Exchange) (reply : List ℕ) (after : Moment) → request_of e.line ≡ Ok request
@@ -90,7 +91,7 @@ module _ (functions : List ℕ → Functions) (honest : List ℕ → Type 0) (la
   performs-accepted before (Get id) e reply after is done text = rw is (same_moment before after done.1 ∙ either_way (is_ok e.text) before.world)
   performs-accepted before Info e reply after is done text = rw is (same_moment before after done.1 ∙ either_way (is_ok e.text) before.world)
   performs-accepted before Cleanup e reply after is done text = rw is (ap (λ (m : Moment). (m.world).history) done.2 ∙ (done.1).0.history ∙ either_way (is_ok e.text) before.world)
-  performs-accepted before (View name None) e reply after is done text = rw is (view-accepted before name reply after done ∙ either_way (is_ok e.text) before.world)
+  performs-accepted before (View view query) e reply after is done text = rw is (view-accepted before (view_query view query) reply after done ∙ either_way (is_ok e.text) before.world)
   performs-accepted before other e reply after is done text = absurd done
 
   request-accepted : (before : Moment) (request : Result Request Refusal) (e : Exchange) (reply : List ℕ) (after : Moment) → request_of e.line ≡ request
@@ -105,8 +106,8 @@ module _ (functions : List ℕ → Functions) (honest : List ℕ → Type 0) (la
 
   -- where memory ran out no document was written
   pub kept_world : (before : Moment) (request : Result Request Refusal) (after : Moment) → MayHaveCalled functions honest languages before request after → (after.world).history ≡ (before.world).history
-  kept_world before (Ok (View name None)) after (inl same) = same_moment before after same
-  kept_world before (Ok (View name None)) after (inr asked) = elim (asked.1).world [
+  kept_world before (Ok (View view query)) after (inl same) = same_moment before after same
+  kept_world before (Ok (View view query)) after (inr asked) = elim (asked.1).world [
     | inl same ↦ ap (λ (w : World). w.history) same
     | inr brought ↦ brought.history
   ]

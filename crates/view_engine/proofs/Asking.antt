@@ -1,5 +1,5 @@
 -- What was asked of the query servers as the index of a view's design was brought up to date.
-use Rattle.std.specs.Prelude.{◌≡◌, ◌≢◌, ◌⊎◌, ◌<◌, ◌≤◌, ◌++◌, ℕ, List, [], ◌∷◌, filter_map, length, map, Option, Some, None, Result, Ok, Err, IfErr, IfOk}
+use Rattle.std.specs.Prelude.{◌≡◌, ◌≢◌, ◌⊎◌, ◌<◌, ◌≤◌, ◌++◌, ℕ, List, [], ◌∷◌, filter_map, length, map, Option, Some, Result, Ok, Err, IfErr, IfOk}
 use Rattle.std.proofs.Common.{refl, sym, ap, ◌∙◌, subst, inl, inr, arith}
 use Rattle.json_terms.specs.Json.{Json}
 use Rattle.design_docs.specs.declared.design.Design.{Design}
@@ -35,8 +35,6 @@ use Rattle.view_updater.specs.Updates.{documents_since, HasAskedFor, IsBreak, Is
 use Rattle.view_groups.specs.Reached.{picture_for}
 use Rattle.view_engine.specs.declared.halt.Halt.TheVariants.{Refused}
 use Rattle.view_engine.specs.declared.refusal.Refusal.{Refusal}
-use Rattle.view_engine.specs.declared.request.Request.TheVariants.{View as ViewRequest}
-use Rattle.view_engine.specs.declared.request.ViewName.{ViewName}
 use Rattle.view_engine.specs.Engine.{HasChild}
 use Rattle.view_engine.specs.Moments.{Moment}
 use Rattle.view_engine.specs.Refusals.{refusal_text}
@@ -44,6 +42,7 @@ use Rattle.view_engine.specs.Steps.{DoesRequest, MayHaveCalled}
 use Rattle.view_engine.specs.ViewPlan.{met_by, met_by_pool, IsUpdateFault}
 use Rattle.view_engine.specs.World.{World}
 use Rattle.view_engine.proofs.Viewed.{asked_in_vain, asked_some, asked_up, at_moment, breaks_at_moment, refuses, IsKnown}
+use Rattle.view_engine.specs.ViewQuery.{ViewQuery, view_request}
 
 -- ---- how a refusal is met
 
@@ -93,7 +92,7 @@ mapped_stops (update.Index other) id r lists kind met is = kind.0
 none_since : (seq : ℕ) (history : List Write) → seq ≡ length history → documents_since seq history ≡ []
 none_since seq history same = ap (λ changes. map (λ entry. document_of entry.1) (filter_map (λ change. mapped_by change.1) changes)) (changes_none seq history (omega (arith, same)))
 
-module _ {C : Type 0} (s : Servers C) (before : Moment) (name : ViewName) (id : List ℕ) (design : Design) (place : ℕ) (path : List ℕ) (within : place < length design.views)
+module _ {C : Type 0} (s : Servers C) (before : Moment) (name : ViewQuery) (id : List ℕ) (design : Design) (place : ℕ) (path : List ℕ) (within : place < length design.views)
     (pool pool' : Pool) (servers servers' : C) (path_is : path_in (languages_of pool) design.language ≡ Some path)
     (child : HasChild (s.may_follow servers) (s.faults servers) pool before) (keeps : StaysAsMade pool pool') (later : s.faults servers ≤ s.faults servers') (x : Option (Disk FileName)) where
   abbrev languages : List (List ℕ × List ℕ)
@@ -118,8 +117,8 @@ module _ {C : Type 0} (s : Servers C) (before : Moment) (name : ViewName) (id : 
   pub record IsLeft (f : UpdateFault) : Type 0 where
     pub now : List Call
     pub has_child : HasChild (s.may_follow servers') (s.faults servers') pool' (then before.world now)
-    pub called : IfTold x (λ d. MayHaveCalled s.functions s.honest languages before (Ok (ViewRequest name None)) (then before.world now))
-    pub refused : (r : Refusal) → met_by id f ≡ Refused r → IfTold x (λ d. DoesRequest s.functions s.honest languages before (Ok (ViewRequest name None)) (refusal_text r) (then before.world now))
+    pub called : IfTold x (λ d. MayHaveCalled s.functions s.honest languages before (Ok (view_request name)) (then before.world now))
+    pub refused : (r : Refusal) → met_by id f ≡ Refused r → IfTold x (λ d. DoesRequest s.functions s.honest languages before (Ok (view_request name)) (refusal_text r) (then before.world now))
 
   -- nothing was asked
   idle_left : (f : UpdateFault) → servers' ≡ servers → pool' ≡ pool → ((r : Refusal) → met_by id f ≡ Refused r → ⊥) → IsLeft f
@@ -134,13 +133,13 @@ module _ {C : Type 0} (s : Servers C) (before : Moment) (name : ViewName) (id : 
       record {
         now = before.calls;
         has_child = has_child before.world before.calls (subst (λ c. s.may_follow c before.calls) (sym same_servers) child.follows) (subst (λ p. HasItsChildren p before.calls) (sym same_pool) child.child);
-        called = told_all x (λ d. MayHaveCalled s.functions s.honest languages before (Ok (ViewRequest name None)) (then before.world before.calls)) (λ d. inl same);
+        called = told_all x (λ d. MayHaveCalled s.functions s.honest languages before (Ok (view_request name)) (then before.world before.calls)) (λ d. inl same);
         refused = λ r is. absurd (never r is);
       }
 
   -- no refusal is told where the result isn't a pool's
   never_told : (f : UpdateFault) (now : List Call) → ((r : Refusal) → met_by id f ≡ Refused r → ⊥)
-      → (r : Refusal) → met_by id f ≡ Refused r → IfTold x (λ d. DoesRequest s.functions s.honest languages before (Ok (ViewRequest name None)) (refusal_text r) (then before.world now))
+      → (r : Refusal) → met_by id f ≡ Refused r → IfTold x (λ d. DoesRequest s.functions s.honest languages before (Ok (view_request name)) (refusal_text r) (then before.world now))
   never_told f now never r is = absurd (never r is)
 
   -- the first documents alone were mapped
@@ -156,7 +155,7 @@ module _ {C : Type 0} (s : Servers C) (before : Moment) (name : ViewName) (id : 
       record {
         now = w.now;
         has_child = has_child before.world w.now w.follows w.holds.is_ready.there;
-        called = told_now x (λ d. Known documents) (λ d. MayHaveCalled s.functions s.honest languages before (Ok (ViewRequest name None)) (then before.world w.now))
+        called = told_now x (λ d. Known documents) (λ d. MayHaveCalled s.functions s.honest languages before (Ok (view_request name)) (then before.world w.now))
             (λ d k. asked_some s.functions s.honest languages before name id design place path within documents (s.may_follow servers') (s.faults servers) (s.faults servers') pool' child.counts later pool child.width child.started (first ∷ done) rest lists all some w k) known;
         refused = never_told f w.now (λ r is. break_stops f id r cause is);
       }
@@ -170,7 +169,7 @@ module _ {C : Type 0} (s : Servers C) (before : Moment) (name : ViewName) (id : 
         record {
           now = w.now;
           has_child = has_child before.world w.now w.follows w.holds.1.0;
-          called = told_now x (λ d. Known documents) (λ d. MayHaveCalled s.functions s.honest languages before (Ok (ViewRequest name None)) (then before.world w.now))
+          called = told_now x (λ d. Known documents) (λ d. MayHaveCalled s.functions s.honest languages before (Ok (view_request name)) (then before.world w.now))
               (λ d k. asked_in_vain s.functions s.honest languages before name id design place path within documents (s.may_follow servers') (s.faults servers) (s.faults servers') pool' child.counts later pool child.width child.started lists (λ none. ap (λ (p : Pool). p.started) (idle none).1) w k) known;
           refused = never_told f w.now (λ r is. mapped_stops f id r lists kind met is);
         }
@@ -185,10 +184,10 @@ module _ {C : Type 0} (s : Servers C) (before : Moment) (name : ViewName) (id : 
         record {
           now = w.now;
           has_child = has_child before.world w.now w.follows (stands_stopped pool' w.now w.holds.1.stopped);
-          called = told_now x (λ d. Known documents) (λ d. MayHaveCalled s.functions s.honest languages before (Ok (ViewRequest name None)) (then before.world w.now))
+          called = told_now x (λ d. Known documents) (λ d. MayHaveCalled s.functions s.honest languages before (Ok (view_request name)) (then before.world w.now))
               (λ d k. asked_up s.functions s.honest languages before name id design place path within documents (s.may_follow servers') (s.faults servers) (s.faults servers') pool' child.counts later pool child.width child.started g some told w k) known;
-          refused = λ r is. told_now x (λ d. Known documents) (λ d. DoesRequest s.functions s.honest languages before (Ok (ViewRequest name None)) (refusal_text r) (then before.world w.now))
-              (λ d k. inl (refuses s.functions s.honest languages before name id design place path within documents (s.may_follow servers') (s.faults servers) (s.faults servers') pool' child.counts later pool child.width child.started g r w some k told (sym (ap (met_by id) same ∙ by_pool_met id g) ∙ is))) known;
+          refused = λ r is. told_now x (λ d. Known documents) (λ d. DoesRequest s.functions s.honest languages before (Ok (view_request name)) (refusal_text r) (then before.world w.now))
+              (λ d k. inl (inl (refuses s.functions s.honest languages before name id design place path within documents (s.may_follow servers') (s.faults servers) (s.faults servers') pool' child.counts later pool child.width child.started g r w some k told (sym (ap (met_by id) same ∙ by_pool_met id g) ∙ is)))) known;
         }
 
     pub asked_left : HasAskedFor s servers servers' pool pool' design documents {T = ℕ} (Err f) → IsLeft f

@@ -1,6 +1,6 @@
 -- What bringing the index of a view's design up to date is to the world.
 use Rattle.std.specs.Prelude.{◌≡◌, ◌≢◌, ◌⊎◌, ◌<◌, ◌≤◌, ℕ, List, [], ◌∷◌, bytes_eq, if◌then◌else◌, length, Option, Some, None, Result, Ok, Err, OnOk}
-use Rattle.std.proofs.Common.{refl, sym, ap, ◌∙◌, subst, inl, inr, ⊎_elim, arith}
+use Rattle.std.proofs.Common.{true, refl, sym, ap, ◌∙◌, subst, inl, inr, ⊎_elim, arith}
 use Rattle.json_terms.specs.Json.{Json}
 use Rattle.design_docs.specs.declared.design.Design.{Design}
 use Rattle.view_ports.specs.Disk.{Disk, Framed, IfTold, LeavesOnly, Moves, Tells}
@@ -28,8 +28,6 @@ use Rattle.view_groups.specs.Brings.{side, Brings, EndsAt, IsIdle, IsNext, MayLe
 use Rattle.view_groups.specs.Groups.{IsGroup}
 use Rattle.view_groups.specs.Reached.{picture_for, sig_of, views_in, IsReached, StandsAround as IndexStandsAround}
 use Rattle.view_engine.specs.declared.engine.Engine.{Engine}
-use Rattle.view_engine.specs.declared.request.Request.TheVariants.{View as ViewRequest}
-use Rattle.view_engine.specs.declared.request.ViewName.{ViewName}
 use Rattle.view_engine.specs.Calls.{scene, StandsAt}
 use Rattle.view_engine.specs.Moments.{Moment}
 use Rattle.view_engine.specs.ViewPlan.{IsPlan}
@@ -38,6 +36,7 @@ use Rattle.view_engine.specs.Worlds.{IsAtWorld, StandsAround, StandsEither}
 use Rattle.view_engine.proofs.Between.{stands_first}
 use Rattle.view_engine.proofs.Apart.{documents_beside, indexes_alike, next_stands, none_newer_set, old_stands, set_is_alike}
 use Rattle.view_engine.proofs.Viewed.{is_brought, IsKnown, IsNextOf}
+use Rattle.view_engine.specs.ViewQuery.{ViewQuery, view_request}
 
 -- the world in which a design's picture is this one
 abbrev pub with_picture : World → Design → Picture → World
@@ -55,7 +54,7 @@ within_there engine files world design at = by_picture (world.pictures (sig_of d
     by_picture None is = omega arith
     by_picture (Some picture) is = at.within (sig_of design) picture is
 
-module _ {F C : Type 0} (f : Folders F) (s : Servers C) (docs : Docs) (pool pool' : Pool) (groups groups' : Groups) (mid new : F) (servers servers' : C) (name : ViewName) (id : List ℕ) (design : Design) (place : ℕ) (path : List ℕ)
+module _ {F C : Type 0} (f : Folders F) (s : Servers C) (docs : Docs) (pool pool' : Pool) (groups groups' : Groups) (mid new : F) (servers servers' : C) (name : ViewQuery) (id : List ℕ) (design : Design) (place : ℕ) (path : List ℕ)
     (within : place < length design.views) (path_is : path_in (languages_of pool) design.language ≡ Some path) (result : Result ℕ UpdateFault)
     (brings : Brings f s docs design (side mid servers pool groups) (side new servers' pool' groups') result) where
   abbrev engine : Engine
@@ -169,11 +168,11 @@ module _ {F C : Type 0} (f : Folders F) (s : Servers C) (docs : Docs) (pool pool
             )
 
       -- ---- it failed: a crash leaves the world before or the next one
-      pub failed_at : (r : Result ℕ UpdateFault) → IsPlan (languages_of pool) world.history name id design place path → AreStored world.history → MovesBy r a b
-          → LeavesOnly (StandsAround s.functions s.honest (languages_of pool) world (Ok (ViewRequest name None))) a b
+      pub failed_at : (r : Result ℕ UpdateFault) → IsPlan true (languages_of pool) world.history name id design place path → AreStored world.history → MovesBy r a b
+          → LeavesOnly (StandsAround s.functions s.honest (languages_of pool) world (Ok (view_request name))) a b
       failed_at r plan stored moves =
           weaker (Framed (IsFileOf (View own)) a.now (IndexStandsAround design world.pictures (MayLeave f s docs design (side mid servers pool groups) (side new servers' pool' groups') world.history world.pictures r)))
-          (StandsAround s.functions s.honest (languages_of pool) world (Ok (ViewRequest name None))) a b
+          (StandsAround s.functions s.honest (languages_of pool) world (Ok (view_request name))) a b
           (λ image framed. ⊎_elim (λ old. inl (old_stands engine design a.now world here _ image framed old.0 old.1))
           (λ next.
           let is_next = next.1.0 in
@@ -188,6 +187,7 @@ module _ {F C : Type 0} (f : Folders F) (s : Servers C) (docs : Docs) (pool pool
               plan.live,
               plan.path_is,
               is_brought s.functions s.honest (languages_of pool) before name id design place path within (documents_since seq world.history) next.0 after known (next_is next.0 after (documents_since seq world.history) is_next refl refl (λ sig. refl)),
+              plan.updates,
             ),
             next_stands engine design a.now world here _ image framed (views_in design) next.0 after next.2 (is_next path before.calls at.child.follows path_is at.child.child).updated.seq refl (λ sig. refl),
           )) framed.inside) moves.moments

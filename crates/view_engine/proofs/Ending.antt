@@ -1,7 +1,7 @@
 -- A view, performed: refused before any server is asked, refused by the update of its index, or answered.
-use Rattle.std.specs.Prelude.{◌≡◌, ◌≢◌, ◌<◌, ◌≤◌, ◌++◌, ℕ, List, [], length, Option, None, Some, Result, Ok, Err, IfErr, OnErr, OnOk, slice_get, slice_index_or}
+use Rattle.std.specs.Prelude.{◌≡◌, ◌≢◌, ◌<◌, ◌≤◌, ◌++◌, ℕ, List, [], length, Option, Some, Result, Ok, Err, IfErr, OnErr, OnOk, slice_get, slice_index_or}
 use Rattle.std.specs.List.{AllByRecursion}
-use Rattle.std.proofs.Common.{refl, sym, ap, ◌∙◌, subst, inl, arith}
+use Rattle.std.proofs.Common.{true, refl, sym, ap, ◌∙◌, subst, inl, arith}
 use Rattle.std.proofs.lemmas.List.{length-map}
 use Rattle.json_terms.specs.declared.term.Row.{Row}
 use Rattle.json_terms.specs.Json.{Json}
@@ -37,9 +37,8 @@ use Rattle.view_engine.specs.declared.halt.Halt.{Halt}
 use Rattle.view_engine.specs.declared.halt.Halt.TheVariants.{Refused, Stopped}
 use Rattle.view_engine.specs.declared.halt.StepFault.TheVariants.{Full, NoMemory}
 use Rattle.view_engine.specs.declared.refusal.Refusal.TheVariants.{ServerFault}
-use Rattle.view_engine.specs.declared.request.Request.TheVariants.{View as ViewRequest}
-use Rattle.view_engine.specs.declared.request.ViewName.{ViewName}
-use Rattle.view_engine.specs.Answer.{answer}
+use Rattle.view_model.specs.Answer.{answer}
+use Rattle.query_args.specs.declared.query.Query.{Query}
 use Rattle.view_engine.specs.Calls.{scene, IsReplyLine, LeavesMoment, Performed, Scene, StandsAt}
 use Rattle.view_engine.specs.Disks.{IfStopped, IsAskedFor, IsReadReason, LiesOpen, Reads}
 use Rattle.view_engine.specs.Halts.{GoesOn}
@@ -56,6 +55,7 @@ use Rattle.view_engine.proofs.ServerFaults.{met_server_fault, unlike_answer}
 use Rattle.view_engine.proofs.Viewing.{does_halted, viewed, Halts}
 use Rattle.view_engine.proofs.Whole.{leaves_none, view_moves_none}
 use Rattle.view_engine.proofs.Between.{stands_same}
+use Rattle.view_engine.specs.ViewQuery.{ViewQuery, query_for, view_request}
 
 -- what is open stays so where no file changes
 pub open_still : (engine : Engine) (x y : Option (Disk FileName)) → Tells x y MovesNone → IfTold x (λ d. IsOpen engine d.now) → IfTold y (λ d. IsOpen engine d.now)
@@ -70,38 +70,38 @@ goes_on_of_none (update.Index (index.Store gate.NoMemory)) id kind goes is = kin
 goes_on_of_none (update.Index other) id kind goes is = kind.0
 goes_on_of_none other id kind goes is = is
 
-module _ {F C : Type 0} (f : Folders F) (s : Servers C) (docs : Docs) (pool : Pool) (groups : Groups) (old mid : F) (servers : C) (name : ViewName) (out : List ℕ) where
+module _ {F C : Type 0} (f : Folders F) (s : Servers C) (docs : Docs) (pool : Pool) (groups : Groups) (old mid : F) (servers : C) (name : ViewQuery) (out : List ℕ) where
   abbrev engine : Engine
   engine = record { docs = docs; pool = pool; groups = groups }
 
   -- ---- refused before any server was asked
   pub refused_first : {T : Type 0} (halt : Halt) → LiesOpen f engine old → halt ≢ Refused ServerFault → Reads f {T = T} docs old mid (Err halt)
       → ((before : Moment) → StandsAt f s (scene engine old servers) before → LeavesMoment f s (scene engine old servers) (scene engine mid servers) before (Halts f s (scene engine old servers) (scene engine mid servers) name before halt))
-      → Performed f s (scene engine old servers) (scene engine mid servers) (Ok (ViewRequest name None)) out out (Err halt)
+      → Performed f s (scene engine old servers) (scene engine mid servers) (Ok (view_request name)) out out (Err halt)
   refused_first halt is_open other reads leaves =
       viewed f s (scene engine old servers) (scene engine mid servers) name
       (does_halted f s (scene engine old servers) (scene engine mid servers) name out out halt (λ goes. leaves)
       (λ step is not before at. (
-        told_given (f.disk old) (f.disk mid) (λ d. IsAtWorld engine d.now before.world) MovesNone (LeavesOnly (StandsAround s.functions s.honest (languages_of pool) before.world (Ok (ViewRequest name None))))
-            (λ a b here none. weaker (StandsEither before.world before.world) (StandsAround s.functions s.honest (languages_of pool) before.world (Ok (ViewRequest name None))) a b (λ image stands. inl (stands_same before.world image stands)) (leaves_none engine before.world a b none here)) at.documents reads.disk,
+        told_given (f.disk old) (f.disk mid) (λ d. IsAtWorld engine d.now before.world) MovesNone (LeavesOnly (StandsAround s.functions s.honest (languages_of pool) before.world (Ok (view_request name))))
+            (λ a b here none. weaker (StandsEither before.world before.world) (StandsAround s.functions s.honest (languages_of pool) before.world (Ok (view_request name))) a b (λ image stands. inl (stands_same before.world image stands)) (leaves_none engine before.world a b none here)) at.documents reads.disk,
         record {
           after = before;
           child = at.child;
-          allowed = told_all (f.disk old) (λ d. MayHaveCalled s.functions s.honest (languages_of pool) before (Ok (ViewRequest name None)) before) (λ d. none_called s.functions s.honest (languages_of pool) before (Ok (ViewRequest name None)));
+          allowed = told_all (f.disk old) (λ d. MayHaveCalled s.functions s.honest (languages_of pool) before (Ok (view_request name)) before) (λ d. none_called s.functions s.honest (languages_of pool) before (Ok (view_request name)));
         },
       )))
       tt refl (λ is. absurd (other (let same : halt ≡ Refused ServerFault = cc in same)))
       (view_moves_none f engine old mid name reads.disk)
       (λ goes. open_still engine (f.disk old) (f.disk mid) reads.disk is_open)
       (λ before at file limit is. let full : halt ≡ Stopped (Full file limit) = cc in absurd (subst (IfStopped (IsReadReason f docs old mid)) full reads.why))
-      (documents_reason f engine old mid (Ok (ViewRequest name None)) halt (read_halted f docs old mid (Ok (ViewRequest name None)) halt tt reads.why))
+      (documents_reason f engine old mid (Ok (view_request name)) halt (read_halted f docs old mid (Ok (view_request name)) halt tt reads.why))
       (record { languages = refl; width = refl; disk_faults = reads.later; server_faults = omega arith })
 
   -- ---- over what bringing the index up to date left
   module _ (pool' : Pool) (groups' : Groups) (new : F) (servers' : C) (id : List ℕ) (design : Design) (place : ℕ) (path : List ℕ)
       (within : place < length design.views) (path_is : path_in (languages_of pool) design.language ≡ Some path)
       (read : Tells (f.disk old) (f.disk mid) MovesNone) (earlier : f.faults old ≤ f.faults mid)
-      (plans : (history : List Write) → IfTold (f.disk old) (λ d. AreAt docs d.now history → IsPlan (languages_of pool) history name id design place path))
+      (plans : (history : List Write) → IfTold (f.disk old) (λ d. AreAt docs d.now history → IsPlan true (languages_of pool) history name id design place path))
       (is_open : LiesOpen f engine old) (asked : IfTold (f.disk old) (λ d. (document : Json) × IsAskedFor docs d.now name document × IsDesignOf document design)) where
     abbrev engine' : Engine
     engine' = record { docs = docs; pool = pool'; groups = groups' }
@@ -113,22 +113,23 @@ module _ {F C : Type 0} (f : Folders F) (s : Servers C) (docs : Docs) (pool : Po
     later = scene engine' new servers'
 
     module _ (met : UpdateFault) (kind : IsUpdateFault met) (brings : Brings f s docs design (side mid servers pool groups) (side new servers' pool' groups') (Err met)) where
-      pub refused_then : Performed f s now later (Ok (ViewRequest name None)) out out (Err (met_by id met))
+      pub refused_then : Performed f s now later (Ok (view_request name)) out out (Err (met_by id met))
       refused_then =
           viewed f s now later name
           (does_halted f s now later name out out (met_by id met)
           (λ goes before at. refused_leaves f s docs pool pool' groups groups' old mid new servers servers' name id design place path within path_is read plans met kind brings (goes_on_of_none met id kind goes) before at)
           (stopped_leaves f s docs pool pool' groups groups' old mid new servers servers' name id design place path within path_is read plans met kind brings))
           tt refl (λ is. brings.blames (ap Err (met_server_fault id met (let same : met_by id met ≡ Refused ServerFault = cc in same))))
-          (view_moves f s docs pool pool' groups groups' old mid new servers servers' name id design place path read earlier plans is_open asked (Err met) brings)
-          (λ goes. view_open f s docs pool pool' groups groups' old mid new servers servers' name id design place path read earlier plans is_open asked (Err met) brings (goes_on_of_none met id kind goes))
+          (view_moves f s docs pool pool' groups groups' old mid new servers servers' name id design place path true read earlier plans is_open asked (Err met) brings)
+          (λ goes. view_open f s docs pool pool' groups groups' old mid new servers servers' name id design place path true read earlier plans is_open asked (Err met) brings (goes_on_of_none met id kind goes))
           (λ before at file limit is. filled_then f s docs pool pool' groups groups' old mid new servers servers' name id design place path within path_is read plans met kind.0 brings before at file limit (let full : met_by id met ≡ Stopped (Full file limit) = cc in full))
-          (view_why f s docs pool pool' groups groups' old mid new servers servers' name id design place path read earlier plans is_open asked met brings)
+          (view_why f s docs pool pool' groups groups' old mid new servers servers' name id design place path true read earlier plans is_open asked met brings)
           (record { languages = brings.keeps.languages; width = brings.keeps.width; disk_faults = omega (arith, earlier, brings.later.0); server_faults = brings.later.1 })
 
     -- the rows of the view are printed, or memory runs out
     module _ (slot : ℕ) (brings : Brings f s docs design (side mid servers pool groups) (side new servers' pool' groups') (Ok slot)) (index : Index) (there : slice_get (open_of groups') slot ≡ Some index)
-        (printed : List Row) (rows : printed ≡ slice_index_or (picture_of index).rows place []) (parts : AllByRecursion HasParts printed) where
+        (printed : List Row) (rows : printed ≡ slice_index_or (picture_of index).rows place []) (parts : AllByRecursion HasParts printed)
+        (query : Query) (query_is : query ≡ query_for name) (seq : ℕ) (seq_is : seq ≡ (picture_of index).seq) where
       same_index : index ≡ brings.place.0
       same_index = let same : Some index ≡ Some brings.place.0 = sym there ∙ (brings.place.1).there in cc
 
@@ -138,29 +139,35 @@ module _ {F C : Type 0} (f : Folders F) (s : Servers C) (docs : Docs) (pool : Po
       same_rows : printed ≡ shown
       same_rows = rows ∙ ap (λ (i : Index). slice_index_or (picture_of i).rows place []) same_index
 
+      same_seq : seq ≡ (picture_of brings.place.0).seq
+      same_seq = seq_is ∙ ap (λ (i : Index). (picture_of i).seq) same_index
+
+      same_answer : answer query seq printed ≡ answer (query_for name) (picture_of brings.place.0).seq shown
+      same_answer = λ i. answer (query_is i) (same_seq i) (same_rows i)
+
       each : length (picture_of brings.place.0).rows ≡ length design.views
       each = length-map (both_in brings.place.0) (λ (both : List Row × List Row). both.0) ∙ (brings.place.1).number
 
-      pub shown_then : {out' : List ℕ} (result : Result (Unit {0}) Halt) → OnOk result (out' ≡ out ++ ended (answer printed)) → OnOk result (IsReplyLine (answer printed)) → OnErr result (out' ≡ out) → IfErr result (λ halt. halt ≡ Stopped NoMemory)
-          → Performed f s now later (Ok (ViewRequest name None)) out out' result
+      pub shown_then : {out' : List ℕ} (result : Result (Unit {0}) Halt) → OnOk result (out' ≡ out ++ ended (answer query seq printed)) → OnOk result (IsReplyLine (answer query seq printed)) → OnErr result (out' ≡ out) → IfErr result (λ halt. halt ≡ Stopped NoMemory)
+          → Performed f s now later (Ok (view_request name)) out out' result
       shown_then {out'} (Ok done) appended line silent memory =
           viewed f s now later name
           (λ before at. shown_leaves f s docs pool pool' groups groups' old mid new servers servers' name id design place path within path_is read plans slot brings before at (subst (AllByRecursion HasParts) same_rows parts) each out out'
-          (appended ∙ ap (λ (r : List Row). out ++ ended (answer r)) same_rows))
-          (record { reply = answer printed; line = line; appended = appended; unlike = λ other. unlike_answer printed }) tt (λ is. let clash : ⊥ = cc in absurd clash)
-          (view_moves f s docs pool pool' groups groups' old mid new servers servers' name id design place path read earlier plans is_open asked (Ok slot) brings)
-          (λ goes. view_open f s docs pool pool' groups groups' old mid new servers servers' name id design place path read earlier plans is_open asked (Ok slot) brings (λ lost. lost))
+          (appended ∙ ap (λ (text : List ℕ). out ++ ended text) same_answer))
+          (record { reply = answer query seq printed; line = line; appended = appended; unlike = λ other. unlike_answer query seq printed }) tt (λ is. let clash : ⊥ = cc in absurd clash)
+          (view_moves f s docs pool pool' groups groups' old mid new servers servers' name id design place path true read earlier plans is_open asked (Ok slot) brings)
+          (λ goes. view_open f s docs pool pool' groups groups' old mid new servers servers' name id design place path true read earlier plans is_open asked (Ok slot) brings (λ lost. lost))
           (λ before at file limit is. absurd cc)
           tt
           (record { languages = brings.keeps.languages; width = brings.keeps.width; disk_faults = omega (arith, earlier, brings.later.0); server_faults = brings.later.1 })
-      shown_then {out'} (Err halt) appended line silent memory = subst (λ (h : Halt). Performed f s now later (Ok (ViewRequest name None)) out out' (Err h)) (sym memory)
+      shown_then {out'} (Err halt) appended line silent memory = subst (λ (h : Halt). Performed f s now later (Ok (view_request name)) out out' (Err h)) (sym memory)
           (viewed f s now later name
           (λ before at. let left = spent_leaves f s docs pool pool' groups groups' old mid new servers servers' name id design place path within path_is read plans slot brings before at in
           does_halted f s now later name out out' (Stopped NoMemory) (λ goes before at. spent_leaves f s docs pool pool' groups groups' old mid new servers servers' name id design place path within path_is read plans slot brings before at)
           (λ step is other before at. absurd (other (let same : step ≡ NoMemory = cc in same))) before at)
           tt silent (λ is. let clash : ⊥ = cc in absurd clash)
-          (view_moves f s docs pool pool' groups groups' old mid new servers servers' name id design place path read earlier plans is_open asked (Ok slot) brings)
-          (λ goes. view_open f s docs pool pool' groups groups' old mid new servers servers' name id design place path read earlier plans is_open asked (Ok slot) brings (λ lost. lost))
+          (view_moves f s docs pool pool' groups groups' old mid new servers servers' name id design place path true read earlier plans is_open asked (Ok slot) brings)
+          (λ goes. view_open f s docs pool pool' groups groups' old mid new servers servers' name id design place path true read earlier plans is_open asked (Ok slot) brings (λ lost. lost))
           (λ before at file limit is. absurd cc)
           (inl tt)
           (record { languages = brings.keeps.languages; width = brings.keeps.width; disk_faults = omega (arith, earlier, brings.later.0); server_faults = brings.later.1 }))

@@ -127,8 +127,7 @@ module _ (functions : List ℕ → Functions) (honest : List ℕ → Type 0) (la
   is_refused_once world (Get id) first second a b = let same : Some first ≡ Some second = sym a ∙ b in cc
   is_refused_once world Info first second a b = absurd a
   is_refused_once world Cleanup first second a b = absurd a
-  is_refused_once world (View name None) first second a b = let same : Some first ≡ Some second = sym a ∙ b in cc
-  is_refused_once world (View name (Some query)) first second a b = a ∙ sym b
+  is_refused_once world (View view query) first second a b = let same : Some first ≡ Some second = sym a ∙ b in cc
   is_refused_once world other first second a b = a ∙ sym b
 
   pub is_not_refused_and_done : IsNotRefusedAndDone functions honest languages
@@ -138,6 +137,6 @@ module _ (functions : List ℕ → Functions) (honest : List ℕ → Type 0) (la
   is_not_refused_and_done before after (Get id) refusal reply refused done = live_not_refused _ (done.0).0 refusal (done.0).1 refused
   is_not_refused_and_done before after Info refusal reply refused done = refused
   is_not_refused_and_done before after Cleanup refusal reply refused done = refused
-  is_not_refused_and_done before after (View name None) refusal reply refused done = let clash : Some refusal ≡ None = sym refused ∙ done.accepted in cc
-  is_not_refused_and_done before after (View name (Some query)) refusal reply refused done = done
+  is_not_refused_and_done before after (View view query) refusal reply refused (inl done) = let clash : Some refusal ≡ None = sym refused ∙ done.accepted in cc
+  is_not_refused_and_done before after (View view query) refusal reply refused (inr done) = let clash : Some refusal ≡ None = sym refused ∙ done.accepted in cc
   is_not_refused_and_done before after other refusal reply refused done = done

@@ -1,6 +1,6 @@
 -- A view that ends since a file of its design's index is full.
 use Rattle.std.specs.Prelude.{◌≡◌, ◌<◌, ℕ, List, length, Option, Some, Err}
-use Rattle.std.proofs.Common.{refl, sym, ap, subst}
+use Rattle.std.proofs.Common.{true, refl, sym, ap, subst}
 use Rattle.json_terms.specs.Json.{Json}
 use Rattle.design_docs.specs.declared.design.Design.{Design}
 use Rattle.design_docs.specs.Design.{views_of}
@@ -35,7 +35,6 @@ use Rattle.view_signature.specs.Signature.{signature_of}
 use Rattle.view_engine.specs.declared.engine.Engine.{Engine}
 use Rattle.view_engine.specs.declared.halt.Halt.TheVariants.{Stopped}
 use Rattle.view_engine.specs.declared.halt.StepFault.TheVariants.{Full}
-use Rattle.view_engine.specs.declared.request.ViewName.{ViewName}
 use Rattle.view_engine.specs.Calls.{scene, StandsAt}
 use Rattle.view_engine.specs.FullIndex.{IsIndexFull}
 use Rattle.view_engine.specs.Moments.{Moment}
@@ -46,6 +45,7 @@ use Rattle.view_engine.specs.Worlds.{IsAtWorld}
 use Rattle.view_engine.proofs.Bringing.{next_is, reached, with_picture}
 use Rattle.view_engine.proofs.Planned.{at_mid, planned}
 use Rattle.view_engine.proofs.Viewed.{is_brought, same_signature, set_there, IsKnown}
+use Rattle.view_engine.specs.ViewQuery.{ViewQuery}
 
 -- what is met as a full file is one of the index
 met_full : (met : UpdateFault) (id : List ℕ) → IsGroupFault met → (n : FileName) (limit : Option ℕ) → met_by id met ≡ Stopped (Full n limit) → met ≡ update.Index (index.Store (gate.Full n limit))
@@ -65,10 +65,10 @@ met_full (update.Index (index.Store (gate.Full m long))) id kind n limit is = le
 met_full (update.Index (index.Store gate.NoMemory)) id kind n limit is = absurd cc
 met_full (update.Index other) id kind n limit is = absurd kind
 
-module _ {F C : Type 0} (f : Folders F) (s : Servers C) (docs : Docs) (pool pool' : Pool) (groups groups' : Groups) (old mid new : F) (servers servers' : C) (name : ViewName) (id : List ℕ) (design : Design) (place : ℕ) (path : List ℕ)
+module _ {F C : Type 0} (f : Folders F) (s : Servers C) (docs : Docs) (pool pool' : Pool) (groups groups' : Groups) (old mid new : F) (servers servers' : C) (name : ViewQuery) (id : List ℕ) (design : Design) (place : ℕ) (path : List ℕ)
     (within : place < length design.views) (path_is : path_in (languages_of pool) design.language ≡ Some path)
     (read : Tells (f.disk old) (f.disk mid) MovesNone)
-    (plans : (history : List Write) → IfTold (f.disk old) (λ d. AreAt docs d.now history → IsPlan (languages_of pool) history name id design place path))
+    (plans : (history : List Write) → IfTold (f.disk old) (λ d. AreAt docs d.now history → IsPlan true (languages_of pool) history name id design place path))
     (met : UpdateFault) (kind : IsGroupFault met) (brings : Brings f s docs design (side mid servers pool groups) (side new servers' pool' groups') (Err met))
     (before : Moment) (at : StandsAt f s (scene (record { docs = docs; pool = pool; groups = groups }) old servers) before) where
   abbrev engine : Engine
@@ -87,7 +87,7 @@ module _ {F C : Type 0} (f : Folders F) (s : Servers C) (docs : Docs) (pool pool
   IsMade = IsNext f s docs design (side mid servers pool groups) (side new servers' pool' groups') world.history world.pictures
 
   -- with the next picture the view makes a world, in which the design has it
-  module _ (plan : IsPlan (languages_of pool) world.history name id design place path) (stored : AreStored world.history) (next : Picture) (made : IsMade next) where
+  module _ (plan : IsPlan true (languages_of pool) world.history name id design place path) (stored : AreStored world.history) (next : Picture) (made : IsMade next) where
     abbrev after : World
     after = with_picture world design next
 
@@ -112,6 +112,7 @@ module _ {F C : Type 0} (f : Folders F) (s : Servers C) (docs : Docs) (pool pool
       path = path;
       after = after;
       live = plan.live;
+      updates = plan.updates;
       accepted = plan.accepted;
       path_is = plan.path_is;
       brought = brought;
@@ -124,7 +125,7 @@ module _ {F C : Type 0} (f : Folders F) (s : Servers C) (docs : Docs) (pool pool
   pub filled_then : (n : FileName) (limit : Option ℕ) → met_by id met ≡ Stopped (Full n limit) → IfTold (f.disk new) (λ d. IsIndexFull s.functions s.honest (languages_of pool) d.now world name n limit)
   filled_then n limit is =
       let of_index = met_full met id kind n limit is in
-      told_after (f.disk mid) (f.disk new) (λ d. IsPlan (languages_of pool) world.history name id design place path × AreStored world.history) (λ d. IsIndexFull s.functions s.honest (languages_of pool) d.now world name n limit)
+      told_after (f.disk mid) (f.disk new) (λ d. IsPlan true (languages_of pool) world.history name id design place path × AreStored world.history) (λ d. IsIndexFull s.functions s.honest (languages_of pool) d.now world name n limit)
       (λ a b. (opened : Index) × (next : Picture) × IsAt opened b.now (world.pictures (sig_of design)) × IsMade next × IsFullWith opened next n limit)
       (λ a b plan found. full_with plan.0 plan.1 found.1 found.3 b.now found.0 n limit (brings.full n limit (ap Err of_index)) found.2 found.4)
       (told_after (f.disk old) (f.disk mid) _ _ MovesNone (λ a b plan none. plan) (planned f s docs pool pool' groups groups' old mid new servers servers' name id design place path within path_is read plans before at) read)

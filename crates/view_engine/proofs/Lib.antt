@@ -3,7 +3,6 @@ pub mod LiveDocuments
 pub mod Places
 pub mod RequestLimit
 pub mod OtherForms
-pub mod Pieces
 pub mod Around
 pub mod Writing
 pub mod Faults
@@ -47,3 +46,4 @@ pub mod Ending
 pub mod CleanedUp
 pub mod LiveSignatures
 pub mod CleansThen
+pub mod Kept

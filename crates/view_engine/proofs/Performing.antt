@@ -1,5 +1,5 @@
 -- What a request leaves that calls no server: the engine at a moment, and what was appended.
-use Rattle.std.proofs.Common.{◌≡◌, ℕ, List, inl, Result, Ok, Option, None, refl}
+use Rattle.std.proofs.Common.{◌≡◌, ℕ, List, inl, Result, Ok, Option, refl}
 use Rattle.view_ports.specs.Calls.{Call}
 use Rattle.view_ports.specs.Disk.{Disk}
 use Rattle.view_ports.specs.Functions.{Functions}
@@ -20,7 +20,7 @@ use Rattle.view_engine.specs.World.{World}
 
 -- memory may run out before anything was called
 pub none_called : (functions : List ℕ → Functions) (honest : List ℕ → Type 0) (languages : List (List ℕ × List ℕ)) (before : Moment) (request : Result Request Refusal) → MayHaveCalled functions honest languages before request before
-none_called functions honest languages before (Ok (View name None)) = inl refl
+none_called functions honest languages before (Ok (View view query)) = inl refl
 none_called functions honest languages before other = refl
 
 -- less is said of what is left
@@ -36,11 +36,11 @@ leaves_as {old} P Q then left = record {
 module _ (functions : List ℕ → Functions) (honest : List ℕ → Type 0) (languages : List (List ℕ × List ℕ)) where
   -- a request that isn't built yet is refused as such
   pub unbuilt : (world : World) (request : Request) → ((document : Members) → request ≡ Put document → ⊥) → ((id : Chars) (rev : Option Chars) → request ≡ Delete id rev → ⊥)
-      → ((id : Chars) → request ≡ Get id → ⊥) → (request ≡ Info → ⊥) → (request ≡ Cleanup → ⊥) → ((view : ViewName) → request ≡ View view None → ⊥) → IsRefusedAs functions honest languages world request NotBuiltYet
+      → ((id : Chars) → request ≡ Get id → ⊥) → (request ≡ Info → ⊥) → (request ≡ Cleanup → ⊥) → ((view : ViewName) (query : Option Members) → request ≡ View view query → ⊥) → IsRefusedAs functions honest languages world request NotBuiltYet
   unbuilt world (Put document) no_put no_delete no_get no_info no_cleanup no_view = absurd (no_put document refl)
   unbuilt world (Delete id rev) no_put no_delete no_get no_info no_cleanup no_view = absurd (no_delete id rev refl)
   unbuilt world (Get id) no_put no_delete no_get no_info no_cleanup no_view = absurd (no_get id refl)
   unbuilt world Info no_put no_delete no_get no_info no_cleanup no_view = absurd (no_info refl)
   unbuilt world Cleanup no_put no_delete no_get no_info no_cleanup no_view = absurd (no_cleanup refl)
-  unbuilt world (View view None) no_put no_delete no_get no_info no_cleanup no_view = absurd (no_view view refl)
+  unbuilt world (View view query) no_put no_delete no_get no_info no_cleanup no_view = absurd (no_view view query refl)
   unbuilt world other no_put no_delete no_get no_info no_cleanup no_view = refl

@@ -1,7 +1,7 @@
 -- A view that is planned, over what bringing the index of its design up to date left.
 use Rattle.std.specs.Prelude.{◌≡◌, ◌≢◌, ◌<◌, ◌++◌, ℕ, List, [], ◌∷◌, length, Option, Some, None, Ok, Err, slice_index_or}
 use Rattle.std.specs.List.{AllByRecursion}
-use Rattle.std.proofs.Common.{refl, ap, inl, inr, ⊎_elim}
+use Rattle.std.proofs.Common.{true, refl, ap, inl, inr, ⊎_elim}
 use Rattle.json_terms.specs.Json.{Json}
 use Rattle.json_terms.specs.Seen.{json}
 use Rattle.json_terms.specs.declared.term.Row.{Row}
@@ -33,9 +33,7 @@ use Rattle.view_engine.specs.declared.halt.Halt.{Halt}
 use Rattle.view_engine.specs.declared.halt.Halt.TheVariants.{Refused, Stopped}
 use Rattle.view_engine.specs.declared.halt.StepFault.TheVariants.{NoMemory}
 use Rattle.view_engine.specs.declared.refusal.Refusal.{Refusal}
-use Rattle.view_engine.specs.declared.request.Request.TheVariants.{View as ViewRequest}
-use Rattle.view_engine.specs.declared.request.ViewName.{ViewName}
-use Rattle.view_engine.specs.Answer.{answer}
+use Rattle.view_model.specs.Answer.{answer}
 use Rattle.view_engine.specs.Calls.{scene, AppendsText, LeavesMoment, Scene, StandsAt}
 use Rattle.view_engine.specs.Moments.{Moment}
 use Rattle.view_engine.specs.Refusals.{refusal_text}
@@ -49,16 +47,17 @@ use Rattle.view_engine.proofs.Bringing.{asked_there, brought_at, failed_at, move
 use Rattle.view_engine.proofs.Viewed.{answered, asked_all, at_moment, IsKnown, IsNextOf, Updates}
 use Rattle.view_engine.proofs.Viewing.{Halts, LeavesStopped}
 use Rattle.view_engine.proofs.Whole.{leaves_none, world_none}
+use Rattle.view_engine.specs.ViewQuery.{ViewQuery, query_for, view_request}
 
 -- a history that a document is live in isn't empty
 written_some : (history : List Write) (id : List ℕ) (document : Json) → live_document history id ≡ Some document → history ≢ []
 written_some [] id document is none = let clash : ⊥ = cc in clash
 written_some (write ∷ older) id document is none = let clash : ⊥ = cc in clash
 
-module _ {F C : Type 0} (f : Folders F) (s : Servers C) (docs : Docs) (pool pool' : Pool) (groups groups' : Groups) (old mid new : F) (servers servers' : C) (name : ViewName) (id : List ℕ) (design : Design) (place : ℕ) (path : List ℕ)
+module _ {F C : Type 0} (f : Folders F) (s : Servers C) (docs : Docs) (pool pool' : Pool) (groups groups' : Groups) (old mid new : F) (servers servers' : C) (name : ViewQuery) (id : List ℕ) (design : Design) (place : ℕ) (path : List ℕ)
     (within : place < length design.views) (path_is : path_in (languages_of pool) design.language ≡ Some path)
     (read : Tells (f.disk old) (f.disk mid) MovesNone)
-    (plans : (history : List Write) → IfTold (f.disk old) (λ d. AreAt docs d.now history → IsPlan (languages_of pool) history name id design place path)) where
+    (plans : (history : List Write) → IfTold (f.disk old) (λ d. AreAt docs d.now history → IsPlan true (languages_of pool) history name id design place path)) where
   abbrev engine : Engine
   engine = record { docs = docs; pool = pool; groups = groups }
 
@@ -82,11 +81,11 @@ module _ {F C : Type 0} (f : Folders F) (s : Servers C) (docs : Docs) (pool pool
     told_first : (P : Type 0) → IfTold (f.disk mid) (λ d. P) → IfTold (f.disk old) (λ d. P)
     told_first P known = told_back (f.disk old) (f.disk mid) (λ d. P) (λ d. P) MovesNone (λ a b none is. is) read known
 
-    pub planned : IfTold (f.disk old) (λ d. IsPlan (languages_of pool) world.history name id design place path × AreStored world.history)
-    planned = told_pair (f.disk old) (λ d. IsAtWorld engine d.now world) (λ d. AreAt docs d.now world.history → IsPlan (languages_of pool) world.history name id design place path) _ (λ d here is. (is here.documents, here.documents.stored)) at.documents (plans world.history)
+    pub planned : IfTold (f.disk old) (λ d. IsPlan true (languages_of pool) world.history name id design place path × AreStored world.history)
+    planned = told_pair (f.disk old) (λ d. IsAtWorld engine d.now world) (λ d. AreAt docs d.now world.history → IsPlan true (languages_of pool) world.history name id design place path) _ (λ d here is. (is here.documents, here.documents.stored)) at.documents (plans world.history)
 
     known : (documents : List (List (List ℕ × Json))) → IfTold (f.disk old) (λ d. documents ≡ documents_since (picture_for design world.pictures).seq world.history) → IfTold (f.disk old) (λ d. IsKnown (languages_of pool) before name id design place path documents)
-    known documents same = told_pair (f.disk old) (λ d. IsPlan (languages_of pool) world.history name id design place path × AreStored world.history) (λ d. documents ≡ documents_since (picture_for design world.pictures).seq world.history) _
+    known documents same = told_pair (f.disk old) (λ d. IsPlan true (languages_of pool) world.history name id design place path × AreStored world.history) (λ d. documents ≡ documents_since (picture_for design world.pictures).seq world.history) _
         (λ d plan is. record { plan = plan.0; stored = plan.1; documents_are = is }) planned same
 
     -- a crash leaves what it left before, and then this
@@ -124,8 +123,8 @@ module _ {F C : Type 0} (f : Folders F) (s : Servers C) (docs : Docs) (pool pool
           allowed = told_halts (then s before name id design place path within pool pool' servers servers' path_is at.child brings.keeps brings.later.1 (f.disk old) before.world is_left.now) (f.disk old) is_left.called is_left.refused;
         }
       where
-        told_halts : (now_calls : Moment) (x : Option (Disk FileName)) → IfTold x (λ d. MayHaveCalled s.functions s.honest (languages_of pool) before (Ok (ViewRequest name None)) now_calls)
-            → ((r : Refusal) → halt ≡ Refused r → IfTold x (λ d. DoesRequest s.functions s.honest (languages_of pool) before (Ok (ViewRequest name None)) (refusal_text r) now_calls)) → IfTold x (λ d. Halts f s now later name before halt now_calls)
+        told_halts : (now_calls : Moment) (x : Option (Disk FileName)) → IfTold x (λ d. MayHaveCalled s.functions s.honest (languages_of pool) before (Ok (view_request name)) now_calls)
+            → ((r : Refusal) → halt ≡ Refused r → IfTold x (λ d. DoesRequest s.functions s.honest (languages_of pool) before (Ok (view_request name)) (refusal_text r) now_calls)) → IfTold x (λ d. Halts f s now later name before halt now_calls)
         told_halts now_calls None called told = tt
         told_halts now_calls (Some a) called told = (told, called)
 
@@ -133,8 +132,8 @@ module _ {F C : Type 0} (f : Folders F) (s : Servers C) (docs : Docs) (pool pool
     stopped_leaves step is other before at =
         let here = at_mid before at in
         let is_left = left before at in (
-          crashes before at (StandsAround s.functions s.honest (languages_of pool) before.world (Ok (ViewRequest name None))) (λ d image stands. inl (stands_same before.world image stands))
-              (told_given (f.disk mid) (f.disk new) (λ d. IsAtWorld engine d.now before.world × (IsPlan (languages_of pool) before.world.history name id design place path × AreStored before.world.history)) _ (LeavesOnly (StandsAround s.functions s.honest (languages_of pool) before.world (Ok (ViewRequest name None))))
+          crashes before at (StandsAround s.functions s.honest (languages_of pool) before.world (Ok (view_request name))) (λ d image stands. inl (stands_same before.world image stands))
+              (told_given (f.disk mid) (f.disk new) (λ d. IsAtWorld engine d.now before.world × (IsPlan true (languages_of pool) before.world.history name id design place path × AreStored before.world.history)) _ (LeavesOnly (StandsAround s.functions s.honest (languages_of pool) before.world (Ok (view_request name))))
               (λ a b known moves. failed_at f s docs pool pool' groups groups' mid new servers servers' name id design place path within path_is (Err fault) brings before here a b known.0 (Err fault) known.1.0 known.1.1 moves)
               (told_pair (f.disk mid) (λ d. IsAtWorld engine d.now before.world) _ _ (λ d one plan. (one, plan)) here.documents (told_after (f.disk old) (f.disk mid) _ _ MovesNone (λ a b plan none. plan) (planned before at) read))
               (moved f s docs pool pool' groups groups' mid new servers servers' name id design place path within path_is (Err fault) brings before here)),
@@ -208,15 +207,15 @@ module _ {F C : Type 0} (f : Folders F) (s : Servers C) (docs : Docs) (pool pool
         allowed = allowed;
       }
 
-      pub shown_leaves : (parts : AllByRecursion (λ (row : Row). IsPart (json row.key) × IsPart (json row.value)) rows) → length (picture_of index).rows ≡ length design.views → (out out' : List ℕ) → out' ≡ out ++ ended (answer rows)
-          → AppendsText f s now later before (DoesRequestText s.functions s.honest (languages_of pool) before (Ok (ViewRequest name None))) out out'
+      pub shown_leaves : (parts : AllByRecursion (λ (row : Row). IsPart (json row.key) × IsPart (json row.value)) rows) → length (picture_of index).rows ≡ length design.views → (out out' : List ℕ) → out' ≡ out ++ ended (answer (query_for name) (picture_of index).seq rows)
+          → AppendsText f s now later before (DoesRequestText s.functions s.honest (languages_of pool) before (Ok (view_request name))) out out'
       shown_leaves parts each out out' appended = record {
-        text = ended (answer rows);
-        leaves = left_it (DoesRequestText s.functions s.honest (languages_of pool) before (Ok (ViewRequest name None)) (ended (answer rows)))
+        text = ended (answer (query_for name) (picture_of index).seq rows);
+        leaves = left_it (DoesRequestText s.functions s.honest (languages_of pool) before (Ok (view_request name)) (ended (answer (query_for name) (picture_of index).seq rows)))
             (told_now (f.disk old) _ _ (λ d both. (
-              answer rows,
-              inl (answered s.functions s.honest (languages_of pool) before name id design place path within mapped.documents (s.may_follow servers') (s.faults servers) (s.faults servers') pool' at.child.counts brings.later.1 pool at.child.width at.child.started mapped.lists mapped.idle went
-                  (picture_of index) after_world both.0 both.1 each parts),
+              answer (query_for name) (picture_of index).seq rows,
+              inl (inl (answered s.functions s.honest (languages_of pool) before name id design place path within mapped.documents (s.may_follow servers') (s.faults servers) (s.faults servers') pool' at.child.counts brings.later.1 pool at.child.width at.child.started mapped.lists mapped.idle went
+                  (picture_of index) after_world both.0 both.1 each parts)),
               refl,
             )) known_made);
         appended = appended;

@@ -1,7 +1,7 @@
 -- A view request before any server is asked.
-use Rattle.std.specs.Prelude.{◌≡◌, ◌≤◌, ℕ, List, [], ◌∷◌, true, Option, Some, None, option_and_then, bytes_eq, length, map}
+use Rattle.std.specs.Prelude.{◌≡◌, ◌≤◌, ℕ, List, [], ◌∷◌, true, Bool, Option, Some, None, option_and_then, option_map, bytes_eq, length, map}
 use Rattle.std.specs.Map.{lookup}
-use Rattle.std.proofs.Common.{refl, sym, ap, ◌∙◌, subst}
+use Rattle.std.proofs.Common.{◌⊎◌, inl, inr, refl, sym, ap, ◌∙◌, subst}
 use Rattle.json_terms.specs.Json.{Json}
 use Rattle.design_docs.specs.declared.design.Design.{Design}
 use Rattle.design_docs.specs.declared.design.View.{View}
@@ -14,20 +14,26 @@ use Rattle.design_docs.proofs.ViewOrder.{views_are_few}
 use Rattle.child_pool.specs.Languages.{path_in}
 use Rattle.doc_file.specs.Held.{IsBodyOf}
 use Rattle.doc_file.specs.History.{Write, last_write, live_document}
-use Rattle.view_engine.specs.declared.request.ViewName.{ViewName}
 use Rattle.view_engine.specs.declared.refusal.Refusal.{Refusal}
-use Rattle.view_engine.specs.declared.refusal.Refusal.TheVariants.{MissingNamedView, UnknownLanguage}
+use Rattle.view_engine.specs.declared.refusal.Refusal.TheVariants.{BadQuery, MissingNamedView, UnknownLanguage}
 use Rattle.view_engine.specs.World.{World, of_history}
 use Rattle.view_engine.specs.Get.{get_refusal, not_live}
 use Rattle.view_engine.specs.Refusals.{first_of}
-use Rattle.view_engine.specs.View.{design_id, no_language, no_path, no_view, view_refusal}
-use Rattle.view_engine.specs.ViewPlan.{IsPlan, ShowsRows, source_at}
+use Rattle.query_args.specs.declared.fault.QueryFault.{QueryFault}
+use Rattle.query_args.specs.declared.fault.QueryFault.TheVariants as query
+use Rattle.view_engine.specs.declared.halt.Halt.TheVariants.{Refused, Stopped}
+use Rattle.view_engine.specs.declared.halt.StepFault.TheVariants.{NoMemory}
+use Rattle.query_args.specs.Faults.{query_fault}
+use Rattle.query_args.specs.Query.{is_updated}
+use Rattle.view_engine.specs.View.{bad_query, design_id, no_language, no_path, no_view, view_refusal}
+use Rattle.view_engine.specs.ViewPlan.{IsPlan, ShowsRows, met_by_query, source_at}
+use Rattle.view_engine.specs.ViewQuery.{ViewQuery, parameters_of, plain_view}
 
 is_design : (name : List ℕ) → is_design_id (design_id name) ≡ true
 is_design name = refl
 
 -- what is stored under the id of a design document has a design
-pub stored_design : (name : ViewName) (id : List ℕ) (document : Json) → id ≡ design_id name.design → IsBodyOf id document → HasDesign document
+pub stored_design : (name : ViewQuery) (id : List ℕ) (document : Json) → id ≡ design_id name.design → IsBodyOf id document → HasDesign document
 stored_design name id document is body = body.design (ap is_design_id is ∙ is_design name.design)
 
 -- a live document isn't refused
@@ -35,7 +41,7 @@ not_refused : (write : Option Write) (document : Json) → option_and_then (λ w
 not_refused None document is = let clash : ⊥ = cc in absurd clash
 not_refused (Some write) document is = rw is refl
 
-module _ (languages : List (List ℕ × List ℕ)) (history : List Write) (name : ViewName) (id : List ℕ) (document : Json) (design : Design)
+module _ (languages : List (List ℕ × List ℕ)) (history : List Write) (name : ViewQuery) (id : List ℕ) (document : Json) (design : Design)
     (is : id ≡ design_id name.design) (live : live_document history id ≡ Some document) (has : HasDesign document) (of : IsDesignOf document design) where
   abbrev world : World
   world = of_history history
@@ -46,32 +52,39 @@ module _ (languages : List (List ℕ × List ℕ)) (history : List Write) (name 
   got : get_refusal world (design_id name.design) ≡ None
   got = not_refused (last_write history (design_id name.design)) document lives
 
-  refusals : view_refusal languages world name ≡ first_of (no_view (source_of name.view document) ∷ no_path (language_of document) (path_in languages (language_of document)) ∷ [])
+  refusals : view_refusal languages world name ≡ first_of (no_view (source_of name.view document) ∷ bad_query (parameters_of name) ∷ no_path (language_of document) (path_in languages (language_of document)) ∷ [])
   refusals =
-      ap (λ r. first_of (r ∷ no_view (option_and_then (source_of name.view) (live_document history (design_id name.design))) ∷ no_language languages (live_document history (design_id name.design)) ∷ [])) got
-      ∙ ap (λ (l : Option Json). first_of (no_view (option_and_then (source_of name.view) l) ∷ no_language languages l ∷ [])) lives
+      ap (λ r. first_of (r ∷ no_view (option_and_then (source_of name.view) (live_document history (design_id name.design))) ∷ bad_query (parameters_of name) ∷ no_language languages (live_document history (design_id name.design)) ∷ [])) got
+      ∙ ap (λ (l : Option Json). first_of (no_view (option_and_then (source_of name.view) l) ∷ bad_query (parameters_of name) ∷ no_language languages l ∷ [])) lives
 
   named : lookup (λ key. bytes_eq key name.view) (map entry_of design.views) ≡ source_of name.view document
   named = ap (λ (views : List View). lookup (λ key. bytes_eq key name.view) (map entry_of views)) of.1 ∙ has_views_of_names document has name.view
 
   pub refused_view : None ≡ lookup (λ key. bytes_eq key name.view) (map entry_of design.views) → view_refusal languages world name ≡ Some MissingNamedView
-  refused_view none = refusals ∙ ap (λ (s : Option (List ℕ)). first_of (no_view s ∷ no_path (language_of document) (path_in languages (language_of document)) ∷ [])) (sym (none ∙ named))
+  refused_view none = refusals ∙ ap (λ (s : Option (List ℕ)). first_of (no_view s ∷ bad_query (parameters_of name) ∷ no_path (language_of document) (path_in languages (language_of document)) ∷ [])) (sym (none ∙ named))
 
   module _ (place : ℕ) (there : Some (source_at design.views place) ≡ lookup (λ key. bytes_eq key name.view) (map entry_of design.views)) where
     source : source_of name.view document ≡ Some (source_at design.views place)
     source = sym (there ∙ named)
 
-    served : view_refusal languages world name ≡ first_of (no_path (language_of document) (path_in languages (language_of document)) ∷ [])
-    served = refusals ∙ ap (λ (s : Option (List ℕ)). first_of (no_view s ∷ no_path (language_of document) (path_in languages (language_of document)) ∷ [])) source
+    viewed : view_refusal languages world name ≡ first_of (bad_query (parameters_of name) ∷ no_path (language_of document) (path_in languages (language_of document)) ∷ [])
+    viewed = refusals ∙ ap (λ (s : Option (List ℕ)). first_of (no_view s ∷ bad_query (parameters_of name) ∷ no_path (language_of document) (path_in languages (language_of document)) ∷ [])) source
 
-    pub refused_language : None ≡ path_in languages design.language → view_refusal languages world name ≡ Some (UnknownLanguage design.language)
-    refused_language none =
-        served
+    pub refused_query : (refusal : Refusal) → bad_query (parameters_of name) ≡ Some refusal → view_refusal languages world name ≡ Some refusal
+    refused_query refusal stands = viewed ∙ ap (λ (r : Option Refusal). first_of (r ∷ no_path (language_of document) (path_in languages (language_of document)) ∷ [])) stands
+
+    served : query_fault plain_view (parameters_of name) ≡ None → view_refusal languages world name ≡ first_of (no_path (language_of document) (path_in languages (language_of document)) ∷ [])
+    served fits = viewed ∙ ap (λ (f : Option QueryFault). first_of (option_map BadQuery f ∷ no_path (language_of document) (path_in languages (language_of document)) ∷ [])) fits
+
+    pub refused_language : query_fault plain_view (parameters_of name) ≡ None → None ≡ path_in languages design.language → view_refusal languages world name ≡ Some (UnknownLanguage design.language)
+    refused_language fits none =
+        served fits
         ∙ ap (λ (l : List ℕ). first_of (no_path l (path_in languages l) ∷ [])) (sym of.0)
         ∙ ap (λ (p : Option (List ℕ)). first_of (no_path design.language p ∷ [])) (sym none)
 
-    pub planned : ShowsRows design.views name.view place → (path : List ℕ) → path_in languages design.language ≡ Some path → IsPlan languages history name id design place path
-    planned shown path known =
+    pub planned : {updating : Bool} → is_updated (parameters_of name) ≡ updating → query_fault plain_view (parameters_of name) ≡ None → ShowsRows design.views name.view place → (path : List ℕ) → path_in languages design.language ≡ Some path
+        → IsPlan updating languages history name id design place path
+    planned updates fits shown path known =
         let there_is : path_in languages (language_of document) ≡ Some path = ap (path_in languages) (sym of.0) ∙ known in
         record {
           document = document;
@@ -84,9 +97,25 @@ module _ (languages : List (List ℕ × List ℕ)) (history : List Write) (name 
           shown = shown;
           few = subst (λ (views : List View). length views ≤ 32) (sym of.1) (views_are_few document has);
           id_is = is;
-          accepted = served ∙ ap (λ (p : Option (List ℕ)). first_of (no_path (language_of document) p ∷ [])) there_is;
+          updates = updates;
+          accepted = served fits ∙ ap (λ (p : Option (List ℕ)). first_of (no_path (language_of document) p ∷ [])) there_is;
         }
 
 -- one refusal is the other
-pub refused_same : (languages : List (List ℕ × List ℕ)) (world : World) (name : ViewName) (r s : Refusal) → r ≡ s → view_refusal languages world name ≡ Some r → view_refusal languages world name ≡ Some s
+pub refused_same : (languages : List (List ℕ × List ℕ)) (world : World) (name : ViewQuery) (r s : Refusal) → r ≡ s → view_refusal languages world name ≡ Some r → view_refusal languages world name ≡ Some s
 refused_same languages w name r s same is = is ∙ ap (λ (x : Refusal). Some x) same
+
+-- a fault of the query, as a request meets it, is the one that stands
+pub met_query : (found : QueryFault) (refusal : Refusal) (stands : Option QueryFault) → met_by_query found ≡ Refused refusal → (stands ≡ Some found) ⊎ (found ≡ query.NoMemory) → option_map BadQuery stands ≡ Some refusal
+met_query query.NoMemory refusal stands is one = absurd (let clash : ⊥ = cc in clash)
+met_query (query.UnknownName name) refusal stands is (inl same) = ap (option_map BadQuery) same ∙ (let met : BadQuery (query.UnknownName name) ≡ refusal = cc in ap (λ r. Some r) met)
+met_query (query.BadValue name) refusal stands is (inl same) = ap (option_map BadQuery) same ∙ (let met : BadQuery (query.BadValue name) ≡ refusal = cc in ap (λ r. Some r) met)
+met_query query.ReduceOfMapOnly refusal stands is (inl same) = ap (option_map BadQuery) same ∙ (let met : BadQuery query.ReduceOfMapOnly ≡ refusal = cc in ap (λ r. Some r) met)
+met_query query.GroupUnreduced refusal stands is (inl same) = ap (option_map BadQuery) same ∙ (let met : BadQuery query.GroupUnreduced ≡ refusal = cc in ap (λ r. Some r) met)
+met_query query.KeysNeedGroup refusal stands is (inl same) = ap (option_map BadQuery) same ∙ (let met : BadQuery query.KeysNeedGroup ≡ refusal = cc in ap (λ r. Some r) met)
+met_query query.KeyAndKeys refusal stands is (inl same) = ap (option_map BadQuery) same ∙ (let met : BadQuery query.KeyAndKeys ≡ refusal = cc in ap (λ r. Some r) met)
+met_query query.CursorReduces refusal stands is (inl same) = ap (option_map BadQuery) same ∙ (let met : BadQuery query.CursorReduces ≡ refusal = cc in ap (λ r. Some r) met)
+met_query other refusal stands is (inr memory) = absurd (let clash : ⊥ = memory_is_no_fault other refusal memory is in clash)
+  where
+    memory_is_no_fault : (found : QueryFault) (refusal : Refusal) → found ≡ query.NoMemory → met_by_query found ≡ Refused refusal → ⊥
+    memory_is_no_fault found refusal memory is = let met : Stopped NoMemory ≡ Refused refusal = sym (ap met_by_query memory) ∙ is in cc

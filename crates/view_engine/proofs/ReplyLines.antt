@@ -1,54 +1,25 @@
 -- Each reply is one line, which isn't empty.
-use Rattle.std.proofs.Common.{◌≡◌, ◌≢◌, ◌<◌, ◌^◌, ◌==◌, ◌&&◌, ◌++◌, ℕ, List, [], ◌∷◌, Bool, true, false, not, codes, decimal, length, get_or, Result, Ok, Err, ◌+◌, ◌∙◌, ap, refl, sym, subst, arith}
-use Rattle.std.specs.Prelude.{OnOk, drop}
-use Rattle.std.proofs.lemmas.Bool.{and_parts, eqb-false}
-use Rattle.std.proofs.lemmas.List.{drop_more}
-use Rattle.std.proofs.lemmas.List.Elements.{All-nil, All-cons, All-append}
+use Rattle.std.proofs.Common.{◌≡◌, ◌≢◌, ◌<◌, ◌^◌, ◌++◌, ℕ, List, [], true, codes, decimal, Result, Ok, Err, refl}
+use Rattle.std.specs.Prelude.{OnOk}
 use Rattle.json_terms.specs.Json.{Json, array, is_false, is_null, is_true, number, object, string}
-use Rattle.json_terms.specs.Seen.{json}
 use Rattle.json_terms.specs.Text.{text_of}
 use Rattle.json_terms.specs.declared.term.Row.{Row}
 use Rattle.json_terms.proofs.OneLine.{line-quoted, line-text_of}
 use Rattle.view_ports.specs.Lines.{IsLine}
+use Rattle.range_query.proofs.Lines.{is_line, line, lines3, lines5, lines7}
 use Rattle.doc_file.specs.declared.docs.Info.{Info}
 use Rattle.doc_file.specs.Held.{IsDocument, IsObject}
 use Rattle.doc_file.proofs.RevisionLines.{line-decimal}
 use Rattle.view_engine.specs.declared.refusal.Refusal.{Refusal}
-use Rattle.view_engine.specs.declared.refusal.Refusal.TheVariants.{LineTooLong, NotJson, NotWhole, TooDeep, UnknownRequest, NotBuiltYet, BadId, BadMember, BadRev, DocumentTooLarge, DocumentTooDeep, InvalidDesign, Missing, Deleted, MissingNamedView, Conflict, UnknownLanguage, CompilationError, ServerFault, ServerReply, NoMemory}
-use Rattle.view_engine.specs.Answer.{answer, comma, info_text, more_rows, row_text, rows_text, write_text}
+use Rattle.view_engine.specs.declared.refusal.Refusal.TheVariants.{LineTooLong, NotJson, NotWhole, TooDeep, UnknownRequest, NotBuiltYet, BadId, BadMember, BadRev, DocumentTooLarge, DocumentTooDeep, InvalidDesign, Missing, Deleted, MissingNamedView, Conflict, BadQuery, UnknownLanguage, CompilationError, ServerFault, ServerReply, NoMemory}
+use Rattle.query_args.specs.declared.query.Query.{Query}
+use Rattle.view_model.specs.Answer.{answer}
+use Rattle.view_engine.specs.Answer.{info_text, write_text}
 use Rattle.view_engine.specs.Calls.{IsReplyLine}
 use Rattle.view_engine.specs.Cleanup.{done_text}
 use Rattle.view_engine.specs.DesignReasons.{design_reason}
+use Rattle.view_engine.specs.QueryReasons.{query_reason}
 use Rattle.view_engine.specs.Refusals.{error_name, error_reason, refusal_text}
-
-abbrev Other : ℕ → Type 0
-Other byte = byte ≢ 10
-
-abbrev is_line : List ℕ → Bool
-is_line [] = true
-is_line (x ∷ xs) = not (x == 10) && is_line xs
-
-is_other : (x : ℕ) (b : Bool) → (x == 10) ≡ b → not b ≡ true → Other x
-is_other x true e h = cc
-is_other x false e h = eqb-false x 10 e
-
--- bytes that are written out
-pub line : (xs : List ℕ) → is_line xs ≡ true → IsLine xs
-line [] e = All-nil Other
-line (x ∷ xs) e = let p = and_parts _ _ e in All-cons Other x xs (is_other x (x == 10) refl p.0) (line xs p.1)
-
-pub joined : (xs ys : List ℕ) → IsLine xs → IsLine ys → IsLine (xs ++ ys)
-joined xs ys first second = All-append Other xs ys first second
-
--- pieces one after another
-lines3 : (a b c : List ℕ) → IsLine a → IsLine b → IsLine c → IsLine (a ++ b ++ c)
-lines3 a b c la lb lc = joined (a ++ b) c (joined a b la lb) lc
-
-lines5 : (a b c d e : List ℕ) → IsLine a → IsLine b → IsLine c → IsLine d → IsLine e → IsLine (a ++ b ++ c ++ d ++ e)
-lines5 a b c d e la lb lc ld le = joined (a ++ b ++ c ++ d) e (joined (a ++ b ++ c) d (lines3 a b c la lb lc) ld) le
-
-lines7 : (a b c d e f g : List ℕ) → IsLine a → IsLine b → IsLine c → IsLine d → IsLine e → IsLine f → IsLine g → IsLine (a ++ b ++ c ++ d ++ e ++ f ++ g)
-lines7 a b c d e f g la lb lc ld le lf lg = joined (a ++ b ++ c ++ d ++ e ++ f) g (joined (a ++ b ++ c ++ d ++ e) f (lines5 a b c d e la lb lc ld le) lf) lg
 
 -- ---- refusals
 
@@ -72,6 +43,7 @@ line-name Missing = line (codes "not_found") refl
 line-name Deleted = line (codes "not_found") refl
 line-name MissingNamedView = line (codes "not_found") refl
 line-name Conflict = line (codes "conflict") refl
+line-name (BadQuery fault) = line (codes "query_parse_error") refl
 line-name (UnknownLanguage language) = line (codes "unknown_language") refl
 line-name (CompilationError id) = line (codes "compilation_error") refl
 line-name ServerFault = line (codes "server_fault") refl
@@ -95,6 +67,7 @@ line-reason Missing = line-quotes (codes "missing") refl
 line-reason Deleted = line-quotes (codes "deleted") refl
 line-reason MissingNamedView = line-quotes (codes "missing_named_view") refl
 line-reason Conflict = line-quotes (codes "Document update conflict.") refl
+line-reason (BadQuery fault) = line-quoted (query_reason fault)
 line-reason (UnknownLanguage language) = line-quoted language
 line-reason (CompilationError id) = line-quoted id
 line-reason ServerFault = line-quotes (codes "query server failed twice") refl
@@ -142,28 +115,9 @@ document_line document is = record { some = object_some document is.object; plai
 
 -- ---- rows
 
-pub line-row : (row : Row) → IsLine (text_of (json row.key)) → IsLine (text_of (json row.value)) → IsLine (row_text row)
-line-row row key value =
-    lines7 (codes "{\"id\":") (text_of (string row.id)) (codes ",\"key\":") (text_of (json row.key)) (codes ",\"value\":") (text_of (json row.value)) (codes "}")
-    (line (codes "{\"id\":") refl) (line-quoted row.id) (line (codes ",\"key\":") refl) key (line (codes ",\"value\":") refl) value (line (codes "}") refl)
-
-line-more : (row : Row) (rows : List Row) → IsLine (row_text row) → IsLine (more_rows rows) → IsLine (more_rows (row ∷ rows))
-line-more row rows first rest = joined (comma ∷ row_text row) (more_rows rows) (All-cons Other comma (row_text row) (λ e. omega arith) first) rest
-
--- what is left of the rows decides
-pub line-left : (rows : List Row) (i : ℕ) (row : Row) → i < length rows → get_or rows i row ≡ row → IsLine (row_text row) → (IsLine (more_rows (drop i rows)) → IsLine (more_rows rows)) → IsLine (more_rows (drop (i + 1) rows)) → IsLine (more_rows rows)
-line-left rows i row below here first left rest =
-    left (subst (λ (rs : List Row). IsLine (more_rows rs)) (sym (drop_more rows i row below ∙ ap (λ (r : Row). r ∷ drop (i + 1) rows) here)) (line-more row (drop (i + 1) rows) first rest))
-
-pub rows_line : (row : Row) (rows : List Row) → IsLine (row_text row) → IsLine (more_rows rows) → IsLine (rows_text (row ∷ rows))
-rows_line row rows first rest = joined (row_text row) (more_rows rows) first rest
-
-pub answer_line : (rows : List Row) → length rows < 2 ^ 64 → IsLine (rows_text rows) → IsReplyLine (answer rows)
-answer_line rows few plain = record {
-  some = λ none. cc;
-  plain = lines5 (codes "{\"total_rows\":") (decimal (length rows)) (codes ",\"offset\":0,\"rows\":[") (rows_text rows) (codes "]}")
-      (line (codes "{\"total_rows\":") refl) (line-decimal (length rows) few) (line (codes ",\"offset\":0,\"rows\":[") refl) plain (line (codes "]}") refl);
-}
+-- the answer to a query begins with a brace
+pub answer_line : (query : Query) (seq : ℕ) (rows : List Row) → IsLine (answer query seq rows) → IsReplyLine (answer query seq rows)
+answer_line query seq rows plain = record { some = λ none. cc; plain = plain }
 
 -- both of a result
 pub on_ok_both : {T E : Type 0} (result : Result T E) (P Q : Type 0) → OnOk result P → OnOk result Q → OnOk result (P × Q)

@@ -28,9 +28,11 @@ use Rattle.view_engine.specs.declared.halt.Halt.{Halt}
 use Rattle.view_engine.specs.declared.halt.Halt.TheVariants.{Refused, Stopped}
 use Rattle.view_engine.specs.declared.halt.StepFault.TheVariants.{NoMemory as OutOfMemory}
 use Rattle.view_engine.specs.declared.refusal.Refusal.{Refusal}
-use Rattle.view_engine.specs.declared.refusal.Refusal.TheVariants.{LineTooLong, NotJson, NotWhole, TooDeep, UnknownRequest, NotBuiltYet, BadId, BadMember, BadRev, DocumentTooLarge, DocumentTooDeep, InvalidDesign, Missing, Deleted, MissingNamedView, Conflict, UnknownLanguage, CompilationError, ServerFault, ServerReply, NoMemory}
+use Rattle.view_engine.specs.declared.refusal.Refusal.TheVariants.{LineTooLong, NotJson, NotWhole, TooDeep, UnknownRequest, NotBuiltYet, BadId, BadMember, BadRev, DocumentTooLarge, DocumentTooDeep, InvalidDesign, Missing, Deleted, MissingNamedView, Conflict, BadQuery, UnknownLanguage, CompilationError, ServerFault, ServerReply, NoMemory}
 use Rattle.view_engine.specs.declared.request.Request.{Request}
-use Rattle.view_engine.specs.Answer.{answer, info_text, write_text}
+use Rattle.view_engine.specs.Answer.{info_text, write_text}
+use Rattle.view_model.specs.Answer.{answer}
+use Rattle.query_args.specs.declared.query.Query.{Query}
 use Rattle.view_engine.specs.Calls.{AppendsReplyTo}
 use Rattle.view_engine.specs.Cleanup.{done_text}
 use Rattle.view_engine.specs.Halts.{halted_as}
@@ -62,8 +64,8 @@ unlike_info info = unlike (info_text info) refl
 pub unlike_done : done_text ≢ refusal_text ServerFault
 unlike_done = unlike done_text refl
 
-pub unlike_answer : (rows : List Row) → answer rows ≢ refusal_text ServerFault
-unlike_answer rows = unlike (answer rows) refl
+pub unlike_answer : (query : Query) (seq : ℕ) (rows : List Row) → answer query seq rows ≢ refusal_text ServerFault
+unlike_answer query seq rows = unlike (answer query seq rows) refl
 
 -- of the refusals one alone has this text
 pub refusal_is_fault : (refusal : Refusal) → refusal_text refusal ≡ refusal_text ServerFault → refusal ≡ ServerFault
@@ -83,6 +85,7 @@ refusal_is_fault Missing is = absurd (unlike (refusal_text Missing) refl is)
 refusal_is_fault Deleted is = absurd (unlike (refusal_text Deleted) refl is)
 refusal_is_fault MissingNamedView is = absurd (unlike (refusal_text MissingNamedView) refl is)
 refusal_is_fault Conflict is = absurd (unlike (refusal_text Conflict) refl is)
+refusal_is_fault (BadQuery fault) is = absurd (unlike (refusal_text (BadQuery fault)) refl is)
 refusal_is_fault (UnknownLanguage language) is = absurd (unlike (refusal_text (UnknownLanguage language)) refl is)
 refusal_is_fault (CompilationError id) is = absurd (unlike (refusal_text (CompilationError id)) refl is)
 refusal_is_fault ServerFault is = refl

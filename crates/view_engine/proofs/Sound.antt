@@ -1,5 +1,5 @@
 -- The pictures of a world stay true over what requests make of it.
-use Rattle.std.proofs.Common.{◌≡◌, ℕ, List, [], ◌∷◌, Some, None, Result, Ok, Err, inl, inr, refl, sym, subst}
+use Rattle.std.proofs.Common.{◌≡◌, ℕ, List, [], ◌∷◌, Some, Result, Ok, Err, inl, inr, refl, sym, subst}
 use Rattle.std.proofs.lemmas.List.Elements.{Contains-append_right}
 use Rattle.json_terms.specs.Json.{Json, members_of, object}
 use Rattle.design_docs.specs.Design.{language_of, views_of}
@@ -14,7 +14,6 @@ use Rattle.view_signature.specs.Signature.{digest_of, signature_of}
 use Rattle.view_engine.specs.declared.refusal.Refusal.{Refusal}
 use Rattle.view_engine.specs.declared.request.Request.{Request}
 use Rattle.view_engine.specs.declared.request.Request.TheVariants.{Cleanup, Delete, Get, Info, Put, View}
-use Rattle.view_engine.specs.declared.request.ViewName.{ViewName}
 use Rattle.view_engine.specs.Delete.{delete_write}
 use Rattle.view_engine.specs.Moments.{Moment}
 use Rattle.view_engine.specs.Put.{put_write}
@@ -26,6 +25,7 @@ use Rattle.view_engine.specs.World.{World, written}
 use Rattle.view_engine.specs.Worlds.{IsBetween}
 use Rattle.view_engine.proofs.Updated.{live_is_design}
 use Rattle.view_engine.proofs.Between.{between_fewer, cleaned_fewer, partly_fewer, AreOfThem}
+use Rattle.view_engine.specs.ViewQuery.{ViewQuery, view_query}
 
 -- ---- designs
 
@@ -87,8 +87,7 @@ module _ (functions : List ℕ → Functions) (honest : List ℕ → Type 0) (la
 
   -- what a request makes of a world is sound where that is
   pub made_sound : (world : World) (request : Result Request Refusal) (made : World) → Makes functions honest languages world request made → Sound world → Sound made
-  made_sound world (Ok (View name None)) made makes sound = brought_sound makes.0 makes.1 world made (named_is_design world.history name.design makes.0 makes.3) makes.4 makes.5 sound
-  made_sound world (Ok (View name (Some query))) made makes sound = absurd makes.1
+  made_sound world (Ok (View view query)) made makes sound = brought_sound makes.0 makes.1 world made (named_is_design world.history view.design makes.0 makes.3) makes.4 makes.5 sound
   made_sound world (Ok Cleanup) made makes sound = fewer_sound world made makes.history (partly_fewer world made makes) sound
   made_sound world (Ok (Put document)) made makes sound = subst Sound (sym makes.2) (written_sound world makes.0 sound)
   made_sound world (Ok (Delete id given)) made makes sound = subst Sound (sym makes.2) (written_sound world makes.0 sound)
@@ -98,8 +97,9 @@ module _ (functions : List ℕ → Functions) (honest : List ℕ → Type 0) (la
   same_sound : (before after : Moment) → after ≡ before → Sound before.world → Sound after.world
   same_sound before after same = subst (λ (m : Moment). Sound m.world) (sym same)
 
-  view_sound : (before : Moment) (name : ViewName) (reply : List ℕ) (after : Moment) → DoesView functions honest languages before name reply after → Sound before.world → Sound after.world
-  view_sound before name reply after does sound = elim does.called.holds [
+  view_sound : (before : Moment) (name : ViewQuery) (reply : List ℕ) (after : Moment) → DoesView functions honest languages before name reply after → Sound before.world → Sound after.world
+  view_sound before name reply after (inr kept) sound = same_sound before after kept.same sound
+  view_sound before name reply after (inl does) sound = elim does.called.holds [
     | inl answered ↦ brought_sound does.design does.job.path before.world after.world (named_is_design (before.world).history name.design does.design does.is_job.live) does.is_job.path_is answered.brought sound
     | inr refused ↦ subst Sound (sym refused.same) sound
   ]
@@ -113,7 +113,7 @@ module _ (functions : List ℕ → Functions) (honest : List ℕ → Type 0) (la
   performs_sound before Info reply after does sound = same_sound before after does.1 sound
   performs_sound before Cleanup reply after does sound =
       subst (λ (m : Moment). Sound m.world) (sym does.2) (fewer_sound before.world does.0 (does.1).0.history (cleaned_fewer before.world does.0 (does.1).0) sound)
-  performs_sound before (View name None) reply after does sound = view_sound before name reply after does sound
+  performs_sound before (View view query) reply after does sound = view_sound before (view_query view query) reply after does sound
   performs_sound before other reply after does sound = absurd does
 
   request_sound : (before : Moment) (request : Result Request Refusal) (reply : List ℕ) (after : Moment) → DoesRequest functions honest languages before request reply after → Sound before.world → Sound after.world
@@ -126,10 +126,10 @@ module _ (functions : List ℕ → Functions) (honest : List ℕ → Type 0) (la
   does_sound before (byte ∷ bytes) text after does sound = request_sound before (request_of (byte ∷ bytes)) does.0 after does.1 sound
 
   called_sound : (before : Moment) (request : Result Request Refusal) (after : Moment) → MayHaveCalled functions honest languages before request after → Sound before.world → Sound after.world
-  called_sound before (Ok (View name None)) after (inl same) sound = same_sound before after same sound
-  called_sound before (Ok (View name None)) after (inr asked) sound = elim (asked.1).world [
+  called_sound before (Ok (View view query)) after (inl same) sound = same_sound before after same sound
+  called_sound before (Ok (View view query)) after (inr asked) sound = elim (asked.1).world [
     | inl same ↦ subst Sound (sym same) sound
-    | inr brought ↦ brought_sound (asked.1).design (asked.1).job.path before.world after.world (named_is_design (before.world).history name.design (asked.1).design (asked.1).is_job.live) (asked.1).is_job.path_is brought sound
+    | inr brought ↦ brought_sound (asked.1).design (asked.1).job.path before.world after.world (named_is_design (before.world).history view.design (asked.1).design (asked.1).is_job.live) (asked.1).is_job.path_is brought sound
   ]
   called_sound before other after same sound = same_sound before after same sound
 

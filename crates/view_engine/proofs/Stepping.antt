@@ -45,6 +45,7 @@ use Rattle.view_engine.proofs.ServerFaults.{nothing_appended, reply_no_fault, to
 use Rattle.view_engine.proofs.Cleared.{clears_ends}
 use Rattle.view_engine.proofs.Slots.{first_damage_own}
 use Rattle.view_engine.proofs.Whole.{documents_at, documents_left, documents_open, kept_whole, told_leaves_none, LeavesDocuments}
+use Rattle.view_engine.specs.ViewQuery.{view_query}
 
 does_text : (functions : List ℕ → Functions) (honest : List ℕ → Type 0) (languages : List (List ℕ × List ℕ)) (before : Moment) (line text : List ℕ) (after : Moment) → line ≢ []
     → DoesRequestText functions honest languages before (request_of line) text after → Does functions honest languages before line text after
@@ -412,7 +413,7 @@ moves_on : (mine : FileName → Type 0) (leaves : (FileName → List ℕ) → Ty
 moves_on mine leaves ends a b moves = weaker (Framed mine a.now leaves) (λ image. Unit {0}) a b (λ image framed. tt) moves.moments
 
 indexes_on : {F : Type 0} (f : Folders F) (engine : Engine) (old new : F) (request : Result Request Refusal) → IsOnIndexes request → MovesIndexes f engine old new request → Tells (f.disk old) (f.disk new) LeavesAny
-indexes_on f engine old new (Ok (View name limits)) is moves = told_map (f.disk old) (f.disk new) (MovesIndexOf engine name) LeavesAny
+indexes_on f engine old new (Ok (View name limits)) is moves = told_map (f.disk old) (f.disk new) (MovesIndexOf engine (view_query name limits)) LeavesAny
     (λ a b moved. ⊎_elim (λ none. moves_on _ _ _ a b none) (λ one. moves_on _ _ _ a b one.2) moved.files) moves
 indexes_on f engine old new (Ok Cleanup) is moves = told_map (f.disk old) (f.disk new) _ LeavesAny (λ a b moved. moves_on _ _ _ a b moved) moves
 indexes_on f engine old new other is moves = absurd is

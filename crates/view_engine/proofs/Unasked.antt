@@ -9,8 +9,6 @@ use Rattle.doc_file.specs.History.{Write}
 use Rattle.view_engine.specs.declared.engine.Engine.{Engine}
 use Rattle.view_engine.specs.declared.halt.Halt.{Halt}
 use Rattle.view_engine.specs.declared.halt.Halt.TheVariants.{Refused}
-use Rattle.view_engine.specs.declared.request.Request.TheVariants.{View as ViewRequest}
-use Rattle.view_engine.specs.declared.request.ViewName.{ViewName}
 use Rattle.view_engine.specs.declared.refusal.Refusal.{Refusal}
 use Rattle.view_engine.specs.Engine.{IsAt, Leaves}
 use Rattle.view_engine.specs.Moments.{Moment}
@@ -20,21 +18,22 @@ use Rattle.view_engine.specs.View.{view_refusal}
 use Rattle.view_engine.specs.Worlds.{IsAtWorld, StandsEither}
 use Rattle.view_engine.proofs.Whole.{leaves_none, world_none}
 use Rattle.view_engine.specs.World.{of_history}
+use Rattle.view_engine.specs.ViewQuery.{ViewQuery, view_request}
 
 -- the refusal is that of the definition
-abbrev pub IsRefusedThere : List (List ℕ × List ℕ) → List Write → ViewName → Halt → Type 0
+abbrev pub IsRefusedThere : List (List ℕ × List ℕ) → List Write → ViewQuery → Halt → Type 0
 IsRefusedThere languages history name halt = (r : Refusal) → halt ≡ Refused r → view_refusal languages (of_history history) name ≡ Some r
 
 -- each refusal is said of the same disk
-pub told_refused : (x : Option (Disk FileName)) (docs_at : Disk FileName → Type 0) (languages : List (List ℕ × List ℕ)) (history : List Write) (name : ViewName) (halt : Halt) → IfTold x docs_at
+pub told_refused : (x : Option (Disk FileName)) (docs_at : Disk FileName → Type 0) (languages : List (List ℕ × List ℕ)) (history : List Write) (name : ViewQuery) (halt : Halt) → IfTold x docs_at
     → ((r : Refusal) → halt ≡ Refused r → IfTold x (λ d. docs_at d → view_refusal languages (of_history history) name ≡ Some r)) → IfTold x (λ d. IsRefusedThere languages history name halt)
 told_refused None docs_at languages history name halt at refused = tt
 told_refused (Some a) docs_at languages history name halt at refused = λ r is. refused r is at
 
-module _ (functions : List ℕ → Functions) (honest : List ℕ → Type 0) (languages : List (List ℕ × List ℕ)) (before : Moment) (name : ViewName) (halt : Halt)
+module _ (functions : List ℕ → Functions) (honest : List ℕ → Type 0) (languages : List (List ℕ × List ℕ)) (before : Moment) (name : ViewQuery) (halt : Halt)
     (x y : Option (Disk FileName)) (may_follow : List Call → Type 0) (faults : ℕ) (engine : Engine) (at : IsAt x may_follow faults engine before) (moves : Tells x y MovesNone) where
   abbrev Halts : Moment → Type 0
-  Halts left = ((r : Refusal) → halt ≡ Refused r → DoesRequest functions honest languages before (Ok (ViewRequest name None)) (refusal_text r) left) × MayHaveCalled functions honest languages before (Ok (ViewRequest name None)) left
+  Halts left = ((r : Refusal) → halt ≡ Refused r → DoesRequest functions honest languages before (Ok (view_request name)) (refusal_text r) left) × MayHaveCalled functions honest languages before (Ok (view_request name)) left
 
   halts : IsRefusedThere languages before.world.history name halt → Halts before
   halts refused = (λ r is. inr (r, refused r is, (refl, refl)), inl refl)

@@ -1,6 +1,6 @@
 -- A view, as its servers answered it.
-use Rattle.std.specs.Prelude.{slice_index_or}
-use Rattle.std.proofs.Common.{◌≡◌, ◌≢◌, ◌⊎◌, ◌<◌, ◌≤◌, ◌∙◌, ◌++◌, ℕ, max, min, List, [], ◌∷◌, true, length, map, Option, None, Some, Result, Ok, Err, refl, sym, ap, subst, inl, inr}
+use Rattle.std.specs.Prelude.{slice_index_or, nat_lt}
+use Rattle.std.proofs.Common.{◌≡◌, ◌≢◌, ◌⊎◌, ◌<◌, ◌≤◌, ◌∙◌, ◌++◌, ℕ, max, min, List, [], ◌∷◌, Bool, true, false, arith, length, map, Option, None, Some, Result, Ok, Err, refl, sym, ap, subst, inl, inr}
 use Rattle.std.specs.Prelude.{if◌then◌else◌}
 use Rattle.std.specs.List.{AllByRecursion}
 use Rattle.std.proofs.lemmas.List.{length-map}
@@ -35,30 +35,39 @@ use Rattle.child_pool.specs.Tries.{AllAnswered, Prompt, StopsAt}
 use Rattle.child_pool.specs.Updates.{AfterTries, AfterUpdate}
 use Rattle.child_pool.proofs.Remembered.{kept_is}
 use Rattle.child_pool.proofs.Honesty.{complains_rightly, no_bad_reply}
-use Rattle.doc_file.specs.History.{IsStoredAs, AreStored, mapped_after}
+use Rattle.doc_file.specs.History.{IsStoredAs, AreStored, Write, mapped_after}
 use Rattle.doc_file.proofs.CanBeStored.{mapped_are_stored}
 use Rattle.view_index.specs.Held.{empty_views, or_empty}
 use Rattle.view_model.specs.Picture.{Picture, picture_or_none}
 use Rattle.view_model.specs.Rows.{spoiled, view_rows}
+use Rattle.view_model.specs.Since.{first}
+use Rattle.std.proofs.lemmas.Bool.Decides.{nat_tests}
 use Rattle.view_model.specs.Standing.{AreSetAt}
 use Rattle.view_model.specs.Update.{IsUpdated}
 use Rattle.view_groups.specs.Reached.{picture_for, sig_of}
 use Rattle.view_signature.specs.Signature.{digest_of, signature_of}
 use Rattle.view_updater.specs.Updates.{documents_since}
-use Rattle.view_engine.specs.declared.request.Request.TheVariants.{View as ViewRequest}
-use Rattle.view_engine.specs.declared.request.ViewName.{ViewName}
 use Rattle.view_engine.specs.declared.refusal.Refusal.{Refusal}
 use Rattle.view_engine.specs.declared.refusal.Refusal.TheVariants as refusal
 use Rattle.view_engine.specs.declared.halt.Halt.TheVariants.{Refused}
-use Rattle.view_engine.specs.Answer.{answer}
+use Rattle.view_model.specs.Answer.{answer}
 use Rattle.view_engine.specs.Moments.{Moment}
 use Rattle.view_engine.specs.Refusals.{refusal_text}
 use Rattle.view_engine.specs.Steps.{EndsUpdate, MayHaveCalled}
 use Rattle.view_engine.specs.Updating.{picture_in, AreFit, IsBrought, IsSound}
-use Rattle.view_engine.specs.View.{design_id, rows_in, DoesView, IsBrokenOff, IsGivenUp, IsJobOf, IsMet, IsServed, PrintsRows, fault_of, prompts_of}
+use Rattle.view_engine.specs.View.{design_id, rows_in, DoesUpdatedView, IsBrokenOff, IsGivenUp, IsJobOf, IsMet, IsServed, PrintsRows, fault_of, prompts_of}
 use Rattle.view_engine.specs.ViewPlan.{IsPlan, met_by_pool, source_at}
 use Rattle.view_engine.specs.World.{World}
 use Rattle.view_engine.proofs.Updated.{are_spoiled, can_be_answered, rows_are_afresh, rows_at_place}
+use Rattle.view_engine.specs.ViewQuery.{ViewQuery, query_for, view_request}
+
+-- all writes are the first so many
+pub all_first : (history : List Write) → first (length history) history ≡ history
+all_first [] = refl
+all_first (write ∷ older) = ap (λ (b : Bool). if b then first (length (write ∷ older)) older else write ∷ older) (not_less (length (write ∷ older)))
+  where
+    not_less : (n : ℕ) → nat_lt n n ≡ false
+    not_less n = grind (arith, nat_tests)
 
 -- ---- documents that can be stored are those that functions are asked about
 
@@ -95,24 +104,33 @@ set_there own next before after set = set own ∙ ap (λ b. if b then Some next 
 
 -- ---- what is known once the request is planned, where the folder tells its disk
 
-pub record IsKnown (languages : List (List ℕ × List ℕ)) (before : Moment) (name : ViewName) (id : List ℕ) (design : Design) (place : ℕ) (path : List ℕ) (documents : List (List (List ℕ × Json))) : Type 0 where
-  pub plan : IsPlan languages before.world.history name id design place path
+pub record IsKnown (languages : List (List ℕ × List ℕ)) (before : Moment) (name : ViewQuery) (id : List ℕ) (design : Design) (place : ℕ) (path : List ℕ) (documents : List (List (List ℕ × Json))) : Type 0 where
+  pub plan : IsPlan true languages before.world.history name id design place path
   pub stored : AreStored before.world.history
   pub documents_are : documents ≡ documents_since (picture_for design before.world.pictures).seq before.world.history
 
-module _ (languages : List (List ℕ × List ℕ)) (before : Moment) (name : ViewName) (id : List ℕ) (design : Design) (place : ℕ) (path : List ℕ) (documents : List (List (List ℕ × Json)))
+-- the picture of a planned design
+module _ {updating : Bool} (languages : List (List ℕ × List ℕ)) (world : World) (name : ViewQuery) (id : List ℕ) (design : Design) (place : ℕ) (path : List ℕ)
+    (plan : IsPlan updating languages world.history name id design place path) where
+  pub planned_signature : sig_of design ≡ signature_of plan.document
+  planned_signature = ap digest_of plan.term
+
+  pub planned_picture : picture_for design world.pictures ≡ picture_in world plan.document
+  planned_picture =
+      no_picture design.views (world.pictures (sig_of design))
+      ∙ ap (λ sig. picture_or_none design.views (world.pictures sig)) planned_signature
+      ∙ ap (λ views. picture_or_none views (world.pictures (signature_of plan.document))) plan.views
+
+module _ (languages : List (List ℕ × List ℕ)) (before : Moment) (name : ViewQuery) (id : List ℕ) (design : Design) (place : ℕ) (path : List ℕ) (documents : List (List (List ℕ × Json)))
     (known : IsKnown languages before name id design place path documents) where
   abbrev document : Json
   document = known.plan.document
 
   pub same_signature : sig_of design ≡ signature_of document
-  same_signature = ap digest_of known.plan.term
+  same_signature = planned_signature languages before.world name id design place path known.plan
 
   pub same_picture : picture_for design before.world.pictures ≡ picture_in before.world document
-  same_picture =
-      no_picture design.views (before.world.pictures (sig_of design))
-      ∙ ap (λ sig. picture_or_none design.views (before.world.pictures sig)) same_signature
-      ∙ ap (λ views. picture_or_none views (before.world.pictures (signature_of document))) known.plan.views
+  same_picture = planned_picture languages before.world name id design place path known.plan
 
   pub are_mappable : AllByRecursion IsMappable documents
   are_mappable =
@@ -147,7 +165,7 @@ narrower widen updated = record {
   rows = updated.rows;
 }
 
-module _ (functions : List ℕ → Functions) (honest : List ℕ → Type 0) (languages : List (List ℕ × List ℕ)) (before : Moment) (name : ViewName) (id : List ℕ) (design : Design) (place : ℕ) (path : List ℕ)
+module _ (functions : List ℕ → Functions) (honest : List ℕ → Type 0) (languages : List (List ℕ × List ℕ)) (before : Moment) (name : ViewQuery) (id : List ℕ) (design : Design) (place : ℕ) (path : List ℕ)
     (within : place < length design.views) (documents : List (List (List ℕ × Json))) where
   abbrev source : List ℕ
   source = source_at design.views place
@@ -197,7 +215,7 @@ module _ (functions : List ℕ → Functions) (honest : List ℕ → Type 0) (la
     rows_there = slice_index_or next.rows place []
 
     pub prints : length next.rows ≡ length design.views → AllByRecursion (λ (row : Row). IsPart (json row.key) × IsPart (json row.value)) rows_there
-        → PrintsRows functions honest languages name known.plan.document path source before.world left (answer rows_there)
+        → PrintsRows functions honest languages name known.plan.document path source before.world left (answer (query_for name) next.seq rows_there)
     prints each parts = record {
       rows = rows_there;
       shown =
@@ -209,8 +227,13 @@ module _ (functions : List ℕ → Functions) (honest : List ℕ → Type 0) (la
           ap (λ rows. slice_index_or rows place [])
           (rows_are_afresh functions honest languages before.world (design_id name.design) known.plan.document path refl known.plan.live known.plan.path_is is_honest sound fit next updated_there)
           ∙ rows_at_place (functions path) (views_of known.plan.document) before.world.history place (subst (λ (views : List View). place < length views) known.plan.views within)
-          ∙ ap (λ views. view_rows (functions path) (source_at views place) before.world.history) (sym known.plan.views);
-      prints = refl;
+          ∙ ap (λ views. view_rows (functions path) (source_at views place) before.world.history) (sym known.plan.views)
+          ∙ ap (view_rows (functions path) source) (sym (all_first before.world.history) ∙ ap (λ count. first count before.world.history) (sym updated_there.seq))
+          ∙ ap (λ picture. view_rows (functions path) source (first (picture_or_none (views_of known.plan.document) picture).seq before.world.history))
+          (sym (set_there (signature_of known.plan.document) next before.world.pictures left.pictures signed));
+      prints =
+          ap (λ picture. answer (query_for name) (picture_or_none (views_of known.plan.document) picture).seq rows_there)
+          (sym (set_there (signature_of known.plan.document) next before.world.pictures left.pictures signed));
     }
 
   -- ---- the calls
@@ -291,7 +314,7 @@ module _ (functions : List ℕ → Functions) (honest : List ℕ → Type 0) (la
 
     asked : (P : List Call → List Call → Type 0) (left : World) (w : WentIn may_follow job before.width before.calls P) → EndsUpdate job before (after left w.now) w.added
         → (known : Known) → (left ≡ before.world) ⊎ IsBrought functions honest languages known.plan.document path before.world left
-        → MayHaveCalled functions honest languages before (Ok (ViewRequest name None)) (after left w.now)
+        → MayHaveCalled functions honest languages before (Ok (view_request name)) (after left w.now)
     asked P left w ends known world = inr (
       known.plan.accepted,
       record {
@@ -302,6 +325,7 @@ module _ (functions : List ℕ → Functions) (honest : List ℕ → Type 0) (la
         called = record { added = w.added; is = w.is_now; width = refl; lawful = w.lawful; later = later_there; holds = ends };
         world = world;
       },
+      known.plan.updates,
     )
 
     -- ---- how it may end
@@ -310,8 +334,9 @@ module _ (functions : List ℕ → Functions) (honest : List ℕ → Type 0) (la
     module _ (lists : DocRowLists) (idle : documents ≡ [] → pool.started ≡ old_pool.started) (w : Updates before.width (Ok lists)) where
       pub answered : (next : Picture) (left : World) (known : Known) → IsNextOf functions honest before.world design path documents next left → length next.rows ≡ length design.views
           → AllByRecursion (λ (row : Row). IsPart (json row.key) × IsPart (json row.value)) (slice_index_or next.rows place [])
-          → DoesView functions honest languages before name (answer (slice_index_or next.rows place [])) (after left w.now)
+          → DoesUpdatedView functions honest languages before name (answer (query_for name) next.seq (slice_index_or next.rows place [])) (after left w.now)
       answered next left known made each parts = record {
+        updates = known.plan.updates;
         accepted = known.plan.accepted;
         design = known.plan.document;
         job = job;
@@ -331,20 +356,20 @@ module _ (functions : List ℕ → Functions) (honest : List ℕ → Type 0) (la
         };
       }
 
-      pub asked_all : (next : Picture) (left : World) (known : Known) → IsNextOf functions honest before.world design path documents next left → MayHaveCalled functions honest languages before (Ok (ViewRequest name None)) (after left w.now)
+      pub asked_all : (next : Picture) (left : World) (known : Known) → IsNextOf functions honest before.world design path documents next left → MayHaveCalled functions honest languages before (Ok (view_request name)) (after left w.now)
       asked_all next left known made = asked _ left w (inl (served left lists w idle)) known (inr (is_brought next left known made))
 
-      pub asked_in_vain : Known → MayHaveCalled functions honest languages before (Ok (ViewRequest name None)) (after before.world w.now)
+      pub asked_in_vain : Known → MayHaveCalled functions honest languages before (Ok (view_request name)) (after before.world w.now)
       asked_in_vain known = asked _ before.world w (inl (served before.world lists w idle)) known (inl refl)
 
     -- the first of them were
     pub asked_some : (done rest : List (List (List ℕ × Json))) (lists : DocRowLists) → documents ≡ done ++ rest → done ≢ [] → (w : Breaks before.width done lists) → Known
-        → MayHaveCalled functions honest languages before (Ok (ViewRequest name None)) (after before.world w.now)
+        → MayHaveCalled functions honest languages before (Ok (view_request name)) (after before.world w.now)
     asked_some done rest lists all some w known = asked _ before.world w (inr (inr (broken_off done rest lists all some w))) known (inl refl)
 
     -- the servers gave up
     module _ (f : PoolFault) (some : documents ≢ []) (twice : f ≡ fault.ServerFault → RoseBy 2 old new) (w : Updates before.width (Err f)) where
-      pub asked_up : Known → MayHaveCalled functions honest languages before (Ok (ViewRequest name None)) (after before.world w.now)
+      pub asked_up : Known → MayHaveCalled functions honest languages before (Ok (view_request name)) (after before.world w.now)
       asked_up known = asked _ before.world w (inr (inl (f, given_up f w some))) known (inl refl)
 
     -- the fault that a refusal tells
@@ -384,8 +409,9 @@ module _ (functions : List ℕ → Functions) (honest : List ℕ → Type 0) (la
     complains fault.UnknownLanguage w r other known some is complaint = let clash : ⊥ = cc in absurd clash
 
     pub refuses : (f : PoolFault) (r : Refusal) (w : Updates before.width (Err f)) → documents ≢ [] → Known → (f ≡ fault.ServerFault → RoseBy 2 old new)
-        → met_by_pool id f ≡ Refused r → DoesView functions honest languages before name (refusal_text r) (after before.world w.now)
+        → met_by_pool id f ≡ Refused r → DoesUpdatedView functions honest languages before name (refusal_text r) (after before.world w.now)
     refuses f r w some known twice is = record {
+      updates = known.plan.updates;
       accepted = known.plan.accepted;
       design = known.plan.document;
       job = job;

@@ -1,5 +1,5 @@
 -- A view, as the engine performs it.
-use Rattle.std.specs.Prelude.{◌≡◌, ◌≢◌, ◌⊎◌, ℕ, List, length, Option, None, Result, Ok, Err, IfErr, OnErr, OnOk}
+use Rattle.std.specs.Prelude.{◌≡◌, ◌≢◌, ◌⊎◌, ℕ, List, length, Option, Result, Ok, Err, IfErr, OnErr, OnOk}
 use Rattle.std.proofs.Common.{refl}
 use Rattle.view_ports.specs.Disk.{IfTold, Tells}
 use Rattle.view_ports.specs.Faults.{RoseBy}
@@ -15,8 +15,6 @@ use Rattle.view_engine.specs.declared.halt.StepFault.TheVariants.{DiskFault, Dam
 use Rattle.view_engine.specs.declared.refusal.Refusal.{Refusal}
 use Rattle.view_engine.specs.declared.refusal.Refusal.TheVariants.{ServerFault}
 use Rattle.view_engine.specs.declared.request.Request.{Request}
-use Rattle.view_engine.specs.declared.request.Request.TheVariants.{View as ViewRequest}
-use Rattle.view_engine.specs.declared.request.ViewName.{ViewName}
 use Rattle.view_engine.specs.Calls.{AppendsReplyTo, CrashesAround, DoesBy, LeavesChild, LeavesMoment, Performed, Scene, StandsAt, Stays}
 use Rattle.view_engine.specs.Disks.{IfStopped, IsReasonOf, LiesOpen, MayGoOn, MovesIndexOf}
 use Rattle.view_engine.specs.FullIndex.{IsIndexFull}
@@ -24,12 +22,13 @@ use Rattle.view_engine.specs.Halts.{FitsFor, GoesOn}
 use Rattle.view_engine.specs.Moments.{Moment}
 use Rattle.view_engine.specs.Refusals.{refusal_text}
 use Rattle.view_engine.specs.Steps.{DoesRequest, MayHaveCalled}
+use Rattle.view_engine.specs.ViewQuery.{ViewQuery, view_request}
 
 -- ---- how a view ends, as a request
 
-module _ {F C : Type 0} (f : Folders F) (s : Servers C) (old new : Scene F C) (name : ViewName) where
+module _ {F C : Type 0} (f : Folders F) (s : Servers C) (old new : Scene F C) (name : ViewQuery) where
   abbrev request : Result Request Refusal
-  request = Ok (ViewRequest name None)
+  request = Ok (view_request name)
 
   -- what is left of a halt after which the engine may go on
   abbrev pub Halts : Moment → Halt → Moment → Type 0

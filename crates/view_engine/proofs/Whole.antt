@@ -20,7 +20,6 @@ use Rattle.view_groups.proofs.Standing.{images_stand, others_matter_not, settled
 use Rattle.view_engine.specs.declared.engine.Engine.{Engine}
 use Rattle.view_engine.specs.declared.refusal.Refusal.{Refusal}
 use Rattle.view_engine.specs.declared.request.Request.{Request}
-use Rattle.view_engine.specs.declared.request.ViewName.{ViewName}
 use Rattle.view_engine.specs.declared.request.Request.TheVariants.{Cleanup, View as ViewRequest}
 use Rattle.view_engine.specs.Disks.{IsOnIndexes, KeepsDisk, KeepsDocuments, LiesOpen, MovesIndexes, MovesIndexOf}
 use Rattle.view_engine.specs.Halts.{DocumentsStandAround, MovesDocuments, Writes}
@@ -28,6 +27,7 @@ use Rattle.view_engine.specs.Steps.{IsWrite}
 use Rattle.view_engine.specs.World.{World, NoneIsNewer, written}
 use Rattle.view_engine.specs.Worlds.{IsAtWorld, IsOpen, StandsEither, StandsFor}
 use Rattle.view_engine.proofs.Between.{stands_first}
+use Rattle.view_engine.specs.ViewQuery.{ViewQuery, view_query}
 
 -- a file of an index is none of the documents
 pub apart : (name : FileName) → IsIndexFile name → IsDocsFile name → ⊥
@@ -103,12 +103,12 @@ module _ (engine : Engine) (world : World) (request : Result Request Refusal) wh
       by_side image (inr (write, is, stands)) = made image write is stands
 
 -- where no file changes none of an index does
-pub view_moves_none : {F : Type 0} (f : Folders F) (engine : Engine) (old new : F) (name : ViewName) → Tells (f.disk old) (f.disk new) MovesNone → Tells (f.disk old) (f.disk new) (MovesIndexOf engine name)
+pub view_moves_none : {F : Type 0} (f : Folders F) (engine : Engine) (old new : F) (name : ViewQuery) → Tells (f.disk old) (f.disk new) MovesNone → Tells (f.disk old) (f.disk new) (MovesIndexOf engine name)
 view_moves_none f engine old new name none = told_map (f.disk old) (f.disk new) MovesNone (MovesIndexOf engine name) (λ a b same. record { files = inl same; current = λ is. same }) none
 
 -- a request that writes no document and changes no file changes none of an index
 moves_no_index : {F : Type 0} (f : Folders F) (engine : Engine) (old new : F) (request : Result Request Refusal) → ((Writes request → ⊥) → Tells (f.disk old) (f.disk new) MovesNone) → MovesIndexes f engine old new request
-moves_no_index f engine old new (Ok (ViewRequest name limits)) none = view_moves_none f engine old new name (none (λ writes. writes))
+moves_no_index f engine old new (Ok (ViewRequest name limits)) none = view_moves_none f engine old new (view_query name limits) (none (λ writes. writes))
 moves_no_index f engine old new (Ok Cleanup) none = told_map (f.disk old) (f.disk new) MovesNone (Moves IsIndexFile (λ image. Unit {0}) (λ files. Unit {0}))
     (λ a b same. none_wider IsIndexFile (λ image. Unit {0}) (λ files. Unit {0}) a b (λ image is. tt) (λ kept. tt) same) (none (λ writes. writes))
 moves_no_index f engine old new other none = tt
@@ -119,7 +119,7 @@ LeavesDocuments a b = (n : FileName) → IsDocsFile n → b.now n ≡ a.now n
 
 -- so a request on indexes leaves them
 pub documents_left : {F : Type 0} (f : Folders F) (engine : Engine) (old new : F) (request : Result Request Refusal) → IsOnIndexes request → MovesIndexes f engine old new request → Tells (f.disk old) (f.disk new) LeavesDocuments
-documents_left f engine old new (Ok (ViewRequest name limits)) is moves = told_map (f.disk old) (f.disk new) (MovesIndexOf engine name) LeavesDocuments
+documents_left f engine old new (Ok (ViewRequest name limits)) is moves = told_map (f.disk old) (f.disk new) (MovesIndexOf engine (view_query name limits)) LeavesDocuments
     (λ a b moved n of_docs. ⊎_elim (λ none. none_same a b none n) (λ one. (one.2).others n (λ of_view. apart n (_, of_view) of_docs)) moved.files) moves
 documents_left f engine old new (Ok Cleanup) is moves = told_map (f.disk old) (f.disk new) (Moves IsIndexFile (λ image. Unit {0}) (λ files. Unit {0})) LeavesDocuments
     (λ a b moved n of_docs. moved.others n (λ of_view. apart n of_view of_docs)) moves

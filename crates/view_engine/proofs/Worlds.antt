@@ -1,6 +1,6 @@
 -- What is known of worlds that go on from one another, and of an engine at a world.
 use Rattle.std.specs.Prelude.{Bool, true, false, if◌then◌else◌}
-use Rattle.std.proofs.Common.{◌≡◌, ◌≤◌, ℕ, MatchOption, List, [], ◌∷◌, ◌++◌, Option, Some, None, Result, Ok, Err, refl, sym, ap, ◌∙◌, subst, append_assoc}
+use Rattle.std.proofs.Common.{◌≡◌, ◌≤◌, ℕ, MatchOption, List, [], ◌∷◌, ◌++◌, Option, Result, Ok, Err, refl, sym, ap, ◌∙◌, subst, append_assoc}
 use Rattle.view_ports.specs.Calls.{Call}
 use Rattle.view_ports.specs.Disk.{Disk, IfTold, IsImageOf, MovesNone, Tells}
 use Rattle.view_ports.specs.Exchanges.{Exchange}
@@ -61,8 +61,7 @@ module _ (functions : List ℕ → Functions) (honest : List ℕ → Type 0) (la
 
   -- and so does what a request makes
   pub made_grows : (world : World) (request : Result Request Refusal) (made : World) → Makes functions honest languages world request made → GoesOnFrom world made
-  made_grows world (Ok (View name None)) made makes = ([], (makes.5).history)
-  made_grows world (Ok (View name (Some query))) made makes = absurd makes.1
+  made_grows world (Ok (View view query)) made makes = ([], (makes.5).history)
   made_grows world (Ok Cleanup) made makes = ([], makes.history)
   made_grows world (Ok (Put document)) made makes = (makes.0 ∷ [], ap (λ (w : World). w.history) makes.2)
   made_grows world (Ok (Delete id given)) made makes = (makes.0 ∷ [], ap (λ (w : World). w.history) makes.2)

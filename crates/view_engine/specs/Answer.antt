@@ -1,30 +1,8 @@
--- The replies that print what was asked for.
-use Rattle.std.specs.Prelude.{ℕ, List, [], ◌∷◌, ◌++◌, codes, decimal, length}
-use Rattle.std.specs.List.{flat_map}
+-- The replies that print what was asked for, but for those to views.
+use Rattle.std.specs.Prelude.{ℕ, List, ◌++◌, codes, decimal}
 use Rattle.json_terms.specs.Json.{string}
 use Rattle.json_terms.specs.Text.{text_of}
-use Rattle.json_terms.specs.Seen.{json}
-use Rattle.json_terms.specs.declared.term.Row.{Row}
 use Rattle.doc_file.specs.declared.docs.Info.{Info}
-
-abbrev pub comma : ℕ
-comma = 44
-
-abbrev pub row_text : Row → List ℕ
-row_text row = codes "{\"id\":" ++ text_of (string row.id) ++ codes ",\"key\":" ++ text_of (json row.key) ++ codes ",\"value\":" ++ text_of (json row.value) ++ codes "}"
-
--- each row after a comma
-abbrev pub more_rows : List Row → List ℕ
-more_rows rows = flat_map (λ row. comma ∷ row_text row) rows
-
--- the rows, with commas between them
-abbrev pub rows_text : List Row → List ℕ
-rows_text [] = []
-rows_text (row ∷ rows) = row_text row ++ more_rows rows
-
--- all rows of a view
-abbrev pub answer : List Row → List ℕ
-answer rows = codes "{\"total_rows\":" ++ decimal (length rows) ++ codes ",\"offset\":0,\"rows\":[" ++ rows_text rows ++ codes "]}"
 
 -- the counts of the documents
 abbrev pub info_text : Info → List ℕ

@@ -16,7 +16,6 @@ use Rattle.view_engine.specs.declared.halt.StepFault.{StepFault}
 use Rattle.view_engine.specs.declared.halt.StepFault.TheVariants.{DiskFault, Damaged, Full, NoMemory}
 use Rattle.view_engine.specs.declared.refusal.Refusal.{Refusal}
 use Rattle.view_engine.specs.declared.request.Request.{Request}
-use Rattle.view_engine.specs.declared.request.ViewName.{ViewName}
 use Rattle.view_engine.specs.View.{design_id}
 use Rattle.view_engine.specs.Cleanup.{IsLiveSignature}
 use Rattle.doc_file.specs.History.{Write}
@@ -33,6 +32,7 @@ use Rattle.view_engine.specs.Updating.{AreShaped}
 use Rattle.view_engine.specs.Worlds.{IsAtWorld, IsOpen as IsEngineOpen}
 use Rattle.view_engine.specs.Halts.{DocumentsStandAround, FitsFor, GoesOn, IsDamage, IsFullFor, IsStill, LeavesFiles, MovesDocuments, WouldWrite, Writes}
 use Rattle.view_engine.specs.World.{World}
+use Rattle.view_engine.specs.ViewQuery.{ViewQuery, view_query}
 
 -- ---- how a request ends
 
@@ -67,18 +67,18 @@ IfStopped P (Stopped fault) = P fault
 -- a request that reads documents from their file
 abbrev pub ReadsDocuments : Result Request Refusal → Type 0
 ReadsDocuments (Ok (Get id)) = Unit {0}
-ReadsDocuments (Ok (ViewRequest name limits)) = Unit {0}
+ReadsDocuments (Ok (ViewRequest view query)) = Unit {0}
 ReadsDocuments (Ok Cleanup) = Unit {0}
 ReadsDocuments other = ⊥
 
 -- a view, which may open the index of its design and bring it up to date
 abbrev pub IsView : Result Request Refusal → Type 0
-IsView (Ok (ViewRequest name limits)) = Unit {0}
+IsView (Ok (ViewRequest view query)) = Unit {0}
 IsView other = ⊥
 
 -- a request that may change files of indexes: a view, or a cleanup
 abbrev pub IsOnIndexes : Result Request Refusal → Type 0
-IsOnIndexes (Ok (ViewRequest name limits)) = Unit {0}
+IsOnIndexes (Ok (ViewRequest view query)) = Unit {0}
 IsOnIndexes (Ok Cleanup) = Unit {0}
 IsOnIndexes other = ⊥
 
@@ -87,7 +87,7 @@ abbrev pub ChangesFiles : Result Request Refusal → Type 0
 ChangesFiles request = Writes request ⊎ IsOnIndexes request
 
 -- the design document that a view asks for is live in the documents' file, and is this one
-abbrev pub IsAskedFor : Docs → (FileName → File) → ViewName → Json → Type 0
+abbrev pub IsAskedFor : Docs → (FileName → File) → ViewQuery → Json → Type 0
 IsAskedFor docs files name document = IsLive (design_id name.design) (bytes_in docs files) (last_of docs (design_id name.design)) document
 
 -- the index of a design is open, and nothing was written since
@@ -96,7 +96,7 @@ IsCurrent engine document =
     (place : ℕ) × (index : Index) × IsGroup engine.groups place (signature_of document) (length (views_of document)) index × (seq_of index ≡ update_seq engine.docs)
 
 -- at this place a file of the index of the design that a view asks for is damaged, as it is opened with so many views as the design has
-pub record HasIndexDamage (docs : Docs) (files : FileName → File) (view : ViewName) (name : FileName) (at : ℕ) : Type 0 where
+pub record HasIndexDamage (docs : Docs) (files : FileName → File) (view : ViewQuery) (name : FileName) (at : ℕ) : Type 0 where
   pub document : Json
   pub asked : IsAskedFor docs files view document
   pub own : IsFileOf (View (signature_of document)) name
@@ -115,7 +115,7 @@ IsOfNone history name = (sig : List ℕ) × (name.stem ≡ View sig) × (IsLiveS
 
 -- what a request may meet as damaged of an index
 abbrev pub MeetsIndexDamage : Docs → (FileName → File) → Result Request Refusal → FileName → ℕ → Type 0
-MeetsIndexDamage docs files (Ok (ViewRequest view limits)) name at = HasIndexDamage docs files view name at
+MeetsIndexDamage docs files (Ok (ViewRequest view query)) name at = HasIndexDamage docs files (view_query view query) name at
 MeetsIndexDamage docs files (Ok Cleanup) name at = HasSlotDamage docs files name at
 MeetsIndexDamage docs files other name at = ⊥
 
@@ -136,7 +136,7 @@ IsShapedFor other world = AreShaped world
 
 -- A view changes no file, or only those of the index of the design that it asks for, and none where this is open and nothing was written
 -- since.
-pub record MovesIndexOf (engine : Engine) (name : ViewName) (old new : Disk FileName) : Type 0 where
+pub record MovesIndexOf (engine : Engine) (name : ViewQuery) (old new : Disk FileName) : Type 0 where
   pub files : MovesNone old new
       ⊎ ((document : Json) × IsAskedFor engine.docs old.now name document × Moves (IsFileOf (View (signature_of document))) (λ image. Unit {0}) (λ files. Unit {0}) old new)
   pub current : ((document : Json) → IsAskedFor engine.docs old.now name document → IsCurrent engine document) → MovesNone old new
@@ -171,7 +171,7 @@ module _ {F : Type 0} (f : Folders F) where
 
   -- which files of indexes a request changes: a view those of its design alone, if any, and a cleanup those of any index
   abbrev pub MovesIndexes : Engine → F → F → Result Request Refusal → Type 0
-  MovesIndexes engine old new (Ok (ViewRequest name limits)) = Tells (f.disk old) (f.disk new) (MovesIndexOf engine name)
+  MovesIndexes engine old new (Ok (ViewRequest view query)) = Tells (f.disk old) (f.disk new) (MovesIndexOf engine (view_query view query))
   MovesIndexes engine old new (Ok Cleanup) = Tells (f.disk old) (f.disk new) (Moves IsIndexFile (λ image. Unit {0}) (λ files. Unit {0}))
   MovesIndexes engine old new other = Unit {0}
 

@@ -5,7 +5,6 @@ pub mod Answer
 pub mod Requests
 pub mod DesignReasons
 pub mod Refusals
-pub mod Written
 pub mod Moments
 pub mod Put
 pub mod Delete
@@ -27,3 +26,5 @@ pub mod ServerFaults
 pub mod Calls
 pub mod Accepted
 pub mod Laws
+pub mod ViewQuery
+pub mod QueryReasons

@@ -13,22 +13,22 @@ use Rattle.view_engine.specs.declared.engine.view.Plan.{Plan}
 use Rattle.view_engine.specs.declared.halt.Halt.{Halt}
 use Rattle.view_engine.specs.declared.halt.Halt.TheVariants.{Refused}
 use Rattle.view_engine.specs.declared.refusal.Refusal.{Refusal}
-use Rattle.view_engine.specs.declared.request.ViewName.{ViewName}
 use Rattle.view_engine.specs.Disks.{IsAskedFor}
 use Rattle.view_engine.specs.View.{view_refusal}
 use Rattle.view_engine.specs.World.{of_history}
 use Rattle.view_engine.specs.ViewPlan.{IsPlan}
+use Rattle.view_engine.specs.ViewQuery.{ViewQuery}
 
 -- the language of a plan has a path
 abbrev pub HasPath : Engine → Plan → Type 0
 HasPath engine plan = (path : List ℕ) × (path_in (languages_of engine.pool) plan.design.language ≡ Some path)
 
-module _ {F : Type 0} (f : Folders F) (engine : Engine) (folder : F) (name : ViewName) (result : Result Plan Halt) where
+module _ {F : Type 0} (f : Folders F) (engine : Engine) (folder : F) (name : ViewQuery) (result : Result Plan Halt) where
   -- over a history it is that of the view
   abbrev pub PlansView : Type 0
   PlansView = (history : List Write) → IfTold (f.disk folder) (λ d. AreAt engine.docs d.now history
       → IfOk result (λ plan. (path : List ℕ) → path_in (languages_of engine.pool) plan.design.language ≡ Some path
-      → IsPlan (languages_of engine.pool) history name plan.id plan.design plan.place path))
+      → IsPlan plan.query.update (languages_of engine.pool) history name plan.id plan.design plan.place path))
 
   -- whatever the folder holds, its design is that of the document that is asked for
   abbrev pub ReadsDesign : Type 0

@@ -9,8 +9,9 @@ use Rattle.doc_file.specs.declared.fault.DocFault.{DocFault}
 use Rattle.doc_file.specs.declared.fault.DocFault.TheVariants as doc
 use Rattle.view_engine.specs.declared.request.Request.{Request}
 use Rattle.view_engine.specs.declared.refusal.Refusal.{Refusal}
-use Rattle.view_engine.specs.declared.refusal.Refusal.TheVariants.{LineTooLong, NotJson, NotWhole, TooDeep, UnknownRequest, NotBuiltYet, BadId, BadMember, BadRev, DocumentTooLarge, DocumentTooDeep, InvalidDesign, Missing, Deleted, MissingNamedView, Conflict, UnknownLanguage, CompilationError, ServerFault, ServerReply, NoMemory}
+use Rattle.view_engine.specs.declared.refusal.Refusal.TheVariants.{LineTooLong, NotJson, NotWhole, TooDeep, UnknownRequest, NotBuiltYet, BadId, BadMember, BadRev, DocumentTooLarge, DocumentTooDeep, InvalidDesign, Missing, Deleted, MissingNamedView, Conflict, BadQuery, UnknownLanguage, CompilationError, ServerFault, ServerReply, NoMemory}
 use Rattle.view_engine.specs.DesignReasons.{design_reason}
+use Rattle.view_engine.specs.QueryReasons.{query_reason}
 use Rattle.view_engine.specs.Requests.{form_of}
 
 -- the longest request line, in bytes
@@ -34,6 +35,7 @@ error_name Missing = codes "not_found"
 error_name Deleted = codes "not_found"
 error_name MissingNamedView = codes "not_found"
 error_name Conflict = codes "conflict"
+error_name (BadQuery fault) = codes "query_parse_error"
 error_name (UnknownLanguage language) = codes "unknown_language"
 error_name (CompilationError id) = codes "compilation_error"
 error_name ServerFault = codes "server_fault"
@@ -62,6 +64,7 @@ error_reason Missing = in_quotes (codes "missing")
 error_reason Deleted = in_quotes (codes "deleted")
 error_reason MissingNamedView = in_quotes (codes "missing_named_view")
 error_reason Conflict = in_quotes (codes "Document update conflict.")
+error_reason (BadQuery fault) = text_of (string (query_reason fault))
 error_reason (UnknownLanguage language) = text_of (string language)
 error_reason (CompilationError id) = text_of (string id)
 error_reason ServerFault = in_quotes (codes "query server failed twice")

@@ -1,5 +1,5 @@
 -- What a request line does, and what is answered.
-use Rattle.std.specs.Prelude.{◌≡◌, ◌≢◌, ◌⊎◌, ℕ, List, [], ◌∷◌, Some, None, Result, Ok, Err}
+use Rattle.std.specs.Prelude.{◌≡◌, ◌≢◌, ◌⊎◌, ℕ, List, [], ◌∷◌, true, Some, None, Result, Ok, Err}
 use Rattle.json_terms.specs.Json.{Json, object, members_of}
 use Rattle.design_docs.specs.Design.{language_of}
 use Rattle.child_pool.specs.Languages.{path_in}
@@ -12,7 +12,6 @@ use Rattle.child_pool.specs.Jobs.{Job}
 use Rattle.doc_file.specs.History.{Write, live_document}
 use Rattle.view_engine.specs.declared.request.Request.{Request}
 use Rattle.view_engine.specs.declared.request.Request.TheVariants.{Put, Delete, Get, View, Info, Cleanup}
-use Rattle.view_engine.specs.declared.request.ViewName.{ViewName}
 use Rattle.view_engine.specs.declared.refusal.Refusal.{Refusal}
 use Rattle.view_engine.specs.declared.refusal.Refusal.TheVariants.{NotBuiltYet, NoMemory}
 use Rattle.view_engine.specs.World.{World, written}
@@ -24,6 +23,8 @@ use Rattle.view_engine.specs.Delete.{DoesDelete, IsDeleteRefused, delete_write}
 use Rattle.view_engine.specs.Get.{DoesGet, DoesInfo, get_refusal}
 use Rattle.view_engine.specs.Cleanup.{DoesCleanup, IsPartlyCleaned}
 use Rattle.view_engine.specs.View.{design_id, view_refusal, DoesView, IsBrokenOff, IsGivenUp, IsJobOf, IsServed}
+use Rattle.view_engine.specs.ViewQuery.{ViewQuery, parameters_in, view_query}
+use Rattle.query_args.specs.Query.{is_updated}
 
 -- no server was called
 abbrev pub Acts : (World → World → Type 0) → Moment → Moment → Type 0
@@ -51,7 +52,7 @@ EndsUpdate job before after added = IsServed job before after added ⊎ (((f : P
 
 module _ (functions : List ℕ → Functions) (honest : List ℕ → Type 0) (languages : List (List ℕ × List ℕ)) where
   -- the design of a view was asked for, with lawful calls; the world may have its next picture already, wholly
-  pub record AskedFor (before : Moment) (name : ViewName) (after : Moment) : Type 0 where
+  pub record AskedFor (before : Moment) (name : ViewQuery) (after : Moment) : Type 0 where
     pub design : Json
     pub job : Job
     pub source : List ℕ
@@ -59,17 +60,18 @@ module _ (functions : List ℕ → Functions) (honest : List ℕ → Type 0) (la
     pub called : Called job before after (EndsUpdate job before after)
     pub world : (after.world ≡ before.world) ⊎ IsBrought functions honest languages design job.path before.world after.world
 
-  -- what may have been done of a request that isn't answered, or for which memory ran out: only a view calls servers, and only where it isn't refused before
+  -- what may have been done of a request that isn't answered, or for which memory ran out: only a view calls servers, and only where it isn't refused before and brings its index up to date
   abbrev pub MayHaveCalled : Moment → Result Request Refusal → Moment → Type 0
-  MayHaveCalled before (Ok (View name None)) after = (after ≡ before) ⊎ ((view_refusal languages before.world name ≡ None) × AskedFor before name after)
+  MayHaveCalled before (Ok (View view query)) after =
+      (after ≡ before) ⊎ ((view_refusal languages before.world (view_query view query) ≡ None) × AskedFor before (view_query view query) after × (is_updated (parameters_in query) ≡ true))
   MayHaveCalled before other after = after ≡ before
 
   -- the world that a request makes where it takes effect: one with its write, or with the next picture of its design, or without some
   -- pictures that no live design has
   abbrev pub Makes : World → Result Request Refusal → World → Type 0
-  Makes world (Ok (View name None)) after =
-      (design : Json) × (path : List ℕ) × (view_refusal languages world name ≡ None) × (live_document world.history (design_id name.design) ≡ Some design) × (path_in languages (language_of design) ≡ Some path)
-      × IsBrought functions honest languages design path world after
+  Makes world (Ok (View view query)) after =
+      (design : Json) × (path : List ℕ) × (view_refusal languages world (view_query view query) ≡ None) × (live_document world.history (design_id view.design) ≡ Some design) × (path_in languages (language_of design) ≡ Some path)
+      × IsBrought functions honest languages design path world after × (is_updated (parameters_in query) ≡ true)
   Makes world (Ok Cleanup) after = IsPartlyCleaned world after
   Makes world request after = (write : Write) × IsWrite world request write × (after ≡ written world write)
 
@@ -80,7 +82,7 @@ module _ (functions : List ℕ → Functions) (honest : List ℕ → Type 0) (la
   IsRefusedAs world (Get id) refusal = get_refusal world id ≡ Some refusal
   IsRefusedAs world Info refusal = ⊥
   IsRefusedAs world Cleanup refusal = ⊥
-  IsRefusedAs world (View name None) refusal = view_refusal languages world name ≡ Some refusal
+  IsRefusedAs world (View view query) refusal = view_refusal languages world (view_query view query) ≡ Some refusal
   IsRefusedAs world other refusal = refusal ≡ NotBuiltYet
 
   -- what a request that isn't refused answers, and what is after it
@@ -90,7 +92,7 @@ module _ (functions : List ℕ → Functions) (honest : List ℕ → Type 0) (la
   Performs before (Get id) reply after = ChangesNothing (DoesGet before.world id reply) before after
   Performs before Info reply after = ChangesNothing (DoesInfo before.world reply) before after
   Performs before Cleanup reply after = Acts (λ world new. DoesCleanup world reply new) before after
-  Performs before (View name None) reply after = DoesView functions honest languages before name reply after
+  Performs before (View view query) reply after = DoesView functions honest languages before (view_query view query) reply after
   Performs before other reply after = ⊥
 
   abbrev pub DoesRequest : Moment → Result Request Refusal → List ℕ → Moment → Type 0

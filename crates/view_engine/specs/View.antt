@@ -1,5 +1,5 @@
 -- What a view request does.
-use Rattle.std.specs.Prelude.{◌≡◌, ◌≢◌, ◌⊎◌, ◌++◌, ℕ, max, min, List, [], ◌∷◌, map, length, codes, true, bytes_eq, if◌then◌else◌, Option, Some, None, option_and_then}
+use Rattle.std.specs.Prelude.{◌≡◌, ◌≢◌, ◌⊎◌, ◌++◌, ℕ, max, min, List, [], ◌∷◌, map, length, codes, true, false, bytes_eq, if◌then◌else◌, Option, Some, None, option_and_then, option_map}
 use Rattle.std.specs.List.{AllByRecursion}
 use Rattle.json_terms.specs.Json.{Json}
 use Rattle.design_docs.specs.Design.{language_of, map_sources, source_of, views_of}
@@ -20,19 +20,22 @@ use Rattle.child_pool.specs.Pools.{NoneIsLeft, kept_of}
 use Rattle.child_pool.specs.Prompts.{update_prompts}
 use Rattle.child_pool.specs.Talk.{AreCutShortIn, AreTurns, talk_of}
 use Rattle.child_pool.specs.Tries.{AllAnswered, Prompt, StopsAt}
-use Rattle.view_engine.specs.declared.request.ViewName.{ViewName}
 use Rattle.view_engine.specs.declared.refusal.Refusal.{Refusal}
-use Rattle.view_engine.specs.declared.refusal.Refusal.TheVariants.{MissingNamedView, UnknownLanguage, CompilationError, ServerFault, ServerReply}
+use Rattle.view_engine.specs.declared.refusal.Refusal.TheVariants.{BadQuery, MissingNamedView, UnknownLanguage, CompilationError, ServerFault, ServerReply}
 use Rattle.doc_file.specs.History.{live_document, mapped_after}
 use Rattle.view_engine.specs.World.{World}
 use Rattle.view_engine.specs.Updating.{picture_in, AreFit, IsBrought, IsSound}
 use Rattle.view_engine.specs.Get.{get_refusal}
 use Rattle.view_engine.specs.Moments.{Called, Moment}
 use Rattle.view_model.specs.Rows.{spoiled, view_rows}
+use Rattle.view_model.specs.Since.{first}
 use Rattle.json_terms.specs.Seen.{json}
 use Rattle.json_terms.specs.declared.term.Row.{Row}
 use Rattle.design_docs.specs.declared.design.View.{View}
-use Rattle.view_engine.specs.Answer.{answer}
+use Rattle.view_model.specs.Answer.{answer}
+use Rattle.query_args.specs.Faults.{query_fault}
+use Rattle.query_args.specs.Query.{is_updated}
+use Rattle.view_engine.specs.ViewQuery.{ViewQuery, parameters_of, query_for, plain_view}
 use Rattle.view_engine.specs.Refusals.{first_of, refusal_text}
 
 -- the id of the design document with this name
@@ -54,10 +57,15 @@ abbrev pub no_language : List (List ℕ × List ℕ) → Option Json → Option 
 no_language languages None = None
 no_language languages (Some design) = no_path (language_of design) (path_in languages (language_of design))
 
-abbrev pub view_refusal : List (List ℕ × List ℕ) → World → ViewName → Option Refusal
+-- the parameters must be a query of such a view
+abbrev pub bad_query : Json → Option Refusal
+bad_query query = option_map BadQuery (query_fault plain_view query)
+
+abbrev pub view_refusal : List (List ℕ × List ℕ) → World → ViewQuery → Option Refusal
 view_refusal languages world name =
     let design = live_document world.history (design_id name.design) in
-    first_of (get_refusal world (design_id name.design) ∷ no_view (option_and_then (source_of name.view) design) ∷ no_language languages design ∷ [])
+    first_of
+    (get_refusal world (design_id name.design) ∷ no_view (option_and_then (source_of name.view) design) ∷ bad_query (parameters_of name) ∷ no_language languages design ∷ [])
 
 -- the rows of the view with this name, in the order of the views
 abbrev pub rows_in : List View → List (List Row) → List ℕ → Option (List Row)
@@ -69,7 +77,7 @@ rows_in (view ∷ views) (rows ∷ others) name = if bytes_eq view.name name the
 
 -- the job of a view's design: its path, the sources of all its views, and the documents that were written since its picture and are
 -- mapped; and the view's own source
-pub record IsJobOf (languages : List (List ℕ × List ℕ)) (world : World) (name : ViewName) (design : Json) (job : Job) (source : List ℕ) : Type 0 where
+pub record IsJobOf (languages : List (List ℕ × List ℕ)) (world : World) (name : ViewQuery) (design : Json) (job : Job) (source : List ℕ) : Type 0 where
   pub live : live_document world.history (design_id name.design) ≡ Some design
   pub source_is : source_of name.view design ≡ Some source
   pub path_is : path_in languages (language_of design) ≡ Some job.path
@@ -122,18 +130,19 @@ fault_of (ServerReply line) = fault.BadReply line
 fault_of other = fault.NoMemory
 
 module _ (functions : List ℕ → Functions) (honest : List ℕ → Type 0) where
-  -- The rows of the view in the design's picture are printed, none of a key or a value that is longer or deeper than a reply may hold.
-  -- On an honest path they are those that mapping all documents afresh gives, where the pictures stood.
-  pub record PrintsRows (languages : List (List ℕ × List ℕ)) (name : ViewName) (design : Json) (path source : List ℕ) (before after : World) (reply : List ℕ) : Type 0 where
+  -- The answer to the query is printed, from the rows of the view in the design's picture and at its sequence. No row has a key or a value
+  -- that is longer or deeper than a reply may hold.
+  -- On an honest path they are those that mapping all documents afresh gives, as they were at that sequence, where the pictures stood.
+  pub record PrintsRows (languages : List (List ℕ × List ℕ)) (name : ViewQuery) (design : Json) (path source : List ℕ) (before after : World) (reply : List ℕ) : Type 0 where
     pub rows : List Row
     pub shown : rows_in (views_of design) (picture_in after design).rows name.view ≡ Some rows
     pub parts : AllByRecursion (λ row. IsPart (json row.key) × IsPart (json row.value)) rows
-    pub afresh : honest path → IsSound functions honest languages before → AreFit before.history → rows ≡ view_rows (functions path) source before.history
-    pub prints : reply ≡ answer rows
+    pub afresh : honest path → IsSound functions honest languages before → AreFit before.history → rows ≡ view_rows (functions path) source (first (picture_in after design).seq before.history)
+    pub prints : reply ≡ answer (query_for name) (picture_in after design).seq rows
 
   -- a refusal that is met while documents are mapped, and its cause: on an honest path a source that doesn't compile, and
   -- elsewhere a complaint; two failed attempts; or a bad reply, which is none on an honest path
-  abbrev pub IsMet : ViewName → Job → Moment → Moment → List Call → Refusal → Type 0
+  abbrev pub IsMet : ViewQuery → Job → Moment → Moment → List Call → Refusal → Type 0
   IsMet name job before after added (CompilationError id) =
       (id ≡ design_id name.design) × IsCaused functions honest job added before.calls fault.Compile × (honest job.path → SomeSourceFails (functions job.path) job.sources)
   IsMet name job before after added ServerFault = RoseBy 2 before.faults after.faults
@@ -141,7 +150,7 @@ module _ (functions : List ℕ → Functions) (honest : List ℕ → Type 0) whe
   IsMet name job before after added other = ⊥
 
   -- A refusal that was met left the world as it was. A complaint of an honest path is right, where the pictures stood.
-  pub record IsRefused (languages : List (List ℕ × List ℕ)) (name : ViewName) (design : Json) (job : Job) (before after : Moment) (reply : List ℕ) (added : List Call) : Type 0 where
+  pub record IsRefused (languages : List (List ℕ × List ℕ)) (name : ViewQuery) (design : Json) (job : Job) (before after : Moment) (reply : List ℕ) (added : List Call) : Type 0 where
     pub same : after.world ≡ before.world
     pub refusal : Refusal
     pub met : IsMet name job before after added refusal
@@ -151,16 +160,33 @@ module _ (functions : List ℕ → Functions) (honest : List ℕ → Type 0) whe
         → spoiled (functions job.path) (views_of design) before.world.history ≡ true
 
   -- the index of the design was brought up to date, and the rows of the view are printed
-  pub record IsAnswered (languages : List (List ℕ × List ℕ)) (name : ViewName) (design : Json) (job : Job) (source : List ℕ) (before after : Moment) (reply : List ℕ) (added : List Call) : Type 0 where
+  pub record IsAnswered (languages : List (List ℕ × List ℕ)) (name : ViewQuery) (design : Json) (job : Job) (source : List ℕ) (before after : Moment) (reply : List ℕ) (added : List Call) : Type 0 where
     pub brought : IsBrought functions honest languages design job.path before.world after.world
     pub rows : PrintsRows languages name design job.path source before.world after.world reply
     pub served : IsServed job before after added
 
-  -- a view that isn't refused before any server is asked
-  pub record DoesView (languages : List (List ℕ × List ℕ)) (before : Moment) (name : ViewName) (reply : List ℕ) (after : Moment) : Type 0 where
+  -- a view that isn't refused before any server is asked, and whose index is brought up to date
+  pub record DoesUpdatedView (languages : List (List ℕ × List ℕ)) (before : Moment) (name : ViewQuery) (reply : List ℕ) (after : Moment) : Type 0 where
+    pub updates : is_updated (parameters_of name) ≡ true
     pub accepted : view_refusal languages before.world name ≡ None
     pub design : Json
     pub job : Job
     pub source : List ℕ
     pub is_job : IsJobOf languages before.world name design job source
     pub called : Called job before after (λ added. IsAnswered languages name design job source before after reply added ⊎ IsRefused languages name design job before after reply added)
+
+  -- a view whose index is read as it stands: no server is asked, and nothing changes
+  pub record DoesKeptView (languages : List (List ℕ × List ℕ)) (before : Moment) (name : ViewQuery) (reply : List ℕ) (after : Moment) : Type 0 where
+    pub keeps : is_updated (parameters_of name) ≡ false
+    pub accepted : view_refusal languages before.world name ≡ None
+    pub design : Json
+    pub path : List ℕ
+    pub source : List ℕ
+    pub live : live_document (before.world).history (design_id name.design) ≡ Some design
+    pub source_is : source_of name.view design ≡ Some source
+    pub path_is : path_in languages (language_of design) ≡ Some path
+    pub rows : PrintsRows languages name design path source before.world before.world reply
+    pub same : after ≡ before
+
+  abbrev pub DoesView : List (List ℕ × List ℕ) → Moment → ViewQuery → List ℕ → Moment → Type 0
+  DoesView languages before name reply after = DoesUpdatedView languages before name reply after ⊎ DoesKeptView languages before name reply after

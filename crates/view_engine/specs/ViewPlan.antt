@@ -1,5 +1,5 @@
 -- What is known of a view request before any server is asked, and what its refusals are met as.
-use Rattle.std.specs.Prelude.{◌≡◌, ◌≢◌, ◌≤◌, ℕ, List, [], length, slice_index_or, Some, None}
+use Rattle.std.specs.Prelude.{◌≡◌, ◌≢◌, ◌≤◌, ℕ, List, [], Bool, length, slice_index_or, Some, None}
 use Rattle.json_terms.specs.Json.{Json}
 use Rattle.json_terms.specs.Seen.{json}
 use Rattle.json_terms.specs.declared.term.Row.{Row}
@@ -10,7 +10,8 @@ use Rattle.view_ports.specs.Functions.{source_limit}
 use Rattle.child_pool.specs.declared.pool_fault.PoolFault.{PoolFault}
 use Rattle.child_pool.specs.declared.pool_fault.PoolFault.TheVariants as fault
 use Rattle.child_pool.specs.Languages.{path_in}
-use Rattle.view_engine.specs.declared.request.ViewName.{ViewName}
+use Rattle.query_args.specs.declared.fault.QueryFault.{QueryFault}
+use Rattle.query_args.specs.declared.fault.QueryFault.TheVariants as query
 use Rattle.view_engine.specs.declared.halt.Halt.{Halt}
 use Rattle.view_engine.specs.declared.halt.Halt.TheVariants.{Refused, Stopped}
 use Rattle.view_engine.specs.declared.halt.StepFault.TheVariants.{NoMemory}
@@ -24,6 +25,8 @@ use Rattle.view_groups.specs.Brings.{IsGroupFault}
 use Rattle.view_engine.specs.Halts.{halted_as}
 use Rattle.view_engine.specs.World.{of_history}
 use Rattle.view_engine.specs.View.{design_id, rows_in, view_refusal}
+use Rattle.view_engine.specs.ViewQuery.{ViewQuery, parameters_of}
+use Rattle.query_args.specs.Query.{is_updated}
 
 -- the source of the view in a place
 abbrev pub source_at : List View → ℕ → List ℕ
@@ -33,8 +36,9 @@ source_at views place = slice_index_or (map_sources views) place []
 abbrev pub ShowsRows : List View → List ℕ → ℕ → Type 0
 ShowsRows views name place = (rows : List (List Row)) → length rows ≡ length views → rows_in views rows name ≡ Some (slice_index_or rows place [])
 
--- the request isn't refused yet: the design document is live, the view has this place in its design, and the language has a path
-pub record IsPlan (languages : List (List ℕ × List ℕ)) (history : List Write) (name : ViewName) (id : List ℕ) (design : Design) (place : ℕ) (path : List ℕ) : Type 0 where
+-- the request isn't refused yet: the design document is live, the view has this place in its design, the language has a path, and the
+-- index is to be brought up to date first or not
+pub record IsPlan (updating : Bool) (languages : List (List ℕ × List ℕ)) (history : List Write) (name : ViewQuery) (id : List ℕ) (design : Design) (place : ℕ) (path : List ℕ) : Type 0 where
   pub document : Json
   pub live : live_document history (design_id name.design) ≡ Some document
   pub source_is : source_of name.view document ≡ Some (source_at design.views place)
@@ -45,6 +49,7 @@ pub record IsPlan (languages : List (List ℕ × List ℕ)) (history : List Writ
   pub shown : ShowsRows design.views name.view place
   pub few : length design.views ≤ source_limit
   pub id_is : id ≡ design_id name.design
+  pub updates : is_updated (parameters_of name) ≡ updating
   pub accepted : view_refusal languages (of_history history) name ≡ None
 
 -- a pool's refusal, as a request meets it
@@ -54,6 +59,11 @@ met_by_pool id (fault.BadReply line) = Refused (refusal.ServerReply line)
 met_by_pool id fault.Compile = Refused (refusal.CompilationError id)
 met_by_pool id fault.NoMemory = Stopped NoMemory
 met_by_pool id fault.UnknownLanguage = Stopped NoMemory
+
+-- a refusal of the query
+abbrev pub met_by_query : QueryFault → Halt
+met_by_query query.NoMemory = Stopped NoMemory
+met_by_query other = Refused (refusal.BadQuery other)
 
 -- an update's refusal: a fault of a file is named alike, be it of the documents or of an index
 abbrev pub met_by : List ℕ → UpdateFault → Halt

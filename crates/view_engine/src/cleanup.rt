@@ -13,9 +13,9 @@ ghost use Rattle.view_engine.specs.Disks.{Reads};
 
 use crate::design::design_of;
 use crate::halt::{Halt, StepFault};
-use crate::reply::Reply;
 use doc_file::{DocFault, Docs};
 use json_terms::NoMemory;
+use range_query::Reply;
 use std::alloc::Global;
 use view_groups::Groups;
 use view_index::IndexFault;

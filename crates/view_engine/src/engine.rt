@@ -19,12 +19,12 @@ use crate::halt::{Halt, StepFault};
 use crate::line::read_request;
 use crate::reads::{get, info};
 use crate::refusal::Refusal;
-use crate::reply::Reply;
 use crate::request::Request;
 use crate::writes::{delete, put};
 use child_pool::Pool;
 use doc_file::{DocFault, Docs};
 use json_terms::NoMemory;
+use range_query::Reply;
 use std::alloc::Global;
 use view_groups::Groups;
 use view_ports::{Folder, Servers};
@@ -138,10 +138,7 @@ impl Engine {
                 Ok(()) => Ok(()),
                 Err(NoMemory) => Err(Halt::Stopped(StepFault::NoMemory)),
             },
-            Request::View { view, query } => match query {
-                None => self.view(alloc, folder, servers, view, out),
-                Some(_) => Err(Halt::Refused(Refusal::NotBuiltYet)),
-            },
+            Request::View { view, query } => self.view(alloc, folder, servers, view, query, out),
             Request::Cleanup => cleanup(alloc, &self.docs, &mut self.groups, folder, out),
             _ => Err(Halt::Refused(Refusal::NotBuiltYet)),
         }

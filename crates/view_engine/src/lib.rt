@@ -12,7 +12,6 @@ mod laws;
 mod line;
 mod reads;
 mod refusal;
-mod reply;
 mod request;
 mod writes;
 

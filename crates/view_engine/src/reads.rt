@@ -16,10 +16,10 @@ ghost use Rattle.view_engine.specs.World.{of_history};
 
 use crate::answer::write_info;
 use crate::halt::Halt;
-use crate::reply::Reply;
 use crate::request::Request;
 use doc_file::Docs;
 use json_terms::NoMemory;
+use range_query::Reply;
 use std::alloc::Global;
 use view_ports::Folder;
 

@@ -2,11 +2,13 @@
 
 ghost use Rattle.std.specs.Prelude.{◌≡◌, ◌++◌, IfOk, OnOk, string_bytes};
 ghost use Rattle.view_engine.specs.DesignReasons.{design_reason as reason_of};
-ghost use Rattle.view_engine.specs.Written.{Adds, KeepsBefore};
+ghost use Rattle.view_engine.specs.QueryReasons.{query_reason as query_reason_of};
+ghost use Rattle.range_query.specs.Written.{Adds, KeepsBefore};
 
-use crate::reply::Reply;
 use design_docs::DesignFault;
 use json_terms::{Chars, NoMemory, TermFault};
+use query_args::QueryFault;
+use range_query::Reply;
 use std::alloc::Global;
 
 /// Why a request line was not done, in the order in which the causes are looked for.
@@ -44,6 +46,8 @@ pub enum Refusal {
     MissingNamedView,
     /// The present revision of the document was not given.
     Conflict,
+    /// The parameters are no query of the view, for this fault.
+    BadQuery(QueryFault),
     /// No query server is known for this language.
     UnknownLanguage(Chars),
     /// A source of the design document with this id doesn't compile.
@@ -94,6 +98,7 @@ impl Refusal {
             Refusal::InvalidDesign(_fault) => "invalid_design_doc",
             Refusal::Missing | Refusal::Deleted | Refusal::MissingNamedView => "not_found",
             Refusal::Conflict => "conflict",
+            Refusal::BadQuery(_fault) => "query_parse_error",
             Refusal::UnknownLanguage(_language) => "unknown_language",
             Refusal::CompilationError(_id) => "compilation_error",
             Refusal::ServerFault => "server_fault",
@@ -126,6 +131,10 @@ impl Refusal {
             Refusal::NoMemory => reply.put(b"\"out of memory\""),
             Refusal::InvalidDesign(fault) => {
                 let reason = design_reason(alloc, fault)?;
+                reply.put_string(alloc, reason.as_str())
+            }
+            Refusal::BadQuery(fault) => {
+                let reason = query_reason(alloc, fault)?;
                 reply.put_string(alloc, reason.as_str())
             }
             Refusal::BadMember(text)
@@ -163,7 +172,23 @@ fn design_reason(alloc: Global, fault: &DesignFault) -> Result<String, NoMemory>
     }
 }
 
-/// A part of a design, and the name behind it.
+/// What of a query is at fault, and the name that the fault holds.
+fn query_reason(alloc: Global, fault: &QueryFault) -> Result<String, NoMemory>
+    ensures { IfOk result (λ text. string_bytes text ≡ query_reason_of fault.now) }
+{
+    match fault {
+        QueryFault::UnknownName(name) => named(alloc, "unknown parameter ", name.as_str()),
+        QueryFault::BadValue(name) => named(alloc, "bad value of ", name.as_str()),
+        QueryFault::ReduceOfMapOnly => named(alloc, "reduce of a map-only view", ""),
+        QueryFault::GroupUnreduced => named(alloc, "grouping without reduce", ""),
+        QueryFault::KeysNeedGroup => named(alloc, "keys need group=true", ""),
+        QueryFault::KeyAndKeys => named(alloc, "keys, key and range together", ""),
+        QueryFault::CursorReduces => named(alloc, "cursor of a reduced query", ""),
+        QueryFault::NoMemory => named(alloc, "out of memory", ""),
+    }
+}
+
+/// What is at fault, and the name behind it.
 fn named(alloc: Global, part: &str, name: &str) -> Result<String, NoMemory>
     ensures { IfOk result (λ text. string_bytes text ≡ part.now ++ name.now) }
 {

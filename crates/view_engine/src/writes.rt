@@ -16,11 +16,11 @@ ghost use Rattle.view_engine.specs.Replies.{accepted_reply, SaysRevision};
 use crate::answer::write_accepted;
 use crate::halt::Halt;
 use crate::refusal::Refusal;
-use crate::reply::Reply;
 use crate::request::Request;
 use design_docs::{DESIGN_PREFIX, DesignFault, Reduce, View, id_of, is_design_id, read_design};
 use doc_file::{DocFault, Docs};
 use json_terms::{Chars, DOCUMENT_DEPTH, Members, NoMemory, Term, depth_within, member};
+use range_query::Reply;
 use std::alloc::Global;
 use view_ports::Folder;
 

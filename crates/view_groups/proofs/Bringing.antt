@@ -164,7 +164,7 @@ open_idle (fault_of.Store gate) = tt
 open_idle (fault_of.Summer pool) = tt
 open_idle fault_of.NoMemory = tt
 
-open_file : (fault : IndexFault) → IsOpenFault fault → IsGroupFault (by_index fault)
+pub open_file : (fault : IndexFault) → IsOpenFault fault → IsGroupFault (by_index fault)
 open_file fault (inl disk) = subst (λ (e : IndexFault). IsGroupFault (by_index e)) (sym disk) tt
 open_file fault (inr (inl want)) = subst (λ (e : IndexFault). IsGroupFault (by_index e)) (sym want) tt
 open_file fault (inr (inr damage)) = subst (λ (e : IndexFault). IsGroupFault (by_index e)) (sym damage.2) tt
@@ -183,12 +183,12 @@ module _ {F C : Type 0} (f : Folders F) (s : Servers C) (docs : Docs) (design : 
   given = side folder servers pool groups
 
   -- the documents tell the newest write
-  within_of : (newest : ℕ) → newest ≡ documents_seq docs → (history : List Write) (pictures : Pictures) (files : FileName → File) → IsReached docs groups design history pictures files → AreAt groups files pictures × IsWithin (sig_of design) (views_in design) newest pictures
+  pub within_of : (newest : ℕ) → newest ≡ documents_seq docs → (history : List Write) (pictures : Pictures) (files : FileName → File) → IsReached docs groups design history pictures files → AreAt groups files pictures × IsWithin (sig_of design) (views_in design) newest pictures
   within_of newest is history pictures files reached =
       let count = reached.documents.count in
       (reached.indexes, omega (arith, reached.within, is, count))
 
-  fit_of : (newest : ℕ) → newest ≡ documents_seq docs → (history : List Write) (pictures : Pictures) (files : FileName → File) → IsReached docs groups design history pictures files → length (picture_for design pictures).rows ≡ views_in design
+  pub fit_of : (newest : ℕ) → newest ≡ documents_seq docs → (history : List Write) (pictures : Pictures) (files : FileName → File) → IsReached docs groups design history pictures files → length (picture_for design pictures).rows ≡ views_in design
       → AreAt groups files pictures × IsFit (sig_of design) (views_in design) newest pictures
   fit_of newest is history pictures files reached shaped =
       let known = within_of newest is history pictures files reached in

@@ -1,12 +1,12 @@
 -- Opening the index of a signature among the others.
-use Rattle.std.specs.Prelude.{◌≡◌, ◌≤◌, ℕ, List, length, Result, Ok, Err, IfErr, IfOk}
+use Rattle.std.specs.Prelude.{◌≡◌, ◌⊎◌, ◌≤◌, ℕ, List, length, Result, Ok, Err, IfErr, IfOk}
 use Rattle.view_ports.specs.Disk.{IfTold, Moves, Tells}
 use Rattle.view_ports.specs.File.{File}
 use Rattle.view_ports.specs.declared.file_name.FileName.{FileName}
 use Rattle.view_ports.specs.declared.file_name.Stem.TheVariants.{View}
 use Rattle.view_ports.specs.declared.folder.Folder.{Ghosts as Folders}
 use Rattle.view_index.specs.declared.fault.IndexFault.{IndexFault}
-use Rattle.view_index.specs.declared.fault.IndexFault.TheVariants.{Store}
+use Rattle.view_index.specs.declared.fault.IndexFault.TheVariants.{NoMemory, Store}
 use Rattle.view_index.specs.declared.index.Index.{Index}
 use Rattle.view_index.specs.Calls.{IsCounted}
 use Rattle.view_index.specs.Held.{or_empty, IsDamagedAt, IsFileOf}
@@ -14,6 +14,10 @@ use Rattle.view_index.specs.Opens.{FindsDamage, IsOpenFault}
 use Rattle.view_groups.specs.declared.groups.Groups.{Groups}
 use Rattle.view_groups.specs.Groups.{AreAt, AreOpen, IsGroup}
 use Rattle.view_groups.specs.Pictures.{Pictures, StandsOf}
+use Rattle.view_groups.specs.Reached.{sig_of, views_in}
+use Rattle.design_docs.specs.declared.design.Design.{Design}
+use Rattle.doc_file.specs.declared.docs.Docs.{Docs}
+use Rattle.doc_file.specs.Docs.{seq_of as written}
 
 module _ (own : List ℕ) (views newest : ℕ) where
   -- the picture of this signature is no newer than the newest write
@@ -47,3 +51,8 @@ module _ (own : List ℕ) (views newest : ℕ) where
       pub found : (place : ℕ) (index : Index) → IsGroup groups place own views index → (result ≡ Ok place) × (groups' ≡ groups) × (new ≡ old)
       pub faults : IfErr result IsOpenFault
       pub cause : IsCounted f old new result
+
+-- the same for a design, over these documents; where its signature finds no memory nothing is done
+abbrev pub OpensDesign : {F : Type 0} → Folders F → Docs → Design → Groups → Groups → F → F → Result ℕ IndexFault → Type 0
+OpensDesign f docs design groups groups' old new result =
+    OpensGroup (sig_of design) (views_in design) (written docs) f groups groups' old new result ⊎ ((result ≡ Err NoMemory) × (groups' ≡ groups) × (new ≡ old))

@@ -143,7 +143,7 @@ by_less x y less =
     let first : rows_cmp x y ≡ Less = rows_cmp-place x y ∙ ap (λ o. ordering_then o (json_cmp (json x.value) (json y.value))) less in
     ap is_lt (rows_cmp_total.antisymm y x ∙ ap ordering_reverse first)
 
-rising_sorted : (rows : List Row) → PlacesRise rows → IsSorted rows_cmp rows
+pub rising_sorted : (rows : List Row) → PlacesRise rows → IsSorted rows_cmp rows
 rising_sorted [] rise = λ k d low high. absurd (omega (arith, high))
 rising_sorted (x ∷ []) rise = λ k d low high. absurd (omega (arith, high))
 rising_sorted (x ∷ y ∷ rows) rise = at (rising_sorted (y ∷ rows) rise.1)

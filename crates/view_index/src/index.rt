@@ -30,9 +30,10 @@ pub struct Index {
 }
 
 impl Index {
-    ghost use Rattle.std.specs.Prelude.{◌≡◌, [], slice_index_or};
+    ghost use Rattle.std.specs.Prelude.{◌≡◌, [], slice_index_or, IsSorted};
     ghost use Rattle.std.specs.List.{AllByRecursion};
     ghost use Rattle.gate_file.specs.GateFile.{name_of};
+    ghost use Rattle.raw_collation.specs.Collation.{rows_cmp};
     ghost use Rattle.view_index.specs.Index.{file_of, picture_of, seq_of, views_of};
     ghost use Rattle.view_index.specs.Parts.{HasParts};
 
@@ -47,6 +48,7 @@ impl Index {
     pub fn rows(&self, view: u32) -> &[Row]
         requires { view < views_of self.now }
         ensures rows { result.now ≡ slice_index_or (picture_of self.now).rows view [] }
+        ensures sorted { IsSorted rows_cmp result.now }
         ensures parts { AllByRecursion HasParts result.now }
     {
         self.views.as_slice()[view as usize].rows()

@@ -1,6 +1,7 @@
 //! The rows of one view.
 
-ghost use Rattle.std.specs.Prelude.{◌+◌, ◌≤◌, vec_len, vec_capacity};
+ghost use Rattle.std.specs.Prelude.{◌+◌, ◌≤◌, vec_len, vec_capacity, IsSorted};
+ghost use Rattle.raw_collation.specs.Collation.{rows_cmp};
 
 use crate::ids::Ids;
 use json_terms::{NoMemory, Row};
@@ -16,6 +17,7 @@ pub(crate) struct ViewRows {
     added: Vec<Row>,
     // So that the next commit takes no memory once it is written.
     ghost room: { vec_len rows + vec_len added ≤ vec_capacity rows },
+    ghost sorted: { IsSorted rows_cmp rows.items },
 }
 
 impl ViewRows {
@@ -23,7 +25,9 @@ impl ViewRows {
     ghost use Rattle.view_index.specs.Ids.{has};
     ghost use Rattle.view_index.specs.ViewRows.{added_of, next_of, of_others, rows_of};
 
+    /// A view with these rows, which are in order.
     pub(crate) fn new(alloc: Global, rows: Vec<Row>) -> ViewRows
+        requires { IsSorted rows_cmp rows.items }
         ensures rows { rows_of result ≡ rows.items }
         ensures added { added_of result ≡ [] }
     {
@@ -34,7 +38,8 @@ impl ViewRows {
     }
 
     pub(crate) fn rows(&self) -> &[Row]
-        ensures { result.now ≡ rows_of self.now }
+        ensures rows { result.now ≡ rows_of self.now }
+        ensures sorted { IsSorted rows_cmp result.now }
     {
         self.rows.as_slice()
     }

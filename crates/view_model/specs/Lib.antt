@@ -4,3 +4,5 @@ pub mod Picture
 pub mod Update
 pub mod Laws
 pub mod Standing
+pub mod Selection
+pub mod Answer

@@ -1,60 +1,74 @@
 //! The request `view`.
 
-ghost use Rattle.std.specs.Prelude.{◌≡◌, ◌≢◌, ◌++◌, ◌<◌, ◌≤◌, bytes_eq, IfErr, IfOk, OnErr, OnOk, None, Ok, IfSome, option_map, map, length};
+ghost use Rattle.std.specs.Prelude.{◌≡◌, ◌≢◌, ◌++◌, ◌<◌, ◌≤◌, bytes_eq, IfErr, IfOk, OnErr, OnOk, Ok, IfSome, IsSorted, option_map, map, length};
 ghost use Rattle.std.specs.Map.{lookup};
 ghost use Rattle.view_ports.specs.Lines.{ended};
 ghost use Rattle.design_docs.specs.Laws.{entry_of as named};
-ghost use Rattle.view_engine.specs.Answer.{answer};
+ghost use Rattle.json_terms.specs.Seen.{json};
+ghost use Rattle.raw_collation.specs.Collation.{rows_cmp};
+ghost use Rattle.view_model.specs.Answer.{answer as answer_text};
 ghost use Rattle.view_engine.specs.Calls.{scene, IsReplyLine, Performed};
 ghost use Rattle.view_engine.specs.Disks.{LiesOpen, Reads};
 ghost use Rattle.view_engine.specs.View as spec;
 ghost use Rattle.view_engine.specs.Planning.{HasPath, PlansView, ReadsDesign, RefusesView};
-ghost use Rattle.view_engine.specs.ViewPlan.{met_by, met_by_pool, source_at, IsUpdateFault, ShowsRows};
+ghost use Rattle.view_engine.specs.ViewQuery.{parameters_in, query_for, view_query};
+ghost use Rattle.view_engine.specs.ViewPlan.{met_by, met_by_pool, met_by_query, source_at, IsUpdateFault, ShowsRows};
 
-use crate::answer::write_answer;
 use crate::design::design_of;
 use crate::engine::Engine;
 use crate::halt::{Halt, StepFault};
 use crate::refusal::Refusal;
-use crate::reply::Reply;
 use crate::request::{Request, ViewName};
 use child_pool::PoolFault;
 use design_docs::{DESIGN_PREFIX, Design, View};
 use doc_file::DocFault;
-use json_terms::{Chars, NoMemory, Row};
+use json_terms::{Chars, Members, NoMemory, Row, Term};
+use query_args::{Query, QueryFault, Target, read_query};
+use range_query::{Reply, answer};
 use std::alloc::Global;
 use view_index::IndexFault;
 use view_ports::{Folder, Servers};
 use view_updater::UpdateFault;
 
-/// What a view request is about: the id of the design document, its design, and the place of the view.
+/// What a view request is about: the id of the design document, its design, the place of the view, and the query.
 #[derive(Drop)]
 struct Plan {
     id: Chars,
     design: Design,
     place: usize,
+    query: Query,
 }
 
 impl Engine {
-    /// Prints all rows of a view. The index of its design is brought up to date first: the documents that were written since are
-    /// mapped through the query server of its language, and no others.
+    /// Prints the rows of a view that a query picks. The index of its design is brought up to date first, unless the query says
+    /// otherwise: the documents that were written since are mapped through the query server of its language, and no others.
     pub(super) fn view<F: Folder, C: Servers>(
         &mut self,
         alloc: Global,
         folder: &mut F,
         servers: &mut C,
         name: ViewName,
+        query: Option<Members>,
         out: &mut Vec<u8>,
     ) -> Result<(), Halt>
         requires open { LiesOpen F.Folder self.old folder.old }
         ensures { Performed F.Folder C.Servers (scene self.old folder.old servers.old)
             (scene self.new folder.new servers.new)
-            (Ok (Request.View name None)) out.old.items out.new.items result }
+            (Ok (Request.View name query)) out.old.items out.new.items result }
     {
-        let plan = match self.plan(alloc, folder, &name) {
+        let plan = match self.plan(alloc, folder, &name, query) {
             Ok(plan) => plan,
             Err(halt) => return Err(halt),
         };
+        if !plan.query.update {
+            let place = match self.groups.open(alloc, folder, &self.docs, &plan.design) {
+                Ok(place) => place,
+                Err(fault) => return Err(halt_of(UpdateFault::from(fault), plan.id)),
+            };
+            let kept = self.groups.index(place);
+            let shown = kept.rows(plan.place as u32);
+            return append_rows(alloc, shown, kept.seq(), &plan.query, out);
+        }
         match self.groups.update(
             alloc,
             folder,
@@ -63,22 +77,34 @@ impl Engine {
             &self.docs,
             &plan.design,
         ) {
-            Ok(place) => append_rows(alloc, self.groups.index(place).rows(plan.place as u32), out),
+            Ok(place) => {
+                let index = self.groups.index(place);
+                let rows = index.rows(plan.place as u32);
+                append_rows(alloc, rows, index.seq(), &plan.query, out)
+            }
             Err(fault) => Err(halt_of(fault, plan.id)),
         }
     }
 
     /// What a view request is about, or why it is refused before any server is asked.
-    fn plan<F: Folder>(&self, alloc: Global, folder: &mut F, name: &ViewName) -> Result<Plan, Halt>
-        ensures plan { PlansView F.Folder self.now folder.old name.now result }
-        ensures read { ReadsDesign F.Folder self.now folder.old name.now result }
+    fn plan<F: Folder>(
+        &self,
+        alloc: Global,
+        folder: &mut F,
+        name: &ViewName,
+        query: Option<Members>,
+    ) -> Result<Plan, Halt>
+        ensures plan { PlansView F.Folder self.now folder.old (view_query name.now query) result }
+        ensures read { ReadsDesign F.Folder self.now folder.old (view_query name.now query) result }
+        ensures query { IfOk result (λ plan. plan.query ≡ query_for (view_query name.now query)) }
         ensures few { IfOk result (λ plan. length plan.design.views ≤ 32) }
         ensures within { IfOk result (λ plan. plan.place < length plan.design.views) }
         ensures known { IfOk result (HasPath self.now) }
-        ensures refused { RefusesView F.Folder self.now folder.old name.now result }
+        ensures refused { RefusesView F.Folder self.now folder.old (view_query name.now query) result }
         ensures unblamed { IfErr result (λ halt. halt ≢ Halt.Refused Refusal.ServerFault) }
         ensures reads { Reads F.Folder self.now.docs folder.old folder.new result }
     {
+        let parameters = parameters_of(alloc, query);
         let id = design_id(alloc, name.design.as_str())?;
         let document = match self.docs.get(alloc, folder, id.as_str()) {
             Ok(document) => document,
@@ -88,8 +114,17 @@ impl Engine {
         let Some(place) = place_of(design.views.as_slice(), name.view.as_str()) else {
             return Err(Halt::Refused(Refusal::MissingNamedView));
         };
+        let query = match read_query(alloc, &parameters, Target::View(false)) {
+            Ok(query) => query,
+            Err(fault) => return Err(halt_of_query(fault)),
+        };
         match self.pool.path_of(design.language.as_str()) {
-            Some(_path) => Ok(Plan { id, design, place }),
+            Some(_path) => Ok(Plan {
+                id,
+                design,
+                place,
+                query,
+            }),
             None => Err(Halt::Refused(Refusal::UnknownLanguage(design.language))),
         }
     }
@@ -139,15 +174,43 @@ fn halt_of_pool(fault: PoolFault, id: Chars) -> Halt
     }
 }
 
-/// Appends the reply line with the rows of a view.
-fn append_rows(alloc: Global, rows: &[Row], out: &mut Vec<u8>) -> Result<(), Halt>
-    ensures ok { OnOk result (out.new.items ≡ out.old.items ++ ended (answer rows.now)) }
-    ensures line { OnOk result (IsReplyLine (answer rows.now)) }
+/// Why a view is refused that is asked for with such parameters.
+fn halt_of_query(fault: QueryFault) -> Halt
+    ensures { result ≡ met_by_query fault }
+{
+    match fault {
+        QueryFault::NoMemory => Halt::Stopped(StepFault::NoMemory),
+        fault => Halt::Refused(Refusal::BadQuery(fault)),
+    }
+}
+
+/// The parameters of a query as an object. No query counts as one without parameters.
+fn parameters_of(alloc: Global, query: Option<Members>) -> Term
+    ensures { json result ≡ parameters_in query }
+{
+    match query {
+        Some(parameters) => Term::Object(parameters),
+        None => Term::Object(Members::new(alloc)),
+    }
+}
+
+/// Appends the reply line that answers a query from the rows of a view, of an index at this sequence.
+fn append_rows(
+    alloc: Global,
+    rows: &[Row],
+    seq: u64,
+    query: &Query,
+    out: &mut Vec<u8>,
+) -> Result<(), Halt>
+    requires sorted { IsSorted rows_cmp rows.now }
+    ensures ok { OnOk result (out.new.items ≡ out.old.items
+        ++ ended (answer_text query.now seq rows.now)) }
+    ensures line { OnOk result (IsReplyLine (answer_text query.now seq rows.now)) }
     ensures silent { OnErr result (out.new.items ≡ out.old.items) }
     ensures memory { IfErr result (λ halt. halt ≡ Halt.Stopped StepFault.NoMemory) }
 {
     let mut reply = Reply::behind(alloc, out);
-    let written = write_answer(alloc, rows, &mut reply);
+    let written = answer(alloc, rows, seq, query, &mut reply);
     reply.end(written, out)?;
     Ok(())
 }

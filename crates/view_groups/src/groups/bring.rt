@@ -7,7 +7,7 @@ ghost use Rattle.view_index.specs.Calls.{stem_of};
 ghost use Rattle.view_groups.specs.Brings.{side, Brings};
 ghost use Rattle.view_index.specs.declared.index.Index.{Index as IndexValue};
 ghost use Rattle.view_groups.specs.Groups.{open_of, AreOpen, IsGroup};
-ghost use Rattle.view_groups.specs.Openings.{OpensGroup};
+ghost use Rattle.view_groups.specs.Openings.{OpensDesign, OpensGroup};
 ghost use Rattle.view_groups.specs.Reached.{sig_of, views_in};
 ghost use Rattle.view_groups.specs.Updating.{UpdatesAt};
 
@@ -15,6 +15,7 @@ use super::Groups;
 use child_pool::Pool;
 use design_docs::Design;
 use doc_file::Docs;
+use json_terms::NoMemory;
 use std::alloc::Global;
 use view_index::{Index, IndexFault};
 use view_ports::{Folder, Servers, Stem};
@@ -47,6 +48,30 @@ impl Groups {
         let place = self.opened(alloc, folder, sig, design.views.len(), newest)?;
         self.bring(alloc, folder, servers, pool, docs, design, place)?;
         Ok(place)
+    }
+
+    /// The place of the index of a design, which is opened where it isn't open yet, and left as it is.
+    ///
+    /// At each moment a crash leaves the index as it was, and all other files. `Damaged` comes where the index is, as it is opened, and
+    /// `DiskFault` only where the folder counted a fault. After a fault of the index nothing of this is to be used again.
+    pub fn open<F: Folder>(
+        &mut self,
+        alloc: Global,
+        folder: &mut F,
+        docs: &Docs,
+        design: &Design,
+    ) -> Result<usize, IndexFault>
+        requires few { views_in design.now < 2 ^ 16 }
+        ensures { OpensDesign F.Folder docs.now design.now
+            self.old self.new folder.old folder.new result }
+    {
+        match signature(alloc, design) {
+            Ok(sig) => {
+                let newest = docs.info().update_seq;
+                self.opened(alloc, folder, sig, design.views.len(), newest)
+            }
+            Err(NoMemory) => Err(IndexFault::NoMemory),
+        }
     }
 
     /// Brings the index in this place up to date, which is that of the design.

@@ -1,8 +1,9 @@
 //! Opening an index.
 
 ghost use Rattle.std.specs.Prelude.{◌≡◌, ◌<◌, ◌^◌, map, IfOk};
+ghost use Rattle.std.specs.List.{AllByRecursion};
 ghost use Rattle.view_ports.specs.declared.file_name.Stem.{Stem as StemSeen};
-ghost use Rattle.index_record.specs.Rows.{own_views};
+ghost use Rattle.index_record.specs.Rows.{own_views, PlacesRise};
 ghost use Rattle.view_index.specs.Index.{unexchanged};
 ghost use Rattle.view_index.specs.ViewRows.{both_of};
 ghost use Rattle.view_index.specs.Opens.{Loads, Opens};
@@ -66,8 +67,9 @@ impl Index {
     }
 }
 
-/// The rows of each view, of which none is exchanged.
+/// The rows of each view, of which none is exchanged. Their places rise, as those that are read do.
 fn shelve(alloc: Global, rows: Vec<Vec<Row>>) -> Result<Vec<ViewRows>, NoMemory>
+    requires { AllByRecursion PlacesRise (own_views rows.items) }
     ensures { IfOk result (λ views. map both_of views.items ≡ map unexchanged (own_views rows.items)) }
 {
     let mut views = Vec::new(alloc);

@@ -1,15 +1,13 @@
 -- Each request is performed as the call that does it promises.
-use Rattle.std.proofs.Common.{◌≡◌, ◌∙◌, None, arith, inr, refl, sym, ap, subst}
+use Rattle.std.proofs.Common.{◌≡◌, ◌∙◌, arith, inr, refl, sym, ap}
 use Rattle.view_ports.specs.Disk.{MovesNone}
 use Rattle.view_ports.proofs.DiskRuns.{none_refl}
 use Rattle.view_ports.proofs.Told.{told_all, told_refl}
 use Rattle.child_pool.specs.Pools.{languages_of}
 use Rattle.doc_file.specs.Docs.{info_of}
 use Rattle.view_engine.specs.declared.refusal.Refusal.TheVariants.{NotBuiltYet}
-use Rattle.view_engine.specs.declared.request.Request.{Request}
-use Rattle.view_engine.specs.declared.request.Request.TheVariants.{Cleanup, Get, View as ViewRequest}
+use Rattle.view_engine.specs.declared.request.Request.TheVariants.{Cleanup, Get}
 use Rattle.view_engine.specs.Answer.{info_text}
-use Rattle.view_engine.specs.Steps.{IsRefusedAs}
 use Rattle.view_engine.proofs.Acting.{acted, refused_at_once}
 use Rattle.view_engine.proofs.CleanedUp.{cleaned}
 use Rattle.view_engine.proofs.Performing.{unbuilt}
@@ -40,20 +38,11 @@ returns-in-Info g c = acted c.in-Info.is (λ is. cc) c.requires.open (spent_here
 pub returns-in-Cleanup : goal.returns-in-Cleanup
 returns-in-Cleanup g c = cleaned c.in-Cleanup.is c.requires.open c.cleanup.ensures
 
-pub returns-in-View : goal.returns-in-View
-returns-in-View g c =
-    refused_at_once (λ is. let clash : ViewRequest c.in-View.view c.in-View.query ≡ Cleanup = sym c.in-View.is ∙ (let one : c.args.request ≡ Cleanup = cc in one) in cc) tt (λ is. cc) (λ before. inr (
-      NotBuiltYet,
-      subst (λ (r : Request). IsRefusedAs g.C.Servers.functions g.C.Servers.honest (languages_of c.args.self.now.pool) before.world r NotBuiltYet)
-          (sym (c.in-View.is ∙ ap (ViewRequest c.in-View.view) c.in-Some.is)) refl,
-      (refl, refl),
-    )) c.requires.open
-
 pub returns : goal.returns
 returns g c =
     let other = c.in_default in
     refused_at_once (λ is. other.not-Cleanup (let one : c.args.request ≡ Cleanup = cc in one)) tt (λ is. cc) (λ before. inr (
       NotBuiltYet,
-      unbuilt g.C.Servers.functions g.C.Servers.honest (languages_of c.args.self.now.pool) before.world c.args.request other.not-Put other.not-Delete other.not-Get other.not-Info other.not-Cleanup (λ view. other.not-View view None),
+      unbuilt g.C.Servers.functions g.C.Servers.honest (languages_of c.args.self.now.pool) before.world c.args.request other.not-Put other.not-Delete other.not-Get other.not-Info other.not-Cleanup other.not-View,
       (refl, refl),
     )) c.requires.open

@@ -1,5 +1,5 @@
 -- The design that is read is that of the live document.
-use Rattle.std.proofs.Common.{◌≡◌, ◌∙◌, ◌≤◌, ℕ, List, length, map, bytes_eq, Some, None, sym, ap, subst}
+use Rattle.std.proofs.Common.{◌≡◌, ◌⊎◌, ◌∙◌, ◌≤◌, ℕ, List, length, map, bytes_eq, Some, None, sym, ap, subst}
 use Rattle.std.specs.Map.{lookup}
 use Rattle.json_terms.specs.Seen.{json}
 use Rattle.view_ports.proofs.Told.{told_now}
@@ -13,8 +13,14 @@ use Rattle.doc_file.specs.History.{live_document}
 use Rattle.view_engine.specs.declared.refusal.Refusal.TheVariants.{MissingNamedView, UnknownLanguage}
 use Rattle.view_engine.specs.View.{design_id, view_refusal}
 use Rattle.view_engine.specs.ViewPlan.{source_at, IsPlan, ShowsRows}
+use Rattle.json_terms.specs.Json.{Json}
+use Rattle.query_args.specs.declared.fault.QueryFault.TheVariants as query
+use Rattle.query_args.specs.declared.query.Query.{Query}
+use Rattle.query_args.specs.Faults.{query_fault}
+use Rattle.query_args.specs.Query.{is_updated}
+use Rattle.view_engine.specs.ViewQuery.{parameters_of, plain_view, view_query}
 use Rattle.view_engine.proofs.Reading.{read_of_get}
-use Rattle.view_engine.proofs.Plans.{stored_design, planned, refused_language, refused_same, refused_view}
+use Rattle.view_engine.proofs.Plans.{met_query, stored_design, planned, refused_language, refused_query, refused_same, refused_view}
 use Rattle.view_engine.proofs.engine.Engine.plan.Goals as goal
 use Rattle.view_engine.specs.World.{of_history}
 
@@ -25,7 +31,7 @@ pub returns-in_default-clause-refused : goal.returns-in_default-clause-refused
 returns-in_default-clause-refused g c = λ refusal is_refusal history.
     let docs = c.args.self.now.docs in
     let languages = languages_of c.args.self.now.pool in
-    let name = c.args.name.now in
+    let name = view_query c.args.name.now c.args.query in
     let id = c.as_str-2.result.now in
     let document = json c.in-Ok.document in
     let design = c.in_ok-design.design in
@@ -44,11 +50,14 @@ pub returns-in-Some-path_of-clause-plan : goal.returns-in-Some-path_of-clause-pl
 returns-in-Some-path_of-clause-plan g c = λ history.
     let docs = c.args.self.now.docs in
     let languages = languages_of c.args.self.now.pool in
-    let name = c.args.name.now in
+    let name = view_query c.args.name.now c.args.query in
     let id = c.as_str-2.result.now in
     let document = json c.in-Ok.document in
     let design = c.in_ok-design.design in
     let place = c.in-Some.place in
+    let asked = c.in-Ok-read_query.query in
+    let updates : is_updated (parameters_of name) ≡ asked.update = ap is_updated (sym c.parameters_of-parameters.ensures) ∙ sym (ap (λ (q : Query). q.update) c.in-Ok-read_query.ensures.query) in
+    let fits : query_fault plain_view (parameters_of name) ≡ None = ap (query_fault plain_view) (sym c.parameters_of-parameters.ensures) ∙ c.in-Ok-read_query.ensures.fault in
     let is : id ≡ design_id name.design = c.as_str-2.ensures ∙ c.in_ok-id.ensures ∙ ap design_id c.as_str.ensures in
     let there : Some (source_at design.views place) ≡ lookup (λ key. bytes_eq key name.view) (map named design.views) =
     ap (λ (views : List View). Some (source_at views place)) (sym c.as_slice.ensures)
@@ -59,9 +68,9 @@ returns-in-Some-path_of-clause-plan g c = λ history.
     (subst (λ (text : List ℕ). ShowsRows c.as_slice.result.now text place) c.as_str-3.ensures c.in-Some.ensures.shown) in
     told_now (g.F.Folder.disk c.args.folder.now)
     (λ d. IsAt docs d.now history → live_document history id ≡ Some document)
-    (λ d. IsAt docs d.now history → (path : List ℕ) → path_in languages design.language ≡ Some path → IsPlan languages history name c.in_ok-id.id design place path)
-    (λ d live at path known. subst (λ i. IsPlan languages history name i design place path) c.as_str-2.ensures
-    (planned languages history name id document design is (live at) (stored_design name id document is c.in-Ok.ensures.body) c.in_ok-design.ensures place there shown path known))
+    (λ d. IsAt docs d.now history → (path : List ℕ) → path_in languages design.language ≡ Some path → IsPlan asked.update languages history name c.in_ok-id.id design place path)
+    (λ d live at path known. subst (λ i. IsPlan asked.update languages history name i design place path) c.as_str-2.ensures
+    (planned languages history name id document design is (live at) (stored_design name id document is c.in-Ok.ensures.body) c.in_ok-design.ensures place there updates fits shown path known))
     (c.in-Ok.ensures.document history)
 
 pub returns-in-Some-path_of-clause-read : goal.returns-in-Some-path_of-clause-read
@@ -69,7 +78,7 @@ returns-in-Some-path_of-clause-read g c =
     let docs = c.args.self.now.docs in
     let id = c.as_str-2.result.now in
     let document = json c.in-Ok.document in
-    let is : id ≡ design_id c.args.name.now.design = c.as_str-2.ensures ∙ c.in_ok-id.ensures ∙ ap design_id c.as_str.ensures in
+    let is : id ≡ design_id (view_query c.args.name.now c.args.query).design = c.as_str-2.ensures ∙ c.in_ok-id.ensures ∙ ap design_id c.as_str.ensures in
     told_now (g.F.Folder.disk c.args.folder.now) (λ d. IsLive id (bytes_in docs d.now) (last_of docs id) document) _
     (λ d live. (document, subst (λ (i : List ℕ). IsLive i (bytes_in docs d.now) (last_of docs i) document) is live, c.in_ok-design.ensures)) c.in-Ok.ensures.live
 
@@ -78,23 +87,24 @@ returns-in-Some-path_of-clause-few g c =
     let id = c.as_str-2.result.now in
     let document = json c.in-Ok.document in
     let views = c.in_ok-design.design.views in
-    let is : id ≡ design_id c.args.name.now.design = c.as_str-2.ensures ∙ c.in_ok-id.ensures ∙ ap design_id c.as_str.ensures in
-    let has = stored_design c.args.name.now id document is c.in-Ok.ensures.body in
+    let is : id ≡ design_id (view_query c.args.name.now c.args.query).design = c.as_str-2.ensures ∙ c.in_ok-id.ensures ∙ ap design_id c.as_str.ensures in
+    let has = stored_design (view_query c.args.name.now c.args.query) id document is c.in-Ok.ensures.body in
     let few : length views ≤ 32 = subst (λ (vs : List View). length vs ≤ 32) (sym c.in_ok-design.ensures.1) (views_are_few document has) in
     few
 
 pub returns-in-Some-path_of-clause-known : goal.returns-in-Some-path_of-clause-known
 returns-in-Some-path_of-clause-known g c = (c.in-Some-path_of._path.now, ap (path_in (languages_of c.args.self.now.pool)) (sym c.as_str-4.ensures) ∙ sym c.in-Some-path_of.ensures)
 
-pub returns-in-None-clause-refused : goal.returns-in-None-clause-refused
-returns-in-None-clause-refused g c = λ refusal is_refusal history.
+pub returns-clause-refused : goal.returns-clause-refused
+returns-clause-refused g c = λ refusal is_refusal history.
     let docs = c.args.self.now.docs in
     let languages = languages_of c.args.self.now.pool in
-    let name = c.args.name.now in
+    let name = view_query c.args.name.now c.args.query in
     let id = c.as_str-2.result.now in
     let document = json c.in-Ok.document in
     let design = c.in_ok-design.design in
     let place = c.in-Some.place in
+    let fits : query_fault plain_view (parameters_of name) ≡ None = ap (query_fault plain_view) (sym c.parameters_of-parameters.ensures) ∙ c.in-Ok-read_query.ensures.fault in
     let same : UnknownLanguage design.language ≡ refusal = cc in
     let is : id ≡ design_id name.design = c.as_str-2.ensures ∙ c.in_ok-id.ensures ∙ ap design_id c.as_str.ensures in
     let there : Some (source_at design.views place) ≡ lookup (λ key. bytes_eq key name.view) (map named design.views) =
@@ -106,5 +116,29 @@ returns-in-None-clause-refused g c = λ refusal is_refusal history.
     (λ d. IsAt docs d.now history → live_document history id ≡ Some document)
     (λ d. IsAt docs d.now history → view_refusal languages (of_history history) name ≡ Some refusal)
     (λ d live at. refused_same languages (of_history history) name (UnknownLanguage design.language) refusal same
-    (refused_language languages history name id document design is (live at) (stored_design name id document is c.in-Ok.ensures.body) c.in_ok-design.ensures place there none))
+    (refused_language languages history name id document design is (live at) (stored_design name id document is c.in-Ok.ensures.body) c.in_ok-design.ensures place there fits none))
+    (c.in-Ok.ensures.document history)
+
+pub returns-in-Err-read_query-clause-refused : goal.returns-in-Err-read_query-clause-refused
+returns-in-Err-read_query-clause-refused g c = λ refusal is_refusal history.
+    let docs = c.args.self.now.docs in
+    let languages = languages_of c.args.self.now.pool in
+    let name = view_query c.args.name.now c.args.query in
+    let id = c.as_str-2.result.now in
+    let document = json c.in-Ok.document in
+    let design = c.in_ok-design.design in
+    let place = c.in-Some.place in
+    let found = c.in-Err-read_query.fault in
+    let stands : (query_fault plain_view (parameters_of name) ≡ Some found) ⊎ (found ≡ query.NoMemory) =
+    subst (λ (q : Json). (query_fault plain_view q ≡ Some found) ⊎ (found ≡ query.NoMemory)) c.parameters_of-parameters.ensures c.in-Err-read_query.ensures.fault in
+    let bad = met_query found refusal (query_fault plain_view (parameters_of name)) (sym c.halt_of_query.ensures ∙ is_refusal) stands in
+    let is : id ≡ design_id name.design = c.as_str-2.ensures ∙ c.in_ok-id.ensures ∙ ap design_id c.as_str.ensures in
+    let there : Some (source_at design.views place) ≡ lookup (λ key. bytes_eq key name.view) (map named design.views) =
+    ap (λ (views : List View). Some (source_at views place)) (sym c.as_slice.ensures)
+    ∙ c.in-Some.ensures.named
+    ∙ (λ i. lookup (λ key. bytes_eq key (c.as_str-3.ensures i)) (map named (c.as_slice.ensures i))) in
+    told_now (g.F.Folder.disk c.args.folder.now)
+    (λ d. IsAt docs d.now history → live_document history id ≡ Some document)
+    (λ d. IsAt docs d.now history → view_refusal languages (of_history history) name ≡ Some refusal)
+    (λ d live at. refused_query languages history name id document design is (live at) (stored_design name id document is c.in-Ok.ensures.body) c.in_ok-design.ensures place there refusal bad)
     (c.in-Ok.ensures.document history)

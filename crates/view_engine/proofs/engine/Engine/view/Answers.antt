@@ -1,6 +1,10 @@
 -- A view is what was planned, over what bringing the index of its design up to date left.
-use Rattle.std.proofs.Common.{Err, sym, ap, subst}
-use Rattle.view_ports.specs.Disk.{MovesNone}
+use Rattle.std.proofs.Common.{◌≡◌, ◌∙◌, Bool, false, List, length, Err, Some, ⊎_elim, arith, sym, ap, subst}
+use Rattle.doc_file.specs.History.{Write}
+use Rattle.view_index.specs.Index.{views_of}
+use Rattle.view_updater.specs.Faults.{by_index}
+use Rattle.view_engine.proofs.Kept.{kept_idle, kept_refused, kept_then}
+use Rattle.view_ports.specs.Disk.{IfTold, MovesNone}
 use Rattle.view_ports.specs.File.{File}
 use Rattle.view_ports.specs.declared.file_name.FileName.{FileName}
 use Rattle.view_ports.proofs.DiskRuns.{none_same}
@@ -8,6 +12,8 @@ use Rattle.view_ports.proofs.Told.{told_after, told_now}
 use Rattle.child_pool.specs.Pools.{languages_of}
 use Rattle.doc_file.specs.Docs.{IsAt as AreAt}
 use Rattle.view_groups.specs.Groups.{AreOpen as AreIndexesOpen}
+use Rattle.view_engine.specs.ViewPlan.{met_by, IsPlan}
+use Rattle.view_engine.specs.ViewQuery.{view_query}
 use Rattle.view_engine.specs.Worlds.{IsOpen}
 use Rattle.view_engine.proofs.Ending.{refused_first, refused_then, shown_then}
 use Rattle.view_engine.proofs.Unasked.{told_refused, unasked}
@@ -18,9 +24,9 @@ pub returns-in-Err : goal.returns-in-Err
 returns-in-Err g c =
     let args = c.args.self.now in
     let x = g.F.Folder.disk c.args.folder.now in
-    refused_first g.F.Folder g.C.Servers args.docs args.pool args.groups c.args.folder.now c.plan.new.folder c.args.servers.now c.args.name c.args.out.now.items c.in-Err.halt c.requires.open c.in-Err.ensures.unblamed c.in-Err.ensures.reads
-    (λ before at. unasked g.C.Servers.functions g.C.Servers.honest (languages_of args.pool) before c.args.name c.in-Err.halt x (g.F.Folder.disk c.plan.new.folder) (g.C.Servers.may_follow c.args.servers.now) (g.C.Servers.faults c.args.servers.now) args at c.in-Err.ensures.reads.disk
-    (told_refused x (λ d. AreAt args.docs d.now before.world.history) (languages_of args.pool) before.world.history c.args.name c.in-Err.halt (documents_at _ _ before.world at.documents) (λ r is. c.in-Err.ensures.refused r is before.world.history)))
+    refused_first g.F.Folder g.C.Servers args.docs args.pool args.groups c.args.folder.now c.plan.new.folder c.args.servers.now (view_query c.args.name c.args.query) c.args.out.now.items c.in-Err.halt c.requires.open c.in-Err.ensures.unblamed c.in-Err.ensures.reads
+    (λ before at. unasked g.C.Servers.functions g.C.Servers.honest (languages_of args.pool) before (view_query c.args.name c.args.query) c.in-Err.halt x (g.F.Folder.disk c.plan.new.folder) (g.C.Servers.may_follow c.args.servers.now) (g.C.Servers.faults c.args.servers.now) args at c.in-Err.ensures.reads.disk
+    (told_refused x (λ d. AreAt args.docs d.now before.world.history) (languages_of args.pool) before.world.history (view_query c.args.name c.args.query) c.in-Err.halt (documents_at _ _ before.world at.documents) (λ r is. c.in-Err.ensures.refused r is before.world.history)))
 
 pub update-requires-clause-open : goal.update-requires-clause-open
 update-requires-clause-open g c =
@@ -32,10 +38,10 @@ returns-in-Ok-update g c =
     let args = c.args.self.now in
     let plan = c.in-Ok.plan in
     let known = c.in-Ok.ensures.known in
-    shown_then g.F.Folder g.C.Servers args.docs args.pool args.groups c.args.folder.now c.plan.new.folder c.args.servers.now c.args.name c.args.out.now.items
+    shown_then g.F.Folder g.C.Servers args.docs args.pool args.groups c.args.folder.now c.plan.new.folder c.args.servers.now (view_query c.args.name c.args.query) c.args.out.now.items
     c.update.new.pool c.update.new.self c.update.new.folder c.update.new.servers plan.id plan.design plan.place known.0 c.in-Ok.ensures.within known.1
-    c.in-Ok.ensures.reads.disk c.in-Ok.ensures.reads.later (λ history. told_now (g.F.Folder.disk c.args.folder.now) _ _ (λ d is there. is there known.0 known.1) (c.in-Ok.ensures.plan history)) c.requires.open c.in-Ok.ensures.read
-    c.in-Ok-update.place c.in-Ok-update.ensures c.index.result.now c.index.ensures c.rows.result.now c.rows.ensures.rows c.rows.ensures.parts c.append_rows.result c.append_rows.ensures.ok c.append_rows.ensures.line c.append_rows.ensures.silent c.append_rows.ensures.memory
+    c.in-Ok.ensures.reads.disk c.in-Ok.ensures.reads.later (λ history. told_now (g.F.Folder.disk c.args.folder.now) _ _ (λ d is there. subst (λ (updating : Bool). IsPlan updating (languages_of args.pool) history (view_query c.args.name c.args.query) plan.id plan.design plan.place known.0) c.if-not-plan.false (is there known.0 known.1)) (c.in-Ok.ensures.plan history)) c.requires.open c.in-Ok.ensures.read
+    c.in-Ok-update.place c.in-Ok-update.ensures c.index-index.result.now c.index-index.ensures c.rows-rows.result.now c.rows-rows.ensures.rows c.rows-rows.ensures.parts plan.query c.in-Ok.ensures.query c.seq-in-Ok-update.result c.seq-in-Ok-update.ensures c.append_rows-in-Ok-update.result c.append_rows-in-Ok-update.ensures.ok c.append_rows-in-Ok-update.ensures.line c.append_rows-in-Ok-update.ensures.silent c.append_rows-in-Ok-update.ensures.memory
 
 pub returns : goal.returns
 returns g c =
@@ -44,7 +50,53 @@ returns g c =
     let known = c.in-Ok.ensures.known in
     let met = c.in-Err-update.fault in
     let brings = c.in-Err-update.ensures in
-    rw c.halt_of.ensures (refused_then g.F.Folder g.C.Servers args.docs args.pool args.groups c.args.folder.now c.plan.new.folder c.args.servers.now c.args.name c.args.out.now.items
+    rw c.halt_of-in-Err-update.ensures (refused_then g.F.Folder g.C.Servers args.docs args.pool args.groups c.args.folder.now c.plan.new.folder c.args.servers.now (view_query c.args.name c.args.query) c.args.out.now.items
     c.update.new.pool c.update.new.self c.update.new.folder c.update.new.servers plan.id plan.design plan.place known.0 c.in-Ok.ensures.within known.1
-    c.in-Ok.ensures.reads.disk c.in-Ok.ensures.reads.later (λ history. told_now (g.F.Folder.disk c.args.folder.now) _ _ (λ d is there. is there known.0 known.1) (c.in-Ok.ensures.plan history)) c.requires.open c.in-Ok.ensures.read
+    c.in-Ok.ensures.reads.disk c.in-Ok.ensures.reads.later (λ history. told_now (g.F.Folder.disk c.args.folder.now) _ _ (λ d is there. subst (λ (updating : Bool). IsPlan updating (languages_of args.pool) history (view_query c.args.name c.args.query) plan.id plan.design plan.place known.0) c.if-not-plan.false (is there known.0 known.1)) (c.in-Ok.ensures.plan history)) c.requires.open c.in-Ok.ensures.read
     met (brings.file, λ is. let none = brings.unknown (ap Err is) in let clash : ⊥ = cc in clash) brings)
+
+-- ---- the index is read as it stands
+
+pub index-kept-requires : goal.index-kept-requires
+index-kept-requires g c = ⊎_elim (λ opens. (opens.place.0, opens.place.1.there)) (λ none. absurd (let clash : ⊥ = cc in clash)) c.in-Ok-open.ensures
+
+pub rows-shown-requires : goal.rows-shown-requires
+rows-shown-requires g c =
+    ⊎_elim (λ opens.
+    let there : Some opens.place.0 ≡ Some c.index-kept.result.now = sym opens.place.1.there ∙ c.index-kept.ensures in
+    let same : opens.place.0 ≡ c.index-kept.result.now = cc in
+    let number : views_of c.index-kept.result.now ≡ length c.in-Ok.plan.design.views = ap views_of (sym same) ∙ opens.place.1.number in
+    let below = c.in-Ok.ensures.within in
+    omega (arith, number, below))
+    (λ none. absurd (let clash : ⊥ = cc in clash)) c.in-Ok-open.ensures
+
+pub returns-in-Err-open : goal.returns-in-Err-open
+returns-in-Err-open g c =
+    let args = c.args.self.now in
+    let plan = c.in-Ok.plan in
+    let known = c.in-Ok.ensures.known in
+    let name = view_query c.args.name c.args.query in
+    let plans : (history : List Write) → IfTold (g.F.Folder.disk c.args.folder.now) (λ d. AreAt args.docs d.now history → IsPlan false (languages_of args.pool) history name plan.id plan.design plan.place known.0) =
+    λ history. told_now (g.F.Folder.disk c.args.folder.now) _ _ (λ d is there. subst (λ (updating : Bool). IsPlan updating (languages_of args.pool) history name plan.id plan.design plan.place known.0) c.if-not-plan.true (is there known.0 known.1)) (c.in-Ok.ensures.plan history) in
+    let fault = c.in-Err-open.fault in
+    let is : c.halt_of.result ≡ met_by plan.id (by_index fault) = c.halt_of.ensures ∙ ap (met_by plan.id) c.from.ensures in
+    rw is (⊎_elim
+    (λ opens. kept_refused g.F.Folder g.C.Servers args.docs args.pool args.groups c.open.new.self c.args.folder.now c.plan.new.folder c.open.new.folder c.args.servers.now name c.args.out.now.items plan.id plan.design plan.place known.0
+    c.in-Ok.ensures.within known.1 c.in-Ok.ensures.reads.disk c.in-Ok.ensures.reads.later plans c.requires.open c.in-Ok.ensures.read fault opens.faults opens)
+    (λ none. kept_idle g.F.Folder g.C.Servers args.docs args.pool args.groups c.open.new.self c.args.folder.now c.plan.new.folder c.open.new.folder c.args.servers.now name c.args.out.now.items plan.id plan.design plan.place known.0
+    c.in-Ok.ensures.within known.1 c.in-Ok.ensures.reads.disk c.in-Ok.ensures.reads.later plans c.requires.open c.in-Ok.ensures.read fault none.0 none.1 none.2)
+    c.in-Err-open.ensures)
+
+pub returns-then-not-plan : goal.returns-then-not-plan
+returns-then-not-plan g c =
+    let args = c.args.self.now in
+    let plan = c.in-Ok.plan in
+    let known = c.in-Ok.ensures.known in
+    let name = view_query c.args.name c.args.query in
+    let plans : (history : List Write) → IfTold (g.F.Folder.disk c.args.folder.now) (λ d. AreAt args.docs d.now history → IsPlan false (languages_of args.pool) history name plan.id plan.design plan.place known.0) =
+    λ history. told_now (g.F.Folder.disk c.args.folder.now) _ _ (λ d is there. subst (λ (updating : Bool). IsPlan updating (languages_of args.pool) history name plan.id plan.design plan.place known.0) c.if-not-plan.true (is there known.0 known.1)) (c.in-Ok.ensures.plan history) in
+    ⊎_elim
+    (λ opens. kept_then g.F.Folder g.C.Servers args.docs args.pool args.groups c.open.new.self c.args.folder.now c.plan.new.folder c.open.new.folder c.args.servers.now name c.args.out.now.items plan.id plan.design plan.place known.0
+    c.in-Ok.ensures.within known.1 c.in-Ok.ensures.reads.disk c.in-Ok.ensures.reads.later plans c.requires.open c.in-Ok.ensures.read c.in-Ok-open.place opens c.index-kept.result.now c.index-kept.ensures
+    c.rows-shown.result.now c.rows-shown.ensures.rows c.rows-shown.ensures.parts plan.query c.in-Ok.ensures.query c.seq.result c.seq.ensures c.append_rows.result c.append_rows.ensures.ok c.append_rows.ensures.line c.append_rows.ensures.silent c.append_rows.ensures.memory)
+    (λ none. absurd (let clash : ⊥ = cc in clash)) c.in-Ok-open.ensures

@@ -16,7 +16,7 @@ returns-clause-rows c =
     let views : List ViewRows = c.args.self.now.views.items in
     let view = c.args.view in
     let within : view < length views = omega (arith, c.requires, length-map views both_of) in
-    c.rows.ensures
+    c.rows.ensures.rows
     ∙ ap rows_of (c.index-as_slice-view.is ∙ ap (λ (l : List ViewRows). slice_index_or l view c.index-as_slice-view.result) c.as_slice.ensures.value)
     ∙ sym (get_or-map (λ (both : List Row × List Row). both.0) (map both_of views) view (both_of c.index-as_slice-view.result) [] c.requires
     ∙ ap (λ (both : List Row × List Row). both.0) (get_or-map both_of views view c.index-as_slice-view.result (both_of c.index-as_slice-view.result) within))

@@ -1,0 +1,4 @@
+pub mod Parameters
+pub mod Faults
+pub mod Query
+pub mod Range

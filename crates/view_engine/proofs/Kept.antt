@@ -1,0 +1,332 @@
+-- A view whose index is read as it stands: it is opened where it isn't open, and nothing else is done.
+use Rattle.std.specs.Prelude.{◌≡◌, ◌≢◌, ◌<◌, ◌≤◌, ◌++◌, ℕ, List, [], false, length, Some, Result, Ok, Err, IfErr, OnErr, OnOk, All, slice_get, slice_index_or}
+use Rattle.std.specs.List.{AllByRecursion}
+use Rattle.std.proofs.Common.{refl, sym, ap, ◌∙◌, subst, inl, inr, arith}
+use Rattle.std.proofs.lemmas.List.{length-map}
+use Rattle.std.proofs.lemmas.List.Elements.{All-get_or}
+use Rattle.std.proofs.lemmas.Option.{get_or_from_slice_get, slice_get_within}
+use Rattle.json_terms.specs.Json.{Json}
+use Rattle.json_terms.specs.declared.term.Row.{Row}
+use Rattle.design_docs.specs.declared.design.Design.{Design}
+use Rattle.design_docs.specs.declared.design.View.{View as DesignView}
+use Rattle.design_docs.specs.Design.{views_of, IsDesignOf}
+use Rattle.query_args.specs.declared.query.Query.{Query}
+use Rattle.view_ports.specs.Disk.{Disk, Framed, IfTold, LeavesOnly, Moves, MovesNone, Tells}
+use Rattle.view_ports.specs.File.{File}
+use Rattle.view_ports.specs.Lines.{ended}
+use Rattle.view_ports.specs.declared.file_name.FileName.{FileName}
+use Rattle.view_ports.specs.declared.file_name.Stem.TheVariants.{Docs as DocsStem, View}
+use Rattle.view_ports.specs.declared.folder.Folder.{Ghosts as Folders}
+use Rattle.view_ports.specs.declared.servers.Servers.{Ghosts as Servers}
+use Rattle.view_ports.proofs.Moments.{joined, weaker}
+use Rattle.view_ports.proofs.Told.{told_after, told_all, told_back, told_given, told_map, told_now, told_pair, told_then}
+use Rattle.gate_file.specs.declared.fault.GateFault.TheVariants as gate
+use Rattle.child_pool.specs.declared.pool.Pool.{Pool}
+use Rattle.child_pool.specs.Languages.{path_in}
+use Rattle.child_pool.specs.Pools.{languages_of}
+use Rattle.doc_file.specs.declared.docs.Docs.{Docs}
+use Rattle.doc_file.specs.Docs.{seq_of as update_seq, IsAt as AreAt}
+use Rattle.doc_file.specs.History.{Write}
+use Rattle.view_model.specs.Answer.{answer}
+use Rattle.view_model.specs.Picture.{Picture}
+use Rattle.view_model.specs.Rows.{view_rows}
+use Rattle.view_model.specs.Since.{first}
+use Rattle.view_index.specs.declared.fault.IndexFault.{IndexFault}
+use Rattle.view_index.specs.declared.fault.IndexFault.TheVariants as index
+use Rattle.view_index.specs.declared.index.Index.{Index}
+use Rattle.view_index.specs.Calls.{stem_of, IsAt}
+use Rattle.view_index.specs.Held.{or_empty, IsFileOf}
+use Rattle.view_index.specs.Opens.{IsOpenFault}
+use Rattle.view_index.specs.Index.{both_in, picture_of}
+use Rattle.view_index.specs.Parts.{HasParts}
+use Rattle.view_updater.specs.Faults.{by_index}
+use Rattle.view_groups.specs.declared.groups.Groups.{Groups}
+use Rattle.view_groups.specs.Groups.{open_of, AreAt as AreIndexesAt, IsGroup}
+use Rattle.view_groups.specs.Openings.{EndsOpen, OpensGroup}
+use Rattle.view_groups.specs.Pictures.{StandsOf}
+use Rattle.view_groups.specs.Reached.{picture_for, sig_of, views_in, IsReached}
+use Rattle.view_groups.proofs.Bringing.{fit_of, within_of}
+use Rattle.view_groups.proofs.Opening.{damaged_of}
+use Rattle.view_engine.specs.declared.engine.Engine.{Engine}
+use Rattle.view_engine.specs.declared.halt.Halt.{Halt}
+use Rattle.view_engine.specs.declared.halt.Halt.TheVariants.{Stopped}
+use Rattle.view_engine.specs.declared.halt.StepFault.TheVariants.{DiskFault, Damaged, NoMemory}
+use Rattle.view_engine.specs.declared.halt.StepFault.{StepFault}
+use Rattle.view_engine.specs.Calls.{scene, AppendsText, IsReplyLine, LeavesMoment, Performed, Scene, StandsAt, Stays}
+use Rattle.view_engine.specs.Disks.{IsAskedFor, IsReasonOf, LiesOpen, MovesIndexOf}
+use Rattle.view_engine.specs.Moments.{Moment}
+use Rattle.view_engine.specs.Steps.{DoesRequestText, MayHaveCalled}
+use Rattle.view_engine.specs.Updating.{picture_in}
+use Rattle.view_engine.specs.View.{design_id, rows_in, DoesKeptView, PrintsRows}
+use Rattle.view_engine.specs.ViewPlan.{met_by, source_at, IsPlan}
+use Rattle.view_engine.specs.ViewQuery.{ViewQuery, query_for, view_request}
+use Rattle.view_engine.specs.World.{World}
+use Rattle.view_engine.specs.Worlds.{IsAtWorld, StandsAround, StandsEither}
+use Rattle.view_engine.proofs.Apart.{documents_beside, old_stands}
+use Rattle.view_engine.proofs.Between.{stands_first, stands_same}
+use Rattle.view_engine.proofs.Bringing.{within_there}
+use Rattle.view_engine.proofs.Ending.{open_still, refused_first}
+use Rattle.view_engine.proofs.Unasked.{unasked}
+use Rattle.view_engine.proofs.Performing.{none_called}
+use Rattle.view_engine.proofs.Reasons.{damaged_there, index_moves, index_open, never_there}
+use Rattle.view_engine.proofs.ServerFaults.{unlike_answer}
+use Rattle.view_engine.proofs.Updated.{rows_at_place, true_before}
+use Rattle.view_engine.proofs.Viewed.{planned_picture}
+use Rattle.view_engine.proofs.Viewing.{does_halted, viewed, Halts, LeavesStopped}
+use Rattle.view_engine.proofs.Whole.{leaves_none, world_none}
+
+-- what holds of each holds of the one in a place
+in_place : {X : Type 0} (P : X → Type 0) (xs : List X) (place : ℕ) (x : X) → All P xs → slice_get xs place ≡ Some x → P x
+in_place P xs place x all there = subst P (get_or_from_slice_get xs place x x there) (All-get_or P xs place x (slice_get_within xs place x there) all)
+
+abbrev pub unopened : IndexFault → Result ℕ IndexFault
+unopened fault = Err fault
+
+module _ {F C : Type 0} (f : Folders F) (s : Servers C) (docs : Docs) (pool : Pool) (groups groups' : Groups) (old mid new : F) (servers : C) (name : ViewQuery) (out : List ℕ) (id : List ℕ) (design : Design) (place : ℕ) (path : List ℕ)
+    (within : place < length design.views) (path_is : path_in (languages_of pool) design.language ≡ Some path)
+    (read : Tells (f.disk old) (f.disk mid) MovesNone) (earlier : f.faults old ≤ f.faults mid)
+    (plans : (history : List Write) → IfTold (f.disk old) (λ d. AreAt docs d.now history → IsPlan false (languages_of pool) history name id design place path))
+    (is_open : LiesOpen f (record { docs = docs; pool = pool; groups = groups }) old) (asked : IfTold (f.disk old) (λ d. (document : Json) × IsAskedFor docs d.now name document × IsDesignOf document design)) where
+  abbrev engine : Engine
+  engine = record { docs = docs; pool = pool; groups = groups }
+
+  abbrev engine' : Engine
+  engine' = record { docs = docs; pool = pool; groups = groups' }
+
+  abbrev now : Scene F C
+  now = scene engine old servers
+
+  abbrev later : Scene F C
+  later = scene engine' new servers
+
+  abbrev Opens : Result ℕ IndexFault → Type 0
+  Opens result = OpensGroup (sig_of design) (views_in design) (update_seq docs) f groups groups' mid new result
+
+  -- what is known once the index was opened, over a moment at which the engine was
+  module _ (result : Result ℕ IndexFault) (opens : Opens result) (before : Moment) (at : StandsAt f s now before) where
+    abbrev world : World
+    world = before.world
+
+    abbrev IsOpened : Disk FileName → Disk FileName → Type 0
+    IsOpened = Moves (IsFileOf (View (sig_of design))) (λ image. StandsOf (sig_of design) image (world.pictures (sig_of design))) (EndsOpen (sig_of design) (views_in design) (update_seq docs) groups' world.pictures result)
+
+    reached : (d : Disk FileName) → IsAtWorld engine d.now world → IsReached docs groups design world.history world.pictures d.now
+    reached d here = record { documents = here.documents; indexes = here.indexes; within = within_there engine d.now world design here }
+
+    at_mid : IfTold (f.disk mid) (λ d. IsAtWorld engine d.now world)
+    at_mid = world_none engine engine (f.disk old) (f.disk mid) refl refl read world at.documents
+
+    opened : Tells (f.disk mid) (f.disk new) IsOpened
+    opened = opens.stands world.pictures
+        (told_now (f.disk mid) (λ d. IsAtWorld engine d.now world) _ (λ d here. within_of f s docs design groups mid servers pool (update_seq docs) refl world.history world.pictures d.now (reached d here)) at_mid)
+
+    -- each image still stands for the world
+    pub crashes : Tells (f.disk old) (f.disk new) (LeavesOnly (StandsEither world world))
+    crashes =
+        told_then (f.disk old) (f.disk mid) (f.disk new) (LeavesOnly (StandsEither world world)) (LeavesOnly (StandsEither world world)) (LeavesOnly (StandsEither world world)) (λ a b c first second. joined (StandsEither world world) a b c first second)
+        (told_given (f.disk old) (f.disk mid) (λ d. IsAtWorld engine d.now world) MovesNone (LeavesOnly (StandsEither world world)) (λ a b here none. leaves_none engine world a b none here) at.documents read)
+        (told_given (f.disk mid) (f.disk new) (λ d. IsAtWorld engine d.now world) IsOpened (LeavesOnly (StandsEither world world))
+        (λ a b here moves. weaker (Framed (IsFileOf (View (sig_of design))) a.now (λ image. StandsOf (sig_of design) image (world.pictures (sig_of design)))) (StandsEither world world) a b
+        (λ image framed. stands_first world world image (old_stands engine design a.now world here _ image framed (framed.inside).0 (framed.inside).1)) moves.moments) at_mid opened)
+
+    -- and where the indexes are at their pictures, the engine is at the world
+    pub at_new : ((d : Disk FileName) → EndsOpen (sig_of design) (views_in design) (update_seq docs) groups' world.pictures result d.now → AreIndexesAt groups' d.now world.pictures) → IfTold (f.disk new) (λ d. IsAtWorld engine' d.now world)
+    at_new ends = told_after (f.disk mid) (f.disk new) (λ d. IsAtWorld engine d.now world) (λ d. IsAtWorld engine' d.now world) IsOpened
+        (λ a b here moves. record {
+          documents = documents_beside docs a.now b.now (λ n of_docs. moves.others n (λ of_view. let clash : DocsStem ≡ View (sig_of design) = sym of_docs ∙ of_view in let no : ⊥ = cc in no)) world.history here.documents;
+          indexes = ends b moves.ended;
+          within = here.within;
+        }) at_mid opened
+
+    left_before : (Allows : Moment → Type 0) → ((d : Disk FileName) → EndsOpen (sig_of design) (views_in design) (update_seq docs) groups' world.pictures result d.now → AreIndexesAt groups' d.now world.pictures) → IfTold (f.disk old) (λ d. Allows before)
+        → LeavesMoment f s now later before Allows
+    left_before Allows ends allowed = record { after = before; is_at = record { documents = at_new ends; child = at.child }; moments = crashes; allowed = allowed }
+
+  moves_of : {result : Result ℕ IndexFault} → Opens result → Tells (f.disk old) (f.disk new) (MovesIndexOf engine name)
+  moves_of opens = index_moves f s docs pool pool groups groups' old mid new servers servers name id design place path false read earlier plans is_open asked opens.others (λ idle. (opens.found idle.0 idle.1 idle.2).2)
+
+  -- ---- it could not be opened
+  module _ (fault : IndexFault) (opens : Opens (Err fault)) where
+    -- the indexes that are open are as the folder has them
+    opened_open : LiesOpen f engine' new
+    opened_open = index_open f s docs pool pool groups groups' old mid new servers servers name id design place path false read earlier plans is_open asked opens.others
+        (opens.is_open (told_now (f.disk mid) _ _ (λ d here. here.indexes) (open_still engine (f.disk old) (f.disk mid) read is_open)))
+
+    stays : Stays f s now later
+    stays = record { languages = refl; width = refl; disk_faults = (let late = opens.cause.later in omega (arith, earlier, late)); server_faults = omega arith }
+
+    stopped : (step : StepFault) → Stopped step ≢ Stopped NoMemory → LeavesStopped f s now later name (Stopped step)
+    stopped step other found is differs before at = (
+      told_map (f.disk old) (f.disk new) _ _
+          (λ a b leaves. weaker (StandsEither before.world before.world) (StandsAround s.functions s.honest (languages_of pool) before.world (Ok (view_request name))) a b (λ image stands. inl (stands_same before.world image stands)) leaves)
+          (crashes (Err fault) opens before at),
+      record {
+        after = before;
+        child = at.child;
+        allowed = told_all (f.disk old) (λ d. MayHaveCalled s.functions s.honest (languages_of pool) before (Ok (view_request name)) before) (λ d. none_called s.functions s.honest (languages_of pool) before (Ok (view_request name)));
+      },
+    )
+
+  Reason : StepFault → Type 0
+  Reason = IsReasonOf f engine old new (Ok (view_request name))
+
+  failed : Opens (Err (index.Store gate.DiskFault)) → Performed f s now later (Ok (view_request name)) out out (Err (Stopped DiskFault))
+  failed opens =
+      viewed f s now later name
+      (does_halted f s now later name out out (Stopped DiskFault) (λ goes. absurd goes) (stopped (index.Store gate.DiskFault) opens DiskFault (λ is. cc)))
+      tt refl (λ is. absurd (let clash : ⊥ = cc in clash)) (moves_of opens) (λ goes. opened_open (index.Store gate.DiskFault) opens) (λ before at file limit is. absurd (let clash : ⊥ = cc in clash))
+      (inl (let rises = opens.cause.failed refl in omega (arith, earlier, rises), tt))
+      (stays (index.Store gate.DiskFault) opens)
+
+  damaged : (n : FileName) (k : ℕ) → Opens (Err (index.Store (gate.Damaged n k))) → Performed f s now later (Ok (view_request name)) out out (Err (Stopped (Damaged n k)))
+  damaged n k opens =
+      viewed f s now later name
+      (does_halted f s now later name out out (Stopped (Damaged n k)) (λ goes. absurd goes) (stopped (index.Store (gate.Damaged n k)) opens (Damaged n k) (λ is. cc)))
+      tt refl (λ is. absurd (let clash : ⊥ = cc in clash)) (moves_of opens) (λ goes. opened_open (index.Store (gate.Damaged n k)) opens) (λ before at file limit is. absurd (let clash : ⊥ = cc in clash))
+      (inr (
+        tt,
+        damaged_there f s docs pool pool groups groups' old mid new servers servers name id design place path false read earlier plans is_open asked n k
+            (told_now (f.disk mid) _ _ (λ d spoiled. let found = spoiled n k refl in (found, damaged_of (View (sig_of design)) (views_in design) d.now n k found)) opens.damaged),
+        λ world. never_there f s docs pool pool groups groups' old mid new servers servers name id design place path false read earlier plans is_open asked n k world
+            (told_now (f.disk mid) _ _ (λ d never reached shaped. never (fit_of f s docs design groups mid servers pool (update_seq docs) refl world.history world.pictures d.now reached shaped) n k refl) (opens.sound world.pictures)),
+      ))
+      (stays (index.Store (gate.Damaged n k)) opens)
+
+  wanting : Opens (Err index.NoMemory) → Performed f s now later (Ok (view_request name)) out out (Err (Stopped NoMemory))
+  wanting opens =
+      viewed f s now later name
+      (does_halted f s now later name out out (Stopped NoMemory)
+      (λ goes before at. left_before (Err index.NoMemory) opens before at (Halts f s now later name before (Stopped NoMemory)) (λ d ends. ends)
+      (told_all (f.disk old) _ (λ d. (λ r same. absurd (let clash : ⊥ = cc in clash), none_called s.functions s.honest (languages_of pool) before (Ok (view_request name))))))
+      (λ step is other. absurd (other (let same : step ≡ NoMemory = cc in same))))
+      tt refl (λ is. absurd (let clash : ⊥ = cc in clash)) (moves_of opens) (λ goes. opened_open index.NoMemory opens) (λ before at file limit is. absurd (let clash : ⊥ = cc in clash))
+      (inl tt)
+      (stays index.NoMemory opens)
+
+  pub kept_refused : (fault : IndexFault) → IsOpenFault fault → Opens (Err fault) → Performed f s now later (Ok (view_request name)) out out (Err (met_by id (by_index fault)))
+  kept_refused fault (inl disk) opens =
+      subst (λ (e : IndexFault). Performed f s now later (Ok (view_request name)) out out (Err (met_by id (by_index e)))) (sym disk) (failed (subst (λ (e : IndexFault). Opens (Err e)) disk opens))
+  kept_refused fault (inr (inl want)) opens =
+      subst (λ (e : IndexFault). Performed f s now later (Ok (view_request name)) out out (Err (met_by id (by_index e)))) (sym want) (wanting (subst (λ (e : IndexFault). Opens (Err e)) want opens))
+  kept_refused fault (inr (inr damage)) opens =
+      subst (λ (e : IndexFault). Performed f s now later (Ok (view_request name)) out out (Err (met_by id (by_index e)))) (sym damage.2) (damaged damage.0 damage.1 (subst (λ (e : IndexFault). Opens (Err e)) damage.2 opens))
+
+  -- no memory was found for its signature
+  pub kept_idle : (fault : IndexFault) → unopened fault ≡ unopened index.NoMemory → groups' ≡ groups → new ≡ mid → Performed f s now later (Ok (view_request name)) out out (Err (met_by id (by_index fault)))
+  kept_idle fault want same_groups same_folder =
+      let is : fault ≡ index.NoMemory = cc in
+      let at_once : Performed f s now (scene engine mid servers) (Ok (view_request name)) out out (Err (Stopped NoMemory)) =
+      refused_first f s docs pool groups old mid servers name out {T = Unit {0}} (Stopped NoMemory) is_open (λ is. let clash : ⊥ = cc in clash) (record { disk = read; why = tt; later = earlier })
+      (λ before at. unasked s.functions s.honest (languages_of pool) before name (Stopped NoMemory) (f.disk old) (f.disk mid) (s.may_follow servers) (s.faults servers) engine at read
+      (told_all (f.disk old) _ (λ d r met. let clash : ⊥ = cc in absurd clash))) in
+      subst (λ (e : IndexFault). Performed f s now later (Ok (view_request name)) out out (Err (met_by id (by_index e)))) (sym is)
+      (subst (λ (g : Groups). Performed f s now (scene (record { docs = docs; pool = pool; groups = g }) new servers) (Ok (view_request name)) out out (Err (Stopped NoMemory))) (sym same_groups)
+      (subst (λ (n : F). Performed f s now (scene engine n servers) (Ok (view_request name)) out out (Err (Stopped NoMemory))) (sym same_folder) at_once))
+
+  -- ---- it is open
+  module _ (slot : ℕ) (opens : Opens (Ok slot)) (found : Index) (there : slice_get (open_of groups') slot ≡ Some found)
+      (printed : List Row) (rows : printed ≡ slice_index_or (picture_of found).rows place []) (parts : AllByRecursion HasParts printed)
+      (query : Query) (query_is : query ≡ query_for name) (seq : ℕ) (seq_is : seq ≡ (picture_of found).seq) where
+    group : IsGroup groups' slot (sig_of design) (views_in design) found
+    group = subst (IsGroup groups' slot (sig_of design) (views_in design)) (let same : Some opens.place.0 ≡ Some found = sym opens.place.1.there ∙ there in cc) opens.place.1
+
+    each : length (picture_of found).rows ≡ length design.views
+    each = length-map (both_in found) (λ (both : List Row × List Row). both.0) ∙ group.number
+
+    module _ (before : Moment) (at : StandsAt f s now before) where
+      abbrev here_world : World
+      here_world = before.world
+
+      -- the index shows the picture of the design
+      abbrev Shows : Type 0
+      Shows = picture_of found ≡ picture_for design here_world.pictures
+
+      shows_at : (files : FileName → File) → AreIndexesAt groups' files here_world.pictures → Shows
+      shows_at files indexes =
+          let is_at : IsAt found files (here_world.pictures (sig_of design)) = in_place (λ (i : Index). (sig : List ℕ) → stem_of i ≡ View sig → IsAt i files (here_world.pictures sig)) (open_of groups') slot found indexes.each there (sig_of design) group.named in
+          is_at.last ∙ ap (λ (n : ℕ). or_empty n (here_world.pictures (sig_of design))) group.number
+
+      shown : Tells (f.disk mid) (f.disk new) (λ a b. Shows)
+      shown = told_map (f.disk mid) (f.disk new) (IsOpened (Ok slot) opens before at) (λ a b. Shows) (λ a b moves. shows_at b.now moves.ended) (opened (Ok slot) opens before at)
+
+      shows : IfTold (f.disk old) (λ d. Shows)
+      shows = told_back (f.disk old) (f.disk mid) (λ d. Shows) (λ d. Shows) MovesNone (λ a b none is. is) read
+          (told_back (f.disk mid) (f.disk new) (λ d. Shows) (λ d. Shows) (λ a b. Shows) (λ a b both is. is) shown
+          (told_after (f.disk mid) (f.disk new) (λ d. IsAtWorld engine d.now here_world) (λ d. Shows) (λ a b. Shows) (λ a b here is. is) (at_mid (Ok slot) opens before at) shown))
+
+      planned : IfTold (f.disk old) (λ d. IsPlan false (languages_of pool) here_world.history name id design place path × Shows)
+      planned = told_pair (f.disk old) (λ d. IsPlan false (languages_of pool) here_world.history name id design place path) (λ d. Shows) _ (λ d plan is. (plan, is))
+          (told_pair (f.disk old) (λ d. IsAtWorld engine d.now here_world) (λ d. AreAt docs d.now here_world.history → IsPlan false (languages_of pool) here_world.history name id design place path) _ (λ d here is. is here.documents) at.documents (plans here_world.history)) shows
+
+      module _ (plan : IsPlan false (languages_of pool) here_world.history name id design place path) (is : Shows) where
+        abbrev document : Json
+        document = plan.document
+
+        same : picture_of found ≡ picture_in here_world document
+        same = is ∙ planned_picture (languages_of pool) here_world name id design place path plan
+
+        abbrev Asked : List Write
+        Asked = first (picture_in here_world document).seq here_world.history
+
+        prints : PrintsRows s.functions s.honest (languages_of pool) name document path (source_at design.views place) here_world here_world (answer query seq printed)
+        prints = record {
+          rows = printed;
+          shown =
+              ap (λ (p : Picture). rows_in (views_of document) p.rows name.view) (sym same)
+              ∙ ap (λ (views : List DesignView). rows_in views (picture_of found).rows name.view) (sym plan.views)
+              ∙ plan.shown (picture_of found).rows each
+              ∙ ap (λ (r : List Row). Some r) (sym rows);
+          parts = parts;
+          afresh = λ is_honest sound fit.
+              let was = true_before s.functions s.honest (languages_of pool) here_world (design_id name.design) document path refl plan.live plan.path_is is_honest sound fit in
+              rows
+              ∙ ap (λ (p : Picture). slice_index_or p.rows place []) same
+              ∙ ap (λ (r : List (List Row)). slice_index_or r place []) was.rows
+              ∙ rows_at_place (s.functions path) (views_of document) Asked place (subst (λ (views : List DesignView). place < length views) plan.views within)
+              ∙ ap (λ (views : List DesignView). view_rows (s.functions path) (source_at views place) Asked) (sym plan.views);
+          prints = λ i. answer (query_is i) ((seq_is ∙ ap (λ (p : Picture). p.seq) same) i) printed;
+        }
+
+        does : DoesKeptView s.functions s.honest (languages_of pool) before name (answer query seq printed) before
+        does = record {
+          keeps = plan.updates;
+          accepted = plan.accepted;
+          design = document;
+          path = path;
+          source = source_at design.views place;
+          live = plan.live;
+          source_is = plan.source_is;
+          path_is = plan.path_is;
+          rows = prints;
+          same = refl;
+        }
+
+      shown_leaves : (out' : List ℕ) → out' ≡ out ++ ended (answer query seq printed) → AppendsText f s now later before (DoesRequestText s.functions s.honest (languages_of pool) before (Ok (view_request name))) out out'
+      shown_leaves out' appended = record {
+        text = ended (answer query seq printed);
+        leaves = left_before (Ok slot) opens before at (DoesRequestText s.functions s.honest (languages_of pool) before (Ok (view_request name)) (ended (answer query seq printed))) (λ d ends. ends)
+            (told_now (f.disk old) _ _ (λ d both. (answer query seq printed, inl (inr (does both.0 both.1)), refl)) planned);
+        appended = appended;
+      }
+
+    kept_open : LiesOpen f engine' new
+    kept_open = index_open f s docs pool pool groups groups' old mid new servers servers name id design place path false read earlier plans is_open asked opens.others
+        (opens.is_open (told_now (f.disk mid) _ _ (λ d here. here.indexes) (open_still engine (f.disk old) (f.disk mid) read is_open)))
+
+    kept_stays : Stays f s now later
+    kept_stays = record { languages = refl; width = refl; disk_faults = (let late = opens.cause.later in omega (arith, earlier, late)); server_faults = omega arith }
+
+    pub kept_then : {out' : List ℕ} (result : Result (Unit {0}) Halt) → OnOk result (out' ≡ out ++ ended (answer query seq printed)) → OnOk result (IsReplyLine (answer query seq printed)) → OnErr result (out' ≡ out) → IfErr result (λ halt. halt ≡ Stopped NoMemory)
+        → Performed f s now later (Ok (view_request name)) out out' result
+    kept_then {out'} (Ok done) appended line silent memory =
+        viewed f s now later name
+        (λ before at. shown_leaves before at out' appended)
+        (record { reply = answer query seq printed; line = line; appended = appended; unlike = λ other. unlike_answer query seq printed }) tt (λ is. let clash : ⊥ = cc in absurd clash)
+        (moves_of opens) (λ goes. kept_open) (λ before at file limit is. absurd (let clash : ⊥ = cc in clash)) tt kept_stays
+    kept_then {out'} (Err halt) appended line silent memory = subst (λ (h : Halt). Performed f s now later (Ok (view_request name)) out out' (Err h)) (sym memory)
+        (viewed f s now later name
+        (does_halted f s now later name out out' (Stopped NoMemory)
+        (λ goes before at. left_before (Ok slot) opens before at (Halts f s now later name before (Stopped NoMemory)) (λ d ends. ends)
+        (told_all (f.disk old) _ (λ d. (λ r same. absurd (let clash : ⊥ = cc in clash), none_called s.functions s.honest (languages_of pool) before (Ok (view_request name))))))
+        (λ step is other. absurd (other (let same : step ≡ NoMemory = cc in same))))
+        tt silent (λ is. let clash : ⊥ = cc in absurd clash) (moves_of opens) (λ goes. kept_open) (λ before at file limit is. absurd (let clash : ⊥ = cc in clash)) (inl tt) kept_stays)
