@@ -55,7 +55,8 @@ use Rattle.view_engine.proofs.ServerFaults.{met_server_fault, unlike_answer}
 use Rattle.view_engine.proofs.Viewing.{does_halted, viewed, Halts}
 use Rattle.view_engine.proofs.Whole.{leaves_none, view_moves_none}
 use Rattle.view_engine.proofs.Between.{stands_same}
-use Rattle.view_engine.specs.ViewQuery.{ViewQuery, query_for, view_request}
+use Rattle.query_args.specs.Query.{is_updated}
+use Rattle.view_engine.specs.ViewQuery.{ViewQuery, parameters_of, query_for, view_request}
 
 -- what is open stays so where no file changes
 pub open_still : (engine : Engine) (x y : Option (Disk FileName)) → Tells x y MovesNone → IfTold x (λ d. IsOpen engine d.now) → IfTold y (λ d. IsOpen engine d.now)
@@ -99,7 +100,7 @@ module _ {F C : Type 0} (f : Folders F) (s : Servers C) (docs : Docs) (pool : Po
 
   -- ---- over what bringing the index up to date left
   module _ (pool' : Pool) (groups' : Groups) (new : F) (servers' : C) (id : List ℕ) (design : Design) (place : ℕ) (path : List ℕ)
-      (within : place < length design.views) (path_is : path_in (languages_of pool) design.language ≡ Some path)
+      (within : place < length design.views) (path_is : path_in (languages_of pool) design.language ≡ Some path) (updates : is_updated (parameters_of name) ≡ true)
       (read : Tells (f.disk old) (f.disk mid) MovesNone) (earlier : f.faults old ≤ f.faults mid)
       (plans : (history : List Write) → IfTold (f.disk old) (λ d. AreAt docs d.now history → IsPlan true (languages_of pool) history name id design place path))
       (is_open : LiesOpen f engine old) (asked : IfTold (f.disk old) (λ d. (document : Json) × IsAskedFor docs d.now name document × IsDesignOf document design)) where
@@ -120,10 +121,10 @@ module _ {F C : Type 0} (f : Folders F) (s : Servers C) (docs : Docs) (pool : Po
           (λ goes before at. refused_leaves f s docs pool pool' groups groups' old mid new servers servers' name id design place path within path_is read plans met kind brings (goes_on_of_none met id kind goes) before at)
           (stopped_leaves f s docs pool pool' groups groups' old mid new servers servers' name id design place path within path_is read plans met kind brings))
           tt refl (λ is. brings.blames (ap Err (met_server_fault id met (let same : met_by id met ≡ Refused ServerFault = cc in same))))
-          (view_moves f s docs pool pool' groups groups' old mid new servers servers' name id design place path true read earlier plans is_open asked (Err met) brings)
-          (λ goes. view_open f s docs pool pool' groups groups' old mid new servers servers' name id design place path true read earlier plans is_open asked (Err met) brings (goes_on_of_none met id kind goes))
+          (view_moves f s docs pool pool' groups groups' old mid new servers servers' name id design place path true updates read earlier plans is_open asked (Err met) refl brings)
+          (λ goes. view_open f s docs pool pool' groups groups' old mid new servers servers' name id design place path true updates read earlier plans is_open asked (Err met) refl brings (goes_on_of_none met id kind goes))
           (λ before at file limit is. filled_then f s docs pool pool' groups groups' old mid new servers servers' name id design place path within path_is read plans met kind.0 brings before at file limit (let full : met_by id met ≡ Stopped (Full file limit) = cc in full))
-          (view_why f s docs pool pool' groups groups' old mid new servers servers' name id design place path true read earlier plans is_open asked met brings)
+          (view_why f s docs pool pool' groups groups' old mid new servers servers' name id design place path true updates read earlier plans is_open asked refl met brings)
           (record { languages = brings.keeps.languages; width = brings.keeps.width; disk_faults = omega (arith, earlier, brings.later.0); server_faults = brings.later.1 })
 
     -- the rows of the view are printed, or memory runs out
@@ -155,8 +156,8 @@ module _ {F C : Type 0} (f : Folders F) (s : Servers C) (docs : Docs) (pool : Po
           (λ before at. shown_leaves f s docs pool pool' groups groups' old mid new servers servers' name id design place path within path_is read plans slot brings before at (subst (AllByRecursion HasParts) same_rows parts) each out out'
           (appended ∙ ap (λ (text : List ℕ). out ++ ended text) same_answer))
           (record { reply = answer query seq printed; line = line; appended = appended; unlike = λ other. unlike_answer query seq printed }) tt (λ is. let clash : ⊥ = cc in absurd clash)
-          (view_moves f s docs pool pool' groups groups' old mid new servers servers' name id design place path true read earlier plans is_open asked (Ok slot) brings)
-          (λ goes. view_open f s docs pool pool' groups groups' old mid new servers servers' name id design place path true read earlier plans is_open asked (Ok slot) brings (λ lost. lost))
+          (view_moves f s docs pool pool' groups groups' old mid new servers servers' name id design place path true updates read earlier plans is_open asked (Ok slot) refl brings)
+          (λ goes. view_open f s docs pool pool' groups groups' old mid new servers servers' name id design place path true updates read earlier plans is_open asked (Ok slot) refl brings (λ lost. lost))
           (λ before at file limit is. absurd cc)
           tt
           (record { languages = brings.keeps.languages; width = brings.keeps.width; disk_faults = omega (arith, earlier, brings.later.0); server_faults = brings.later.1 })
@@ -166,8 +167,8 @@ module _ {F C : Type 0} (f : Folders F) (s : Servers C) (docs : Docs) (pool : Po
           does_halted f s now later name out out' (Stopped NoMemory) (λ goes before at. spent_leaves f s docs pool pool' groups groups' old mid new servers servers' name id design place path within path_is read plans slot brings before at)
           (λ step is other before at. absurd (other (let same : step ≡ NoMemory = cc in same))) before at)
           tt silent (λ is. let clash : ⊥ = cc in absurd clash)
-          (view_moves f s docs pool pool' groups groups' old mid new servers servers' name id design place path true read earlier plans is_open asked (Ok slot) brings)
-          (λ goes. view_open f s docs pool pool' groups groups' old mid new servers servers' name id design place path true read earlier plans is_open asked (Ok slot) brings (λ lost. lost))
+          (view_moves f s docs pool pool' groups groups' old mid new servers servers' name id design place path true updates read earlier plans is_open asked (Ok slot) refl brings)
+          (λ goes. view_open f s docs pool pool' groups groups' old mid new servers servers' name id design place path true updates read earlier plans is_open asked (Ok slot) refl brings (λ lost. lost))
           (λ before at file limit is. absurd cc)
           (inl tt)
           (record { languages = brings.keeps.languages; width = brings.keeps.width; disk_faults = omega (arith, earlier, brings.later.0); server_faults = brings.later.1 }))

@@ -59,7 +59,8 @@ use Rattle.view_engine.specs.Steps.{DoesRequestText, MayHaveCalled}
 use Rattle.view_engine.specs.Updating.{picture_in}
 use Rattle.view_engine.specs.View.{design_id, rows_in, DoesKeptView, PrintsRows}
 use Rattle.view_engine.specs.ViewPlan.{met_by, source_at, IsPlan}
-use Rattle.view_engine.specs.ViewQuery.{ViewQuery, query_for, view_request}
+use Rattle.query_args.specs.Query.{is_updated}
+use Rattle.view_engine.specs.ViewQuery.{ViewQuery, parameters_of, query_for, view_request}
 use Rattle.view_engine.specs.World.{World}
 use Rattle.view_engine.specs.Worlds.{IsAtWorld, StandsAround, StandsEither}
 use Rattle.view_engine.proofs.Apart.{documents_beside, old_stands}
@@ -83,7 +84,7 @@ abbrev pub unopened : IndexFault → Result ℕ IndexFault
 unopened fault = Err fault
 
 module _ {F C : Type 0} (f : Folders F) (s : Servers C) (docs : Docs) (pool : Pool) (groups groups' : Groups) (old mid new : F) (servers : C) (name : ViewQuery) (out : List ℕ) (id : List ℕ) (design : Design) (place : ℕ) (path : List ℕ)
-    (within : place < length design.views) (path_is : path_in (languages_of pool) design.language ≡ Some path)
+    (within : place < length design.views) (path_is : path_in (languages_of pool) design.language ≡ Some path) (keeps : is_updated (parameters_of name) ≡ false)
     (read : Tells (f.disk old) (f.disk mid) MovesNone) (earlier : f.faults old ≤ f.faults mid)
     (plans : (history : List Write) → IfTold (f.disk old) (λ d. AreAt docs d.now history → IsPlan false (languages_of pool) history name id design place path))
     (is_open : LiesOpen f (record { docs = docs; pool = pool; groups = groups }) old) (asked : IfTold (f.disk old) (λ d. (document : Json) × IsAskedFor docs d.now name document × IsDesignOf document design)) where
@@ -143,13 +144,13 @@ module _ {F C : Type 0} (f : Folders F) (s : Servers C) (docs : Docs) (pool : Po
     left_before Allows ends allowed = record { after = before; is_at = record { documents = at_new ends; child = at.child }; moments = crashes; allowed = allowed }
 
   moves_of : {result : Result ℕ IndexFault} → Opens result → Tells (f.disk old) (f.disk new) (MovesIndexOf engine name)
-  moves_of opens = index_moves f s docs pool pool groups groups' old mid new servers servers name id design place path false read earlier plans is_open asked opens.others (λ idle. (opens.found idle.0 idle.1 idle.2).2)
+  moves_of opens = index_moves f s docs pool pool groups groups' old mid new servers servers name id design place path false keeps read earlier plans is_open asked opens.others (λ idle. (opens.found idle.0 idle.1 idle.2).2)
 
   -- ---- it could not be opened
   module _ (fault : IndexFault) (opens : Opens (Err fault)) where
     -- the indexes that are open are as the folder has them
     opened_open : LiesOpen f engine' new
-    opened_open = index_open f s docs pool pool groups groups' old mid new servers servers name id design place path false read earlier plans is_open asked opens.others
+    opened_open = index_open f s docs pool pool groups groups' old mid new servers servers name id design place path false keeps read earlier plans is_open asked opens.others
         (opens.is_open (told_now (f.disk mid) _ _ (λ d here. here.indexes) (open_still engine (f.disk old) (f.disk mid) read is_open)))
 
     stays : Stays f s now later
@@ -185,9 +186,9 @@ module _ {F C : Type 0} (f : Folders F) (s : Servers C) (docs : Docs) (pool : Po
       tt refl (λ is. absurd (let clash : ⊥ = cc in clash)) (moves_of opens) (λ goes. opened_open (index.Store (gate.Damaged n k)) opens) (λ before at file limit is. absurd (let clash : ⊥ = cc in clash))
       (inr (
         tt,
-        damaged_there f s docs pool pool groups groups' old mid new servers servers name id design place path false read earlier plans is_open asked n k
+        damaged_there f s docs pool pool groups groups' old mid new servers servers name id design place path false keeps read earlier plans is_open asked n k
             (told_now (f.disk mid) _ _ (λ d spoiled. let found = spoiled n k refl in (found, damaged_of (View (sig_of design)) (views_in design) d.now n k found)) opens.damaged),
-        λ world. never_there f s docs pool pool groups groups' old mid new servers servers name id design place path false read earlier plans is_open asked n k world
+        λ world. never_there f s docs pool pool groups groups' old mid new servers servers name id design place path false keeps read earlier plans is_open asked n k world
             (told_now (f.disk mid) _ _ (λ d never reached shaped. never (fit_of f s docs design groups mid servers pool (update_seq docs) refl world.history world.pictures d.now reached shaped) n k refl) (opens.sound world.pictures)),
       ))
       (stays (index.Store (gate.Damaged n k)) opens)
@@ -310,7 +311,7 @@ module _ {F C : Type 0} (f : Folders F) (s : Servers C) (docs : Docs) (pool : Po
       }
 
     kept_open : LiesOpen f engine' new
-    kept_open = index_open f s docs pool pool groups groups' old mid new servers servers name id design place path false read earlier plans is_open asked opens.others
+    kept_open = index_open f s docs pool pool groups groups' old mid new servers servers name id design place path false keeps read earlier plans is_open asked opens.others
         (opens.is_open (told_now (f.disk mid) _ _ (λ d here. here.indexes) (open_still engine (f.disk old) (f.disk mid) read is_open)))
 
     kept_stays : Stays f s now later

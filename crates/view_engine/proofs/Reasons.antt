@@ -1,6 +1,6 @@
 -- Why a view met a fault of a file, and which files it changed.
 use Rattle.std.specs.Prelude.{◌≡◌, ◌⊎◌, ◌≤◌, ℕ, zero, suc, List, length, Option, Some, None, Result, Ok, Err}
-use Rattle.std.proofs.Common.{Bool, refl, sym, ap, ◌∙◌, subst, inl, inr, ⊎_elim}
+use Rattle.std.proofs.Common.{Bool, true, false, refl, sym, ap, ◌∙◌, subst, inl, inr, ⊎_elim}
 use Rattle.json_terms.specs.Json.{Json}
 use Rattle.design_docs.specs.declared.design.Design.{Design}
 use Rattle.design_docs.specs.Design.{views_of, IsDesignOf}
@@ -48,7 +48,8 @@ use Rattle.view_engine.proofs.Beside.{open_beside_indexes}
 use Rattle.view_engine.proofs.HaltedAs.{after_damage}
 use Rattle.view_engine.proofs.Bringing.{within_there}
 use Rattle.view_engine.proofs.Updated.{live_is_design}
-use Rattle.view_engine.specs.ViewQuery.{ViewQuery, view_request}
+use Rattle.query_args.specs.Query.{is_updated}
+use Rattle.view_engine.specs.ViewQuery.{ViewQuery, parameters_of, view_request}
 
 -- a relation of the disks that holds on a condition
 told_if : (S R : Disk FileName → Disk FileName → Type 0) (x y : Option (Disk FileName)) (H : Type 0) → Tells x y S → (H → Tells x y R) → Tells x y (λ a b. S a b × (H → R a b))
@@ -57,11 +58,16 @@ told_if S R None (Some b) H first then = first
 told_if S R (Some a) None H first then = first
 told_if S R (Some a) (Some b) H first then = (first, then)
 
+-- what is told of each history is told of all
+told_each : {D : Type 0} (x : Option (Disk D)) (P : List Write → Disk D → Type 0) → ((history : List Write) → IfTold x (P history)) → IfTold x (λ d. (history : List Write) → P history d)
+told_each None P each = tt
+told_each (Some a) P each = each
+
 empty_length : (views : ℕ) → length (empty_views views) ≡ views
 empty_length zero = refl
 empty_length (suc views) = ap suc (empty_length views)
 
-module _ {F C : Type 0} (f : Folders F) (s : Servers C) (docs : Docs) (pool pool' : Pool) (groups groups' : Groups) (old mid new : F) (servers servers' : C) (name : ViewQuery) (id : List ℕ) (design : Design) (place : ℕ) (path : List ℕ) (updating : Bool)
+module _ {F C : Type 0} (f : Folders F) (s : Servers C) (docs : Docs) (pool pool' : Pool) (groups groups' : Groups) (old mid new : F) (servers servers' : C) (name : ViewQuery) (id : List ℕ) (design : Design) (place : ℕ) (path : List ℕ) (updating : Bool) (updates : is_updated (parameters_of name) ≡ updating)
     (read : Tells (f.disk old) (f.disk mid) MovesNone) (earlier : f.faults old ≤ f.faults mid)
     (plans : (history : List Write) → IfTold (f.disk old) (λ d. AreAt docs d.now history → IsPlan updating (languages_of pool) history name id design place path))
     (is_open : LiesOpen f (record { docs = docs; pool = pool; groups = groups }) old)
@@ -81,9 +87,9 @@ module _ {F C : Type 0} (f : Folders F) (s : Servers C) (docs : Docs) (pool pool
   abbrev IsOwn : FileName → Type 0
   IsOwn = IsFileOf (View (sig_of design))
 
-  -- the index is that of the design that was asked for, and is open, and nothing was written since
+  -- the index is that of the design that was asked for, and is open, and nothing was written since, or it is read as it stands
   abbrev pub IsIdle : Type 0
-  IsIdle = (slot : ℕ) × (index : Index) × IsGroup groups slot (sig_of design) (views_in design) index × (seq_of index ≡ update_seq docs)
+  IsIdle = (slot : ℕ) × (index : Index) × IsGroup groups slot (sig_of design) (views_in design) index × ((seq_of index ≡ update_seq docs) ⊎ (updating ≡ false))
 
   -- what was done on the index after reading changed its files alone
   module _ (others : Tells (f.disk mid) (f.disk new) (Moves IsOwn (λ image. Unit {0}) (λ files. Unit {0}))) where
@@ -94,25 +100,28 @@ module _ {F C : Type 0} (f : Folders F) (s : Servers C) (docs : Docs) (pool pool
         (none_wider IsOwn (λ image. Unit {0}) (λ files. Unit {0}) a b (λ image is. tt) (λ same. tt) none) moves)
         read others
 
-    -- and where it is open, and nothing was written since, nothing was done
+    -- the index of the document that was asked for is that of the design
+    own_group : (document : Json) → IsDesignOf document design → (slot : ℕ) (index : Index) → IsGroup groups slot (signature_of document) (length (views_of document)) index → IsGroup groups slot (sig_of design) (views_in design) index
+    own_group document of slot index group =
+        subst (λ s. IsGroup groups slot s (views_in design) index) (sym (ap digest_of of.2)) (subst (λ (views : List DesignView). IsGroup groups slot (signature_of document) (length views) index) (sym of.1) group)
+
+    -- and where it is open, and nothing was written since or is to be mapped, nothing was done
     pub index_moves : (IsIdle → new ≡ mid) → Tells (f.disk old) (f.disk new) (MovesIndexOf engine name)
     index_moves idle =
-        told_given (f.disk old) (f.disk new) (λ d. (document : Json) × IsAskedFor docs d.now name document × IsDesignOf document design)
+        told_given (f.disk old) (f.disk new)
+        (λ d. ((document : Json) × IsAskedFor docs d.now name document × IsDesignOf document design) × ((history : List Write) → AreAt docs d.now history → IsPlan updating (languages_of pool) history name id design place path))
         (λ a b. Moves IsOwn (λ image. Unit {0}) (λ files. Unit {0}) a b × (IsIdle → MovesNone a b)) (MovesIndexOf engine name)
-        (λ a b is moves.
+        (λ a b both moves.
+        let is = both.0 in
         let sig : sig_of design ≡ signature_of is.0 = ap digest_of (is.2).2 in
         record {
           files = inr (is.0, is.1, subst (λ s. Moves (IsFileOf (View s)) (λ image. Unit {0}) (λ files. Unit {0}) a b) sig moves.0);
-          current = λ known.
-              let index_is = known is.0 is.1 in
-              moves.1 (
-                index_is.0,
-                index_is.1,
-                subst (λ s. IsGroup groups index_is.0 s (views_in design) index_is.1) (sym sig)
-                    (subst (λ (views : List DesignView). IsGroup groups index_is.0 (signature_of is.0) (length views) index_is.1) (sym (is.2).1) index_is.2),
-                index_is.3,
-              );
-        }) asked (told_if (Moves IsOwn (λ image. Unit {0}) (λ files. Unit {0})) MovesNone (f.disk old) (f.disk new) IsIdle index_moved
+          current = λ known. let index_is = known is.0 is.1 in moves.1 (index_is.0, index_is.1, own_group is.0 is.2 index_is.0 index_is.1 index_is.2, inl index_is.3);
+          kept = λ keeps known. let index_is = known is.0 is.1 in moves.1 (index_is.0, index_is.1, own_group is.0 is.2 index_is.0 index_is.1 index_is.2, inr (sym updates ∙ keeps));
+          refused = λ history refusal at is_refused. let clash : None ≡ Some refusal = sym (both.1 history at).accepted ∙ is_refused in let no : ⊥ = cc in absurd no;
+        })
+        (told_pair (f.disk old) _ _ _ (λ d is planned. (is, planned)) asked (told_each (f.disk old) (λ history d. AreAt docs d.now history → IsPlan updating (languages_of pool) history name id design place path) plans))
+        (told_if (Moves IsOwn (λ image. Unit {0}) (λ files. Unit {0})) MovesNone (f.disk old) (f.disk new) IsIdle index_moved
         (λ is. subst (λ folder. Tells (f.disk old) (f.disk folder) MovesNone) (sym (idle is)) read))
 
     -- where the indexes are open, the engine lies open
@@ -158,13 +167,14 @@ module _ {F C : Type 0} (f : Folders F) (s : Servers C) (docs : Docs) (pool pool
         (λ d plan never here shaped. never (record { documents = here.documents; indexes = here.indexes; within = within_there engine d.now world design here }) (shaped_there world (plan here.documents) shaped)) (plans world.history)
         (told_before (λ files. IsReached docs groups design world.history world.pictures files → length (picture_for design world.pictures).rows ≡ views_in design → ⊥) sound)
 
-  module _ (result : Result ℕ UpdateFault) (brings : Brings f s docs design (side mid servers pool groups) (side new servers' pool' groups') result) where
+  module _ (result : Result ℕ UpdateFault) (does : updating ≡ true) (brings : Brings f s docs design (side mid servers pool groups) (side new servers' pool' groups') result) where
     brought_others : Tells (f.disk mid) (f.disk new) (Moves IsOwn (λ image. Unit {0}) (λ files. Unit {0}))
     brought_others = told_map (f.disk mid) (f.disk new) _ _
         (λ a b moves. moves_wider IsOwn IsOwn (λ image. Unit {0}) (λ image. Unit {0}) (λ files. IsLost result ⊎ AreIndexesOpen groups' files) (λ files. Unit {0}) a b (λ n is. is) (λ image framed. tt) (λ others ended. tt) moves) brings.others
 
     pub view_moves : Tells (f.disk old) (f.disk new) (MovesIndexOf engine name)
-    view_moves = index_moves brought_others (λ idle. ap (λ (there : Side F C). there.folder) (brings.idle idle.0 idle.1 idle.2 idle.3).1)
+    view_moves = index_moves brought_others (λ idle. ⊎_elim (λ last. ap (λ (there : Side F C). there.folder) (brings.idle idle.0 idle.1 idle.2 last).1)
+        (λ keeps. let clash : true ≡ false = sym does ∙ keeps in let no : ⊥ = cc in absurd no) idle.3)
 
     -- where no fault of the index came, the engine lies open
     pub view_open : (IsLost result → ⊥) → LiesOpen f engine' new
@@ -202,20 +212,20 @@ module _ {F C : Type 0} (f : Folders F) (s : Servers C) (docs : Docs) (pool pool
       index_never world = never_there n at world (told_now (f.disk mid) _ _ (λ d never reached shaped. (never reached shaped n at).1 (ap Err is)) (brings.sound world.history world.pictures))
 
   -- by the kind of the fault
-  pub view_why : (met : UpdateFault) → Brings f s docs design (side mid servers pool groups) (side new servers' pool' groups') (Err met) → IfStopped (IsReasonOf f engine old new (Ok (view_request name))) (met_by id met)
-  view_why (update.Pool fault.ServerFault) brings = tt
-  view_why (update.Pool (fault.BadReply line)) brings = tt
-  view_why (update.Pool fault.Compile) brings = tt
-  view_why (update.Pool fault.NoMemory) brings = inl tt
-  view_why (update.Pool fault.UnknownLanguage) brings = inl tt
-  view_why update.NoMemory brings = inl tt
-  view_why (update.Docs gate.DiskFault) brings = inl (failed (update.Docs gate.DiskFault) brings (inl refl), tt)
-  view_why (update.Docs (gate.Damaged n at)) brings = inl (tt, (body_damaged (update.Docs (gate.Damaged n at)) brings n at refl, body_never (update.Docs (gate.Damaged n at)) brings n at refl))
-  view_why (update.Docs (gate.Full n length)) brings = absurd brings.file
-  view_why (update.Docs gate.NoMemory) brings = absurd brings.file
-  view_why (update.Index (index.Store gate.DiskFault)) brings = inl (failed (update.Index (index.Store gate.DiskFault)) brings (inr refl), tt)
-  view_why (update.Index (index.Store (gate.Damaged n at))) brings =
+  pub view_why : updating ≡ true → (met : UpdateFault) → Brings f s docs design (side mid servers pool groups) (side new servers' pool' groups') (Err met) → IfStopped (IsReasonOf f engine old new (Ok (view_request name))) (met_by id met)
+  view_why does (update.Pool fault.ServerFault) brings = tt
+  view_why does (update.Pool (fault.BadReply line)) brings = tt
+  view_why does (update.Pool fault.Compile) brings = tt
+  view_why does (update.Pool fault.NoMemory) brings = inl tt
+  view_why does (update.Pool fault.UnknownLanguage) brings = inl tt
+  view_why does update.NoMemory brings = inl tt
+  view_why does (update.Docs gate.DiskFault) brings = inl (failed (update.Docs gate.DiskFault) brings (inl refl), tt)
+  view_why does (update.Docs (gate.Damaged n at)) brings = inl (tt, (body_damaged (update.Docs (gate.Damaged n at)) brings n at refl, body_never (update.Docs (gate.Damaged n at)) brings n at refl))
+  view_why does (update.Docs (gate.Full n length)) brings = absurd brings.file
+  view_why does (update.Docs gate.NoMemory) brings = absurd brings.file
+  view_why does (update.Index (index.Store gate.DiskFault)) brings = inl (failed (update.Index (index.Store gate.DiskFault)) brings (inr refl), tt)
+  view_why does (update.Index (index.Store (gate.Damaged n at))) brings =
       inr (tt, index_damaged (update.Index (index.Store (gate.Damaged n at))) brings n at refl, index_never (update.Index (index.Store (gate.Damaged n at))) brings n at refl)
-  view_why (update.Index (index.Store (gate.Full n length))) brings = inr (tt, (sig_of design, brings.full n length refl))
-  view_why (update.Index (index.Store gate.NoMemory)) brings = absurd brings.file
-  view_why (update.Index other) brings = absurd brings.file
+  view_why does (update.Index (index.Store (gate.Full n length))) brings = inr (updates ∙ does, (sig_of design, brings.full n length refl))
+  view_why does (update.Index (index.Store gate.NoMemory)) brings = absurd brings.file
+  view_why does (update.Index other) brings = absurd brings.file

@@ -104,7 +104,7 @@ module _ (engine : Engine) (world : World) (request : Result Request Refusal) wh
 
 -- where no file changes none of an index does
 pub view_moves_none : {F : Type 0} (f : Folders F) (engine : Engine) (old new : F) (name : ViewQuery) → Tells (f.disk old) (f.disk new) MovesNone → Tells (f.disk old) (f.disk new) (MovesIndexOf engine name)
-view_moves_none f engine old new name none = told_map (f.disk old) (f.disk new) MovesNone (MovesIndexOf engine name) (λ a b same. record { files = inl same; current = λ is. same }) none
+view_moves_none f engine old new name none = told_map (f.disk old) (f.disk new) MovesNone (MovesIndexOf engine name) (λ a b same. record { files = inl same; current = λ is. same; kept = λ keeps is. same; refused = λ history refusal at is. same }) none
 
 -- a request that writes no document and changes no file changes none of an index
 moves_no_index : {F : Type 0} (f : Folders F) (engine : Engine) (old new : F) (request : Result Request Refusal) → ((Writes request → ⊥) → Tells (f.disk old) (f.disk new) MovesNone) → MovesIndexes f engine old new request

@@ -1,5 +1,5 @@
 -- What a request promises of the files and their disk, and why it meets a fault.
-use Rattle.std.specs.Prelude.{◌≡◌, ◌⊎◌, ◌≤◌, ℕ, List, [], length, Result, Ok, Err, IfErr}
+use Rattle.std.specs.Prelude.{◌≡◌, ◌⊎◌, ◌≤◌, ℕ, List, [], length, true, false, Some, Result, Ok, Err, IfErr}
 use Rattle.json_terms.specs.Json.{Json}
 use Rattle.design_docs.specs.Design.{views_of}
 use Rattle.gate_file.specs.Open.{IsFirstDamage}
@@ -16,7 +16,8 @@ use Rattle.view_engine.specs.declared.halt.StepFault.{StepFault}
 use Rattle.view_engine.specs.declared.halt.StepFault.TheVariants.{DiskFault, Damaged, Full, NoMemory}
 use Rattle.view_engine.specs.declared.refusal.Refusal.{Refusal}
 use Rattle.view_engine.specs.declared.request.Request.{Request}
-use Rattle.view_engine.specs.View.{design_id}
+use Rattle.view_engine.specs.View.{design_id, view_refusal}
+use Rattle.child_pool.specs.Pools.{languages_of}
 use Rattle.view_engine.specs.Cleanup.{IsLiveSignature}
 use Rattle.doc_file.specs.History.{Write}
 use Rattle.view_engine.specs.declared.request.Request.TheVariants.{Cleanup, Get, View as ViewRequest}
@@ -31,8 +32,9 @@ use Rattle.view_groups.specs.Groups.{IsGroup}
 use Rattle.view_engine.specs.Updating.{AreShaped}
 use Rattle.view_engine.specs.Worlds.{IsAtWorld, IsOpen as IsEngineOpen}
 use Rattle.view_engine.specs.Halts.{DocumentsStandAround, FitsFor, GoesOn, IsDamage, IsFullFor, IsStill, LeavesFiles, MovesDocuments, WouldWrite, Writes}
-use Rattle.view_engine.specs.World.{World}
-use Rattle.view_engine.specs.ViewQuery.{ViewQuery, view_query}
+use Rattle.view_engine.specs.World.{World, of_history}
+use Rattle.view_engine.specs.ViewQuery.{ViewQuery, parameters_in, parameters_of, view_query}
+use Rattle.query_args.specs.Query.{is_updated}
 
 -- ---- how a request ends
 
@@ -90,7 +92,11 @@ ChangesFiles request = Writes request ⊎ IsOnIndexes request
 abbrev pub IsAskedFor : Docs → (FileName → File) → ViewQuery → Json → Type 0
 IsAskedFor docs files name document = IsLive (design_id name.design) (bytes_in docs files) (last_of docs (design_id name.design)) document
 
--- the index of a design is open, and nothing was written since
+-- the index of a design is open
+abbrev pub IsIndexOpen : Engine → Json → Type 0
+IsIndexOpen engine document = (place : ℕ) × (index : Index) × IsGroup engine.groups place (signature_of document) (length (views_of document)) index
+
+-- and nothing was written since
 abbrev pub IsCurrent : Engine → Json → Type 0
 IsCurrent engine document =
     (place : ℕ) × (index : Index) × IsGroup engine.groups place (signature_of document) (length (views_of document)) index × (seq_of index ≡ update_seq engine.docs)
@@ -119,9 +125,14 @@ MeetsIndexDamage docs files (Ok (ViewRequest view query)) name at = HasIndexDama
 MeetsIndexDamage docs files (Ok Cleanup) name at = HasSlotDamage docs files name at
 MeetsIndexDamage docs files other name at = ⊥
 
--- the file is one of an index, which the request may have opened
+-- a view that brings the index of its design up to date
+abbrev pub IsUpdate : Result Request Refusal → Type 0
+IsUpdate (Ok (ViewRequest view query)) = is_updated (parameters_in query) ≡ true
+IsUpdate other = ⊥
+
+-- the file is one of an index, which the request may have written
 abbrev pub IsOfIndex : Result Request Refusal → FileName → Type 0
-IsOfIndex request name = IsView request × IsIndexFile name
+IsOfIndex request name = IsUpdate request × IsIndexFile name
 
 -- an engine that is open over the files meets it at this place
 pub record MeetsIndexDamageIn (files : FileName → File) (request : Result Request Refusal) (name : FileName) (at : ℕ) : Type 0 where
@@ -134,12 +145,14 @@ abbrev pub IsShapedFor : Result Request Refusal → World → Type 0
 IsShapedFor (Ok Cleanup) world = Unit {0}
 IsShapedFor other world = AreShaped world
 
--- A view changes no file, or only those of the index of the design that it asks for, and none where this is open and nothing was written
--- since.
+-- A view changes no file, or only those of the index of the design that it asks for; none where this is open and nothing was written
+-- since, or is read as it stands; and none where it is refused before any server is asked.
 pub record MovesIndexOf (engine : Engine) (name : ViewQuery) (old new : Disk FileName) : Type 0 where
   pub files : MovesNone old new
       ⊎ ((document : Json) × IsAskedFor engine.docs old.now name document × Moves (IsFileOf (View (signature_of document))) (λ image. Unit {0}) (λ files. Unit {0}) old new)
   pub current : ((document : Json) → IsAskedFor engine.docs old.now name document → IsCurrent engine document) → MovesNone old new
+  pub kept : is_updated (parameters_of name) ≡ false → ((document : Json) → IsAskedFor engine.docs old.now name document → IsIndexOpen engine document) → MovesNone old new
+  pub refused : (history : List Write) (refusal : Refusal) → AreAt engine.docs old.now history → view_refusal (languages_of engine.pool) (of_history history) name ≡ Some refusal → MovesNone old new
 
 module _ {F : Type 0} (f : Folders F) where
   -- for each world that the documents and the disk, where it is told, are at

@@ -33,7 +33,7 @@ impl Groups {
         }
     }
 
-    /// The index in a place that `update` answered.
+    /// The index in a place that `update` or `open` answered.
     pub fn index(&self, place: usize) -> &Index
         requires { (index : IndexValue) × (slice_get (open_of self.now) place ≡ Some index) }
         ensures { slice_get (open_of self.now) place ≡ Some result.now }

@@ -13,6 +13,7 @@ use Rattle.child_pool.specs.Pools.{languages_of}
 use Rattle.doc_file.specs.Docs.{IsAt as AreAt}
 use Rattle.view_groups.specs.Groups.{AreOpen as AreIndexesOpen}
 use Rattle.view_engine.specs.ViewPlan.{met_by, IsPlan}
+use Rattle.query_args.specs.declared.query.Query.{Query}
 use Rattle.view_engine.specs.ViewQuery.{view_query}
 use Rattle.view_engine.specs.Worlds.{IsOpen}
 use Rattle.view_engine.proofs.Ending.{refused_first, refused_then, shown_then}
@@ -39,7 +40,7 @@ returns-in-Ok-update g c =
     let plan = c.in-Ok.plan in
     let known = c.in-Ok.ensures.known in
     shown_then g.F.Folder g.C.Servers args.docs args.pool args.groups c.args.folder.now c.plan.new.folder c.args.servers.now (view_query c.args.name c.args.query) c.args.out.now.items
-    c.update.new.pool c.update.new.self c.update.new.folder c.update.new.servers plan.id plan.design plan.place known.0 c.in-Ok.ensures.within known.1
+    c.update.new.pool c.update.new.self c.update.new.folder c.update.new.servers plan.id plan.design plan.place known.0 c.in-Ok.ensures.within known.1 (sym (ap (λ (q : Query). q.update) c.in-Ok.ensures.query) ∙ c.if-not-plan.false)
     c.in-Ok.ensures.reads.disk c.in-Ok.ensures.reads.later (λ history. told_now (g.F.Folder.disk c.args.folder.now) _ _ (λ d is there. subst (λ (updating : Bool). IsPlan updating (languages_of args.pool) history (view_query c.args.name c.args.query) plan.id plan.design plan.place known.0) c.if-not-plan.false (is there known.0 known.1)) (c.in-Ok.ensures.plan history)) c.requires.open c.in-Ok.ensures.read
     c.in-Ok-update.place c.in-Ok-update.ensures c.index-index.result.now c.index-index.ensures c.rows-rows.result.now c.rows-rows.ensures.rows c.rows-rows.ensures.parts plan.query c.in-Ok.ensures.query c.seq-in-Ok-update.result c.seq-in-Ok-update.ensures c.append_rows-in-Ok-update.result c.append_rows-in-Ok-update.ensures.ok c.append_rows-in-Ok-update.ensures.line c.append_rows-in-Ok-update.ensures.silent c.append_rows-in-Ok-update.ensures.memory
 
@@ -51,7 +52,7 @@ returns g c =
     let met = c.in-Err-update.fault in
     let brings = c.in-Err-update.ensures in
     rw c.halt_of-in-Err-update.ensures (refused_then g.F.Folder g.C.Servers args.docs args.pool args.groups c.args.folder.now c.plan.new.folder c.args.servers.now (view_query c.args.name c.args.query) c.args.out.now.items
-    c.update.new.pool c.update.new.self c.update.new.folder c.update.new.servers plan.id plan.design plan.place known.0 c.in-Ok.ensures.within known.1
+    c.update.new.pool c.update.new.self c.update.new.folder c.update.new.servers plan.id plan.design plan.place known.0 c.in-Ok.ensures.within known.1 (sym (ap (λ (q : Query). q.update) c.in-Ok.ensures.query) ∙ c.if-not-plan.false)
     c.in-Ok.ensures.reads.disk c.in-Ok.ensures.reads.later (λ history. told_now (g.F.Folder.disk c.args.folder.now) _ _ (λ d is there. subst (λ (updating : Bool). IsPlan updating (languages_of args.pool) history (view_query c.args.name c.args.query) plan.id plan.design plan.place known.0) c.if-not-plan.false (is there known.0 known.1)) (c.in-Ok.ensures.plan history)) c.requires.open c.in-Ok.ensures.read
     met (brings.file, λ is. let none = brings.unknown (ap Err is) in let clash : ⊥ = cc in clash) brings)
 
@@ -82,9 +83,9 @@ returns-in-Err-open g c =
     let is : c.halt_of.result ≡ met_by plan.id (by_index fault) = c.halt_of.ensures ∙ ap (met_by plan.id) c.from.ensures in
     rw is (⊎_elim
     (λ opens. kept_refused g.F.Folder g.C.Servers args.docs args.pool args.groups c.open.new.self c.args.folder.now c.plan.new.folder c.open.new.folder c.args.servers.now name c.args.out.now.items plan.id plan.design plan.place known.0
-    c.in-Ok.ensures.within known.1 c.in-Ok.ensures.reads.disk c.in-Ok.ensures.reads.later plans c.requires.open c.in-Ok.ensures.read fault opens.faults opens)
+    c.in-Ok.ensures.within known.1 (sym (ap (λ (q : Query). q.update) c.in-Ok.ensures.query) ∙ c.if-not-plan.true) c.in-Ok.ensures.reads.disk c.in-Ok.ensures.reads.later plans c.requires.open c.in-Ok.ensures.read fault opens.faults opens)
     (λ none. kept_idle g.F.Folder g.C.Servers args.docs args.pool args.groups c.open.new.self c.args.folder.now c.plan.new.folder c.open.new.folder c.args.servers.now name c.args.out.now.items plan.id plan.design plan.place known.0
-    c.in-Ok.ensures.within known.1 c.in-Ok.ensures.reads.disk c.in-Ok.ensures.reads.later plans c.requires.open c.in-Ok.ensures.read fault none.0 none.1 none.2)
+    c.in-Ok.ensures.within known.1 (sym (ap (λ (q : Query). q.update) c.in-Ok.ensures.query) ∙ c.if-not-plan.true) c.in-Ok.ensures.reads.disk c.in-Ok.ensures.reads.later plans c.requires.open c.in-Ok.ensures.read fault none.0 none.1 none.2)
     c.in-Err-open.ensures)
 
 pub returns-then-not-plan : goal.returns-then-not-plan
@@ -97,6 +98,6 @@ returns-then-not-plan g c =
     λ history. told_now (g.F.Folder.disk c.args.folder.now) _ _ (λ d is there. subst (λ (updating : Bool). IsPlan updating (languages_of args.pool) history name plan.id plan.design plan.place known.0) c.if-not-plan.true (is there known.0 known.1)) (c.in-Ok.ensures.plan history) in
     ⊎_elim
     (λ opens. kept_then g.F.Folder g.C.Servers args.docs args.pool args.groups c.open.new.self c.args.folder.now c.plan.new.folder c.open.new.folder c.args.servers.now name c.args.out.now.items plan.id plan.design plan.place known.0
-    c.in-Ok.ensures.within known.1 c.in-Ok.ensures.reads.disk c.in-Ok.ensures.reads.later plans c.requires.open c.in-Ok.ensures.read c.in-Ok-open.place opens c.index-kept.result.now c.index-kept.ensures
+    c.in-Ok.ensures.within known.1 (sym (ap (λ (q : Query). q.update) c.in-Ok.ensures.query) ∙ c.if-not-plan.true) c.in-Ok.ensures.reads.disk c.in-Ok.ensures.reads.later plans c.requires.open c.in-Ok.ensures.read c.in-Ok-open.place opens c.index-kept.result.now c.index-kept.ensures
     c.rows-shown.result.now c.rows-shown.ensures.rows c.rows-shown.ensures.parts plan.query c.in-Ok.ensures.query c.seq.result c.seq.ensures c.append_rows.result c.append_rows.ensures.ok c.append_rows.ensures.line c.append_rows.ensures.silent c.append_rows.ensures.memory)
     (λ none. absurd (let clash : ⊥ = cc in clash)) c.in-Ok-open.ensures
