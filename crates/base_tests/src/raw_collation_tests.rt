@@ -2,7 +2,7 @@
 //! the members of objects.
 
 use json_terms::{Chars, Row, Term, read_term};
-use raw_collation::{raw_cmp, row_cmp, sort_rows};
+use raw_collation::{Level, group_key, raw_cmp, row_cmp, same_group, sort_rows};
 use std::alloc::Global;
 use std::test::Fail;
 
@@ -100,5 +100,85 @@ fn rows_go_by_key_then_id_then_place_then_value(rt: HostRuntime) -> Result<(), F
     rows.reverse();
     sort_rows(&mut rows);
     assert!(rt; rows.len() == 17 && values_count_up(&rows));
+    Ok(())
+}
+
+/// Keys, and their group keys at the levels 1, 2 and 5. At level 0 each has `null`, and by the whole key each has itself.
+const GROUPS: &[(&str, &str, &str, &str)] = &[
+    ("1", "1", "1", "1"),
+    ("null", "null", "null", "null"),
+    ("true", "true", "true", "true"),
+    (
+        "{\"a\":[1,2]}",
+        "{\"a\":[1,2]}",
+        "{\"a\":[1,2]}",
+        "{\"a\":[1,2]}",
+    ),
+    ("[]", "[]", "[]", "[]"),
+    ("[1]", "[1]", "[1]", "[1]"),
+    ("[1,2]", "[1]", "[1,2]", "[1,2]"),
+    ("[1,2,3,4,5,6]", "[1]", "[1,2]", "[1,2,3,4,5]"),
+    ("[1,2,3,4,5,7]", "[1]", "[1,2]", "[1,2,3,4,5]"),
+    (
+        "[[1,2],[3,4],5]",
+        "[[1,2]]",
+        "[[1,2],[3,4]]",
+        "[[1,2],[3,4],5]",
+    ),
+    (
+        "[{\"a\":[1,2]},null,[]]",
+        "[{\"a\":[1,2]}]",
+        "[{\"a\":[1,2]},null]",
+        "[{\"a\":[1,2]},null,[]]",
+    ),
+    ("[[[1]]]", "[[[1]]]", "[[[1]]]", "[[[1]]]"),
+    ("\"ab\"", "\"ab\"", "\"ab\"", "\"ab\""),
+];
+
+/// The group key of a key of the table at a level.
+fn expected(
+    alloc: Global,
+    row: &(&'static str, &'static str, &'static str, &'static str),
+    level: Level,
+) -> Result<Term, Fail> {
+    let text = match level {
+        Level::All => "null",
+        Level::First(1) => row.1,
+        Level::First(2) => row.2,
+        Level::First(_) => row.3,
+        Level::Whole => row.0,
+    };
+    Ok(read_term(alloc, text.as_bytes())?)
+}
+
+/// The first key of the table that has another group key at this level, or is of one group with a key that it isn't of one with.
+fn misgrouped(alloc: Global, level: Level) -> Result<Option<&'static str>, Fail> {
+    for row in GROUPS {
+        let key = read_term(alloc, row.0.as_bytes())?;
+        let group = expected(alloc, row, level)?;
+        if raw_cmp(&group_key(alloc, level, &key)?, &group).is_ne() {
+            return Ok(Some(row.0));
+        }
+        for other in GROUPS {
+            let one_group = raw_cmp(&group, &expected(alloc, other, level)?).is_eq();
+            if same_group(level, &key, &read_term(alloc, other.0.as_bytes())?) != one_group {
+                return Ok(Some(row.0));
+            }
+        }
+    }
+    Ok(None)
+}
+
+#[test]
+fn keys_are_grouped_by_their_first_elements(rt: HostRuntime) -> Result<(), Fail> {
+    for level in [
+        Level::All,
+        Level::First(1),
+        Level::First(2),
+        Level::First(5),
+        Level::Whole,
+    ] {
+        assert_eq!(rt; misgrouped(rt.alloc(), level)?, None);
+    }
     Ok(())
 }

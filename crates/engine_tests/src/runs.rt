@@ -124,7 +124,7 @@ const REFUSED: &str = r#"{"info":true
 {"error":"invalid_design_doc","reason":"language"}
 {"put":{"_id":"_design/d","_x":1,"language":""}}
 {"error":"bad_member","reason":"_x"}
-{"put":{"_id":"_design/d","language":"field","views":{"v":{"map":"n","reduce":"_sum"}}}}
+{"put":{"_id":"_design/d","language":"field","views":{"v":{"map":"n","reduce":"sum"}}}}
 {"error":"bad_request","reason":"not built yet"}
 {"put":{"_id":"_design/d","_x":1,"_rev":1,"views":{"u":{"map":"n"},"v":{"map":"n","reduce":"r"}}}}
 {"error":"bad_request","reason":"not built yet"}
@@ -281,6 +281,41 @@ const VIEW: &str = r#"{"put":{"_id":"_design/s","language":"field","views":{"by_
 {"info":true}
 {"doc_count":1,"doc_del_count":2,"update_seq":6}"#;
 
-pub const RUNS: [&str; 9] = [
-    REFUSED, PEOPLE, ORDER, KNOWN, LANGUAGES, DESIGNS, STATES, VIEW, QUERIES,
+/// Groups of rows: with a view's own reduce, and one that doesn't take the values of `field`.
+const GROUPS: &str =
+    r#"{"put":{"_id":"_design/g","language":"field","views":{"c":{"map":"k","reduce":"_count"},"n":{"map":"k"},"s":{"map":"k","reduce":"_sum"}}}}
+{"ok":true,"id":"_design/g","rev":"1-00000000000000000000000000000001"}
+{"view":["g","c"]}
+{"rows":[]}
+{"put":{"_id":"a","k":[1,2]}}
+{"ok":true,"id":"a","rev":"1-00000000000000000000000000000002"}
+{"put":{"_id":"b","k":[1,3]}}
+{"ok":true,"id":"b","rev":"1-00000000000000000000000000000003"}
+{"put":{"_id":"c","k":"x"}}
+{"ok":true,"id":"c","rev":"1-00000000000000000000000000000004"}
+{"view":["g","c"],"query":{"update":false}}
+{"update_seq":1,"rows":[]}
+{"view":["g","c"]}
+{"rows":[{"key":null,"value":3}]}
+{"view":["g","c"],"query":{"group_level":1,"descending":true}}
+{"rows":[{"key":"x","value":1},{"key":[1],"value":2}]}
+{"view":["g","c"],"query":{"group":true,"group_level":1,"skip":1,"limit":1,"update_seq":true}}
+{"update_seq":4,"rows":[{"key":[1,3],"value":1}]}
+{"view":["g","c"],"query":{"group":true,"keys":["x",7,[1,2],"x"],"descending":true}}
+{"rows":[{"key":"x","value":1},{"key":[1,2],"value":1},{"key":"x","value":1}]}
+{"view":["g","c"],"query":{"keys":["x"]}}
+{"error":"query_parse_error","reason":"keys need group=true"}
+{"view":["g","c"],"query":{"reduce":false,"keys":["x"]}}
+{"total_rows":3,"offset":null,"rows":[{"id":"c","key":"x","value":null}]}
+{"view":["g","c"],"query":{"reduce":false,"group":true}}
+{"error":"query_parse_error","reason":"grouping without reduce"}
+{"view":["g","s"],"query":{"startkey":"x"}}
+{"rows":[{"key":null,"value":{"error":"builtin_reduce_error"}}]}
+{"view":["g","n"],"query":{"group":true}}
+{"error":"query_parse_error","reason":"grouping without reduce"}
+{"view":["g","n"],"query":{"reduce":true}}
+{"error":"query_parse_error","reason":"reduce of a map-only view"}"#;
+
+pub const RUNS: [&str; 10] = [
+    REFUSED, PEOPLE, ORDER, KNOWN, LANGUAGES, DESIGNS, STATES, VIEW, QUERIES, GROUPS,
 ];

@@ -5,8 +5,8 @@ use Rattle.json_terms.specs.Find.{member_of}
 use Rattle.json_terms.specs.Kinds.{text_in, items_in}
 use Rattle.json_terms.specs.Seen.{term}
 use Rattle.query_args.specs.declared.query.Target.{Target}
-use Rattle.query_args.specs.declared.query.Level.{Level}
-use Rattle.query_args.specs.declared.query.Level.TheVariants.{All, First, Whole}
+use Rattle.raw_collation.specs.declared.group.Level.{Level}
+use Rattle.raw_collation.specs.declared.group.Level.TheVariants.{All, First, Whole}
 use Rattle.query_args.specs.declared.query.Edge.{Edge}
 use Rattle.query_args.specs.declared.query.Query.{Query}
 use Rattle.query_args.specs.Parameters.{count_in}

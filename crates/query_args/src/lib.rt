@@ -12,6 +12,6 @@ mod range;
 mod read;
 
 pub use fault::QueryFault;
-pub use query::{Edge, LEVEL_LIMIT, Level, Query, Target};
+pub use query::{Edge, LEVEL_LIMIT, Query, Target};
 pub use range::{in_range, passes_end, passes_start};
 pub use read::read_query;

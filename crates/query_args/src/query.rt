@@ -1,6 +1,7 @@
 //! What a query asks for, and of what it asks.
 
 use json_terms::{Chars, Term, Terms};
+use raw_collation::Level;
 
 /// The greatest `group_level`.
 pub const LEVEL_LIMIT: u32 = 1000;
@@ -14,17 +15,6 @@ pub enum Target {
     View(bool),
     /// A view through a cursor. The view has a reduce or none.
     Cursor(bool),
-}
-
-/// By how much of their keys rows are grouped.
-#[derive(Clone, Copy, Debug, PartialEq, Eq)]
-pub enum Level {
-    /// By nothing: all rows are one group.
-    All,
-    /// By this many first elements of a key that is an array, and by any other key whole.
-    First(u32),
-    /// By the whole key.
-    Whole,
 }
 
 /// An end of a range: a key, and among the rows of that key maybe the id of a document.

@@ -9,8 +9,9 @@ ghost use Rattle.query_args.specs.Faults.{query_fault, Finds};
 use crate::check::{check_query, is_false, is_reduced, is_true, is_whole, level_of};
 use crate::fault::QueryFault;
 use crate::parameters::count_of;
-use crate::query::{Edge, Level, Query, Target};
+use crate::query::{Edge, Query, Target};
 use json_terms::{Chars, NoMemory, Term, Terms, copy_term, member};
+use raw_collation::Level;
 use std::alloc::Global;
 
 /// What a query asks for, or the first fault of it, by CouchDB's view API. A term that is no object counts as one without

@@ -1,7 +1,8 @@
 //! What is read of a query, and why others are refused.
 
 use json_terms::{NoMemory, read_term};
-use query_args::{Edge, Level, Query, QueryFault, Target, read_query};
+use query_args::{Edge, Query, QueryFault, Target, read_query};
+use raw_collation::Level;
 use std::alloc::Global;
 use std::test::Fail;
 use test_tools::text_of;

@@ -9,7 +9,7 @@ use Rattle.view_ports.specs.Lines.{IsLine}
 use Rattle.doc_file.proofs.RevisionLines.{line-decimal}
 use Rattle.query_args.specs.declared.query.Query.{Query}
 use Rattle.view_model.specs.Answer.{row_text, seq_text, offset_text}
-use Rattle.range_query.proofs.Lines.{joined, line, lines7}
+use Rattle.range_query.proofs.Lines.{line, lines3, lines7}
 
 pub line-row : (row : Row) → IsLine (text_of (json row.key)) → IsLine (text_of (json row.value)) → IsLine (row_text row)
 line-row row key value =
@@ -19,16 +19,16 @@ line-row row key value =
 -- ---- the sequence and the offset
 
 abbrev seq_shown : Bool → ℕ → List ℕ
-seq_shown shown seq = if shown then codes ",\"update_seq\":" ++ decimal seq else []
+seq_shown shown seq = if shown then codes "\"update_seq\":" ++ decimal seq ++ codes "," else []
 
 shown_line : (shown : Bool) (seq : ℕ) → seq < 2 ^ 64 → IsLine (seq_shown shown seq)
-shown_line true seq few = joined (codes ",\"update_seq\":") (decimal seq) (line (codes ",\"update_seq\":") refl) (line-decimal seq few)
+shown_line true seq few = lines3 (codes "\"update_seq\":") (decimal seq) (codes ",") (line (codes "\"update_seq\":") refl) (line-decimal seq few) (line (codes ",") refl)
 shown_line false seq few = line [] refl
 
 pub seq_line : (query : Query) (seq : ℕ) → seq < 2 ^ 64 → IsLine (seq_text query seq)
 seq_line query seq few = shown_line query.show_seq seq few
 
-pub seq_is : (query : Query) (seq : ℕ) → query.show_seq ≡ true → codes ",\"update_seq\":" ++ decimal seq ≡ seq_text query seq
+pub seq_is : (query : Query) (seq : ℕ) → query.show_seq ≡ true → codes "\"update_seq\":" ++ decimal seq ++ codes "," ≡ seq_text query seq
 seq_is query seq shown = ap (λ b. seq_shown b seq) (sym shown)
 
 pub offset_line : (offset : Option ℕ) (n : ℕ) → offset ≡ Some n → n < 2 ^ 64 → IsLine (offset_text offset)

@@ -33,5 +33,7 @@ lines5 a b c d e la lb lc ld le = joined (a ++ b ++ c ++ d) e (joined (a ++ b ++
 pub lines7 : (a b c d e f g : List ℕ) → IsLine a → IsLine b → IsLine c → IsLine d → IsLine e → IsLine f → IsLine g → IsLine (a ++ b ++ c ++ d ++ e ++ f ++ g)
 lines7 a b c d e f g la lb lc ld le lf lg = joined (a ++ b ++ c ++ d ++ e ++ f) g (joined (a ++ b ++ c ++ d ++ e) f (lines5 a b c d e la lb lc ld le) lf) lg
 
-pub lines8 : (a b c d e f g h : List ℕ) → IsLine a → IsLine b → IsLine c → IsLine d → IsLine e → IsLine f → IsLine g → IsLine h → IsLine (a ++ b ++ c ++ d ++ e ++ f ++ g ++ h)
-lines8 a b c d e f g h la lb lc ld le lf lg lh = joined (a ++ b ++ c ++ d ++ e ++ f ++ g) h (lines7 a b c d e f g la lb lc ld le lf lg) lh
+pub lines9 : (a b c d e f g h i : List ℕ) → IsLine a → IsLine b → IsLine c → IsLine d → IsLine e → IsLine f → IsLine g → IsLine h → IsLine i
+    → IsLine (a ++ b ++ c ++ d ++ e ++ f ++ g ++ h ++ i)
+lines9 a b c d e f g h i la lb lc ld le lf lg lh li =
+    joined (a ++ b ++ c ++ d ++ e ++ f ++ g ++ h) i (joined (a ++ b ++ c ++ d ++ e ++ f ++ g) h (lines7 a b c d e f g la lb lc ld le lf lg) lh) li

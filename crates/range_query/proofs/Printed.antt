@@ -1,4 +1,4 @@
--- Rows that are printed part by part.
+-- Rows, or groups of them, that are printed part by part.
 use Rattle.std.specs.Prelude.{◌≡◌, ℕ, zero, suc, ◌+◌, ◌-◌, ◌≤◌, min, List, [], ◌∷◌, ◌++◌, Bool, true, false, ◌||◌, refl, drop, take, length, map, reverse, filter, Option, Some, None}
 use Rattle.std.proofs.Common.{ap, sym, ◌∙◌, arith, append_assoc, subst}
 use Rattle.std.proofs.lemmas.List.{append-nil, length-drop, take_min, drop_min, reverse-append, take-append-drop, length-reverse, take_at, drop_at, take_rest}
@@ -10,45 +10,48 @@ use Rattle.std.specs.List.{flat_map}
 use Rattle.json_terms.specs.Json.{Json}
 use Rattle.query_args.specs.declared.query.Query.{Query}
 use Rattle.view_model.specs.Selection.{limited, listed_or_ranged, rows_of_key, is_in_range, picked, before_start, offset, offset_unless}
-use Rattle.view_model.specs.Answer.{comma, row_text, rows_text, more_rows}
+use Rattle.view_model.specs.Answer.{comma, row_text, with_commas, more}
 use Rattle.range_query.specs.declared.print.Progress.{Progress}
-use Rattle.range_query.specs.Progress.{walked, rows_after, due, due_text, is_some_row, past}
+use Rattle.range_query.specs.Progress.{start_of, walked, texts_after, due, due_text, is_some_list, past}
 use Rattle.range_query.proofs.Lines.{joined, line}
 
 -- ---- commas
 
-pub row_first : (later : Bool) (row : Row) (rest : List Row) → rows_after later (row ∷ rest) ≡ rows_after later (row ∷ []) ++ rows_after true rest
-row_first true row rest = ap (λ text. text ++ rows_after true rest) (sym (append-nil (comma ∷ row_text row)))
-row_first false row rest = ap (λ text. text ++ rows_after true rest) (sym (append-nil (row_text row)))
+module _ {A : Type 0} (text : A → List ℕ) where
+  pub text_first : (later : Bool) (x : A) (rest : List A) → texts_after text later (x ∷ rest) ≡ texts_after text later (x ∷ []) ++ texts_after text true rest
+  text_first true x rest = ap (λ t. t ++ texts_after text true rest) (sym (append-nil (comma ∷ text x)))
+  text_first false x rest = ap (λ t. t ++ texts_after text true rest) (sym (append-nil (text x)))
 
-pub rows_after-append : (later : Bool) (xs ys : List Row) → rows_after later (xs ++ ys) ≡ rows_after later xs ++ rows_after (later || is_some_row xs) ys
-rows_after-append true [] ys = refl
-rows_after-append false [] ys = refl
-rows_after-append true (x ∷ xs) ys = ap (λ text. (comma ∷ row_text x) ++ text) (rows_after-append true xs ys) ∙ sym (append_assoc (comma ∷ row_text x) (rows_after true xs) (rows_after true ys))
-rows_after-append false (x ∷ xs) ys = ap (λ text. row_text x ++ text) (rows_after-append true xs ys) ∙ sym (append_assoc (row_text x) (rows_after true xs) (rows_after true ys))
+  pub texts_after-append : (later : Bool) (xs ys : List A) → texts_after text later (xs ++ ys) ≡ texts_after text later xs ++ texts_after text (later || is_some_list xs) ys
+  texts_after-append true [] ys = refl
+  texts_after-append false [] ys = refl
+  texts_after-append true (x ∷ xs) ys =
+      ap (λ t. (comma ∷ text x) ++ t) (texts_after-append true xs ys) ∙ sym (append_assoc (comma ∷ text x) (texts_after text true xs) (texts_after text true ys))
+  texts_after-append false (x ∷ xs) ys = ap (λ t. text x ++ t) (texts_after-append true xs ys) ∙ sym (append_assoc (text x) (texts_after text true xs) (texts_after text true ys))
 
-more_after : (rows : List Row) → rows_after true rows ≡ more_rows rows
-more_after [] = refl
-more_after (row ∷ rows) = ap (λ text. (comma ∷ row_text row) ++ text) (more_after rows)
+  more_after : (xs : List A) → texts_after text true xs ≡ more text xs
+  more_after [] = refl
+  more_after (x ∷ xs) = ap (λ t. (comma ∷ text x) ++ t) (more_after xs)
 
-pub none_before : (rows : List Row) → rows_after false rows ≡ rows_text rows
-none_before [] = refl
-none_before (row ∷ rows) = ap (λ text. row_text row ++ text) (more_after rows)
+  pub none_before : (xs : List A) → texts_after text false xs ≡ with_commas text xs
+  none_before [] = refl
+  none_before (x ∷ xs) = ap (λ t. text x ++ t) (more_after xs)
 
--- one more row is printed, and what is left is one row less
-pub one_more : (later b : Bool) (row : Row) (left rest all : List Row) (old mid new : List ℕ) → left ≡ row ∷ rest → mid ++ rows_after later left ≡ old ++ rows_after b all
-    → new ≡ mid ++ rows_after later (row ∷ []) → new ++ rows_after true rest ≡ old ++ rows_after b all
-one_more later b row left rest all old mid new is whole added =
-    ap (λ text. text ++ rows_after true rest) added ∙ append_assoc mid (rows_after later (row ∷ [])) (rows_after true rest)
-    ∙ ap (λ text. mid ++ text) (sym (row_first later row rest)) ∙ ap (λ rows. mid ++ rows_after later rows) (sym is) ∙ whole
+  -- one more is printed, and what is left is one less
+  pub one_more : (later b : Bool) (x : A) (left rest all : List A) (old mid new : List ℕ) → left ≡ x ∷ rest → mid ++ texts_after text later left ≡ old ++ texts_after text b all
+      → new ≡ mid ++ texts_after text later (x ∷ []) → new ++ texts_after text true rest ≡ old ++ texts_after text b all
+  one_more later b x left rest all old mid new is whole added =
+      ap (λ t. t ++ texts_after text true rest) added ∙ append_assoc mid (texts_after text later (x ∷ [])) (texts_after text true rest)
+      ∙ ap (λ t. mid ++ t) (sym (text_first later x rest)) ∙ ap (λ xs. mid ++ texts_after text later xs) (sym is) ∙ whole
 
-pub one_more_line : (later : Bool) (row : Row) (left rest : List Row) → left ≡ row ∷ rest → IsLine (rows_after later (row ∷ [])) → IsLine (rows_after true rest) → IsLine (rows_after later left)
-one_more_line later row left rest is first others =
-    subst (λ (text : List ℕ). IsLine text) (sym (ap (rows_after later) is ∙ row_first later row rest)) (joined (rows_after later (row ∷ [])) (rows_after true rest) first others)
+  pub one_more_line : (later : Bool) (x : A) (left rest : List A) → left ≡ x ∷ rest → IsLine (texts_after text later (x ∷ [])) → IsLine (texts_after text true rest)
+      → IsLine (texts_after text later left)
+  one_more_line later x left rest is first others =
+      subst (λ (t : List ℕ). IsLine t) (sym (ap (texts_after text later) is ∙ text_first later x rest)) (joined (texts_after text later (x ∷ [])) (texts_after text true rest) first others)
 
-pub next_line : (later : Bool) (row : Row) → IsLine (row_text row) → IsLine (rows_after later (row ∷ []))
-next_line true row plain = joined (comma ∷ row_text row) [] (joined (comma ∷ []) (row_text row) (line (comma ∷ []) refl) plain) (line [] refl)
-next_line false row plain = joined (row_text row) [] plain (line [] refl)
+  pub next_line : (later : Bool) (x : A) → IsLine (text x) → IsLine (texts_after text later (x ∷ []))
+  next_line true x plain = joined (comma ∷ text x) [] (joined (comma ∷ []) (text x) (line (comma ∷ []) refl) plain) (line [] refl)
+  next_line false x plain = joined (text x) [] plain (line [] refl)
 
 -- ---- parts
 
@@ -62,19 +65,14 @@ take-append zero xs ys = let e : 0 ≡ 0 - length xs = omega arith in ap (λ m. 
 take-append (suc n) [] ys = let e : suc n ≡ suc n - 0 = omega arith in ap (λ m. take m ys) e
 take-append (suc n) (x ∷ xs) ys = let e : n - length xs ≡ suc n - suc (length xs) = omega arith in ap (λ zs. x ∷ zs) (take-append n xs ys ∙ ap (λ m. take n xs ++ take m ys) e)
 
-due_parts : (skip : ℕ) (limit : Option ℕ) (printed : Bool) (xs ys : List Row)
+due_parts : {A : Type 0} (skip : ℕ) (limit : Option ℕ) (printed : Bool) (xs ys : List A)
     → let progress : Progress = record { skip = skip; limit = limit; printed = printed } in due progress (xs ++ ys) ≡ due progress xs ++ due (past progress xs) ys
 due_parts skip None printed xs ys = drop-append skip xs ys
 due_parts skip (Some limit) printed xs ys =
     ap (take limit) (drop-append skip xs ys) ∙ take-append limit (drop skip xs) (drop (skip - length xs) ys)
     ∙ ap (λ m. take limit (drop skip xs) ++ take (limit - m) (drop (skip - length xs) ys)) (length-drop skip xs)
 
-pub due_text-append : (progress : Progress) (xs ys : List Row) → due_text progress (xs ++ ys) ≡ due_text progress xs ++ due_text (past progress xs) ys
-due_text-append progress xs ys =
-    ap (rows_after progress.printed) (due_parts progress.skip progress.limit progress.printed xs ys)
-    ∙ rows_after-append progress.printed (due progress xs) (due (past progress xs) ys)
-
-due_none : (skip : ℕ) (limit : Option ℕ) → limited limit (drop skip []) ≡ []
+pub due_none : {A : Type 0} (skip : ℕ) (limit : Option ℕ) → limited {A = A} limit (drop skip []) ≡ []
 due_none zero None = refl
 due_none (suc skip) None = refl
 due_none zero (Some zero) = refl
@@ -82,34 +80,41 @@ due_none zero (Some (suc limit)) = refl
 due_none (suc skip) (Some zero) = refl
 due_none (suc skip) (Some (suc limit)) = refl
 
-no_rows : (later : Bool) → rows_after later [] ≡ []
-no_rows true = refl
-no_rows false = refl
+module _ {A : Type 0} (text : A → List ℕ) where
+  pub due_text-append : (progress : Progress) (xs ys : List A) → due_text text progress (xs ++ ys) ≡ due_text text progress xs ++ due_text text (past progress xs) ys
+  due_text-append progress xs ys =
+      ap (texts_after text progress.printed) (due_parts progress.skip progress.limit progress.printed xs ys)
+      ∙ texts_after-append text progress.printed (due progress xs) (due (past progress xs) ys)
 
--- nothing is left
-pub due_text-nil : (progress : Progress) → due_text progress [] ≡ []
-due_text-nil progress = ap (rows_after progress.printed) (due_none progress.skip progress.limit) ∙ no_rows progress.printed
+  pub no_texts : (later : Bool) → texts_after text later [] ≡ []
+  no_texts true = refl
+  no_texts false = refl
 
--- one more part is printed
-pub part_more : (progress start next : Progress) (part left rest all : List Row) (old mid new : List ℕ) → left ≡ part ++ rest → next ≡ past progress part
-    → mid ++ due_text progress left ≡ old ++ due_text start all → new ≡ mid ++ due_text progress part → new ++ due_text next rest ≡ old ++ due_text start all
-part_more progress start next part left rest all old mid new is then whole added =
-    ap (λ p. new ++ due_text p rest) then ∙ ap (λ text. text ++ due_text (past progress part) rest) added
-    ∙ append_assoc mid (due_text progress part) (due_text (past progress part) rest)
-    ∙ ap (λ text. mid ++ text) (sym (due_text-append progress part rest)) ∙ ap (λ rows. mid ++ due_text progress rows) (sym is) ∙ whole
+  -- nothing is left
+  pub due_text-nil : (progress : Progress) → due_text text progress [] ≡ []
+  due_text-nil progress = ap (texts_after text progress.printed) (due_none progress.skip progress.limit) ∙ no_texts progress.printed
 
-pub part_more_line : (progress next : Progress) (part left rest : List Row) → left ≡ part ++ rest → next ≡ past progress part → IsLine (due_text progress part) → IsLine (due_text next rest)
-    → IsLine (due_text progress left)
-part_more_line progress next part left rest is then first others =
-    subst (λ (text : List ℕ). IsLine text) (sym (ap (due_text progress) is ∙ due_text-append progress part rest))
-    (joined (due_text progress part) (due_text (past progress part) rest) first (subst (λ (p : Progress). IsLine (due_text p rest)) then others))
+  -- one more part is printed
+  pub part_more : (progress start next : Progress) (part left rest all : List A) (old mid new : List ℕ) → left ≡ part ++ rest → next ≡ past progress part
+      → mid ++ due_text text progress left ≡ old ++ due_text text start all → new ≡ mid ++ due_text text progress part
+      → new ++ due_text text next rest ≡ old ++ due_text text start all
+  part_more progress start next part left rest all old mid new is then whole added =
+      ap (λ p. new ++ due_text text p rest) then ∙ ap (λ t. t ++ due_text text (past progress part) rest) added
+      ∙ append_assoc mid (due_text text progress part) (due_text text (past progress part) rest)
+      ∙ ap (λ t. mid ++ t) (sym (due_text-append progress part rest)) ∙ ap (λ xs. mid ++ due_text text progress xs) (sym is) ∙ whole
 
--- no part is left
-pub part_end : (progress : Progress) (left : List Row) (mid whole : List ℕ) → left ≡ [] → mid ++ due_text progress left ≡ whole → mid ≡ whole
-part_end progress left mid whole none is = sym (append-nil mid) ∙ ap (λ text. mid ++ text) (sym (ap (due_text progress) none ∙ due_text-nil progress)) ∙ is
+  pub part_more_line : (progress next : Progress) (part left rest : List A) → left ≡ part ++ rest → next ≡ past progress part → IsLine (due_text text progress part)
+      → IsLine (due_text text next rest) → IsLine (due_text text progress left)
+  part_more_line progress next part left rest is then first others =
+      subst (λ (t : List ℕ). IsLine t) (sym (ap (due_text text progress) is ∙ due_text-append progress part rest))
+      (joined (due_text text progress part) (due_text text (past progress part) rest) first (subst (λ (p : Progress). IsLine (due_text text p rest)) then others))
 
-pub part_end_line : (progress : Progress) (left : List Row) → left ≡ [] → IsLine (due_text progress left)
-part_end_line progress left none = subst (λ (text : List ℕ). IsLine text) (sym (ap (due_text progress) none ∙ due_text-nil progress)) (line [] refl)
+  -- no part is left
+  pub part_end : (progress : Progress) (left : List A) (mid whole : List ℕ) → left ≡ [] → mid ++ due_text text progress left ≡ whole → mid ≡ whole
+  part_end progress left mid whole none is = sym (append-nil mid) ∙ ap (λ t. mid ++ t) (sym (ap (due_text text progress) none ∙ due_text-nil progress)) ∙ is
+
+  pub part_end_line : (progress : Progress) (left : List A) → left ≡ [] → IsLine (due_text text progress left)
+  part_end_line progress left none = subst (λ (t : List ℕ). IsLine t) (sym (ap (due_text text progress) none ∙ due_text-nil progress)) (line [] refl)
 
 -- ---- what a query picks
 
@@ -121,22 +126,21 @@ pub length-walked : (descending : Bool) (rows : List Row) → length (walked des
 length-walked true rows = length-reverse rows
 length-walked false rows = refl
 
-abbrev pub start_of : Query → Progress
-start_of query = record { skip = query.skip; limit = query.limit; printed = false }
+pub listed : (query : Query) (start : Progress) (rows : List Row) (keys others : List Json) → start ≡ start_of query → query.keys ≡ Some keys → others ≡ keys
+    → due_text row_text start (flat_map (rows_of_key query rows) others) ≡ with_commas row_text (picked query rows)
+listed query start rows keys others begun is same =
+    ap (λ p. due_text row_text p (flat_map (rows_of_key query rows) others)) begun
+    ∙ ap (λ ks. due_text row_text (start_of query) (flat_map (rows_of_key query rows) ks)) same
+    ∙ none_before row_text (due (start_of query) (flat_map (rows_of_key query rows) keys))
+    ∙ ap (λ ks. with_commas row_text (limited query.limit (drop query.skip (listed_or_ranged ks query rows)))) (sym is)
 
-pub listed : (query : Query) (rows : List Row) (keys others : List Json) → query.keys ≡ Some keys → others ≡ keys
-    → due_text (start_of query) (flat_map (rows_of_key query rows) others) ≡ rows_text (picked query rows)
-listed query rows keys others is same =
-    ap (λ ks. due_text (start_of query) (flat_map (rows_of_key query rows) ks)) same
-    ∙ none_before (due (start_of query) (flat_map (rows_of_key query rows) keys))
-    ∙ ap (λ ks. rows_text (limited query.limit (drop query.skip (listed_or_ranged ks query rows)))) (sym is)
-
-pub in_range : (query : Query) (rows part : List Row) → query.keys ≡ None → part ≡ filter (is_in_range query) rows
-    → due_text (start_of query) (walked query.descending part) ≡ rows_text (picked query rows)
-in_range query rows part is same =
-    ap (λ ps. due_text (start_of query) (walked query.descending ps)) same
-    ∙ none_before (due (start_of query) (walked query.descending (filter (is_in_range query) rows)))
-    ∙ ap (λ ks. rows_text (limited query.limit (drop query.skip (listed_or_ranged ks query rows)))) (sym is)
+pub in_range : (query : Query) (start : Progress) (rows part : List Row) → start ≡ start_of query → query.keys ≡ None → part ≡ filter (is_in_range query) rows
+    → due_text row_text start (walked query.descending part) ≡ with_commas row_text (picked query rows)
+in_range query start rows part begun is same =
+    ap (λ p. due_text row_text p (walked query.descending part)) begun
+    ∙ ap (λ ps. due_text row_text (start_of query) (walked query.descending ps)) same
+    ∙ none_before row_text (due (start_of query) (walked query.descending (filter (is_in_range query) rows)))
+    ∙ ap (λ ks. with_commas row_text (limited query.limit (drop query.skip (listed_or_ranged ks query rows)))) (sym is)
 
 pub offset_is : (query : Query) (rows : List Row) (n : ℕ) → query.keys ≡ None → n ≡ before_start query rows + min query.skip (length (filter (is_in_range query) rows))
     → offset query rows ≡ Some n

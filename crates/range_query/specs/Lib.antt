@@ -1,3 +1,4 @@
 pub mod Written
 pub mod Ends
 pub mod Progress
+pub mod Value

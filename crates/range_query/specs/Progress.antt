@@ -1,35 +1,39 @@
--- How far a query's rows are printed.
+-- How far what a query picks is printed: rows, or the values of groups.
 use Rattle.std.specs.Prelude.{ℕ, ◌-◌, List, [], ◌∷◌, ◌++◌, Bool, true, false, ◌||◌, drop, length, reverse, if◌then◌else◌, option_map}
-use Rattle.json_terms.specs.declared.term.Row.{Row}
+use Rattle.query_args.specs.declared.query.Query.{Query}
 use Rattle.view_model.specs.Selection.{limited}
-use Rattle.view_model.specs.Answer.{comma, row_text}
+use Rattle.view_model.specs.Answer.{comma}
 use Rattle.range_query.specs.declared.print.Progress.{Progress}
 
--- rows as they are walked
-abbrev pub walked : Bool → List Row → List Row
-walked descending rows = if descending then reverse rows else rows
+-- where a query is printed from
+abbrev pub start_of : Query → Progress
+start_of query = record { skip = query.skip; limit = query.limit; printed = false }
 
--- the rows with a comma between any two, and before the first where a row was printed
-abbrev pub rows_after : Bool → List Row → List ℕ
-rows_after printed [] = []
-rows_after true (row ∷ rows) = comma ∷ row_text row ++ rows_after true rows
-rows_after false (row ∷ rows) = row_text row ++ rows_after true rows
+-- a list as it is walked
+abbrev pub walked : {A : Type 0} → Bool → List A → List A
+walked descending xs = if descending then reverse xs else xs
 
--- the rows of a part that are printed
-abbrev pub due : Progress → List Row → List Row
+-- the texts with a comma between any two, and before the first where something was printed
+abbrev pub texts_after : {A : Type 0} → (A → List ℕ) → Bool → List A → List ℕ
+texts_after text printed [] = []
+texts_after text true (x ∷ xs) = comma ∷ text x ++ texts_after text true xs
+texts_after text false (x ∷ xs) = text x ++ texts_after text true xs
+
+-- what is printed of a part
+abbrev pub due : {A : Type 0} → Progress → List A → List A
 due progress part = limited progress.limit (drop progress.skip part)
 
-abbrev pub due_text : Progress → List Row → List ℕ
-due_text progress part = rows_after progress.printed (due progress part)
+abbrev pub due_text : {A : Type 0} → (A → List ℕ) → Progress → List A → List ℕ
+due_text text progress part = texts_after text progress.printed (due progress part)
 
-abbrev pub is_some_row : List Row → Bool
-is_some_row [] = false
-is_some_row (row ∷ rows) = true
+abbrev pub is_some_list : {A : Type 0} → List A → Bool
+is_some_list [] = false
+is_some_list (x ∷ xs) = true
 
 -- where the part is printed
-abbrev pub past : Progress → List Row → Progress
+abbrev pub past : {A : Type 0} → Progress → List A → Progress
 past progress part = record {
   skip = progress.skip - length part;
   limit = option_map (λ limit. limit - (length part - progress.skip)) progress.limit;
-  printed = progress.printed || is_some_row (due progress part);
+  printed = progress.printed || is_some_list (due progress part);
 }

@@ -8,37 +8,84 @@ ghost use Rattle.view_ports.specs.Lines.{IsLine};
 ghost use Rattle.view_model.specs.Answer as print;
 ghost use Rattle.view_model.specs.Selection as pick;
 ghost use Rattle.range_query.specs.Progress.{due_text};
+ghost use Rattle.range_query.specs.Value.{picked_values, value_text};
 ghost use Rattle.range_query.specs.Written.{Adds, KeepsBefore};
 
 use crate::find::{before_start, ranged, rows_of};
+use crate::groups::print_groups;
 use crate::print::{Progress, print_part};
 use crate::reply::Reply;
+use design_docs::Builtin;
 use json_terms::{NoMemory, Row, Term};
 use query_args::Query;
 use std::alloc::Global;
 
-/// Prints the answer to a query of a view that has these rows and whose index is at this sequence. A reduce isn't looked at.
+/// Prints the answer to a query of a view that has these rows and whose index is at this sequence. The values of its groups are those
+/// of this reduce; of a view that has none no query is reduced.
 pub fn answer(
+    alloc: Global,
+    rows: &[Row],
+    reduce: Option<Builtin>,
+    seq: u64,
+    query: &Query,
+    reply: &mut Reply,
+) -> Result<(), NoMemory>
+    requires sorted { IsSorted rows_cmp rows.now }
+    ensures ok { OnOk result (Adds reply.old reply.new
+        (print.answer (value_text reduce) query.now seq rows.now)) }
+    ensures before { KeepsBefore reply.old reply.new }
+    ensures line { OnOk result (IsLine (print.answer (value_text reduce) query.now seq rows.now)) }
+{
+    if query.reduced {
+        groups_answer(alloc, rows, reduce, seq, query, reply)
+    } else {
+        rows_answer(alloc, rows, seq, query, reply)
+    }
+}
+
+fn rows_answer(
     alloc: Global,
     rows: &[Row],
     seq: u64,
     query: &Query,
     reply: &mut Reply,
 ) -> Result<(), NoMemory>
-    requires sorted { IsSorted rows_cmp rows.now }
-    ensures ok { OnOk result (Adds reply.old reply.new (print.answer query.now seq rows.now)) }
+    requires { IsSorted rows_cmp rows.now }
+    ensures ok { OnOk result (Adds reply.old reply.new (print.rows_answer query.now seq rows.now)) }
     ensures before { KeepsBefore reply.old reply.new }
-    ensures line { OnOk result (IsLine (print.answer query.now seq rows.now)) }
+    ensures line { OnOk result (IsLine (print.rows_answer query.now seq rows.now)) }
 {
     reply.put(b"{\"total_rows\":")?;
     reply.put_number(rows.len() as u64)?;
+    reply.put(b",")?;
     print_seq(seq, query, reply)?;
-    reply.put(b",\"offset\":")?;
+    reply.put(b"\"offset\":")?;
     print_offset(rows, query, reply)?;
     reply.put(b",\"rows\":[")?;
     print_picked(alloc, rows, query, reply)?;
-    reply.put(b"]}")?;
-    Ok(())
+    reply.put(b"]}")
+}
+
+fn groups_answer(
+    alloc: Global,
+    rows: &[Row],
+    reduce: Option<Builtin>,
+    seq: u64,
+    query: &Query,
+    reply: &mut Reply,
+) -> Result<(), NoMemory>
+    requires { IsSorted rows_cmp rows.now }
+    ensures ok { OnOk result (Adds reply.old reply.new
+        (print.groups_answer query.now seq (picked_values reduce query.now rows.now))) }
+    ensures before { KeepsBefore reply.old reply.new }
+    ensures line { OnOk result (IsLine
+        (print.groups_answer query.now seq (picked_values reduce query.now rows.now))) }
+{
+    reply.put(b"{")?;
+    print_seq(seq, query, reply)?;
+    reply.put(b"\"rows\":[")?;
+    print_groups(alloc, rows, reduce, query, reply)?;
+    reply.put(b"]}")
 }
 
 /// Prints the sequence of the index, where the query asks for it.
@@ -50,8 +97,9 @@ fn print_seq(seq: u64, query: &Query, reply: &mut Reply) -> Result<(), NoMemory>
     if !query.show_seq {
         return Ok(());
     }
-    reply.put(b",\"update_seq\":")?;
-    reply.put_number(seq)
+    reply.put(b"\"update_seq\":")?;
+    reply.put_number(seq)?;
+    reply.put(b",")
 }
 
 /// Prints how many rows stand before the first that is picked, or `null` where keys are listed.
@@ -85,15 +133,11 @@ fn print_picked(
 ) -> Result<(), NoMemory>
     requires { IsSorted rows_cmp rows.now }
     ensures ok { OnOk result (Adds reply.old reply.new
-        (print.rows_text (pick.picked query.now rows.now))) }
+        (print.with_commas print.row_text (pick.picked query.now rows.now))) }
     ensures before { KeepsBefore reply.old reply.new }
-    ensures line { OnOk result (IsLine (print.rows_text (pick.picked query.now rows.now))) }
+    ensures line { OnOk result (IsLine (print.with_commas print.row_text (pick.picked query.now rows.now))) }
 {
-    let start = Progress {
-        skip: query.skip,
-        limit: query.limit,
-        printed: false,
-    };
+    let start = Progress::start(query);
     match &query.keys {
         Some(keys) => print_keys(alloc, rows, keys.as_slice(), query, start, reply),
         None => {
@@ -114,10 +158,10 @@ fn print_keys(
 ) -> Result<(), NoMemory>
     requires { IsSorted rows_cmp rows.now }
     ensures ok { OnOk result (Adds reply.old reply.new
-        (due_text start (flat_map (pick.rows_of_key query.now rows.now) (map json keys.now)))) }
+        (due_text print.row_text start (flat_map (pick.rows_of_key query.now rows.now) (map json keys.now)))) }
     ensures before { KeepsBefore reply.old reply.new }
     ensures line { OnOk result (IsLine
-        (due_text start (flat_map (pick.rows_of_key query.now rows.now) (map json keys.now)))) }
+        (due_text print.row_text start (flat_map (pick.rows_of_key query.now rows.now) (map json keys.now)))) }
 {
     let mut progress = start;
     for key in keys {

@@ -1,24 +1,45 @@
 //! Rows printed with commas between them. Where memory runs out, part of them may be written.
 
-ghost use Rattle.std.specs.Prelude.{◌≡◌, min, [], ◌∷◌, drop, take, reverse, OnOk, IfOk};
+ghost use Rattle.std.specs.Prelude.{◌≡◌, ◌↔◌, min, [], ◌∷◌, drop, take, reverse, IsTrue, OnOk, IfOk};
 ghost use Rattle.view_ports.specs.Lines.{IsLine};
 ghost use Rattle.view_model.specs.Answer as print;
-ghost use Rattle.range_query.specs.Progress.{walked, rows_after, due, due_text, past};
+ghost use Rattle.range_query.specs.Progress.{start_of, walked, texts_after, due_text, past};
 ghost use Rattle.range_query.specs.Written.{Adds, KeepsBefore};
 
 use crate::reply::Reply;
 use json_terms::{NoMemory, Row, text_is_line};
+use query_args::Query;
 use std::alloc::Global;
 
-/// How far a query's rows are printed.
+/// How far a query's rows, or its groups, are printed.
 #[derive(Clone, Copy)]
 pub(crate) struct Progress {
-    /// How many rows are still left out.
+    /// How many are still left out.
     pub skip: u64,
     /// How many are still printed at most.
     pub limit: Option<u64>,
-    /// Whether a row was printed.
+    /// Whether one was printed.
     pub printed: bool,
+}
+
+impl Progress {
+    /// Where a query is printed from.
+    pub(crate) fn start(query: &Query) -> Progress
+        ensures { result ≡ start_of query.now }
+    {
+        Progress {
+            skip: query.skip,
+            limit: query.limit,
+            printed: false,
+        }
+    }
+
+    /// Whether no more is printed.
+    pub(crate) fn is_done(&self) -> bool
+        ensures { IsTrue result ↔ (self.now.limit ≡ Some 0) }
+    {
+        matches!(self.limit, Some(0))
+    }
 }
 
 /// Prints the rows of a part that are neither left out nor past the limit, and says how far the query's rows are printed then.
@@ -30,9 +51,9 @@ pub(crate) fn print_part(
     reply: &mut Reply,
 ) -> Result<Progress, NoMemory>
     ensures ok { OnOk result (Adds reply.old reply.new
-        (due_text progress (walked descending part.now))) }
+        (due_text print.row_text progress (walked descending part.now))) }
     ensures before { KeepsBefore reply.old reply.new }
-    ensures line { OnOk result (IsLine (due_text progress (walked descending part.now))) }
+    ensures line { OnOk result (IsLine (due_text print.row_text progress (walked descending part.now))) }
     ensures progress { IfOk result (λ next. next ≡ past progress (walked descending part.now)) }
 {
     let kept = without_first(part, descending, progress.skip);
@@ -95,9 +116,9 @@ fn print_rows(
     reply: &mut Reply,
 ) -> Result<(), NoMemory>
     ensures ok { OnOk result (Adds reply.old reply.new
-        (rows_after printed (walked descending rows.now))) }
+        (texts_after print.row_text printed (walked descending rows.now))) }
     ensures before { KeepsBefore reply.old reply.new }
-    ensures line { OnOk result (IsLine (rows_after printed (walked descending rows.now))) }
+    ensures line { OnOk result (IsLine (texts_after print.row_text printed (walked descending rows.now))) }
 {
     if descending {
         print_backwards(alloc, rows, printed, reply)
@@ -112,9 +133,9 @@ fn print_forwards(
     printed: bool,
     reply: &mut Reply,
 ) -> Result<(), NoMemory>
-    ensures ok { OnOk result (Adds reply.old reply.new (rows_after printed rows.now)) }
+    ensures ok { OnOk result (Adds reply.old reply.new (texts_after print.row_text printed rows.now)) }
     ensures before { KeepsBefore reply.old reply.new }
-    ensures line { OnOk result (IsLine (rows_after printed rows.now)) }
+    ensures line { OnOk result (IsLine (texts_after print.row_text printed rows.now)) }
 {
     let mut later = printed;
     for row in rows {
@@ -130,9 +151,9 @@ fn print_backwards(
     printed: bool,
     reply: &mut Reply,
 ) -> Result<(), NoMemory>
-    ensures ok { OnOk result (Adds reply.old reply.new (rows_after printed (reverse rows.now))) }
+    ensures ok { OnOk result (Adds reply.old reply.new (texts_after print.row_text printed (reverse rows.now))) }
     ensures before { KeepsBefore reply.old reply.new }
-    ensures line { OnOk result (IsLine (rows_after printed (reverse rows.now))) }
+    ensures line { OnOk result (IsLine (texts_after print.row_text printed (reverse rows.now))) }
 {
     let mut later = printed;
     for row in rows.iter().rev() {
@@ -144,9 +165,9 @@ fn print_backwards(
 
 /// Prints a row, after a comma where a row was printed before it.
 fn print_next(alloc: Global, row: &Row, later: bool, reply: &mut Reply) -> Result<(), NoMemory>
-    ensures ok { OnOk result (Adds reply.old reply.new (rows_after later (row.now ∷ []))) }
+    ensures ok { OnOk result (Adds reply.old reply.new (texts_after print.row_text later (row.now ∷ []))) }
     ensures before { KeepsBefore reply.old reply.new }
-    ensures line { OnOk result (IsLine (rows_after later (row.now ∷ []))) }
+    ensures line { OnOk result (IsLine (texts_after print.row_text later (row.now ∷ []))) }
 {
     if later {
         reply.put(b",")?;

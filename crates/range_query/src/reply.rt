@@ -3,6 +3,7 @@
 ghost use Rattle.std.specs.Prelude.{◌≡◌, ◌≤◌, OnErr, OnOk, vec_len};
 ghost use Rattle.view_ports.specs.Lines.{ended};
 
+use builtin_reduces::{BuiltinSum, print_builtin};
 use itoa::Buffer;
 use json_terms::{NoMemory, Term, write_term, write_text};
 use std::alloc::Global;
@@ -19,6 +20,7 @@ pub struct Reply {
 
 impl Reply {
     ghost use Rattle.std.specs.Prelude.{◌++◌, [], Ok, decimal};
+    ghost use Rattle.builtin_reduces.specs.Text.{sum_text};
     ghost use Rattle.json_terms.specs.Json.{string};
     ghost use Rattle.json_terms.specs.Seen.{json};
     ghost use Rattle.json_terms.specs.Text.{text_of};
@@ -69,6 +71,14 @@ impl Reply {
         ensures before { KeepsBefore self.old self.new }
     {
         write_term(alloc, term, &mut self.bytes)
+    }
+
+    /// Adds the value of a group of rows.
+    pub fn put_sum(&mut self, alloc: Global, sum: &BuiltinSum) -> Result<(), NoMemory>
+        ensures ok { OnOk result (Adds self.old self.new (sum_text sum.now)) }
+        ensures before { KeepsBefore self.old self.new }
+    {
+        print_builtin(alloc, sum, &mut self.bytes)
     }
 
     /// Gives `out` back what it held, and behind it the reply and a newline, where it was written whole.

@@ -4,3 +4,5 @@ pub mod Equals
 pub mod Steps
 pub mod Sorted
 pub mod SortedRows
+pub mod Runs
+pub mod Groups

@@ -1,3 +1,4 @@
 pub mod Collation
 pub mod Sorting
 pub mod Laws
+pub mod Groups

@@ -27,7 +27,7 @@ pub fn raw_cmp(a: &Term, b: &Term) -> Ordering
 }
 
 #[cycle(compare)]
-fn compare_items(xs: &[Term], ys: &[Term]) -> Ordering
+pub(crate) fn compare_items(xs: &[Term], ys: &[Term]) -> Ordering
     ensures { result ≡ items_cmp (items_of (map json xs.now)) (items_of (map json ys.now)) }
 {
     for (x, y) in xs.iter().zip(ys) {

@@ -37,7 +37,9 @@ use Rattle.view_engine.specs.declared.halt.Halt.{Halt}
 use Rattle.view_engine.specs.declared.halt.Halt.TheVariants.{Refused, Stopped}
 use Rattle.view_engine.specs.declared.halt.StepFault.TheVariants.{Full, NoMemory}
 use Rattle.view_engine.specs.declared.refusal.Refusal.TheVariants.{ServerFault}
+use Rattle.range_query.specs.Value.{value_text}
 use Rattle.view_model.specs.Answer.{answer}
+use Rattle.design_docs.specs.declared.design.Builtin.{Builtin}
 use Rattle.query_args.specs.declared.query.Query.{Query}
 use Rattle.view_engine.specs.Calls.{scene, IsReplyLine, LeavesMoment, Performed, Scene, StandsAt}
 use Rattle.view_engine.specs.Disks.{IfStopped, IsAskedFor, IsReadReason, LiesOpen, Reads}
@@ -56,7 +58,8 @@ use Rattle.view_engine.proofs.Viewing.{does_halted, viewed, Halts}
 use Rattle.view_engine.proofs.Whole.{leaves_none, view_moves_none}
 use Rattle.view_engine.proofs.Between.{stands_same}
 use Rattle.query_args.specs.Query.{is_updated}
-use Rattle.view_engine.specs.ViewQuery.{ViewQuery, parameters_of, query_for, view_request}
+use Rattle.view_engine.specs.View.{answer_of}
+use Rattle.view_engine.specs.ViewQuery.{ViewQuery, builtin_named, parameters_of, query_for, view_request}
 
 -- what is open stays so where no file changes
 pub open_still : (engine : Engine) (x y : Option (Disk FileName)) → Tells x y MovesNone → IfTold x (λ d. IsOpen engine d.now) → IfTold y (λ d. IsOpen engine d.now)
@@ -130,7 +133,7 @@ module _ {F C : Type 0} (f : Folders F) (s : Servers C) (docs : Docs) (pool : Po
     -- the rows of the view are printed, or memory runs out
     module _ (slot : ℕ) (brings : Brings f s docs design (side mid servers pool groups) (side new servers' pool' groups') (Ok slot)) (index : Index) (there : slice_get (open_of groups') slot ≡ Some index)
         (printed : List Row) (rows : printed ≡ slice_index_or (picture_of index).rows place []) (parts : AllByRecursion HasParts printed)
-        (query : Query) (query_is : query ≡ query_for name) (seq : ℕ) (seq_is : seq ≡ (picture_of index).seq) where
+        (reduce : Option Builtin) (reduce_is : reduce ≡ builtin_named name.view design.views) (query : Query) (query_is : query ≡ query_for design.views name) (seq : ℕ) (seq_is : seq ≡ (picture_of index).seq) where
       same_index : index ≡ brings.place.0
       same_index = let same : Some index ≡ Some brings.place.0 = sym there ∙ (brings.place.1).there in cc
 
@@ -143,19 +146,19 @@ module _ {F C : Type 0} (f : Folders F) (s : Servers C) (docs : Docs) (pool : Po
       same_seq : seq ≡ (picture_of brings.place.0).seq
       same_seq = seq_is ∙ ap (λ (i : Index). (picture_of i).seq) same_index
 
-      same_answer : answer query seq printed ≡ answer (query_for name) (picture_of brings.place.0).seq shown
-      same_answer = λ i. answer (query_is i) (same_seq i) (same_rows i)
+      same_answer : answer (value_text reduce) query seq printed ≡ answer_of design.views name (picture_of brings.place.0).seq shown
+      same_answer = λ i. answer (value_text (reduce_is i)) (query_is i) (same_seq i) (same_rows i)
 
       each : length (picture_of brings.place.0).rows ≡ length design.views
       each = length-map (both_in brings.place.0) (λ (both : List Row × List Row). both.0) ∙ (brings.place.1).number
 
-      pub shown_then : {out' : List ℕ} (result : Result (Unit {0}) Halt) → OnOk result (out' ≡ out ++ ended (answer query seq printed)) → OnOk result (IsReplyLine (answer query seq printed)) → OnErr result (out' ≡ out) → IfErr result (λ halt. halt ≡ Stopped NoMemory)
+      pub shown_then : {out' : List ℕ} (result : Result (Unit {0}) Halt) → OnOk result (out' ≡ out ++ ended (answer (value_text reduce) query seq printed)) → OnOk result (IsReplyLine (answer (value_text reduce) query seq printed)) → OnErr result (out' ≡ out) → IfErr result (λ halt. halt ≡ Stopped NoMemory)
           → Performed f s now later (Ok (view_request name)) out out' result
       shown_then {out'} (Ok done) appended line silent memory =
           viewed f s now later name
           (λ before at. shown_leaves f s docs pool pool' groups groups' old mid new servers servers' name id design place path within path_is read plans slot brings before at (subst (AllByRecursion HasParts) same_rows parts) each out out'
           (appended ∙ ap (λ (text : List ℕ). out ++ ended text) same_answer))
-          (record { reply = answer query seq printed; line = line; appended = appended; unlike = λ other. unlike_answer query seq printed }) tt (λ is. let clash : ⊥ = cc in absurd clash)
+          (record { reply = answer (value_text reduce) query seq printed; line = line; appended = appended; unlike = λ other. unlike_answer (value_text reduce) query seq printed }) tt (λ is. let clash : ⊥ = cc in absurd clash)
           (view_moves f s docs pool pool' groups groups' old mid new servers servers' name id design place path true updates read earlier plans is_open asked (Ok slot) refl brings)
           (λ goes. view_open f s docs pool pool' groups groups' old mid new servers servers' name id design place path true updates read earlier plans is_open asked (Ok slot) refl brings (λ lost. lost))
           (λ before at file limit is. absurd cc)

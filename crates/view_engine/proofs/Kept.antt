@@ -1,5 +1,5 @@
 -- A view whose index is read as it stands: it is opened where it isn't open, and nothing else is done.
-use Rattle.std.specs.Prelude.{◌≡◌, ◌≢◌, ◌<◌, ◌≤◌, ◌++◌, ℕ, List, [], false, length, Some, Result, Ok, Err, IfErr, OnErr, OnOk, All, slice_get, slice_index_or}
+use Rattle.std.specs.Prelude.{◌≡◌, ◌≢◌, ◌<◌, ◌≤◌, ◌++◌, ℕ, List, [], false, length, Option, Some, Result, Ok, Err, IfErr, OnErr, OnOk, All, slice_get, slice_index_or}
 use Rattle.std.specs.List.{AllByRecursion}
 use Rattle.std.proofs.Common.{refl, sym, ap, ◌∙◌, subst, inl, inr, arith}
 use Rattle.std.proofs.lemmas.List.{length-map}
@@ -27,7 +27,9 @@ use Rattle.child_pool.specs.Pools.{languages_of}
 use Rattle.doc_file.specs.declared.docs.Docs.{Docs}
 use Rattle.doc_file.specs.Docs.{seq_of as update_seq, IsAt as AreAt}
 use Rattle.doc_file.specs.History.{Write}
+use Rattle.range_query.specs.Value.{value_text}
 use Rattle.view_model.specs.Answer.{answer}
+use Rattle.design_docs.specs.declared.design.Builtin.{Builtin}
 use Rattle.view_model.specs.Picture.{Picture}
 use Rattle.view_model.specs.Rows.{view_rows}
 use Rattle.view_model.specs.Since.{first}
@@ -57,10 +59,10 @@ use Rattle.view_engine.specs.Disks.{IsAskedFor, IsReasonOf, LiesOpen, MovesIndex
 use Rattle.view_engine.specs.Moments.{Moment}
 use Rattle.view_engine.specs.Steps.{DoesRequestText, MayHaveCalled}
 use Rattle.view_engine.specs.Updating.{picture_in}
-use Rattle.view_engine.specs.View.{design_id, rows_in, DoesKeptView, PrintsRows}
+use Rattle.view_engine.specs.View.{answer_of, design_id, rows_in, DoesKeptView, PrintsRows}
 use Rattle.view_engine.specs.ViewPlan.{met_by, source_at, IsPlan}
 use Rattle.query_args.specs.Query.{is_updated}
-use Rattle.view_engine.specs.ViewQuery.{ViewQuery, parameters_of, query_for, view_request}
+use Rattle.view_engine.specs.ViewQuery.{ViewQuery, builtin_named, parameters_of, query_for, view_request}
 use Rattle.view_engine.specs.World.{World}
 use Rattle.view_engine.specs.Worlds.{IsAtWorld, StandsAround, StandsEither}
 use Rattle.view_engine.proofs.Apart.{documents_beside, old_stands}
@@ -227,7 +229,7 @@ module _ {F C : Type 0} (f : Folders F) (s : Servers C) (docs : Docs) (pool : Po
   -- ---- it is open
   module _ (slot : ℕ) (opens : Opens (Ok slot)) (found : Index) (there : slice_get (open_of groups') slot ≡ Some found)
       (printed : List Row) (rows : printed ≡ slice_index_or (picture_of found).rows place []) (parts : AllByRecursion HasParts printed)
-      (query : Query) (query_is : query ≡ query_for name) (seq : ℕ) (seq_is : seq ≡ (picture_of found).seq) where
+      (reduce : Option Builtin) (reduce_is : reduce ≡ builtin_named name.view design.views) (query : Query) (query_is : query ≡ query_for design.views name) (seq : ℕ) (seq_is : seq ≡ (picture_of found).seq) where
     group : IsGroup groups' slot (sig_of design) (views_in design) found
     group = subst (IsGroup groups' slot (sig_of design) (views_in design)) (let same : Some opens.place.0 ≡ Some found = sym opens.place.1.there ∙ there in cc) opens.place.1
 
@@ -269,7 +271,7 @@ module _ {F C : Type 0} (f : Folders F) (s : Servers C) (docs : Docs) (pool : Po
         abbrev Asked : List Write
         Asked = first (picture_in here_world document).seq here_world.history
 
-        prints : PrintsRows s.functions s.honest (languages_of pool) name document path (source_at design.views place) here_world here_world (answer query seq printed)
+        prints : PrintsRows s.functions s.honest (languages_of pool) name document path (source_at design.views place) here_world here_world (answer (value_text reduce) query seq printed)
         prints = record {
           rows = printed;
           shown =
@@ -285,10 +287,10 @@ module _ {F C : Type 0} (f : Folders F) (s : Servers C) (docs : Docs) (pool : Po
               ∙ ap (λ (r : List (List Row)). slice_index_or r place []) was.rows
               ∙ rows_at_place (s.functions path) (views_of document) Asked place (subst (λ (views : List DesignView). place < length views) plan.views within)
               ∙ ap (λ (views : List DesignView). view_rows (s.functions path) (source_at views place) Asked) (sym plan.views);
-          prints = λ i. answer (query_is i) ((seq_is ∙ ap (λ (p : Picture). p.seq) same) i) printed;
+          prints = (λ i. answer (value_text (reduce_is i)) (query_is i) ((seq_is ∙ ap (λ (p : Picture). p.seq) same) i) printed) ∙ ap (λ (views : List DesignView). answer_of views name (picture_in here_world document).seq printed) plan.views;
         }
 
-        does : DoesKeptView s.functions s.honest (languages_of pool) before name (answer query seq printed) before
+        does : DoesKeptView s.functions s.honest (languages_of pool) before name (answer (value_text reduce) query seq printed) before
         does = record {
           keeps = plan.updates;
           accepted = plan.accepted;
@@ -302,11 +304,11 @@ module _ {F C : Type 0} (f : Folders F) (s : Servers C) (docs : Docs) (pool : Po
           same = refl;
         }
 
-      shown_leaves : (out' : List ℕ) → out' ≡ out ++ ended (answer query seq printed) → AppendsText f s now later before (DoesRequestText s.functions s.honest (languages_of pool) before (Ok (view_request name))) out out'
+      shown_leaves : (out' : List ℕ) → out' ≡ out ++ ended (answer (value_text reduce) query seq printed) → AppendsText f s now later before (DoesRequestText s.functions s.honest (languages_of pool) before (Ok (view_request name))) out out'
       shown_leaves out' appended = record {
-        text = ended (answer query seq printed);
-        leaves = left_before (Ok slot) opens before at (DoesRequestText s.functions s.honest (languages_of pool) before (Ok (view_request name)) (ended (answer query seq printed))) (λ d ends. ends)
-            (told_now (f.disk old) _ _ (λ d both. (answer query seq printed, inl (inr (does both.0 both.1)), refl)) planned);
+        text = ended (answer (value_text reduce) query seq printed);
+        leaves = left_before (Ok slot) opens before at (DoesRequestText s.functions s.honest (languages_of pool) before (Ok (view_request name)) (ended (answer (value_text reduce) query seq printed))) (λ d ends. ends)
+            (told_now (f.disk old) _ _ (λ d both. (answer (value_text reduce) query seq printed, inl (inr (does both.0 both.1)), refl)) planned);
         appended = appended;
       }
 
@@ -317,12 +319,12 @@ module _ {F C : Type 0} (f : Folders F) (s : Servers C) (docs : Docs) (pool : Po
     kept_stays : Stays f s now later
     kept_stays = record { languages = refl; width = refl; disk_faults = (let late = opens.cause.later in omega (arith, earlier, late)); server_faults = omega arith }
 
-    pub kept_then : {out' : List ℕ} (result : Result (Unit {0}) Halt) → OnOk result (out' ≡ out ++ ended (answer query seq printed)) → OnOk result (IsReplyLine (answer query seq printed)) → OnErr result (out' ≡ out) → IfErr result (λ halt. halt ≡ Stopped NoMemory)
+    pub kept_then : {out' : List ℕ} (result : Result (Unit {0}) Halt) → OnOk result (out' ≡ out ++ ended (answer (value_text reduce) query seq printed)) → OnOk result (IsReplyLine (answer (value_text reduce) query seq printed)) → OnErr result (out' ≡ out) → IfErr result (λ halt. halt ≡ Stopped NoMemory)
         → Performed f s now later (Ok (view_request name)) out out' result
     kept_then {out'} (Ok done) appended line silent memory =
         viewed f s now later name
         (λ before at. shown_leaves before at out' appended)
-        (record { reply = answer query seq printed; line = line; appended = appended; unlike = λ other. unlike_answer query seq printed }) tt (λ is. let clash : ⊥ = cc in absurd clash)
+        (record { reply = answer (value_text reduce) query seq printed; line = line; appended = appended; unlike = λ other. unlike_answer (value_text reduce) query seq printed }) tt (λ is. let clash : ⊥ = cc in absurd clash)
         (moves_of opens) (λ goes. kept_open) (λ before at file limit is. absurd (let clash : ⊥ = cc in clash)) tt kept_stays
     kept_then {out'} (Err halt) appended line silent memory = subst (λ (h : Halt). Performed f s now later (Ok (view_request name)) out out' (Err h)) (sym memory)
         (viewed f s now later name

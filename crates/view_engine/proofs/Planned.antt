@@ -33,7 +33,6 @@ use Rattle.view_engine.specs.declared.halt.Halt.{Halt}
 use Rattle.view_engine.specs.declared.halt.Halt.TheVariants.{Refused, Stopped}
 use Rattle.view_engine.specs.declared.halt.StepFault.TheVariants.{NoMemory}
 use Rattle.view_engine.specs.declared.refusal.Refusal.{Refusal}
-use Rattle.view_model.specs.Answer.{answer}
 use Rattle.view_engine.specs.Calls.{scene, AppendsText, LeavesMoment, Scene, StandsAt}
 use Rattle.view_engine.specs.Moments.{Moment}
 use Rattle.view_engine.specs.Refusals.{refusal_text}
@@ -47,7 +46,8 @@ use Rattle.view_engine.proofs.Bringing.{asked_there, brought_at, failed_at, move
 use Rattle.view_engine.proofs.Viewed.{answered, asked_all, at_moment, IsKnown, IsNextOf, Updates}
 use Rattle.view_engine.proofs.Viewing.{Halts, LeavesStopped}
 use Rattle.view_engine.proofs.Whole.{leaves_none, world_none}
-use Rattle.view_engine.specs.ViewQuery.{ViewQuery, query_for, view_request}
+use Rattle.view_engine.specs.View.{answer_of}
+use Rattle.view_engine.specs.ViewQuery.{ViewQuery, view_request}
 
 -- a history that a document is live in isn't empty
 written_some : (history : List Write) (id : List ℕ) (document : Json) → live_document history id ≡ Some document → history ≢ []
@@ -207,13 +207,13 @@ module _ {F C : Type 0} (f : Folders F) (s : Servers C) (docs : Docs) (pool pool
         allowed = allowed;
       }
 
-      pub shown_leaves : (parts : AllByRecursion (λ (row : Row). IsPart (json row.key) × IsPart (json row.value)) rows) → length (picture_of index).rows ≡ length design.views → (out out' : List ℕ) → out' ≡ out ++ ended (answer (query_for name) (picture_of index).seq rows)
+      pub shown_leaves : (parts : AllByRecursion (λ (row : Row). IsPart (json row.key) × IsPart (json row.value)) rows) → length (picture_of index).rows ≡ length design.views → (out out' : List ℕ) → out' ≡ out ++ ended (answer_of design.views name (picture_of index).seq rows)
           → AppendsText f s now later before (DoesRequestText s.functions s.honest (languages_of pool) before (Ok (view_request name))) out out'
       shown_leaves parts each out out' appended = record {
-        text = ended (answer (query_for name) (picture_of index).seq rows);
-        leaves = left_it (DoesRequestText s.functions s.honest (languages_of pool) before (Ok (view_request name)) (ended (answer (query_for name) (picture_of index).seq rows)))
+        text = ended (answer_of design.views name (picture_of index).seq rows);
+        leaves = left_it (DoesRequestText s.functions s.honest (languages_of pool) before (Ok (view_request name)) (ended (answer_of design.views name (picture_of index).seq rows)))
             (told_now (f.disk old) _ _ (λ d both. (
-              answer (query_for name) (picture_of index).seq rows,
+              answer_of design.views name (picture_of index).seq rows,
               inl (inl (answered s.functions s.honest (languages_of pool) before name id design place path within mapped.documents (s.may_follow servers') (s.faults servers) (s.faults servers') pool' at.child.counts brings.later.1 pool at.child.width at.child.started mapped.lists mapped.idle went
                   (picture_of index) after_world both.0 both.1 each parts)),
               refl,

@@ -1,11 +1,11 @@
 -- A view request before any server is asked.
-use Rattle.std.specs.Prelude.{◌≡◌, ◌≤◌, ℕ, List, [], ◌∷◌, true, Bool, Option, Some, None, option_and_then, option_map, bytes_eq, length, map}
+use Rattle.std.specs.Prelude.{◌≡◌, ◌≤◌, ℕ, List, [], ◌∷◌, true, Bool, Option, Some, None, option_and_then, option_map, bytes_eq, length, map, slice_index_or}
 use Rattle.std.specs.Map.{lookup}
 use Rattle.std.proofs.Common.{◌⊎◌, inl, inr, refl, sym, ap, ◌∙◌, subst}
 use Rattle.json_terms.specs.Json.{Json}
 use Rattle.design_docs.specs.declared.design.Design.{Design}
 use Rattle.design_docs.specs.declared.design.View.{View}
-use Rattle.design_docs.specs.Design.{IsDesignOf, language_of, source_of}
+use Rattle.design_docs.specs.Design.{IsDesignOf, language_of, source_of, views_of}
 use Rattle.design_docs.specs.Documents.{is_design_id}
 use Rattle.design_docs.specs.Laws.{entry_of}
 use Rattle.design_docs.specs.Faults.{HasDesign}
@@ -26,8 +26,9 @@ use Rattle.view_engine.specs.declared.halt.StepFault.TheVariants.{NoMemory}
 use Rattle.query_args.specs.Faults.{query_fault}
 use Rattle.query_args.specs.Query.{is_updated}
 use Rattle.view_engine.specs.View.{bad_query, design_id, no_language, no_path, no_view, view_refusal}
-use Rattle.view_engine.specs.ViewPlan.{IsPlan, ShowsRows, met_by_query, source_at}
-use Rattle.view_engine.specs.ViewQuery.{ViewQuery, parameters_of, plain_view}
+use Rattle.design_docs.specs.declared.design.Builtin.{Builtin}
+use Rattle.view_engine.specs.ViewPlan.{HasReduce, IsPlan, ShowsRows, met_by_query, source_at}
+use Rattle.view_engine.specs.ViewQuery.{ViewQuery, builtin_in, builtin_named, parameters_of, target_for}
 
 is_design : (name : List ℕ) → is_design_id (design_id name) ≡ true
 is_design name = refl
@@ -52,37 +53,41 @@ module _ (languages : List (List ℕ × List ℕ)) (history : List Write) (name 
   got : get_refusal world (design_id name.design) ≡ None
   got = not_refused (last_write history (design_id name.design)) document lives
 
-  refusals : view_refusal languages world name ≡ first_of (no_view (source_of name.view document) ∷ bad_query (parameters_of name) ∷ no_path (language_of document) (path_in languages (language_of document)) ∷ [])
+  refusals : view_refusal languages world name ≡ first_of (no_view (source_of name.view document) ∷ bad_query name (Some document) ∷ no_path (language_of document) (path_in languages (language_of document)) ∷ [])
   refusals =
-      ap (λ r. first_of (r ∷ no_view (option_and_then (source_of name.view) (live_document history (design_id name.design))) ∷ bad_query (parameters_of name) ∷ no_language languages (live_document history (design_id name.design)) ∷ [])) got
-      ∙ ap (λ (l : Option Json). first_of (no_view (option_and_then (source_of name.view) l) ∷ bad_query (parameters_of name) ∷ no_language languages l ∷ [])) lives
+      ap (λ r. first_of (r ∷ no_view (option_and_then (source_of name.view) (live_document history (design_id name.design))) ∷ bad_query name (live_document history (design_id name.design)) ∷ no_language languages (live_document history (design_id name.design)) ∷ [])) got
+      ∙ ap (λ (l : Option Json). first_of (no_view (option_and_then (source_of name.view) l) ∷ bad_query name l ∷ no_language languages l ∷ [])) lives
 
   named : lookup (λ key. bytes_eq key name.view) (map entry_of design.views) ≡ source_of name.view document
   named = ap (λ (views : List View). lookup (λ key. bytes_eq key name.view) (map entry_of views)) of.1 ∙ has_views_of_names document has name.view
 
   pub refused_view : None ≡ lookup (λ key. bytes_eq key name.view) (map entry_of design.views) → view_refusal languages world name ≡ Some MissingNamedView
-  refused_view none = refusals ∙ ap (λ (s : Option (List ℕ)). first_of (no_view s ∷ bad_query (parameters_of name) ∷ no_path (language_of document) (path_in languages (language_of document)) ∷ [])) (sym (none ∙ named))
+  refused_view none = refusals ∙ ap (λ (s : Option (List ℕ)). first_of (no_view s ∷ bad_query name (Some document) ∷ no_path (language_of document) (path_in languages (language_of document)) ∷ [])) (sym (none ∙ named))
 
   module _ (place : ℕ) (there : Some (source_at design.views place) ≡ lookup (λ key. bytes_eq key name.view) (map entry_of design.views)) where
     source : source_of name.view document ≡ Some (source_at design.views place)
     source = sym (there ∙ named)
 
-    viewed : view_refusal languages world name ≡ first_of (bad_query (parameters_of name) ∷ no_path (language_of document) (path_in languages (language_of document)) ∷ [])
-    viewed = refusals ∙ ap (λ (s : Option (List ℕ)). first_of (no_view s ∷ bad_query (parameters_of name) ∷ no_path (language_of document) (path_in languages (language_of document)) ∷ [])) source
+    viewed : view_refusal languages world name ≡ first_of (bad_query name (Some document) ∷ no_path (language_of document) (path_in languages (language_of document)) ∷ [])
+    viewed = refusals ∙ ap (λ (s : Option (List ℕ)). first_of (no_view s ∷ bad_query name (Some document) ∷ no_path (language_of document) (path_in languages (language_of document)) ∷ [])) source
 
-    pub refused_query : (refusal : Refusal) → bad_query (parameters_of name) ≡ Some refusal → view_refusal languages world name ≡ Some refusal
-    refused_query refusal stands = viewed ∙ ap (λ (r : Option Refusal). first_of (r ∷ no_path (language_of document) (path_in languages (language_of document)) ∷ [])) stands
+    -- the query is read for the view of the design that was read
+    own_query : query_fault (target_for design.views name) (parameters_of name) ≡ query_fault (target_for (views_of document) name) (parameters_of name)
+    own_query = ap (λ (views : List View). query_fault (target_for views name) (parameters_of name)) of.1
 
-    served : query_fault plain_view (parameters_of name) ≡ None → view_refusal languages world name ≡ first_of (no_path (language_of document) (path_in languages (language_of document)) ∷ [])
-    served fits = viewed ∙ ap (λ (f : Option QueryFault). first_of (option_map BadQuery f ∷ no_path (language_of document) (path_in languages (language_of document)) ∷ [])) fits
+    pub refused_query : (refusal : Refusal) → option_map BadQuery (query_fault (target_for design.views name) (parameters_of name)) ≡ Some refusal → view_refusal languages world name ≡ Some refusal
+    refused_query refusal stands = viewed ∙ ap (λ (r : Option Refusal). first_of (r ∷ no_path (language_of document) (path_in languages (language_of document)) ∷ [])) (ap (option_map BadQuery) (sym own_query) ∙ stands)
 
-    pub refused_language : query_fault plain_view (parameters_of name) ≡ None → None ≡ path_in languages design.language → view_refusal languages world name ≡ Some (UnknownLanguage design.language)
+    served : query_fault (target_for design.views name) (parameters_of name) ≡ None → view_refusal languages world name ≡ first_of (no_path (language_of document) (path_in languages (language_of document)) ∷ [])
+    served fits = viewed ∙ ap (λ (f : Option QueryFault). first_of (option_map BadQuery f ∷ no_path (language_of document) (path_in languages (language_of document)) ∷ [])) (sym own_query ∙ fits)
+
+    pub refused_language : query_fault (target_for design.views name) (parameters_of name) ≡ None → None ≡ path_in languages design.language → view_refusal languages world name ≡ Some (UnknownLanguage design.language)
     refused_language fits none =
         served fits
         ∙ ap (λ (l : List ℕ). first_of (no_path l (path_in languages l) ∷ [])) (sym of.0)
         ∙ ap (λ (p : Option (List ℕ)). first_of (no_path design.language p ∷ [])) (sym none)
 
-    pub planned : {updating : Bool} → is_updated (parameters_of name) ≡ updating → query_fault plain_view (parameters_of name) ≡ None → ShowsRows design.views name.view place → (path : List ℕ) → path_in languages design.language ≡ Some path
+    pub planned : {updating : Bool} → is_updated (parameters_of name) ≡ updating → query_fault (target_for design.views name) (parameters_of name) ≡ None → ShowsRows design.views name.view place → (path : List ℕ) → path_in languages design.language ≡ Some path
         → IsPlan updating languages history name id design place path
     planned updates fits shown path known =
         let there_is : path_in languages (language_of document) ≡ Some path = ap (path_in languages) (sym of.0) ∙ known in
@@ -119,3 +124,12 @@ met_query other refusal stands is (inr memory) = absurd (let clash : ⊥ = memor
   where
     memory_is_no_fault : (found : QueryFault) (refusal : Refusal) → found ≡ query.NoMemory → met_by_query found ≡ Refused refusal → ⊥
     memory_is_no_fault found refusal memory is = let met : Stopped NoMemory ≡ Refused refusal = sym (ap met_by_query memory) ∙ is in cc
+
+-- the reduce of the view in the place that was found is that of the view with the name
+pub reduced_there : (views one two : List View) (name text : List ℕ) (place : ℕ) (view : View) (found : Option Builtin) → one ≡ views → two ≡ views → text ≡ name
+    → found ≡ builtin_in (slice_index_or two place view).reduce → HasReduce one text place → builtin_named name views ≡ found
+reduced_there views one two name text place view found one_is two_is text_is is has =
+    sym (is
+    ∙ ap (λ (vs : List View). builtin_in (slice_index_or vs place view).reduce) (two_is ∙ sym one_is)
+    ∙ has view
+    ∙ (λ i. builtin_named (text_is i) (one_is i)))

@@ -1,6 +1,6 @@
 -- Each reply is one line, which isn't empty.
-use Rattle.std.proofs.Common.{◌≡◌, ◌≢◌, ◌<◌, ◌^◌, ◌++◌, ℕ, List, [], true, codes, decimal, Result, Ok, Err, refl}
-use Rattle.std.specs.Prelude.{OnOk}
+use Rattle.std.proofs.Common.{◌≡◌, ◌≢◌, ◌<◌, ◌^◌, ◌++◌, ℕ, List, [], Bool, true, false, codes, decimal, map, Result, Ok, Err, refl}
+use Rattle.std.specs.Prelude.{if◌then◌else◌, OnOk}
 use Rattle.json_terms.specs.Json.{Json, array, is_false, is_null, is_true, number, object, string}
 use Rattle.json_terms.specs.Text.{text_of}
 use Rattle.json_terms.specs.declared.term.Row.{Row}
@@ -13,7 +13,8 @@ use Rattle.doc_file.proofs.RevisionLines.{line-decimal}
 use Rattle.view_engine.specs.declared.refusal.Refusal.{Refusal}
 use Rattle.view_engine.specs.declared.refusal.Refusal.TheVariants.{LineTooLong, NotJson, NotWhole, TooDeep, UnknownRequest, NotBuiltYet, BadId, BadMember, BadRev, DocumentTooLarge, DocumentTooDeep, InvalidDesign, Missing, Deleted, MissingNamedView, Conflict, BadQuery, UnknownLanguage, CompilationError, ServerFault, ServerReply, NoMemory}
 use Rattle.query_args.specs.declared.query.Query.{Query}
-use Rattle.view_model.specs.Answer.{answer}
+use Rattle.view_model.specs.Answer.{answer, groups_answer, key_of_group, rows_answer}
+use Rattle.view_model.specs.Groups.{picked_groups}
 use Rattle.view_engine.specs.Answer.{info_text, write_text}
 use Rattle.view_engine.specs.Calls.{IsReplyLine}
 use Rattle.view_engine.specs.Cleanup.{done_text}
@@ -116,8 +117,12 @@ document_line document is = record { some = object_some document is.object; plai
 -- ---- rows
 
 -- the answer to a query begins with a brace
-pub answer_line : (query : Query) (seq : ℕ) (rows : List Row) → IsLine (answer query seq rows) → IsReplyLine (answer query seq rows)
-answer_line query seq rows plain = record { some = λ none. cc; plain = plain }
+pub answer_line : (value : List Row → List ℕ) (query : Query) (seq : ℕ) (rows : List Row) → IsLine (answer value query seq rows) → IsReplyLine (answer value query seq rows)
+answer_line value query seq rows plain = record { some = some query.reduced; plain = plain }
+  where
+    some : (reduced : Bool) → (if reduced then groups_answer query seq (map (λ group. (key_of_group query.level group, value group)) (picked_groups query rows)) else rows_answer query seq rows) ≢ []
+    some true none = cc
+    some false none = cc
 
 -- both of a result
 pub on_ok_both : {T E : Type 0} (result : Result T E) (P Q : Type 0) → OnOk result P → OnOk result Q → OnOk result (P × Q)

@@ -1,7 +1,7 @@
 -- Which reply lines are `server_fault`, and which are not.
 use Rattle.std.specs.Prelude.{IfErr, bytes_eq, cond, if◌then◌else◌, not, ok_or}
 use Rattle.std.specs.List.{starts_with}
-use Rattle.std.proofs.Common.{◌≡◌, ◌≢◌, ◌≤◌, ◌+◌, ◌*◌, ◌++◌, ◌∙◌, ℕ, List, [], ◌∷◌, Bool, true, false, nat_eq, nat_lt, length, codes, refl, sym, ap, subst, arith, length-append, Option, Some, None, Result, Ok, Err}
+use Rattle.std.proofs.Common.{◌≡◌, ◌≢◌, ◌≤◌, ◌+◌, ◌*◌, ◌++◌, ◌∙◌, ℕ, List, [], ◌∷◌, Bool, true, false, nat_eq, nat_lt, length, map, codes, decimal, refl, sym, ap, subst, arith, length-append, Option, Some, None, Result, Ok, Err}
 use Rattle.std.proofs.lemmas.Bool.{and_parts, false≢true, not-true}
 use Rattle.std.proofs.lemmas.Slice.Eq.{bytes_eq-Decides}
 use Rattle.std.proofs.lemmas.List.Sums.{sum_by-cons}
@@ -31,7 +31,8 @@ use Rattle.view_engine.specs.declared.refusal.Refusal.{Refusal}
 use Rattle.view_engine.specs.declared.refusal.Refusal.TheVariants.{LineTooLong, NotJson, NotWhole, TooDeep, UnknownRequest, NotBuiltYet, BadId, BadMember, BadRev, DocumentTooLarge, DocumentTooDeep, InvalidDesign, Missing, Deleted, MissingNamedView, Conflict, BadQuery, UnknownLanguage, CompilationError, ServerFault, ServerReply, NoMemory}
 use Rattle.view_engine.specs.declared.request.Request.{Request}
 use Rattle.view_engine.specs.Answer.{info_text, write_text}
-use Rattle.view_model.specs.Answer.{answer}
+use Rattle.view_model.specs.Answer.{answer, group_text, key_of_group, rows_answer, with_commas}
+use Rattle.view_model.specs.Groups.{picked_groups}
 use Rattle.query_args.specs.declared.query.Query.{Query}
 use Rattle.view_engine.specs.Calls.{AppendsReplyTo}
 use Rattle.view_engine.specs.Cleanup.{done_text}
@@ -64,8 +65,20 @@ unlike_info info = unlike (info_text info) refl
 pub unlike_done : done_text ≢ refusal_text ServerFault
 unlike_done = unlike done_text refl
 
-pub unlike_answer : (query : Query) (seq : ℕ) (rows : List Row) → answer query seq rows ≢ refusal_text ServerFault
-unlike_answer query seq rows = unlike (answer query seq rows) refl
+pub unlike_answer : (value : List Row → List ℕ) (query : Query) (seq : ℕ) (rows : List Row) → answer value query seq rows ≢ refusal_text ServerFault
+unlike_answer value query seq rows = unlike (answer value query seq rows) (begins_otherwise query.reduced query.show_seq)
+  where
+    groups : List (Json × List ℕ)
+    groups = map (λ group. (key_of_group query.level group, value group)) (picked_groups query rows)
+
+    begins_otherwise : (reduced shown : Bool)
+        → begins (if reduced
+        then codes "{" ++ (if shown then codes "\"update_seq\":" ++ decimal seq ++ codes "," else []) ++ codes "\"rows\":[" ++ with_commas group_text groups ++ codes "]}"
+        else rows_answer query seq rows)
+        ≡ false
+    begins_otherwise true true = refl
+    begins_otherwise true false = refl
+    begins_otherwise false shown = refl
 
 -- of the refusals one alone has this text
 pub refusal_is_fault : (refusal : Refusal) → refusal_text refusal ≡ refusal_text ServerFault → refusal ≡ ServerFault

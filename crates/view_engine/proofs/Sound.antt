@@ -36,7 +36,7 @@ still_stored write history document is = record { id = is.id; design = is.design
 pub fit_before : (write : Write) (history : List Write) → AreFit (write ∷ history) → AreFit history
 fit_before write history fit = record {
   apart = λ one other is also. fit.apart one other (still_stored write history one is) (still_stored write history other also);
-  unreduced = λ document is. fit.unreduced document (still_stored write history document is);
+  unserved = λ document is. fit.unserved document (still_stored write history document is);
 }
 
 -- designs that are fit are the same to views where their signatures are

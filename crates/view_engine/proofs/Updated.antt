@@ -23,7 +23,7 @@ use Rattle.view_model.specs.Update.{IsUpdated}
 use Rattle.view_model.proofs.Pictures.{is_spoiled_as_met, is_spoiled_by_mapped, no_picture_is_true}
 use Rattle.view_model.proofs.Updates.{updates_are_afresh}
 use Rattle.view_signature.specs.Signature.{signature_of}
-use Rattle.view_engine.specs.Put.{has_reduce, is_reduced}
+use Rattle.view_engine.specs.Put.{has_served_reduce, is_served}
 use Rattle.view_engine.specs.Updating.{picture_in, AreFit, IsSound}
 use Rattle.view_engine.specs.ViewPlan.{source_at}
 use Rattle.view_engine.specs.World.{World}
@@ -72,16 +72,16 @@ or_none : (a b : Bool) → (a || b) ≡ false → (a ≡ false) × (b ≡ false)
 or_none true b none = let clash : ⊥ = cc in absurd clash
 or_none false b none = (refl, none)
 
-no_reduce_fails : (functions : Functions) (reduce : Reduce) (rows : List Row) → is_reduced reduce ≡ false → reduce_fails functions reduce rows ≡ false
+no_reduce_fails : (functions : Functions) (reduce : Reduce) (rows : List Row) → is_served reduce ≡ false → reduce_fails functions reduce rows ≡ false
 no_reduce_fails functions Absent rows none = refl
 no_reduce_fails functions (Source source) rows none = let clash : ⊥ = cc in absurd clash
 no_reduce_fails functions other rows none = refl
 
-none_fails : (functions : Functions) (views : List View) (rows : List (List Row)) → has_reduce views ≡ false → some_reduce_fails functions views rows ≡ false
+none_fails : (functions : Functions) (views : List View) (rows : List (List Row)) → has_served_reduce views ≡ false → some_reduce_fails functions views rows ≡ false
 none_fails functions [] rows none = refl
 none_fails functions (view ∷ views) [] none = refl
 none_fails functions (view ∷ views) (own ∷ rows) none =
-    let both = or_none (is_reduced view.reduce) (has_reduce views) none in
+    let both = or_none (is_served view.reduce) (has_served_reduce views) none in
     ap (λ (b : Bool). b || some_reduce_fails functions views rows) (no_reduce_fails functions view.reduce own both.0) ∙ none_fails functions views rows both.1
 
 -- ---- the rows of a view in its place
@@ -129,12 +129,12 @@ module _ (functions : List ℕ → Functions) (honest : List ℕ → Type 0) (la
         by_documents : (documents : List (List ℕ × Json)) → mapped_now ≡ documents → (if maps_compile own views then some_reduce_fails own views next.rows else has_some documents) ≡ false
         by_documents [] none =
             elim (maps_compile own views) as (λ b. (if b then some_reduce_fails own views next.rows else false) ≡ false) [
-              | true ↦ none_fails own views next.rows (fit.unreduced document stored)
+              | true ↦ none_fails own views next.rows (fit.unserved document stored)
               | false ↦ refl
             ]
         by_documents (first ∷ others) some =
             let all = all_compile own views (compile (λ none. let clash : first ∷ others ≡ [] = sym some ∙ none in let no : ⊥ = cc in no)) in
-            ap (λ (b : Bool). if b then some_reduce_fails own views next.rows else true) all ∙ none_fails own views next.rows (fit.unreduced document stored)
+            ap (λ (b : Bool). if b then some_reduce_fails own views next.rows else true) all ∙ none_fails own views next.rows (fit.unserved document stored)
 
   -- where a source fails that is met, they can't be
   pub are_spoiled : SomeSourceFails own (map_sources views) → mapped_now ≢ [] → spoiled own views world.history ≡ true

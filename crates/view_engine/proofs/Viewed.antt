@@ -50,16 +50,15 @@ use Rattle.view_updater.specs.Updates.{documents_since}
 use Rattle.view_engine.specs.declared.refusal.Refusal.{Refusal}
 use Rattle.view_engine.specs.declared.refusal.Refusal.TheVariants as refusal
 use Rattle.view_engine.specs.declared.halt.Halt.TheVariants.{Refused}
-use Rattle.view_model.specs.Answer.{answer}
 use Rattle.view_engine.specs.Moments.{Moment}
 use Rattle.view_engine.specs.Refusals.{refusal_text}
 use Rattle.view_engine.specs.Steps.{EndsUpdate, MayHaveCalled}
 use Rattle.view_engine.specs.Updating.{picture_in, AreFit, IsBrought, IsSound}
-use Rattle.view_engine.specs.View.{design_id, rows_in, DoesUpdatedView, IsBrokenOff, IsGivenUp, IsJobOf, IsMet, IsServed, PrintsRows, fault_of, prompts_of}
+use Rattle.view_engine.specs.View.{answer_of, design_id, rows_in, DoesUpdatedView, IsBrokenOff, IsGivenUp, IsJobOf, IsMet, IsServed, PrintsRows, fault_of, prompts_of}
 use Rattle.view_engine.specs.ViewPlan.{IsPlan, met_by_pool, source_at}
 use Rattle.view_engine.specs.World.{World}
 use Rattle.view_engine.proofs.Updated.{are_spoiled, can_be_answered, rows_are_afresh, rows_at_place}
-use Rattle.view_engine.specs.ViewQuery.{ViewQuery, query_for, view_request}
+use Rattle.view_engine.specs.ViewQuery.{ViewQuery, view_request}
 
 -- all writes are the first so many
 pub all_first : (history : List Write) → first (length history) history ≡ history
@@ -215,7 +214,7 @@ module _ (functions : List ℕ → Functions) (honest : List ℕ → Type 0) (la
     rows_there = slice_index_or next.rows place []
 
     pub prints : length next.rows ≡ length design.views → AllByRecursion (λ (row : Row). IsPart (json row.key) × IsPart (json row.value)) rows_there
-        → PrintsRows functions honest languages name known.plan.document path source before.world left (answer (query_for name) next.seq rows_there)
+        → PrintsRows functions honest languages name known.plan.document path source before.world left (answer_of design.views name next.seq rows_there)
     prints each parts = record {
       rows = rows_there;
       shown =
@@ -232,7 +231,8 @@ module _ (functions : List ℕ → Functions) (honest : List ℕ → Type 0) (la
           ∙ ap (λ picture. view_rows (functions path) source (first (picture_or_none (views_of known.plan.document) picture).seq before.world.history))
           (sym (set_there (signature_of known.plan.document) next before.world.pictures left.pictures signed));
       prints =
-          ap (λ picture. answer (query_for name) (picture_or_none (views_of known.plan.document) picture).seq rows_there)
+          ap (λ views. answer_of views name next.seq rows_there) known.plan.views
+          ∙ ap (λ picture. answer_of (views_of known.plan.document) name (picture_or_none (views_of known.plan.document) picture).seq rows_there)
           (sym (set_there (signature_of known.plan.document) next before.world.pictures left.pictures signed));
     }
 
@@ -334,7 +334,7 @@ module _ (functions : List ℕ → Functions) (honest : List ℕ → Type 0) (la
     module _ (lists : DocRowLists) (idle : documents ≡ [] → pool.started ≡ old_pool.started) (w : Updates before.width (Ok lists)) where
       pub answered : (next : Picture) (left : World) (known : Known) → IsNextOf functions honest before.world design path documents next left → length next.rows ≡ length design.views
           → AllByRecursion (λ (row : Row). IsPart (json row.key) × IsPart (json row.value)) (slice_index_or next.rows place [])
-          → DoesUpdatedView functions honest languages before name (answer (query_for name) next.seq (slice_index_or next.rows place [])) (after left w.now)
+          → DoesUpdatedView functions honest languages before name (answer_of design.views name next.seq (slice_index_or next.rows place [])) (after left w.now)
       answered next left known made each parts = record {
         updates = known.plan.updates;
         accepted = known.plan.accepted;

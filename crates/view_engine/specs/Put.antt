@@ -2,7 +2,7 @@
 use Rattle.std.specs.Prelude.{◌≡◌, ◌⊎◌, ℕ, List, [], ◌∷◌, Bool, true, false, not, ◌&&◌, ◌||◌, nat_le, nat_lt, length, codes, is_none, IsTrue}
 use Rattle.json_terms.specs.Json.{Json, depth}
 use Rattle.design_docs.specs.declared.design.Reduce.{Reduce}
-use Rattle.design_docs.specs.declared.design.Reduce.TheVariants.{Absent}
+use Rattle.design_docs.specs.declared.design.Reduce.TheVariants.{Source}
 use Rattle.design_docs.specs.declared.design.View.{View}
 use Rattle.design_docs.specs.Design.{views_of}
 use Rattle.design_docs.specs.Documents.{id_of, is_design_id, document_depth_limit}
@@ -19,20 +19,21 @@ use Rattle.view_engine.specs.World.{World, written}
 use Rattle.view_engine.specs.Answer.{write_text}
 use Rattle.view_engine.specs.Refusals.{refused_as}
 
-abbrev pub is_reduced : Reduce → Bool
-is_reduced Absent = false
-is_reduced other = true
+-- a query server reduces
+abbrev pub is_served : Reduce → Bool
+is_served (Source source) = true
+is_served other = false
 
--- one of these views has a reduce
-abbrev pub has_reduce : List View → Bool
-has_reduce [] = false
-has_reduce (view ∷ views) = is_reduced view.reduce || has_reduce views
+-- one of these views has a reduce for a query server
+abbrev pub has_served_reduce : List View → Bool
+has_served_reduce [] = false
+has_served_reduce (view ∷ views) = is_served view.reduce || has_served_reduce views
 
--- the document has a design, and a view of it has a reduce
+-- the document has a design, and a view of it has such a reduce
 abbrev pub reduces : Json → Bool
-reduces document = is_none (design_fault document) && has_reduce (views_of document)
+reduces document = is_none (design_fault document) && has_served_reduce (views_of document)
 
--- the document is put as a design document of depth 64 at most, and a view of it has a reduce
+-- the document is put as a design document of depth 64 at most, and a view of it has such a reduce
 abbrev pub is_unbuilt : Json → Bool
 is_unbuilt document =
     (is_design_id (id_of document) && nat_lt (length (codes "_design/")) (length (id_of document)))

@@ -35,7 +35,8 @@ use Rattle.design_docs.specs.declared.design.View.{View}
 use Rattle.view_model.specs.Answer.{answer}
 use Rattle.query_args.specs.Faults.{query_fault}
 use Rattle.query_args.specs.Query.{is_updated}
-use Rattle.view_engine.specs.ViewQuery.{ViewQuery, parameters_of, query_for, plain_view}
+use Rattle.range_query.specs.Value.{value_text}
+use Rattle.view_engine.specs.ViewQuery.{ViewQuery, builtin_named, parameters_of, query_for, target_for}
 use Rattle.view_engine.specs.Refusals.{first_of, refusal_text}
 
 -- the id of the design document with this name
@@ -57,15 +58,20 @@ abbrev pub no_language : List (List ℕ × List ℕ) → Option Json → Option 
 no_language languages None = None
 no_language languages (Some design) = no_path (language_of design) (path_in languages (language_of design))
 
--- the parameters must be a query of such a view
-abbrev pub bad_query : Json → Option Refusal
-bad_query query = option_map BadQuery (query_fault plain_view query)
+-- the parameters must be a query of the view
+abbrev pub bad_query : ViewQuery → Option Json → Option Refusal
+bad_query name None = None
+bad_query name (Some design) = option_map BadQuery (query_fault (target_for (views_of design) name) (parameters_of name))
 
 abbrev pub view_refusal : List (List ℕ × List ℕ) → World → ViewQuery → Option Refusal
 view_refusal languages world name =
     let design = live_document world.history (design_id name.design) in
     first_of
-    (get_refusal world (design_id name.design) ∷ no_view (option_and_then (source_of name.view) design) ∷ bad_query (parameters_of name) ∷ no_language languages design ∷ [])
+    (get_refusal world (design_id name.design) ∷ no_view (option_and_then (source_of name.view) design) ∷ bad_query name design ∷ no_language languages design ∷ [])
+
+-- the answer to the query of a view, from its rows at a sequence
+abbrev pub answer_of : List View → ViewQuery → ℕ → List Row → List ℕ
+answer_of views name = answer (value_text (builtin_named name.view views)) (query_for views name)
 
 -- the rows of the view with this name, in the order of the views
 abbrev pub rows_in : List View → List (List Row) → List ℕ → Option (List Row)
@@ -138,7 +144,7 @@ module _ (functions : List ℕ → Functions) (honest : List ℕ → Type 0) whe
     pub shown : rows_in (views_of design) (picture_in after design).rows name.view ≡ Some rows
     pub parts : AllByRecursion (λ row. IsPart (json row.key) × IsPart (json row.value)) rows
     pub afresh : honest path → IsSound functions honest languages before → AreFit before.history → rows ≡ view_rows (functions path) source (first (picture_in after design).seq before.history)
-    pub prints : reply ≡ answer (query_for name) (picture_in after design).seq rows
+    pub prints : reply ≡ answer_of (views_of design) name (picture_in after design).seq rows
 
   -- a refusal that is met while documents are mapped, and its cause: on an honest path a source that doesn't compile, and
   -- elsewhere a complaint; two failed attempts; or a bad reply, which is none on an honest path

@@ -25,7 +25,7 @@ use Rattle.view_groups.specs.Brings.{IsGroupFault}
 use Rattle.view_engine.specs.Halts.{halted_as}
 use Rattle.view_engine.specs.World.{of_history}
 use Rattle.view_engine.specs.View.{design_id, rows_in, view_refusal}
-use Rattle.view_engine.specs.ViewQuery.{ViewQuery, parameters_of}
+use Rattle.view_engine.specs.ViewQuery.{ViewQuery, builtin_in, builtin_named, parameters_of}
 use Rattle.query_args.specs.Query.{is_updated}
 
 -- the source of the view in a place
@@ -35,6 +35,10 @@ source_at views place = slice_index_or (map_sources views) place []
 -- the rows in this place are those of the view with this name, whatever the rows are
 abbrev pub ShowsRows : List View → List ℕ → ℕ → Type 0
 ShowsRows views name place = (rows : List (List Row)) → length rows ≡ length views → rows_in views rows name ≡ Some (slice_index_or rows place [])
+
+-- the view in this place has the reduce of the view with this name
+abbrev pub HasReduce : List View → List ℕ → ℕ → Type 0
+HasReduce views name place = (view : View) → builtin_in (slice_index_or views place view).reduce ≡ builtin_named name views
 
 -- the request isn't refused yet: the design document is live, the view has this place in its design, the language has a path, and the
 -- index is to be brought up to date first or not

@@ -124,32 +124,32 @@ fn is_unbuilt(alloc: Global, document: &Term) -> Result<bool, NoMemory>
     reduces(alloc, document)
 }
 
-/// Whether a document has a design of which a view has a reduce.
+/// Whether a document has a design of which a view has a reduce for a query server.
 fn reduces(alloc: Global, document: &Term) -> Result<bool, NoMemory>
     ensures { IfOk result (λ found. found ≡ spec.reduces (json document.now)) }
 {
     match read_design(alloc, document) {
-        Ok(design) => Ok(has_reduce(design.views.as_slice())),
+        Ok(design) => Ok(has_served_reduce(design.views.as_slice())),
         Err(DesignFault::NoMemory) => Err(NoMemory),
         Err(_fault) => Ok(false),
     }
 }
 
-fn has_reduce(views: &[View]) -> bool
-    ensures { result ≡ spec.has_reduce views.now }
+fn has_served_reduce(views: &[View]) -> bool
+    ensures { result ≡ spec.has_served_reduce views.now }
 {
     for view in views {
-        if is_reduced(&view.reduce) {
+        if is_served(&view.reduce) {
             return true;
         }
     }
     false
 }
 
-fn is_reduced(reduce: &Reduce) -> bool
-    ensures { result ≡ spec.is_reduced reduce.now }
+fn is_served(reduce: &Reduce) -> bool
+    ensures { result ≡ spec.is_served reduce.now }
 {
-    !matches!(reduce, Reduce::Absent)
+    matches!(reduce, Reduce::Source(_))
 }
 
 /// Whether a put of the document is a deletion.

@@ -5,4 +5,5 @@ pub mod Update
 pub mod Laws
 pub mod Standing
 pub mod Selection
+pub mod Groups
 pub mod Answer

@@ -10,9 +10,9 @@ use Rattle.raw_collation.specs.Collation.{json_cmp}
 use Rattle.query_args.specs.declared.query.Query.{Query}
 use Rattle.query_args.specs.Range.{in_range, passes_start}
 
--- rows as a query walks them
-abbrev pub in_order : Query → List Row → List Row
-in_order query rows = if query.descending then reverse rows else rows
+-- rows or groups of rows, as a query walks them
+abbrev pub in_order : {A : Type 0} → Query → List A → List A
+in_order query xs = if query.descending then reverse xs else xs
 
 abbrev pub is_in_range : Query → Row → Bool
 is_in_range query row = in_range query (json row.key) row.id
@@ -32,13 +32,17 @@ listed_or_ranged None query rows = in_order query (filter (is_in_range query) ro
 abbrev pub range_of : Query → List Row → List Row
 range_of query rows = listed_or_ranged query.keys query rows
 
--- so many rows at most, or all where there is no limit
-abbrev pub limited : Option ℕ → List Row → List Row
-limited None rows = rows
-limited (Some limit) rows = take limit rows
+-- so many at most, or all where there is no limit
+abbrev pub limited : {A : Type 0} → Option ℕ → List A → List A
+limited None xs = xs
+limited (Some limit) xs = take limit xs
+
+-- what is left after so many are skipped and so many are taken
+abbrev pub page : {A : Type 0} → Query → List A → List A
+page query xs = limited query.limit (drop query.skip xs)
 
 abbrev pub picked : Query → List Row → List Row
-picked query rows = limited query.limit (drop query.skip (range_of query rows))
+picked query rows = page query (range_of query rows)
 
 -- how many rows stand before the start
 abbrev pub before_start : Query → List Row → ℕ

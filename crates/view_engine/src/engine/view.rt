@@ -11,8 +11,10 @@ ghost use Rattle.view_engine.specs.Calls.{scene, IsReplyLine, Performed};
 ghost use Rattle.view_engine.specs.Disks.{LiesOpen, Reads};
 ghost use Rattle.view_engine.specs.View as spec;
 ghost use Rattle.view_engine.specs.Planning.{HasPath, PlansView, ReadsDesign, RefusesView};
-ghost use Rattle.view_engine.specs.ViewQuery.{parameters_in, query_for, view_query};
-ghost use Rattle.view_engine.specs.ViewPlan.{met_by, met_by_pool, met_by_query, source_at, IsUpdateFault, ShowsRows};
+ghost use Rattle.range_query.specs.Value.{value_text};
+ghost use Rattle.view_engine.specs.ViewQuery as query;
+ghost use Rattle.view_engine.specs.ViewQuery.{builtin_named, parameters_in, query_for, view_query};
+ghost use Rattle.view_engine.specs.ViewPlan.{met_by, met_by_pool, met_by_query, source_at, HasReduce, IsUpdateFault, ShowsRows};
 
 use crate::design::design_of;
 use crate::engine::Engine;
@@ -20,7 +22,7 @@ use crate::halt::{Halt, StepFault};
 use crate::refusal::Refusal;
 use crate::request::{Request, ViewName};
 use child_pool::PoolFault;
-use design_docs::{DESIGN_PREFIX, Design, View};
+use design_docs::{Builtin, DESIGN_PREFIX, Design, Reduce, View};
 use doc_file::DocFault;
 use json_terms::{Chars, Members, NoMemory, Row, Term};
 use query_args::{Query, QueryFault, Target, read_query};
@@ -30,12 +32,13 @@ use view_index::IndexFault;
 use view_ports::{Folder, Servers};
 use view_updater::UpdateFault;
 
-/// What a view request is about: the id of the design document, its design, the place of the view, and the query.
+/// What a view request is about: the id of the design document, its design, the place of the view, its reduce, and the query.
 #[derive(Drop)]
 struct Plan {
     id: Chars,
     design: Design,
     place: usize,
+    reduce: Option<Builtin>,
     query: Query,
 }
 
@@ -67,7 +70,7 @@ impl Engine {
             };
             let kept = self.groups.index(place);
             let shown = kept.rows(plan.place as u32);
-            return append_rows(alloc, shown, kept.seq(), &plan.query, out);
+            return append_answer(alloc, shown, plan.reduce, kept.seq(), &plan.query, out);
         }
         match self.groups.update(
             alloc,
@@ -80,7 +83,7 @@ impl Engine {
             Ok(place) => {
                 let index = self.groups.index(place);
                 let rows = index.rows(plan.place as u32);
-                append_rows(alloc, rows, index.seq(), &plan.query, out)
+                append_answer(alloc, rows, plan.reduce, index.seq(), &plan.query, out)
             }
             Err(fault) => Err(halt_of(fault, plan.id)),
         }
@@ -96,7 +99,9 @@ impl Engine {
     ) -> Result<Plan, Halt>
         ensures plan { PlansView F.Folder self.now folder.old (view_query name.now query) result }
         ensures read { ReadsDesign F.Folder self.now folder.old (view_query name.now query) result }
-        ensures query { IfOk result (λ plan. plan.query ≡ query_for (view_query name.now query)) }
+        ensures reduce { IfOk result (λ plan. plan.reduce ≡ builtin_named name.now.view plan.design.views) }
+        ensures query { IfOk result (λ plan. plan.query ≡ query_for plan.design.views
+            (view_query name.now query)) }
         ensures few { IfOk result (λ plan. length plan.design.views ≤ 32) }
         ensures within { IfOk result (λ plan. plan.place < length plan.design.views) }
         ensures known { IfOk result (HasPath self.now) }
@@ -114,7 +119,9 @@ impl Engine {
         let Some(place) = place_of(design.views.as_slice(), name.view.as_str()) else {
             return Err(Halt::Refused(Refusal::MissingNamedView));
         };
-        let query = match read_query(alloc, &parameters, Target::View(false)) {
+        let reduce = builtin_in(&design.views.as_slice()[place].reduce);
+        let target = Target::View(reduce.is_some());
+        let query = match read_query(alloc, &parameters, target) {
             Ok(query) => query,
             Err(fault) => return Err(halt_of_query(fault)),
         };
@@ -123,6 +130,7 @@ impl Engine {
                 id,
                 design,
                 place,
+                reduce,
                 query,
             }),
             None => Err(Halt::Refused(Refusal::UnknownLanguage(design.language))),
@@ -136,6 +144,7 @@ fn place_of(views: &[View], name: &str) -> Option<usize>
     ensures named { option_map (source_at views.now) result ≡ lookup (λ key. bytes_eq key name.now)
         (map named views.now) }
     ensures shown { IfSome result (ShowsRows views.now name.now) }
+    ensures reduced { IfSome result (HasReduce views.now name.now) }
 {
     for (place, view) in views.iter().enumerate() {
         if view.name.as_str() == name {
@@ -143,6 +152,16 @@ fn place_of(views: &[View], name: &str) -> Option<usize>
         }
     }
     None
+}
+
+/// The reduce of a view, where it needs no query server.
+fn builtin_in(reduce: &Reduce) -> Option<Builtin>
+    ensures { result ≡ query.builtin_in reduce.now }
+{
+    match reduce {
+        Reduce::Builtin(kind) => Some(*kind),
+        Reduce::Absent | Reduce::Source(_) => None,
+    }
 }
 
 /// Why a view is halted whose index could not be brought up to date.
@@ -194,23 +213,24 @@ fn parameters_of(alloc: Global, query: Option<Members>) -> Term
     }
 }
 
-/// Appends the reply line that answers a query from the rows of a view, of an index at this sequence.
-fn append_rows(
+/// Appends the reply line that answers a query from the rows of a view with this reduce, of an index at this sequence.
+fn append_answer(
     alloc: Global,
     rows: &[Row],
+    reduce: Option<Builtin>,
     seq: u64,
     query: &Query,
     out: &mut Vec<u8>,
 ) -> Result<(), Halt>
     requires sorted { IsSorted rows_cmp rows.now }
     ensures ok { OnOk result (out.new.items ≡ out.old.items
-        ++ ended (answer_text query.now seq rows.now)) }
-    ensures line { OnOk result (IsReplyLine (answer_text query.now seq rows.now)) }
+        ++ ended (answer_text (value_text reduce) query.now seq rows.now)) }
+    ensures line { OnOk result (IsReplyLine (answer_text (value_text reduce) query.now seq rows.now)) }
     ensures silent { OnErr result (out.new.items ≡ out.old.items) }
     ensures memory { IfErr result (λ halt. halt ≡ Halt.Stopped StepFault.NoMemory) }
 {
     let mut reply = Reply::behind(alloc, out);
-    let written = answer(alloc, rows, seq, query, &mut reply);
+    let written = answer(alloc, rows, reduce, seq, query, &mut reply);
     reply.end(written, out)?;
     Ok(())
 }

@@ -1,6 +1,7 @@
 -- The rows of one more key, and what is left is one key less.
 use Rattle.std.proofs.Common.{◌≡◌, ◌∙◌, ◌<◌, ◌≤◌, ◌+◌, ◌∷◌, ◌++◌, ap, sym, arith, drop, get_or, length, rules}
 use Rattle.std.proofs.lemmas.List.{drop_all, drop_more}
+use Rattle.view_model.specs.Answer.{row_text}
 use Rattle.range_query.specs.Progress.{walked}
 use Rattle.range_query.proofs.Printed.{of_keys, part_more, part_more_line, part_end, part_end_line}
 use Rattle.range_query.proofs.answers.print_keys.Goals as goal
@@ -19,10 +20,10 @@ loop-key-preserved c =
     let left : of_keys query rows (drop i keys) ≡ part ++ rest =
     ap (of_keys query rows) (drop_more keys i key below ∙ ap (λ k. k ∷ drop (i + 1) keys) here) ∙ ap (λ ps. walked query.descending ps ++ rest) (sym c.rows_of-part.ensures) in
     let step = c.in_ok-progress.ensures in record {
-      written = part_more c.loop-key.progress c.args.start c.in_ok-progress.progress part (of_keys query rows (drop i keys)) rest (of_keys query rows keys) _ _ _ left step.progress c.loop-key.invariant.written step.ok;
+      written = part_more row_text c.loop-key.progress c.args.start c.in_ok-progress.progress part (of_keys query rows (drop i keys)) rest (of_keys query rows keys) _ _ _ left step.progress c.loop-key.invariant.written step.ok;
       before = step.before ∙ c.loop-key.invariant.before;
       line = λ others. c.loop-key.invariant.line
-          (part_more_line c.loop-key.progress c.in_ok-progress.progress part (of_keys query rows (drop i keys)) rest left step.progress step.line others);
+          (part_more_line row_text c.loop-key.progress c.in_ok-progress.progress part (of_keys query rows (drop i keys)) rest left step.progress step.line others);
     }
 
 pub returns-clause-ok : goal.returns-clause-ok
@@ -30,7 +31,7 @@ returns-clause-ok c =
     let query = c.args.query.now in
     let rows = c.args.rows.now in
     let past_all : length c.args.keys.now ≤ c.loop-key.key-index = omega arith in
-    part_end c.loop-key.progress (of_keys query rows (drop c.loop-key.key-index c.args.keys.now)) _ _ (ap (of_keys query rows) (drop_all c.loop-key.key-index c.args.keys.now past_all))
+    part_end row_text c.loop-key.progress (of_keys query rows (drop c.loop-key.key-index c.args.keys.now)) _ _ (ap (of_keys query rows) (drop_all c.loop-key.key-index c.args.keys.now past_all))
     c.loop-key.invariant.written
 
 pub returns-clause-line : goal.returns-clause-line
@@ -39,4 +40,4 @@ returns-clause-line c =
     let rows = c.args.rows.now in
     let past_all : length c.args.keys.now ≤ c.loop-key.key-index = omega arith in
     c.loop-key.invariant.line
-    (part_end_line c.loop-key.progress (of_keys query rows (drop c.loop-key.key-index c.args.keys.now)) (ap (of_keys query rows) (drop_all c.loop-key.key-index c.args.keys.now past_all)))
+    (part_end_line row_text c.loop-key.progress (of_keys query rows (drop c.loop-key.key-index c.args.keys.now)) (ap (of_keys query rows) (drop_all c.loop-key.key-index c.args.keys.now past_all)))

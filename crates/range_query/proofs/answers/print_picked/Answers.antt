@@ -9,19 +9,19 @@ use Rattle.range_query.proofs.answers.print_picked.Goals as goal
 
 pub returns-in-Some-clause-ok : goal.returns-in-Some-clause-ok
 returns-in-Some-clause-ok c =
-    let same = listed c.args.query.now c.args.rows.now c.in-Some.keys (map json c.as_slice.result.now) c.in-Some.is c.as_slice.ensures in
+    let same = listed c.args.query.now c.start-start.result c.args.rows.now c.in-Some.keys (map json c.as_slice.result.now) c.start-start.ensures c.in-Some.is c.as_slice.ensures in
     on_ok_weaker c.print_keys.result (λ added. added ∙ ap (λ text. written_of c.args.reply.now ++ text) same) c.print_keys.ensures.ok
 
 pub returns-in-Some-clause-line : goal.returns-in-Some-clause-line
 returns-in-Some-clause-line c =
-    let same = listed c.args.query.now c.args.rows.now c.in-Some.keys (map json c.as_slice.result.now) c.in-Some.is c.as_slice.ensures in
+    let same = listed c.args.query.now c.start-start.result c.args.rows.now c.in-Some.keys (map json c.as_slice.result.now) c.start-start.ensures c.in-Some.is c.as_slice.ensures in
     on_ok_weaker c.print_keys.result (λ plain. subst (λ (text : List ℕ). IsLine text) same plain) c.print_keys.ensures.line
 
 pub returns-in_ok-print_part-in-None-clause-ok : goal.returns-in_ok-print_part-in-None-clause-ok
 returns-in_ok-print_part-in-None-clause-ok c =
     c.in_ok-print_part-in-None.ensures.ok
-    ∙ ap (λ text. written_of c.args.reply.now ++ text) (in_range c.args.query.now c.args.rows.now c.ranged.result.now c.in-None.is c.ranged.ensures)
+    ∙ ap (λ text. written_of c.args.reply.now ++ text) (in_range c.args.query.now c.start-start.result c.args.rows.now c.ranged.result.now c.start-start.ensures c.in-None.is c.ranged.ensures)
 
 pub returns-in_ok-print_part-in-None-clause-line : goal.returns-in_ok-print_part-in-None-clause-line
 returns-in_ok-print_part-in-None-clause-line c =
-    subst (λ (text : List ℕ). IsLine text) (in_range c.args.query.now c.args.rows.now c.ranged.result.now c.in-None.is c.ranged.ensures) c.in_ok-print_part-in-None.ensures.line
+    subst (λ (text : List ℕ). IsLine text) (in_range c.args.query.now c.start-start.result c.args.rows.now c.ranged.result.now c.start-start.ensures c.in-None.is c.ranged.ensures) c.in_ok-print_part-in-None.ensures.line

@@ -3,6 +3,7 @@ use Rattle.std.proofs.Common.{◌≡◌, ◌∙◌, [], ◌∷◌, ap, reverse}
 use Rattle.std.specs.Iterator.Adapters.{rev_source}
 use Rattle.std.specs.Slice.Iter.{iter_rest}
 use Rattle.std.proofs.lemmas.List.{reverse-append}
+use Rattle.view_model.specs.Answer.{row_text}
 use Rattle.range_query.proofs.Printed.{one_more, one_more_line}
 use Rattle.range_query.proofs.print.print_backwards.Goals as goal
 
@@ -14,7 +15,7 @@ loop-row-preserved c =
     let row = c.in-Some.row.now in
     let left : reverse old ≡ row ∷ reverse new = ap reverse c.in-Some.ensures.steps ∙ reverse-append new (row ∷ []) in
     let step = c.in_ok-print_next.ensures in record {
-      written = one_more later c.args.printed row (reverse old) (reverse new) (reverse c.args.rows.now) _ _ _ left c.loop-row.invariant.written step.ok;
+      written = one_more row_text later c.args.printed row (reverse old) (reverse new) (reverse c.args.rows.now) _ _ _ left c.loop-row.invariant.written step.ok;
       before = step.before ∙ c.loop-row.invariant.before;
-      line = λ rest. c.loop-row.invariant.line (one_more_line later row (reverse old) (reverse new) left step.line rest);
+      line = λ rest. c.loop-row.invariant.line (one_more_line row_text later row (reverse old) (reverse new) left step.line rest);
     }

@@ -2,7 +2,8 @@ use Rattle.std.proofs.Common.{◌≡◌, ◌++◌, reverse}
 use Rattle.std.specs.Iterator.Adapters.{rev_source}
 use Rattle.std.specs.Slice.Iter.{iter_rest}
 use Rattle.view_ports.specs.Lines.{IsLine}
-use Rattle.range_query.specs.Progress.{rows_after}
+use Rattle.view_model.specs.Answer.{row_text}
+use Rattle.range_query.specs.Progress.{texts_after}
 use Rattle.range_query.specs.Written.{before_of, written_of}
 use Rattle.range_query.proofs.print.print_backwards.Given as goal
 
@@ -10,7 +11,7 @@ use Rattle.range_query.proofs.print.print_backwards.Given as goal
 abbrev pub invariant-loop-row : goal.invariant-loop-row
 invariant-loop-row l =
     let left = reverse (iter_rest (rev_source l.row-iterator)) in record {
-      written : written_of l.reply ++ rows_after l.later left ≡ written_of l.initial.reply ++ rows_after l.printed (reverse l.rows);
+      written : written_of l.reply ++ texts_after row_text l.later left ≡ written_of l.initial.reply ++ texts_after row_text l.printed (reverse l.rows);
       before : before_of l.reply ≡ before_of l.initial.reply;
-      line : IsLine (rows_after l.later left) → IsLine (rows_after l.printed (reverse l.rows));
+      line : IsLine (texts_after row_text l.later left) → IsLine (texts_after row_text l.printed (reverse l.rows));
     }

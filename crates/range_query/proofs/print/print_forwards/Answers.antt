@@ -1,6 +1,7 @@
 -- One more row, and what is left is one row less.
 use Rattle.std.proofs.Common.{◌≡◌, ◌∙◌, ◌<◌, ◌+◌, ◌∷◌, ap, arith, drop, get_or, length, rules}
 use Rattle.std.proofs.lemmas.List.{drop_more}
+use Rattle.view_model.specs.Answer.{row_text}
 use Rattle.range_query.proofs.Printed.{one_more, one_more_line}
 use Rattle.range_query.proofs.print.print_forwards.Goals as goal
 
@@ -14,7 +15,7 @@ loop-row-preserved c =
     let here : get_or rows i row ≡ row = search rules in
     let left : drop i rows ≡ row ∷ drop (i + 1) rows = drop_more rows i row below ∙ ap (λ r. r ∷ drop (i + 1) rows) here in
     let step = c.in_ok-print_next.ensures in record {
-      written = one_more later c.args.printed row (drop i rows) (drop (i + 1) rows) rows _ _ _ left c.loop-row.invariant.written step.ok;
+      written = one_more row_text later c.args.printed row (drop i rows) (drop (i + 1) rows) rows _ _ _ left c.loop-row.invariant.written step.ok;
       before = step.before ∙ c.loop-row.invariant.before;
-      line = λ rest. c.loop-row.invariant.line (one_more_line later row (drop i rows) (drop (i + 1) rows) left step.line rest);
+      line = λ rest. c.loop-row.invariant.line (one_more_line row_text later row (drop i rows) (drop (i + 1) rows) left step.line rest);
     }

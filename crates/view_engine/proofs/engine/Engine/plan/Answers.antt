@@ -1,5 +1,5 @@
 -- The design that is read is that of the live document.
-use Rattle.std.proofs.Common.{◌≡◌, ◌⊎◌, ◌∙◌, ◌≤◌, ℕ, List, length, map, bytes_eq, Some, None, sym, ap, subst}
+use Rattle.std.proofs.Common.{◌≡◌, ◌⊎◌, ◌∙◌, ◌≤◌, ℕ, List, length, map, bytes_eq, Option, Some, None, is_some, sym, ap, subst}
 use Rattle.std.specs.Map.{lookup}
 use Rattle.json_terms.specs.Seen.{json}
 use Rattle.view_ports.proofs.Told.{told_now}
@@ -13,14 +13,15 @@ use Rattle.doc_file.specs.History.{live_document}
 use Rattle.view_engine.specs.declared.refusal.Refusal.TheVariants.{MissingNamedView, UnknownLanguage}
 use Rattle.view_engine.specs.View.{design_id, view_refusal}
 use Rattle.view_engine.specs.ViewPlan.{source_at, IsPlan, ShowsRows}
-use Rattle.json_terms.specs.Json.{Json}
+use Rattle.query_args.specs.declared.fault.QueryFault.{QueryFault}
 use Rattle.query_args.specs.declared.fault.QueryFault.TheVariants as query
+use Rattle.query_args.specs.declared.query.Target.TheVariants as target
 use Rattle.query_args.specs.declared.query.Query.{Query}
 use Rattle.query_args.specs.Faults.{query_fault}
 use Rattle.query_args.specs.Query.{is_updated}
-use Rattle.view_engine.specs.ViewQuery.{parameters_of, plain_view, view_query}
+use Rattle.view_engine.specs.ViewQuery.{builtin_named, parameters_of, target_for, view_query}
 use Rattle.view_engine.proofs.Reading.{read_of_get}
-use Rattle.view_engine.proofs.Plans.{met_query, stored_design, planned, refused_language, refused_query, refused_same, refused_view}
+use Rattle.view_engine.proofs.Plans.{met_query, stored_design, planned, refused_language, reduced_there, refused_query, refused_same, refused_view}
 use Rattle.view_engine.proofs.engine.Engine.plan.Goals as goal
 use Rattle.view_engine.specs.World.{of_history}
 
@@ -57,7 +58,10 @@ returns-in-Some-path_of-clause-plan g c = λ history.
     let place = c.in-Some.place in
     let asked = c.in-Ok-read_query.query in
     let updates : is_updated (parameters_of name) ≡ asked.update = ap is_updated (sym c.parameters_of-parameters.ensures) ∙ sym (ap (λ (q : Query). q.update) c.in-Ok-read_query.ensures.query) in
-    let fits : query_fault plain_view (parameters_of name) ≡ None = ap (query_fault plain_view) (sym c.parameters_of-parameters.ensures) ∙ c.in-Ok-read_query.ensures.fault in
+    let reduced : builtin_named name.view design.views ≡ c.builtin_in-reduce.result =
+    reduced_there design.views c.as_slice.result.now c.as_slice-2.result.now name.view c.as_str-3.result.now place c.index-as_slice-place.result c.builtin_in-reduce.result c.as_slice.ensures c.as_slice-2.ensures c.as_str-3.ensures c.builtin_in-reduce.ensures c.in-Some.ensures.reduced in
+    let some : is_some (builtin_named name.view design.views) ≡ c.is_some.result = ap is_some reduced ∙ sym c.is_some.ensures in
+    let fits : query_fault (target_for design.views name) (parameters_of name) ≡ None = (λ i. query_fault (target.View (some i)) (sym c.parameters_of-parameters.ensures i)) ∙ c.in-Ok-read_query.ensures.fault in
     let is : id ≡ design_id name.design = c.as_str-2.ensures ∙ c.in_ok-id.ensures ∙ ap design_id c.as_str.ensures in
     let there : Some (source_at design.views place) ≡ lookup (λ key. bytes_eq key name.view) (map named design.views) =
     ap (λ (views : List View). Some (source_at views place)) (sym c.as_slice.ensures)
@@ -104,7 +108,10 @@ returns-clause-refused g c = λ refusal is_refusal history.
     let document = json c.in-Ok.document in
     let design = c.in_ok-design.design in
     let place = c.in-Some.place in
-    let fits : query_fault plain_view (parameters_of name) ≡ None = ap (query_fault plain_view) (sym c.parameters_of-parameters.ensures) ∙ c.in-Ok-read_query.ensures.fault in
+    let reduced : builtin_named name.view design.views ≡ c.builtin_in-reduce.result =
+    reduced_there design.views c.as_slice.result.now c.as_slice-2.result.now name.view c.as_str-3.result.now place c.index-as_slice-place.result c.builtin_in-reduce.result c.as_slice.ensures c.as_slice-2.ensures c.as_str-3.ensures c.builtin_in-reduce.ensures c.in-Some.ensures.reduced in
+    let some : is_some (builtin_named name.view design.views) ≡ c.is_some.result = ap is_some reduced ∙ sym c.is_some.ensures in
+    let fits : query_fault (target_for design.views name) (parameters_of name) ≡ None = (λ i. query_fault (target.View (some i)) (sym c.parameters_of-parameters.ensures i)) ∙ c.in-Ok-read_query.ensures.fault in
     let same : UnknownLanguage design.language ≡ refusal = cc in
     let is : id ≡ design_id name.design = c.as_str-2.ensures ∙ c.in_ok-id.ensures ∙ ap design_id c.as_str.ensures in
     let there : Some (source_at design.views place) ≡ lookup (λ key. bytes_eq key name.view) (map named design.views) =
@@ -129,9 +136,12 @@ returns-in-Err-read_query-clause-refused g c = λ refusal is_refusal history.
     let design = c.in_ok-design.design in
     let place = c.in-Some.place in
     let found = c.in-Err-read_query.fault in
-    let stands : (query_fault plain_view (parameters_of name) ≡ Some found) ⊎ (found ≡ query.NoMemory) =
-    subst (λ (q : Json). (query_fault plain_view q ≡ Some found) ⊎ (found ≡ query.NoMemory)) c.parameters_of-parameters.ensures c.in-Err-read_query.ensures.fault in
-    let bad = met_query found refusal (query_fault plain_view (parameters_of name)) (sym c.halt_of_query.ensures ∙ is_refusal) stands in
+    let reduced : builtin_named name.view design.views ≡ c.builtin_in-reduce.result =
+    reduced_there design.views c.as_slice.result.now c.as_slice-2.result.now name.view c.as_str-3.result.now place c.index-as_slice-place.result c.builtin_in-reduce.result c.as_slice.ensures c.as_slice-2.ensures c.as_str-3.ensures c.builtin_in-reduce.ensures c.in-Some.ensures.reduced in
+    let some : is_some (builtin_named name.view design.views) ≡ c.is_some.result = ap is_some reduced ∙ sym c.is_some.ensures in
+    let stands : (query_fault (target_for design.views name) (parameters_of name) ≡ Some found) ⊎ (found ≡ query.NoMemory) =
+    subst (λ (f : Option QueryFault). (f ≡ Some found) ⊎ (found ≡ query.NoMemory)) (λ i. query_fault (target.View (sym some i)) (c.parameters_of-parameters.ensures i)) c.in-Err-read_query.ensures.fault in
+    let bad = met_query found refusal (query_fault (target_for design.views name) (parameters_of name)) (sym c.halt_of_query.ensures ∙ is_refusal) stands in
     let is : id ≡ design_id name.design = c.as_str-2.ensures ∙ c.in_ok-id.ensures ∙ ap design_id c.as_str.ensures in
     let there : Some (source_at design.views place) ≡ lookup (λ key. bytes_eq key name.view) (map named design.views) =
     ap (λ (views : List View). Some (source_at views place)) (sym c.as_slice.ensures)

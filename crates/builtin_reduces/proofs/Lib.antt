@@ -1,0 +1,6 @@
+mod Near
+mod Printed
+mod Bounds
+mod Told
+mod Appended
+mod SumLines
