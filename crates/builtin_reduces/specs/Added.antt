@@ -86,3 +86,12 @@ add_two value.Overflow part = overflow_with part
 abbrev pub places_or_refused : Option (List ℤ) → BuiltinSum
 places_or_refused (Some numbers) = value.Numbers (added (pos 0 ∷ []) numbers)
 places_or_refused None = value.Refused
+
+-- adding to it takes no memory
+abbrev pub IsFree : BuiltinSum → Type 0
+IsFree (value.Count a) = Unit {0}
+IsFree (value.Number a) = ⊥
+IsFree (value.Numbers ns) = ⊥
+IsFree (value.Stats a) = Unit {0}
+IsFree value.Refused = Unit {0}
+IsFree value.Overflow = Unit {0}

@@ -7,10 +7,10 @@ use Rattle.design_docs.specs.declared.design.Builtin.{Builtin}
 use Rattle.builtin_reduces.specs.declared.sum.BuiltinSum.{BuiltinSum}
 use Rattle.builtin_reduces.specs.Values.{value_of}
 
--- values as rows have them: terms, and 2^40 of them at most
+-- values as rows have them: terms, and as many at most as a list in memory may have
 pub record AreValues (values : List Json) : Type 0 where
   pub terms : All IsTerm values
-  pub few : length values ≤ 2 ^ 40
+  pub few : length values ≤ 2 ^ 63
 
 -- a value of the parts joined, wherever these are the values of parts of which none is empty
 abbrev pub IsJoined : Builtin → List BuiltinSum → BuiltinSum → Type 0

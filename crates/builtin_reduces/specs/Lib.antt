@@ -4,3 +4,15 @@ pub mod Seen
 pub mod Text
 pub mod Added
 pub mod Written
+pub mod Kept
+pub mod Front
+pub mod SumBytes
+pub mod SumFits
+pub mod SumReading
+pub mod BuiltinMeaning
+pub mod Sizes
+pub mod SpellingSizes
+pub mod ItemLaws
+pub mod Wide
+pub mod SumSpelled
+pub mod SummerLaws

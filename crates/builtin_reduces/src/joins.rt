@@ -1,7 +1,7 @@
 //! The value of several groups of rows as one.
 
-ghost use Rattle.std.specs.Prelude.{◌≡◌, [], IfOk};
-ghost use Rattle.builtin_reduces.specs.Added.{add_two, count_with, number_with, numbers_with, stats_with, overflow_with};
+ghost use Rattle.std.specs.Prelude.{◌≡◌, ◌≢◌, [], IfOk, IsOk};
+ghost use Rattle.builtin_reduces.specs.Added.{IsFree, add_two, count_with, number_with, numbers_with, stats_with, overflow_with};
 ghost use Rattle.builtin_reduces.specs.Joined.{IsJoined};
 ghost use Rattle.builtin_reduces.specs.Values.{value_of};
 
@@ -11,10 +11,11 @@ use design_docs::Builtin;
 use json_terms::NoMemory;
 use std::alloc::Global;
 
-/// The value of several groups of rows as one, from the values of the groups. The one error is want of memory, which
-/// `_count` and `_stats` don't take.
+/// The value of several groups of rows as one, from the values of the groups. The one error is want of memory, and `_count`
+/// and `_stats` take none.
 pub fn join(alloc: Global, kind: Builtin, parts: &[BuiltinSum]) -> Result<BuiltinSum, NoMemory>
-    ensures { IfOk result (IsJoined kind parts.now) }
+    ensures value { IfOk result (IsJoined kind parts.now) }
+    ensures free { kind ≢ Builtin.Sum → IsOk result }
 {
     let mut total = value_of_none(kind);
     for part in parts {
@@ -34,13 +35,14 @@ pub(crate) fn value_of_none(kind: Builtin) -> BuiltinSum
     }
 }
 
-/// The value of two groups as one. Values of two kinds give one that is refused.
+/// The value of two groups as one. Values of two kinds give one that is refused. Only sums of numbers take memory.
 pub(crate) fn add(
     alloc: Global,
     total: BuiltinSum,
     part: &BuiltinSum,
 ) -> Result<BuiltinSum, NoMemory>
-    ensures { IfOk result (λ sum. sum ≡ add_two total part.now) }
+    ensures value { IfOk result (λ sum. sum ≡ add_two total part.now) }
+    ensures free { IsFree total → IsOk result }
 {
     match total {
         BuiltinSum::Count(count) => Ok(add_to_count(count, part)),

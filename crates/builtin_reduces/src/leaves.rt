@@ -1,11 +1,12 @@
 //! The value of a group of rows.
 
-ghost use Rattle.std.specs.Prelude.{◌≡◌, ◌∷◌, [], map, IfOk, Option, Some, None, option_map};
+ghost use Rattle.std.specs.Prelude.{◌≡◌, ◌≢◌, ◌∷◌, [], map, IfOk, IsOk, Option, Some, None, option_map};
 ghost use Rattle.json_terms.specs.Seen.{json};
 ghost use Rattle.builtin_reduces.specs.Seen.{values};
-ghost use Rattle.builtin_reduces.specs.Added.{places_or_refused};
+ghost use Rattle.builtin_reduces.specs.Added.{IsFree, add_two, places_or_refused};
 ghost use Rattle.builtin_reduces.specs.Values.{value_of, each, number_in};
 
+use crate::item::RowItem;
 use crate::joins::{add, value_of_none};
 use crate::stats::stats_of_one;
 use crate::sum::{BuiltinSum, Sums};
@@ -13,23 +14,56 @@ use design_docs::Builtin;
 use json_terms::{NoMemory, Row, Term};
 use std::alloc::Global;
 
-/// The value of a group of rows, from the values of the rows. The one error is want of memory, which `_count` and `_stats`
-/// don't take.
+/// The value of a group of rows, from the values of the rows. The one error is want of memory, and `_count` and `_stats` take
+/// none.
 pub fn leaf(alloc: Global, kind: Builtin, rows: &[Row]) -> Result<BuiltinSum, NoMemory>
-    ensures { IfOk result (λ sum. sum ≡ value_of kind (values rows.now)) }
+    ensures value { IfOk result (λ sum. sum ≡ value_of kind (values rows.now)) }
+    ensures free { kind ≢ Builtin.Sum → IsOk result }
 {
     let mut total = value_of_none(kind);
     for row in rows {
         row.value.validity();
-        let part = value_of_one(alloc, kind, &row.value)?;
-        total = add(alloc, total, &part)?;
+        total = add_value(alloc, kind, total, &row.value)?;
     }
     Ok(total)
 }
 
+/// The same of rows that a tree keeps.
+pub(crate) fn leaf_of_items(
+    alloc: Global,
+    kind: Builtin,
+    items: &[RowItem],
+) -> Result<BuiltinSum, NoMemory>
+    ensures value { IfOk result (λ sum. sum ≡ value_of kind (values items.now)) }
+    ensures free { kind ≢ Builtin.Sum → IsOk result }
+{
+    let mut total = value_of_none(kind);
+    for item in items {
+        let row = &item.row;
+        row.value.validity();
+        total = add_value(alloc, kind, total, &row.value)?;
+    }
+    Ok(total)
+}
+
+/// The value of a group with one row more.
+fn add_value(
+    alloc: Global,
+    kind: Builtin,
+    total: BuiltinSum,
+    value: &Term,
+) -> Result<BuiltinSum, NoMemory>
+    ensures value { IfOk result (λ sum. sum ≡ add_two total (value_of kind (json value.now ∷ []))) }
+    ensures free { kind ≢ Builtin.Sum → IsFree total → IsOk result }
+{
+    let part = value_of_one(alloc, kind, value)?;
+    add(alloc, total, &part)
+}
+
 /// The value of one row.
 fn value_of_one(alloc: Global, kind: Builtin, value: &Term) -> Result<BuiltinSum, NoMemory>
-    ensures { IfOk result (λ sum. sum ≡ value_of kind (json value.now ∷ [])) }
+    ensures value { IfOk result (λ sum. sum ≡ value_of kind (json value.now ∷ [])) }
+    ensures free { kind ≢ Builtin.Sum → IsOk result }
 {
     match kind {
         Builtin::Count => Ok(BuiltinSum::Count(1)),

@@ -23,6 +23,22 @@ pub enum BuiltinSum {
     Overflow,
 }
 
+impl BuiltinSum {
+    /// An equal value. The one error is want of memory.
+    pub fn copy(&self, alloc: Global) -> Result<BuiltinSum, NoMemory>
+        ensures { IfOk result (λ copy. copy ≡ self.now) }
+    {
+        match self {
+            BuiltinSum::Count(count) => Ok(BuiltinSum::Count(*count)),
+            BuiltinSum::Number(number) => Ok(BuiltinSum::Number(*number)),
+            BuiltinSum::Numbers(sums) => Ok(BuiltinSum::Numbers(sums.copy(alloc)?)),
+            BuiltinSum::Stats(stats) => Ok(BuiltinSum::Stats(*stats)),
+            BuiltinSum::Refused => Ok(BuiltinSum::Refused),
+            BuiltinSum::Overflow => Ok(BuiltinSum::Overflow),
+        }
+    }
+}
+
 /// What `_stats` tells of numbers.
 #[derive(Clone, Copy, Debug, PartialEq, Eq)]
 pub struct Stats {
@@ -66,6 +82,14 @@ impl Sums {
         ensures { result ≡ items.items }
     {
         Sums { items }
+    }
+
+    fn copy(&self, alloc: Global) -> Result<Sums, NoMemory>
+        ensures { IfOk result (λ copy. copy ≡ self.now) }
+    {
+        let mut items = Vec::new(alloc);
+        items.extend_from_slice(self.items.as_slice())?;
+        Ok(Sums { items })
     }
 
     pub fn as_slice(&self) -> &[i128]

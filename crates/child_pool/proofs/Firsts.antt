@@ -13,7 +13,7 @@ use Rattle.child_pool.specs.Firsts.{first_prompts, slots_of, HasMappedFirst}
 use Rattle.child_pool.specs.Histories.{WentIn, talk}
 use Rattle.child_pool.specs.Jobs.{Job}
 use Rattle.child_pool.specs.Mapping.{AreHonestRows, AreParts}
-use Rattle.child_pool.specs.Pools.{AfterBatch, AfterPreparing, AreRowsOf, HasGivenUp, IsKept}
+use Rattle.child_pool.specs.Pools.{AfterBatch, AfterPreparing, AreRowsOf, HasGivenUp, IsKept, reducer_of}
 use Rattle.child_pool.specs.Prompts.{document_prompt, document_prompts, slots_prompts, update_prompts}
 use Rattle.child_pool.specs.Talk.{AreTurns, Due, talk_of}
 use Rattle.child_pool.specs.Tries.{AllAnswered, Prompt}
@@ -76,18 +76,19 @@ module _ (functions : List ℕ → Functions) (honest : List ℕ → Type 0) (jo
         let w : WentIn follow job old.width calls (AfterPreparing functions honest job old (slots_of job old.width) rose pool (Ok tt) calls) =
         subst (λ (n : ℕ). WentIn follow job old.width calls (AfterPreparing functions honest job old n rose pool (Ok tt) calls)) is was in
         let first : 0 < slots_of job old.width = subst (λ (n : ℕ). 0 < n) is some in
-        let kept = w.holds.0 in
-        let prepared = w.holds.2 in
+        let kept = w.holds.0.0 in
+        let prepared = w.holds.0.2 in
         map_in w (HasMappedFirst functions honest job old [] rose pool []) (record {
           is_ready = record { remembered = (max (slots_of job old.width) kept, omega arith, prepared.2 first); there = prepared.3; told = prepared.0 };
           tried = (
             kept,
-            w.holds.1,
+            w.holds.0.1,
             record {
               answered = subst (λ (prompts : List Prompt). AllAnswered rose prompts w.added) (sym (append-nil (slots_prompts job.sources kept (slots_of job old.width)))) prepared.1;
               remembers = prepared.2 first;
             },
           );
+          reducer = w.holds.1;
           rows = no_rows functions honest job;
         })
 
@@ -111,6 +112,7 @@ module _ (functions : List ℕ → Functions) (honest : List ℕ → Type 0) (jo
                 remembers = subst (λ (p : Pool). IsKept p job.path (max (slots_of job old.width) tried.0)) (sym same) tried.2.remembers;
               },
             );
+            reducer = ap (λ (p : Pool). reducer_of p) same ∙ w.holds.reducer;
             rows = rows_next done more lists others w.holds.rows v.holds.rows;
           })
 
@@ -150,7 +152,7 @@ module _ (functions : List ℕ → Functions) (honest : List ℕ → Type 0) (jo
           | inr counted ↦ inr counted
         ] in
         map_in w (λ added now. AfterTries functions honest job old rose pool (Ok lists) calls added now × AfterUpdate functions honest job old.width rose pool (Ok lists) calls added now) (
-          (kept, h.tried.1, record { answered = answered; remembers = λ documents. h.tried.2.remembers }),
+          ((kept, h.tried.1, record { answered = answered; remembers = λ documents. h.tried.2.remembers }), h.reducer),
           (
             h.is_ready.there,
             record {

@@ -1,9 +1,10 @@
 -- What functions did, one call or one function more.
-use Rattle.std.proofs.Common.{◌≡◌, ℕ, List, [], ◌∷◌, ◌++◌, true, Option, nat_eq, refl, sym, ap, ◌∙◌, subst, inl, inr, append_assoc, append-nil, eq-eqb}
-use Rattle.view_ports.specs.Calls.{Call, Session, after, child, slot_of}
+use Rattle.std.proofs.Common.{◌≡◌, ℕ, List, [], ◌∷◌, ◌++◌, true, nat_eq, refl, sym, ap, ◌∙◌, subst, append_assoc, append-nil, eq-eqb}
+use Rattle.view_ports.specs.Calls.{Call, after, child, slot_of}
 use Rattle.view_ports.specs.Servers.{Goes}
 use Rattle.child_pool.specs.Jobs.{Job, IsLawful, AllLawful}
-use Rattle.child_pool.specs.Histories.{Went, HasReceived, IsReceipt, course, steps_of}
+use Rattle.child_pool.specs.Histories.{Went, course, steps_of}
+pub use Rattle.child_pool.specs.TryLaws.{HasReceived-more, HasReceived-after}
 
 -- ---- lists of calls
 
@@ -11,18 +12,6 @@ pub AllLawful-append : (job : Job) (slot : ℕ) (more added before : List Call) 
 AllLawful-append job slot [] added before first later = first
 AllLawful-append job slot (call ∷ more) added before first later =
     (later.0, subst (IsLawful job call) (sym (append_assoc more added before)) later.1, AllLawful-append job slot more added before first later.2)
-
--- what was received is received still
-pub HasReceived-more : (P : Option Session → List ℕ → Type 0) (more added before : List Call) → HasReceived P added before → HasReceived P (more ++ added) before
-HasReceived-more P [] added before h = h
-HasReceived-more P (call ∷ more) added before h = inr (HasReceived-more P more added before h)
-
-pub HasReceived-after : (P : Option Session → List ℕ → Type 0) (more added before : List Call) → HasReceived P more (added ++ before) → HasReceived P (more ++ added) before
-HasReceived-after P [] added before h = absurd h
-HasReceived-after P (call ∷ more) added before h = elim h [
-  | inl here ↦ inl (subst (IsReceipt P call) (sym (append_assoc more added before)) here)
-  | inr there ↦ inr (HasReceived-after P more added before there)
-]
 
 pub course-append : (more added : List Call) → course (more ++ added) ≡ course added ++ course more
 course-append [] added = sym (append-nil (course added))

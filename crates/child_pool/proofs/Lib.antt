@@ -13,12 +13,23 @@ pub mod Prepared
 pub mod Talking
 pub mod Refusals
 pub mod Readied
+pub mod Parts
+pub mod ValueReplies
 pub mod RowReplies
 pub mod Mapped
+pub mod Widened
+pub mod Reduced
 pub mod Batches
 pub mod Pooled
+pub mod Resets
 pub mod Updated
 pub mod Firsts
 pub mod Nexts
 pub mod Remembered
 pub mod Honesty
+mod Talks
+pub mod ChildSums
+mod Tried
+mod Folds
+mod Joining
+mod ViewJoins

@@ -1,10 +1,10 @@
 -- What the pool's calls come to.
-use Rattle.std.proofs.Common.{◌≡◌, ◌<◌, ◌≤◌, ℕ, max, List, true, inl, inr, Option, Some, None, MatchOption, Ok, Err, refl, sym, ap, ◌∙◌, subst, arith}
+use Rattle.std.proofs.Common.{◌≡◌, ◌<◌, ◌≤◌, ℕ, max, List, [], true, inl, inr, Option, Some, None, MatchOption, Ok, Err, refl, sym, ap, ◌∙◌, subst, arith}
 use Rattle.std.specs.Str.{bytes_eq}
 use Rattle.std.proofs.lemmas.Bool.{cases_Bool, cases_lt}
 use Rattle.std.proofs.lemmas.Slice.Eq.{bytes_eq-Decides}
 use Rattle.json_terms.specs.Json.{Json}
-use Rattle.view_ports.specs.Calls.{Call}
+use Rattle.view_ports.specs.Calls.{Call, child}
 use Rattle.view_ports.specs.Functions.{Functions}
 use Rattle.child_pool.specs.declared.doc_rows.DocRowLists.{DocRowLists}
 use Rattle.child_pool.specs.declared.pool.Pool.{Pool}
@@ -12,10 +12,13 @@ use Rattle.child_pool.specs.declared.pool.Started.{Started}
 use Rattle.child_pool.specs.declared.pool_fault.PoolFault.{PoolFault}
 use Rattle.child_pool.specs.Histories.{AllStops, Went, WentIn}
 use Rattle.child_pool.specs.Jobs.{Job}
-use Rattle.child_pool.specs.Pools.{AfterBatch, AfterMapping, AfterReadying, AfterTrying, IsKeptOf, AreStopped, AreThere, HasItsChildren, IsKept, IsReady, StandReady}
-use Rattle.child_pool.specs.Prompts.{document_prompts}
+use Rattle.child_pool.specs.PoolCalls.{AreLeft}
+use Rattle.child_pool.specs.Pools.{AfterBatch, AfterMapping, AfterReadying, AfterTrying, IsKeptOf, AreStopped, AreThere, HasItsChildren, HasItsReducer, IsKept, IsReady, KeepsReducer, StandReady}
+use Rattle.child_pool.specs.Prompts.{document_prompts, slots_prompts}
+use Rattle.child_pool.specs.Sessions.{IsThere}
+use Rattle.child_pool.specs.Tries.{AllAnswered}
 use Rattle.child_pool.proofs.Refusals.{given_up}
-use Rattle.child_pool.proofs.Slots.{map_in, on_then, went_in}
+use Rattle.child_pool.proofs.Slots.{map_in, none_in, on_then, stays_elsewhere, went_in}
 
 -- what holds of a path and its sources holds of equal ones
 pub for_job : (G : List ℕ → List (List ℕ) → Type 0) {path other : List ℕ} {sources others : List (List ℕ)} → path ≡ other → sources ≡ others → G path sources → G other others
@@ -30,7 +33,7 @@ Stands pool calls o = MatchOption o (Unit {0}) (λ started. (started.count ≤ p
 
 -- the children that the pool remembers are there
 pub children_there : (pool : Pool) (path : List ℕ) (count : ℕ) (calls : List Call) → IsKept pool path count → HasItsChildren pool calls → (count ≤ pool.width) × AreThere path count calls
-children_there pool path count calls is stands = subst (Stands pool calls) is stands
+children_there pool path count calls is stands = subst (Stands pool calls) is stands.mapping
 
 -- those of this path, where there may be none
 pub kept_there : (pool : Pool) (path : List ℕ) (count : ℕ) (calls : List Call) → IsKeptOf pool path count → HasItsChildren pool calls → (count ≤ pool.width) × AreThere path count calls
@@ -39,8 +42,8 @@ kept_there pool path count calls kept stands = elim kept [
   | inr none ↦ (omega (arith, none.0), λ slot never. absurd (omega (arith, none.0)))
 ]
 
-pub stands_kept : (pool : Pool) (path : List ℕ) (count : ℕ) (calls : List Call) → IsKept pool path count → count ≤ pool.width → AreThere path count calls → HasItsChildren pool calls
-stands_kept pool path count calls is within there = subst (Stands pool calls) (sym is) (within, there)
+pub stands_kept : (pool : Pool) (path : List ℕ) (count : ℕ) (calls : List Call) → IsKept pool path count → count ≤ pool.width → AreThere path count calls → HasItsReducer pool calls → HasItsChildren pool calls
+stands_kept pool path count calls is within there reducer = record { mapping = subst (Stands pool calls) (sym is) (within, there); reducing = reducer }
 
 -- the pool remembers some number of children of each path
 pub some_kept : (pool : Pool) (path : List ℕ) (o : Option Started) → pool.started ≡ o → (kept : ℕ) × IsKeptOf pool path kept
@@ -69,22 +72,66 @@ pub ready_stand : (functions : List ℕ → Functions) (honest : List ℕ → Ty
 ready_stand functions honest job slots pool {calls = calls} was =
     let there = children_there pool job.path was.remembered.0 calls was.remembered.2 was.there in (there.0, record { told = was.told; there = there.1 })
 
+-- ---- the child that reduces
+
+-- a child that is remembered at the width is there
+abbrev pub StandsAt : ℕ → List Call → Option (List ℕ) → Type 0
+StandsAt width calls o = MatchOption o (Unit {0}) (λ path. IsThere path width calls)
+
+stays_at : (o : Option (List ℕ)) (width : ℕ) (before now : List Call) → child width now ≡ child width before → StandsAt width before o → StandsAt width now o
+stays_at None width before now same there = tt
+stays_at (Some path) width before now same there = (there.0, record { is = same ∙ there.1.is })
+
+-- the child that reduces is there still where its slot is as it was
+pub reducer_stays : (old pool : Pool) (before now : List Call) → KeepsReducer old pool → pool.width ≡ old.width → child old.width now ≡ child old.width before → HasItsReducer old before → HasItsReducer pool now
+reducer_stays old pool before now keeps wide same there =
+    subst (λ (n : ℕ). StandsAt n now pool.reducer) (sym wide) (subst (StandsAt old.width now) (sym keeps) (stays_at old.reducer old.width before now same there))
+
+-- ---- the calls of the pool
+
 module _ (functions : List ℕ → Functions) (honest : List ℕ → Type 0) (job : Job) {follow : List Call → Type 0} {calls : List Call} where
   pub prepared_pool : {width : ℕ} (old : Pool) (slots kept count : ℕ) (rose : Type 0) (pool : Pool) → IsKeptOf old job.path kept → count ≡ max slots kept → count ≤ pool.width → IsKept pool job.path count
-      → WentIn follow job width calls (λ added now. AfterReadying functions honest job kept slots rose (Ok tt) calls added now × AreThere job.path kept now)
+      → KeepsReducer old pool → pool.width ≡ old.width → slots ≤ old.width → HasItsReducer old calls
+      → WentIn follow job width calls (λ added now. AfterReadying functions honest job kept slots rose (Ok tt) calls added now × (AreThere job.path kept now × AreLeft slots calls now))
       → WentIn follow job width calls (AfterTrying functions honest job old slots rose pool (Ok tt) calls)
-  prepared_pool {width = width} old slots kept count rose pool was most within is w =
+  prepared_pool {width = width} old slots kept count rose pool was most within is keeps wide few reducer w =
       map_in w (AfterTrying functions honest job old slots rose pool (Ok tt) calls) (
-        kept,
-        was,
-        (w.holds.0.0, w.holds.0.1, λ some. subst (IsKept pool job.path) most is, stands_kept pool job.path count w.now is within there),
+        (
+          kept,
+          was,
+          (
+            w.holds.0.0,
+            w.holds.0.1,
+            λ some. subst (IsKept pool job.path) most is,
+            stands_kept pool job.path count w.now is within there (reducer_stays old pool calls w.now keeps wide (w.holds.1.1 old.width few) reducer),
+          ),
+        ),
+        keeps,
       )
     where
       there : AreThere job.path count w.now
       there slot below = elim (cases_lt slot slots) [
         | inl made ↦ (job.sources, (w.holds.0.0 slot made).idle)
-        | inr above ↦ w.holds.1 slot (omega (arith, most))
+        | inr above ↦ w.holds.1.0 slot (omega (arith, most))
       ]
+
+  -- none is to be made ready
+  pub unasked_pool : (old : Pool) (slots : ℕ) (rose : Type 0) → slots ≡ 0 → follow calls → HasItsChildren old calls → WentIn follow job old.width calls (AfterTrying functions honest job old slots rose old (Ok tt) calls)
+  unasked_pool old slots rose none follows stands =
+      let kept = some_kept old job.path old.started refl in
+      none_in follows (AfterTrying functions honest job old slots rose old (Ok tt) calls) (
+        (
+          kept.0,
+          kept.1,
+          (
+            λ slot below. absurd (omega arith),
+            subst (λ (n : ℕ). AllAnswered rose (slots_prompts job.sources kept.0 n) []) (sym none) refl,
+            λ some. absurd (omega arith),
+            stands,
+          ),
+        ),
+        refl,
+      )
 
   -- they could not be made ready
   pub unprepared_pool : {width : ℕ} (old : Pool) (slots kept : ℕ) (rose : Type 0) (pool : Pool) (f : PoolFault) → IsKeptOf old job.path kept
@@ -97,10 +144,11 @@ module _ (functions : List ℕ → Functions) (honest : List ℕ → Type 0) (jo
       → Went follow job 0 calls (AfterMapping functions honest job slots was.remembered.0 documents rose (Ok lists) calls) → WentIn follow job pool.width calls (AfterBatch functions honest job pool.width slots documents rose pool (Ok lists) calls)
   mapped_pool slots pool one documents rose lists was w =
       let some : 0 < pool.width = omega arith in
+      let reducer = reducer_stays pool pool calls w.now refl refl (stays_elsewhere w pool.width (omega arith)) was.there.reducing in
       went_in some w (AfterBatch functions honest job pool.width slots documents rose pool (Ok lists) calls) (record {
         is_ready = record {
           remembered = was.remembered;
-          there = stands_kept pool job.path was.remembered.0 w.now was.remembered.2 (ready_stand functions honest job slots pool was).0 w.holds.stand.there;
+          there = stands_kept pool job.path was.remembered.0 w.now was.remembered.2 (ready_stand functions honest job slots pool was).0 w.holds.stand.there reducer;
           told = w.holds.stand.told;
         };
         answered = w.holds.answered;

@@ -1,18 +1,15 @@
 -- Prompts: a function more, and what its result says.
 use Rattle.std.proofs.Common.{◌≡◌, ◌+◌, ℕ, List, [], ◌∷◌, ◌++◌, Bool, true, false, Option, Some, None, Result, Ok, Err, refl, sym, ap, ◌∙◌, subst, inl, inr, append_assoc, append-nil}
-use Rattle.view_ports.specs.Calls.{Call, Session}
+use Rattle.view_ports.specs.Calls.{Call}
 use Rattle.view_ports.specs.Functions.{Functions}
 use Rattle.query_protocol.specs.declared.reply.Reply.{Reply}
 use Rattle.child_pool.specs.declared.heard.Heard.TheVariants.{Log}
 use Rattle.child_pool.specs.declared.pool_fault.PoolFault.{PoolFault}
-use Rattle.child_pool.specs.declared.pool_fault.PoolFault.TheVariants.{ServerFault, BadReply, Compile, UnknownLanguage, NoMemory}
 use Rattle.child_pool.specs.Jobs.{Job}
-use Rattle.child_pool.specs.Histories.{FailsAfter, Went, HasReceived, Turn, says, hears, last_heard, course}
-use Rattle.child_pool.specs.Outcomes.{AfterLine, AfterPrompt, AfterSend, IsCaused, OnlyLogged, StopsAfter, WasBad, WasComplaint}
-use Rattle.child_pool.proofs.Going.{HasReceived-after, Went-map, Went-then, course-append}
-
-pub received_later : (P : Option Session → List ℕ → Type 0) (more added before now : List Call) → now ≡ added ++ before → HasReceived P more now → HasReceived P (more ++ added) before
-received_later P more added before now is h = HasReceived-after P more added before (subst (HasReceived P more) is h)
+use Rattle.child_pool.specs.Histories.{FailsAfter, Went, Turn, says, hears, last_heard, course}
+use Rattle.child_pool.specs.Outcomes.{AfterLine, AfterPrompt, AfterSend, IsCaused, OnlyLogged, StopsAfter}
+use Rattle.child_pool.proofs.Going.{Went-map, Went-then, course-append}
+pub use Rattle.child_pool.specs.TryLaws.{caused_later, received_later}
 
 -- what comes of a prompt that wasn't sent
 abbrev pub unsent : Result Bool PoolFault → Result (Option Reply) PoolFault
@@ -39,14 +36,6 @@ fails_later earlier turns more added went h = record {
 }
 
 module _ (functions : List ℕ → Functions) (honest : List ℕ → Type 0) (job : Job) where
-  -- a refusal's cause stays one
-  pub caused_later : (f : PoolFault) (more added before now : List Call) → now ≡ added ++ before → IsCaused functions honest job more now f → IsCaused functions honest job (more ++ added) before f
-  caused_later ServerFault more added before now is h = tt
-  caused_later (BadReply text) more added before now is h = received_later (WasBad functions honest job text) more added before now is h
-  caused_later Compile more added before now is h = received_later (WasComplaint functions honest job) more added before now is h
-  caused_later UnknownLanguage more added before now is h = absurd h
-  caused_later NoMemory more added before now is h = tt
-
   module _ {first second : List Call → Type 0} {slot : ℕ} {calls : List Call} where
     -- one log line more
     pub logs_more : (sources : List (List ℕ)) (prompt : List ℕ) (logs : ℕ) (w : Went first job slot calls (OnlyLogged job.path sources prompt logs slot))
@@ -82,7 +71,7 @@ module _ (functions : List ℕ → Functions) (honest : List ℕ → Type 0) (jo
         })
     prompt_later sources prompt earlier (Err f) w talked v =
         Went-then w v (AfterPrompt functions honest job sources prompt slot (earlier ++ []) (Err f) calls) (
-          caused_later f v.added w.added calls w.now w.is_now v.holds.0,
+          caused_later functions honest job f v.added w.added calls w.now w.is_now v.holds.0,
           stops_later slot earlier v.added w.added talked v.holds.1,
         )
 

@@ -7,6 +7,7 @@ use Rattle.view_ports.specs.Functions.{Functions}
 use Rattle.child_pool.specs.declared.pool_fault.PoolFault.{PoolFault}
 use Rattle.child_pool.specs.Histories.{Went, WentIn}
 use Rattle.child_pool.specs.Jobs.{Job}
+use Rattle.child_pool.specs.PoolCalls.{AreLeft}
 use Rattle.child_pool.specs.Pools.{AfterReadying, AreThere, AreTold}
 use Rattle.child_pool.specs.Preparing.{AfterPrepare}
 use Rattle.child_pool.specs.Sessions.{HasTold, IsThere}
@@ -14,7 +15,7 @@ use Rattle.child_pool.specs.Prompts.{slot_prompts, slots_prompts}
 use Rattle.child_pool.specs.Tries.{AllAnswered, Prompt}
 use Rattle.child_pool.proofs.Attempts.{refused_after, refused_before}
 use Rattle.child_pool.proofs.Trying.{answered_then, answered_wider}
-use Rattle.child_pool.proofs.Slots.{map_in, then_on, there_elsewhere, told_elsewhere}
+use Rattle.child_pool.proofs.Slots.{map_in, stays_elsewhere, then_on, there_elsewhere, told_elsewhere}
 
 -- the prompts of the first slots come first
 slots_front : (sources : List (List ℕ)) (kept slots slot : ℕ) → slot ≤ slots → (rest : List Prompt) × (slots_prompts sources kept slots ≡ slots_prompts sources kept slot ++ rest)
@@ -33,29 +34,32 @@ slots_front sources kept (suc n) slot within = elim (eq-or-lt_of_le within) [
 
 module _ (functions : List ℕ → Functions) (honest : List ℕ → Type 0) (job : Job) (kept slots : ℕ) where
   -- the slots below this one are ready, and the others are as they were
-  pub record HasReadied (slot : ℕ) (rose : Type 0) (added now : List Call) : Type 0 where
+  pub record HasReadied (slot : ℕ) (rose : Type 0) (before added now : List Call) : Type 0 where
     pub told : AreTold functions honest job slot now
     pub there : (other : ℕ) → slot ≤ other → other < kept → IsThere job.path other now
+    pub left : AreLeft slot before now
     pub answered : AllAnswered rose (slots_prompts job.sources kept slot) added
 
-  pub none_readied : (rose : Type 0) (calls : List Call) → AreThere job.path kept calls → HasReadied 0 rose [] calls
+  pub none_readied : (rose : Type 0) (calls : List Call) → AreThere job.path kept calls → HasReadied 0 rose calls [] calls
   none_readied rose calls there = record {
     told = λ slot never. absurd (omega arith);
     there = λ other above below. there other below;
+    left = λ other above. refl;
     answered = refl;
   }
 
   module _ {first second : List Call → Type 0} {width : ℕ} {calls : List Call} (slot : ℕ) (below : slot < slots) (within : slots ≤ width) (rose_first rose_second rose : Type 0)
-      (f : rose_first → rose) (g : rose_second → rose) (w : WentIn first job width calls (HasReadied slot rose_first)) where
-    pub one_readied : Went second job slot w.now (AfterPrepare functions honest job slot (slot_prompts slot job.sources (nat_le kept slot)) rose_second (Ok tt) w.now) → WentIn second job width calls (HasReadied (slot + 1) rose)
+      (f : rose_first → rose) (g : rose_second → rose) (w : WentIn first job width calls (HasReadied slot rose_first calls)) where
+    pub one_readied : Went second job slot w.now (AfterPrepare functions honest job slot (slot_prompts slot job.sources (nat_le kept slot)) rose_second (Ok tt) w.now) → WentIn second job width calls (HasReadied (slot + 1) rose calls)
     one_readied v =
         let in_pool : slot < width = omega arith in
-        then_on in_pool w v (HasReadied (slot + 1) rose) (record {
+        then_on in_pool w v (HasReadied (slot + 1) rose calls) (record {
           told = λ other less. elim (split other less) [
             | inl same ↦ subst (λ (n : ℕ). HasTold functions honest job.path job.sources n v.now) (sym same) v.holds.0
             | inr lower ↦ told_elsewhere v other (omega arith) functions honest job.path job.sources (w.holds.told other lower)
           ];
           there = λ other above under. there_elsewhere v other (omega arith) job.path (w.holds.there other (omega arith) under);
+          left = λ other above. stays_elsewhere v other (omega arith) ∙ w.holds.left other (omega arith);
           answered = subst (λ (n : ℕ). AllAnswered rose (slots_prompts job.sources kept n) (v.added ++ w.added)) (sym (add-one slot))
               (answered_then rose (slots_prompts job.sources kept slot) (slot_prompts slot job.sources (nat_le kept slot)) w.added v.added
               (answered_wider rose_first rose f (slots_prompts job.sources kept slot) w.added w.holds.answered) (answered_wider rose_second rose g (slot_prompts slot job.sources (nat_le kept slot)) v.added v.holds.1));
@@ -75,10 +79,10 @@ module _ (functions : List ℕ → Functions) (honest : List ℕ → Type 0) (jo
         (refused_before functions honest job (slots_prompts job.sources kept (suc slot)) front.0 (slots_prompts job.sources kept slots) rose fault calls (v.added ++ w.added) front.1 here, tt)
 
   -- all slots are ready
-  pub all_readied : {follow : List Call → Type 0} {width : ℕ} {calls : List Call} (rose : Type 0) → WentIn follow job width calls (HasReadied slots rose)
-      → WentIn follow job width calls (λ added now. AfterReadying functions honest job kept slots rose (Ok tt) calls added now × AreThere job.path kept now)
+  pub all_readied : {follow : List Call → Type 0} {width : ℕ} {calls : List Call} (rose : Type 0) → WentIn follow job width calls (HasReadied slots rose calls)
+      → WentIn follow job width calls (λ added now. AfterReadying functions honest job kept slots rose (Ok tt) calls added now × (AreThere job.path kept now × AreLeft slots calls now))
   all_readied {width = width} {calls = calls} rose w =
-      map_in w (λ added now. AfterReadying functions honest job kept slots rose (Ok tt) calls added now × AreThere job.path kept now) ((w.holds.told, w.holds.answered), still)
+      map_in w (λ added now. AfterReadying functions honest job kept slots rose (Ok tt) calls added now × (AreThere job.path kept now × AreLeft slots calls now)) ((w.holds.told, w.holds.answered), (still, w.holds.left))
     where
       still : AreThere job.path kept w.now
       still other below = elim (cases_lt other slots) [

@@ -1,14 +1,13 @@
 -- The rows of a reply, and of an honest answer.
-use Rattle.std.proofs.Common.{◌≡◌, ◌≢◌, ℕ, List, [], ◌∷◌, length, map, Bool, true, false, ◌&&◌, cond, nat_eq, nat_le, Option, Some, None, Result, Ok, Err, option_map, option_and_then, IfOk, refl, sym, ap, ◌∙◌, subst, inl, inr, eq-eqb, arith}
+use Rattle.std.proofs.Common.{◌≡◌, ◌≢◌, ℕ, List, [], ◌∷◌, length, map, Bool, true, false, ◌&&◌, cond, nat_eq, Option, Some, None, Result, Ok, Err, option_map, option_and_then, IfOk, refl, sym, ap, ◌∙◌, subst, inl, inr, eq-eqb, arith}
 use Rattle.std.specs.List.{AllByRecursion}
-use Rattle.std.proofs.lemmas.Bool.{and_parts, eqb-true, le-leb, leb-true}
-use Rattle.json_terms.specs.Json.{Json, Items, no_items, item, items_of, depth}
+use Rattle.std.proofs.lemmas.Bool.{and_parts, eqb-true, le-leb}
+use Rattle.json_terms.specs.Json.{Json, Items, no_items, item, items_of}
 use Rattle.json_terms.specs.Kinds.{items_in, two_in}
 use Rattle.json_terms.specs.Reading.{reading}
-use Rattle.json_terms.specs.Text.{text_of}
 use Rattle.json_terms.specs.declared.fault.TermFault.{TermFault}
 use Rattle.view_ports.specs.Calls.{is_log, is_log_term, is_short}
-use Rattle.view_ports.specs.Functions.{AreProper, IsRowWithinBounds, IsWithinBounds, lists_term, rows_term, pair_term, part_limit, part_depth, line_limit}
+use Rattle.view_ports.specs.Functions.{AreProper, IsRowWithinBounds, lists_term, rows_term, pair_term, line_limit}
 use Rattle.view_ports.specs.Honest.{Spells}
 use Rattle.view_ports.proofs.Fields.{lists_are_no_log}
 use Rattle.query_protocol.specs.declared.reply.Kind.{Kind}
@@ -20,18 +19,14 @@ use Rattle.query_protocol.proofs.RowCounts.{few_rows}
 use Rattle.child_pool.specs.declared.heard.Heard.{Heard}
 use Rattle.child_pool.specs.declared.heard.Heard.TheVariants.{Failed, Log, Answer}
 use Rattle.child_pool.specs.declared.pool_fault.PoolFault.{PoolFault}
-use Rattle.child_pool.specs.Hearing.{HasBoundedAnswer, HasBoundedRows, IsHeard}
+use Rattle.child_pool.specs.Hearing.{HasBoundedAnswer, HasBoundedParts, IsHeard}
 use Rattle.child_pool.specs.Mapping.{AreBoundedRows, AreParts, IsPart}
 use Rattle.child_pool.specs.Pools.{rows_said}
+use Rattle.child_pool.proofs.Parts.{part_within, within}
 use Rattle.child_pool.proofs.Replies.{chosen, reply_is_log}
+use Rattle.child_pool.proofs.ValueReplies.{bounded_value}
 
 -- ---- what a reply with rows can be
-
--- a term within the bounds
-part_within : (t : Json) → is_within_bounds t ≡ true → IsPart t
-part_within t is =
-    let both = and_parts (nat_le (length (text_of t)) part_limit) (nat_le (depth t) part_depth) is in
-    record { size = leb-true (length (text_of t)) part_limit both.0; nested = leb-true (depth t) part_depth both.1 }
 
 abbrev IsRowOfParts : Json × Json → Type 0
 IsRowOfParts row = IsPart row.0 × IsPart row.1
@@ -113,12 +108,12 @@ bounded_rows count line said other e =
       few = few_said said (few_rows (kind.Rows count) line said e);
     }
 
--- an answer has bounded rows, where its prompt asks for rows
-answer_bounded : (asked : Kind) (line : List ℕ) (said : Reply) → is_log line ≡ false → reply_of asked line ≡ Some said → HasBoundedRows asked said
+-- an answer has bounded rows or a bounded value, where its prompt asks for them
+answer_bounded : (asked : Kind) (line : List ℕ) (said : Reply) → is_log line ≡ false → reply_of asked line ≡ Some said → HasBoundedParts asked said
 answer_bounded kind.Reset line said no_log e = tt
 answer_bounded kind.Source line said no_log e = tt
 answer_bounded (kind.Rows count) line said no_log e = bounded_rows count line said (λ same. let log = reply_is_log (kind.Rows count) line (e ∙ ap Some same) in cc) e
-answer_bounded kind.Value line said no_log e = tt
+answer_bounded kind.Value line said no_log e = bounded_value line said e
 
 pub heard_bounded : (asked : Kind) (logs : ℕ) (line : List ℕ) (result : Result Heard PoolFault) → IsHeard asked logs line result → IfOk result (HasBoundedAnswer asked)
 heard_bounded asked logs line (Ok Failed) heard = tt
@@ -127,9 +122,6 @@ heard_bounded asked logs line (Ok (Answer said)) heard = answer_bounded asked li
 heard_bounded asked logs line (Err fault) heard = tt
 
 -- ---- proper rows are read
-
-within : (t : Json) → IsWithinBounds t → is_within_bounds t ≡ true
-within t w = rw (le-leb (length (text_of t)) part_limit w.size, le-leb (depth t) part_depth w.nested) refl
 
 row_read : (row : Json × Json) → IsRowWithinBounds row → row_in (pair_term row) ≡ Some row
 row_read (key, value) w = rw (within key w.0, within value w.1) refl

@@ -1,5 +1,6 @@
 -- The slots of a pool: calls on one leave the child of every other as it was, and calls on one are calls of the pool.
-use Rattle.std.proofs.Common.{◌≡◌, ◌≢◌, ◌<◌, ℕ, List, [], ◌∷◌, ◌++◌, false, nat_eq, refl, sym, ap, ◌∙◌, subst, append_assoc}
+use Rattle.std.proofs.Common.{◌≡◌, ◌≢◌, ◌<◌, ◌≤◌, ℕ, List, [], ◌∷◌, ◌++◌, false, nat_eq, refl, sym, ap, ◌∙◌, subst, inl, inr, append_assoc}
+use Rattle.std.proofs.Math.Nat.{eq-or-lt_of_le}
 use Rattle.std.proofs.lemmas.Bool.{ne_eqb}
 use Rattle.view_ports.specs.Calls.{Call, child, slot_of, stop}
 use Rattle.view_ports.specs.Functions.{Functions}
@@ -40,7 +41,14 @@ AllLawfulIn-append job width (call ∷ more) added before first later =
 lawful_in : (job : Job) (slot width : ℕ) (added before : List Call) → slot < width → AllLawful job slot added before → AllLawfulIn job width added before
 lawful_in job slot width [] before below lawful = tt
 lawful_in job slot width (call ∷ added) before below lawful =
-    ((subst (λ (at : ℕ). at < width) (sym lawful.0) below, lawful.1), lawful_in job slot width added before below lawful.2)
+    (inl (subst (λ (at : ℕ). at < width) (sym lawful.0) below, lawful.1), lawful_in job slot width added before below lawful.2)
+
+-- the pool may stop each slot up to the one at the width
+stop_lawful : (job : Job) (slot width : ℕ) (before : List Call) → slot ≤ width → IsLawfulAt job width (stop slot) before
+stop_lawful job slot width before within = elim (eq-or-lt_of_le within) [
+  | inl at ↦ inr (at, tt)
+  | inr below ↦ inl (below, tt)
+]
 
 module _ {follow : List Call → Type 0} {job : Job} {before : List Call} where
   pub went_in : {slot width : ℕ} {P : List Call → List Call → Type 0} → slot < width → (w : Went follow job slot before P) → (Q : List Call → List Call → Type 0) → Q w.added w.now → WentIn follow job width before Q
@@ -100,14 +108,14 @@ module _ {first second : List Call → Type 0} {job : Job} {width : ℕ} {before
     holds = q;
   }
 
-  -- a slot is stopped
-  pub stop_in : {P : List Call → List Call → Type 0} (slot : ℕ) → slot < width → (w : WentIn first job width before P) → Goes first second (stop slot)
+  -- a slot is stopped, which may be the one at the width
+  pub stop_in : {P : List Call → List Call → Type 0} (slot : ℕ) → slot ≤ width → (w : WentIn first job width before P) → Goes first second (stop slot)
       → (Q : List Call → List Call → Type 0) → Q (stop slot ∷ w.added) (stop slot ∷ w.now) → WentIn second job width before Q
-  stop_in slot below w goes Q q = record {
+  stop_in slot within w goes Q q = record {
     added = stop slot ∷ w.added;
     now = stop slot ∷ w.now;
     is_now = ap (λ (calls : List Call). stop slot ∷ calls) w.is_now;
     follows = goes w.now w.follows;
-    lawful = ((below, tt), w.lawful);
+    lawful = (stop_lawful job slot width (w.added ++ before) within, w.lawful);
     holds = q;
   }

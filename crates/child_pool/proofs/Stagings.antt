@@ -19,7 +19,7 @@ use Rattle.child_pool.specs.Jobs.{Job, IsAmong, IsPromptOf}
 use Rattle.child_pool.specs.Histories.{Went, says, hears, course}
 use Rattle.child_pool.specs.Sessions.{AllCompile, IsIdle, IsTold}
 use Rattle.child_pool.specs.Causes.{kind_of}
-use Rattle.child_pool.specs.Outcomes.{AfterPrompt, Replied, WasComplaint}
+use Rattle.child_pool.specs.Outcomes.{AfterPrompt, AsksSource, Replied, WasComplaint}
 use Rattle.child_pool.specs.Refused.{TryRefused}
 use Rattle.child_pool.specs.Stages.{AfterStages, stage_command, told_by}
 use Rattle.child_pool.specs.Talk.{AreTurns, asks}
@@ -120,8 +120,7 @@ module _ (functions : List ℕ → Functions) (honest : List ℕ → Type 0) whe
                 answers = r.answers;
               };
               source = source;
-              among = among;
-              asks = is;
+              asks = subst (AsksSource job source) (sym is) (refl, among);
               complains = complains;
               silent = r.no_log;
             } in

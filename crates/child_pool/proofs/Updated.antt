@@ -16,7 +16,7 @@ use Rattle.child_pool.specs.Prompts.{document_prompts, slots_prompts, update_pro
 use Rattle.child_pool.specs.Talk.{AreTurns, Due, ready_slots, talk_of}
 use Rattle.child_pool.specs.Tries.{AllAnswered, Prompt}
 use Rattle.child_pool.specs.Updates.{AfterTries, AfterUpdate}
-use Rattle.child_pool.proofs.Pooled.{Stands, some_kept}
+use Rattle.child_pool.proofs.Pooled.{Stands, StandsAt, some_kept}
 use Rattle.child_pool.proofs.Refusals.{given_up_before, talk_given_up}
 use Rattle.child_pool.proofs.Slots.{map_in, none_in}
 
@@ -30,7 +30,10 @@ among_themselves [] = tt
 among_themselves (x ∷ xs) = (inl refl, among_more x xs xs (among_themselves xs))
 
 pub stands_stopped : {width : ℕ} (pool : Pool) (calls : List Call) → AreStopped width pool calls → HasItsChildren pool calls
-stands_stopped pool calls stopped = subst (Stands pool calls) (sym stopped.forgotten) tt
+stands_stopped pool calls stopped = record {
+  mapping = subst (Stands pool calls) (sym stopped.forgotten) tt;
+  reducing = subst (StandsAt pool.width calls) (sym stopped.reducer) tt;
+}
 
 -- an update, by its tries and by its talk
 abbrev pub Both : (List ℕ → Functions) → (List ℕ → Type 0) → Job → Pool → List Call → (List Call → Type 0) → Type 0 → Pool → Result DocRowLists PoolFault → Type 0
@@ -70,12 +73,15 @@ module _ (functions : List ℕ → Functions) (honest : List ℕ → Type 0) (jo
   nothing_tried : (old : Pool) (rose : Type 0) (lists : DocRowLists) → job.documents ≡ [] → AfterTries functions honest job old rose old (Ok lists) calls [] calls
   nothing_tried old rose lists none =
       let kept = some_kept old job.path old.started refl in (
-        kept.0,
-        kept.1,
-        record {
-          answered = subst (λ (prompts : List Prompt). AllAnswered rose prompts []) (sym (no_prompts old.width kept.0)) refl;
-          remembers = λ some. absurd (some none);
-        },
+        (
+          kept.0,
+          kept.1,
+          record {
+            answered = subst (λ (prompts : List Prompt). AllAnswered rose prompts []) (sym (no_prompts old.width kept.0)) refl;
+            remembers = λ some. absurd (some none);
+          },
+        ),
+        refl,
       )
     where
       no_prompts : (width kept : ℕ) → update_prompts job width kept ≡ []

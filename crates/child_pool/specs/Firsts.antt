@@ -13,7 +13,7 @@ use Rattle.child_pool.specs.Ends.{HasRisen}
 use Rattle.child_pool.specs.Histories.{WentIn}
 use Rattle.child_pool.specs.Jobs.{Job, job_of}
 use Rattle.child_pool.specs.PoolCalls.{path_for, MapsAll, StaysAsMade}
-use Rattle.child_pool.specs.Pools.{AreRowsOf, ForKept, HasItsChildren, IsKept, IsReady}
+use Rattle.child_pool.specs.Pools.{AreRowsOf, ForKept, HasItsChildren, IsKept, IsReady, KeepsReducer}
 use Rattle.child_pool.specs.Prompts.{document_prompts, slots_prompts}
 use Rattle.child_pool.specs.Tries.{AllAnswered, Prompt}
 
@@ -41,6 +41,7 @@ module _ (functions : List ℕ → Functions) (honest : List ℕ → Type 0) whe
   pub record HasMappedFirst (job : Job) (old : Pool) (done : List (List (List ℕ × Json))) (rose : Type 0) (pool : Pool) (lists : DocRowLists) (added now : List Call) : Type 0 where
     pub is_ready : IsReady functions honest job (slots_of job old.width) pool now
     pub tried : ForKept old job.path (λ kept. HasTriedFirst job old.width kept done rose pool added)
+    pub reducer : KeepsReducer old pool
     pub rows : AreRowsOf functions honest job.path job.sources done lists
 
 module _ {C : Type 0} (s : Servers C) (old new : C) (pool pool' : Pool) (design : Design) where

@@ -1,7 +1,7 @@
 -- The calls that a function made on the query servers, the newest first.
 use Rattle.std.specs.Prelude.{◌≡◌, ◌⊎◌, ℕ, List, [], ◌∷◌, ◌++◌, Bool, true, false, Option, Some, None}
 use Rattle.view_ports.specs.Calls.{Call, start, send, receive, stop, Session, child, is_log}
-use Rattle.child_pool.specs.Jobs.{Job, AllLawful, AllLawfulIn}
+use Rattle.child_pool.specs.Jobs.{Job, AllLawful, AllLawfulIn, AllReducing, IsStop}
 
 -- what a function did on a slot: after the calls that were made `before` it made those that it `added`, each lawful, and of
 -- those that it added and of all calls now `P` holds
@@ -20,6 +20,15 @@ pub record WentIn (may_follow : List Call → Type 0) (job : Job) (width : ℕ) 
   pub is_now : now ≡ added ++ before
   pub follows : may_follow now
   pub lawful : AllLawfulIn job width added before
+  pub holds : P added now
+
+-- the same of a pool of this width that reduces by some sources of a path
+pub record WentReducing (may_follow : List Call → Type 0) (path : List ℕ) (reduces : List (List ℕ)) (width : ℕ) (before : List Call) (P : List Call → List Call → Type 0) : Type 0 where
+  pub added : List Call
+  pub now : List Call
+  pub is_now : now ≡ added ++ before
+  pub follows : may_follow now
+  pub lawful : AllReducing path reduces width added before
   pub holds : P added now
 
 -- a line was received; of the child that sent it and of the line `P` holds
@@ -84,12 +93,6 @@ pub record FailsAfter (turns : List Turn) (added : List Call) : Type 0 where
   pub is : added ≡ last ∷ earlier
   pub failed : HasFailed last
   pub went : course added ≡ turns
-
-abbrev pub IsStop : Call → Type 0
-IsStop (start slot path started) = ⊥
-IsStop (send slot line sent) = ⊥
-IsStop (receive slot line) = ⊥
-IsStop (stop slot) = Unit {0}
 
 abbrev pub AllStops : List Call → Type 0
 AllStops [] = Unit {0}

@@ -19,6 +19,16 @@ pub mod StageCalls
 pub mod Mapping
 pub mod Languages
 pub mod Pools
+pub mod ReduceSlot
 pub mod Updates
 pub mod PoolCalls
 pub mod Firsts
+pub mod Reducing
+pub mod ReduceTalk
+pub mod TryLaws
+pub mod TalkLaws
+pub mod ChildSumLaws
+pub mod ViewSums
+pub mod ViewSumLaws
+pub mod Summers
+pub mod SummerLaws

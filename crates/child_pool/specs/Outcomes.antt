@@ -1,7 +1,8 @@
 -- What the steps of a session come to.
 use Rattle.std.specs.Prelude.{◌≡◌, ◌⊎◌, ◌+◌, ℕ, List, [], ◌∷◌, ◌++◌, length, Bool, true, false, Option, Some, None, Result, Ok, Err}
 use Rattle.json_terms.specs.Reading.{reading}
-use Rattle.view_ports.specs.declared.command.Command.TheVariants.{AddFun}
+use Rattle.view_ports.specs.declared.command.Command.{Command}
+use Rattle.view_ports.specs.declared.command.Command.TheVariants.{Reset, AddFun, MapDoc, Reduce, Rereduce, Other}
 use Rattle.view_ports.specs.Calls.{Call, receive, Session, session, child, is_log, is_yes, sources_after}
 use Rattle.view_ports.specs.Commands.{command}
 use Rattle.view_ports.specs.Functions.{Functions}
@@ -17,6 +18,15 @@ use Rattle.child_pool.specs.Jobs.{Job, IsAmong, IsPromptOf}
 use Rattle.child_pool.specs.Histories.{FailsAfter, HasReceived, Turn, says, hears, last_heard, course}
 use Rattle.child_pool.specs.Sessions.{IsInSession, IsIdle}
 use Rattle.child_pool.specs.Causes.{IsBadReply, kind_of}
+
+-- the command has this source, which is one of the job's
+abbrev pub AsksSource : Job → List ℕ → Command → Type 0
+AsksSource job source Reset = ⊥
+AsksSource job source (AddFun added) = (added ≡ source) × IsAmong job.sources source
+AsksSource job source (MapDoc document) = ⊥
+AsksSource job source (Reduce reduced rows) = (reduced ≡ source) × IsAmong job.reduces source
+AsksSource job source (Rereduce reduced values) = (reduced ≡ source) × IsAmong job.reduces source
+AsksSource job source Other = ⊥
 
 -- so many log lines came since the prompt, and nothing else
 abbrev pub OnlyLogged : List ℕ → List (List ℕ) → List ℕ → ℕ → ℕ → List Call → List Call → Type 0
@@ -52,8 +62,7 @@ module _ (functions : List ℕ → Functions) (honest : List ℕ → Type 0) whe
   pub record WasComplaint (job : Job) (st : Option Session) (line : List ℕ) : Type 0 where
     pub reply : IsReplyFor job st line
     pub source : List ℕ
-    pub among : IsAmong job.sources source
-    pub asks : command reply.prompt ≡ AddFun source
+    pub asks : AsksSource job source (command reply.prompt)
     pub complains : is_complaint_read (reading line) ≡ true
     pub silent : is_log line ≡ false
 

@@ -4,7 +4,7 @@ use Rattle.std.specs.List.{AllByRecursion}
 use Rattle.json_terms.specs.Json.{Json}
 use Rattle.design_docs.specs.declared.design.Design.{Design}
 use Rattle.design_docs.specs.Design.{map_sources}
-use Rattle.view_ports.specs.Calls.{Call}
+use Rattle.view_ports.specs.Calls.{Call, child}
 use Rattle.view_ports.specs.Faults.{RoseBy}
 use Rattle.view_ports.specs.declared.servers.Servers.{Ghosts as Servers}
 use Rattle.child_pool.specs.declared.doc_rows.DocRowLists.{DocRowLists}
@@ -13,9 +13,10 @@ use Rattle.child_pool.specs.declared.pool_fault.PoolFault.{PoolFault}
 use Rattle.child_pool.specs.declared.pool_fault.PoolFault.TheVariants.{ServerFault, UnknownLanguage}
 use Rattle.child_pool.specs.Ends.{HasRisen}
 use Rattle.child_pool.specs.Histories.{AllStops, Went, WentIn}
-use Rattle.child_pool.specs.Jobs.{IsAmong, Job, job_of}
+use Rattle.child_pool.specs.Jobs.{IsAmong, Job, job_of, reduce_job}
 use Rattle.child_pool.specs.Languages.{path_in}
 use Rattle.child_pool.specs.Pools.{AfterBatch, AfterMapping, AfterPreparing, AfterReadying, AfterTrying, AreStopped, AreThere, IsReady, HasItsChildren, StandReady, languages_of}
+use Rattle.child_pool.specs.ReduceSlot.{AfterReset}
 use Rattle.child_pool.specs.Updates.{AfterTries, AfterUpdate}
 
 -- the path of a design's language, where the pool knows it
@@ -33,6 +34,10 @@ RefusesIdly old new pool pool' design result = path_for pool design ≡ None →
 -- without documents there are no rows, no server is called, and the pool stays as it was
 abbrev pub MapsNothing : {C : Type 0} → C → C → Pool → Pool → Result DocRowLists PoolFault → Type 0
 MapsNothing old new pool pool' result = (result ≡ Ok []) × (new ≡ old) × (pool' ≡ pool)
+
+-- the children from this slot on are as they were
+abbrev pub AreLeft : ℕ → List Call → List Call → Type 0
+AreLeft slots before now = (slot : ℕ) → slots ≤ slot → child slot now ≡ child slot before
 
 -- the pool's languages and its width never change
 pub record StaysAsMade (pool pool' : Pool) : Type 0 where
@@ -67,13 +72,19 @@ module _ {C : Type 0} (s : Servers C) (old new : C) where
   RefusesStopping pool pool' design result = path_for pool design ≡ None → (result ≡ Err UnknownLanguage) × StopsAll pool pool'
 
   -- the children of the first slots are made ready, in rising order; the kept slots have a child of this path, and have one
-  -- still where all went well
+  -- still where all went well; the children of the other slots are as they were
   abbrev pub ReadiesSlots : ℕ → ℕ → List ℕ → List (List ℕ) → Result (Unit {0}) PoolFault → Type 0
   ReadiesSlots slots kept path sources result = (width : ℕ) (documents : List (List (List ℕ × Json))) (calls : List Call) → slots ≤ width → s.may_follow old calls
       → AreThere path kept calls
       → WentIn (s.may_follow new) (job_of path sources documents) width calls
       (λ added now. AfterReadying s.functions s.honest (job_of path sources documents) kept slots (HasRisen s old new) result calls added now
-      × OnOk result (AreThere path kept now))
+      × OnOk result (AreThere path kept now × AreLeft slots calls now))
+
+  -- The child that reduces is reset: that of this path where the pool keeps it, or else a fresh one. A refusal leaves the children as they
+  -- are then.
+  abbrev pub ResetsReducer : Pool → List ℕ → Pool → Result (Unit {0}) PoolFault → Type 0
+  ResetsReducer pool path pool' result = (reduces : List (List ℕ)) (calls : List Call) → s.may_follow old calls → HasItsChildren pool calls
+      → Went (s.may_follow new) (reduce_job path reduces) pool.width calls (AfterReset s.functions s.honest path reduces pool (HasRisen s old new) pool' result calls)
 
   module _ (pool : Pool) (design : Design) where
     -- the job of the design, by this path

@@ -1,5 +1,5 @@
 -- The pool: the paths of languages, and the children that it started.
-use Rattle.std.specs.Prelude.{◌≡◌, ◌⊎◌, ◌<◌, ◌≤◌, ◌++◌, ℕ, List, [], bytes_eq, if◌then◌else◌, map, max, length, Option, Some, None, Result, Ok, Err, MatchOption}
+use Rattle.std.specs.Prelude.{◌≡◌, ◌⊎◌, ◌<◌, ◌≤◌, ◌++◌, ℕ, List, [], bytes_eq, if◌then◌else◌, map, max, length, Bool, false, Option, Some, None, Result, Ok, Err, MatchOption}
 use Rattle.std.specs.List.{AllByRecursion, AllZip}
 use Rattle.json_terms.specs.Json.{Json}
 use Rattle.view_ports.specs.Calls.{Call, child}
@@ -44,6 +44,15 @@ width_of pool = pool.width
 abbrev pub started_of : Pool → Option Started
 started_of pool = pool.started
 
+-- the path of the child that reduces, where it keeps one
+abbrev pub reducer_of : Pool → Option (List ℕ)
+reducer_of pool = pool.reducer
+
+-- whether it keeps one of this path
+abbrev pub is_reducer : List ℕ → Option (List ℕ) → Bool
+is_reducer path None = false
+is_reducer path (Some started) = bytes_eq started path
+
 -- how many of the children that are kept are of this path: all or none
 abbrev pub kept_of : List ℕ → Option Started → ℕ
 kept_of path None = 0
@@ -53,9 +62,18 @@ kept_of path (Some started) = if bytes_eq started.path path then started.count e
 abbrev pub AreThere : List ℕ → ℕ → List Call → Type 0
 AreThere path count calls = (slot : ℕ) → slot < count → IsThere path slot calls
 
--- the children that the pool remembers are there, as many as the width at most
-abbrev pub HasItsChildren : Pool → List Call → Type 0
-HasItsChildren pool calls = MatchOption pool.started (Unit {0}) (λ started. (started.count ≤ pool.width) × AreThere started.path started.count calls)
+-- the child that it remembers for reduces is there
+abbrev pub HasItsReducer : Pool → List Call → Type 0
+HasItsReducer pool calls = MatchOption pool.reducer (Unit {0}) (λ path. IsThere path pool.width calls)
+
+-- the children that the pool remembers are there: those that map, as many as the width at most, and the one that reduces
+pub record HasItsChildren (pool : Pool) (calls : List Call) : Type 0 where
+  pub mapping : MatchOption pool.started (Unit {0}) (λ started. (started.count ≤ pool.width) × AreThere started.path started.count calls)
+  pub reducing : HasItsReducer pool calls
+
+-- the pool keeps the child that reduces
+abbrev pub KeepsReducer : Pool → Pool → Type 0
+KeepsReducer old pool = pool.reducer ≡ old.reducer
 
 -- the pool remembers so many children, of this path
 abbrev pub IsKept : Pool → List ℕ → ℕ → Type 0
@@ -73,13 +91,14 @@ ForKept pool path P = (kept : ℕ) × IsKeptOf pool path kept × P kept
 abbrev pub AreKept : Pool → List ℕ → ℕ → Type 0
 AreKept pool path slots = (count : ℕ) × (slots ≤ count) × IsKept pool path count
 
--- no slot below the width has a child
+-- no slot up to the width has a child
 abbrev pub NoneIsLeft : ℕ → List Call → Type 0
-NoneIsLeft width calls = (slot : ℕ) → slot < width → child slot calls ≡ None
+NoneIsLeft width calls = (slot : ℕ) → slot ≤ width → child slot calls ≡ None
 
 -- no child is remembered, and none is left in a pool of this width
 pub record AreStopped (width : ℕ) (pool : Pool) (calls : List Call) : Type 0 where
   pub forgotten : pool.started ≡ None
+  pub reducer : pool.reducer ≡ None
   pub stopped : NoneIsLeft width calls
 
 module _ (functions : List ℕ → Functions) (honest : List ℕ → Type 0) where
@@ -125,13 +144,13 @@ module _ (functions : List ℕ → Functions) (honest : List ℕ → Type 0) whe
 
   -- after a refusal the children may be as they were left
   abbrev pub AfterTrying : Job → Pool → ℕ → Type 0 → Pool → Result (Unit {0}) PoolFault → List Call → List Call → List Call → Type 0
-  AfterTrying job old slots rose pool (Ok done) before added now = ForKept old job.path (λ kept. HasPrepared job kept slots rose pool added now)
+  AfterTrying job old slots rose pool (Ok done) before added now = ForKept old job.path (λ kept. HasPrepared job kept slots rose pool added now) × KeepsReducer old pool
   AfterTrying job old slots rose pool (Err f) before added now =
       ForKept old job.path (λ kept. Refused functions honest job (slots_prompts job.sources kept slots) rose f before added)
 
   -- a refusal stops all children
   abbrev pub AfterPreparing : Job → Pool → ℕ → Type 0 → Pool → Result (Unit {0}) PoolFault → List Call → List Call → List Call → Type 0
-  AfterPreparing job old slots rose pool (Ok done) before added now = ForKept old job.path (λ kept. HasPrepared job kept slots rose pool added now)
+  AfterPreparing job old slots rose pool (Ok done) before added now = ForKept old job.path (λ kept. HasPrepared job kept slots rose pool added now) × KeepsReducer old pool
   AfterPreparing job old slots rose pool (Err f) before added now =
       ForKept old job.path (λ kept. HasGivenUp job old.width (slots_prompts job.sources kept slots) rose pool f before added now)
 

@@ -7,7 +7,7 @@ use Rattle.child_pool.specs.declared.pool.Pool.{Pool}
 use Rattle.child_pool.specs.declared.pool_fault.PoolFault.{PoolFault}
 use Rattle.child_pool.specs.Histories.{talk}
 use Rattle.child_pool.specs.Jobs.{Job}
-use Rattle.child_pool.specs.Pools.{AreKept, AreRowsOf, ForKept, GaveUp, HasGivenUp, HasItsChildren, IsKept}
+use Rattle.child_pool.specs.Pools.{AreKept, AreRowsOf, ForKept, GaveUp, HasGivenUp, HasItsChildren, IsKept, KeepsReducer}
 use Rattle.child_pool.specs.Prompts.{update_prompts}
 use Rattle.child_pool.specs.Sessions.{AllCompile}
 use Rattle.child_pool.specs.Talk.{AreTurns, talk_of}
@@ -32,7 +32,7 @@ module _ (functions : List ℕ → Functions) (honest : List ℕ → Type 0) whe
 
   -- the tries of an update, by a pool that remembered some children of its path; a refusal stops all children
   abbrev pub AfterTries : Job → Pool → Type 0 → Pool → Result DocRowLists PoolFault → List Call → List Call → List Call → Type 0
-  AfterTries job old rose pool (Ok lists) before added now = ForKept old job.path (λ kept. HasTried job old.width kept rose pool added)
+  AfterTries job old rose pool (Ok lists) before added now = ForKept old job.path (λ kept. HasTried job old.width kept rose pool added) × KeepsReducer old pool
   AfterTries job old rose pool (Err f) before added now =
       ForKept old job.path (λ kept. HasGivenUp functions honest job old.width (update_prompts job old.width kept) rose pool f before added now)
 

@@ -7,6 +7,7 @@ mod each;
 use crate::languages::{built_in, language_word};
 use json_terms::{Chars, NoMemory};
 use std::alloc::Global;
+use view_ports::SLOT_COUNT;
 
 /// A language that the command line names, and the path of its query server.
 #[derive(Drop)]
@@ -24,20 +25,22 @@ struct Started {
     count: u32,
 }
 
-/// A pool of query servers. Each of its slots below the width may have a child, which maps documents; the slot at the width is
-/// for reduces, of which there are none yet, so that nothing is asked for, started or stopped there. So far the width is 1.
+/// A pool of query servers. Each of its slots below the width may have a child, which maps documents; the child of the slot at
+/// the width reduces. So far the width is 1.
 #[derive(Drop)]
 pub struct Pool {
     languages: Vec<Language>,
     width: u32,
     started: Option<Started>,
+    // The path of the child that reduces.
+    reducer: Option<Chars>,
     ghost one_child: { width ≡ 1 },
 }
 
 impl Pool {
-    ghost use Rattle.std.specs.Prelude.{◌≡◌, IfOk, None, map, option_map, string_bytes};
+    ghost use Rattle.std.specs.Prelude.{◌≡◌, ◌<◌, IfOk, None, map, option_map, string_bytes};
     ghost use Rattle.child_pool.specs.Languages.{languages_in, path_in};
-    ghost use Rattle.child_pool.specs.Pools.{languages_of, started_of, width_of};
+    ghost use Rattle.child_pool.specs.Pools.{languages_of, reducer_of, started_of, width_of};
 
     /// A pool of this width, without children. Of the words those of the form LANG=PATH name a language and the path of its
     /// server; the first that names a language counts. `NoMemory` comes where memory runs out.
@@ -45,7 +48,7 @@ impl Pool {
         requires { width ≡ 1 }
         ensures languages { IfOk result (λ pool. languages_of pool ≡ languages_in (map string_bytes words.now)) }
         ensures width { IfOk result (λ pool. width_of pool ≡ width) }
-        ensures childless { IfOk result (λ pool. started_of pool ≡ None) }
+        ensures childless { IfOk result (λ pool. (started_of pool ≡ None) × (reducer_of pool ≡ None)) }
     {
         let mut languages = Vec::new(alloc);
         for word in words {
@@ -60,7 +63,16 @@ impl Pool {
             languages,
             width,
             started: None,
+            reducer: None,
         })
+    }
+
+    /// The slot whose child reduces.
+    pub(crate) fn reduce_slot(&self) -> u32
+        ensures slot { result ≡ self.now.width }
+        ensures few { result < SLOT_COUNT }
+    {
+        self.width
     }
 
     /// The path of a language: the one that a word names, or that of a server in the process. It takes no memory.

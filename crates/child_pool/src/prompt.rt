@@ -3,7 +3,7 @@
 ghost use Rattle.std.specs.Prelude.{◌≡◌, ◌<◌, ◌≤◌, IfOk, IfSome, Ok, None, false};
 ghost use Rattle.query_protocol.specs.CommandLines.{IsWhole};
 ghost use Rattle.child_pool.specs.Ends.{EndsOnce};
-ghost use Rattle.child_pool.specs.Hearing.{HasBoundedAnswer, HasBoundedRows, IsHeard, IsKept, IsShown};
+ghost use Rattle.child_pool.specs.Hearing.{HasBoundedAnswer, HasBoundedParts, IsHeard, IsKept, IsShown};
 ghost use Rattle.child_pool.specs.PromptCalls.{Asks, Hears, HearsReply, Sends};
 
 use crate::heard::Heard;
@@ -49,7 +49,7 @@ fn receive_reply<C: Servers>(
     requires { slot < SLOT_COUNT }
     ensures went { HearsReply C.Servers servers.old servers.new slot kind result }
     ensures ends { EndsOnce C.Servers servers.old servers.new None result }
-    ensures bounded { IfOk result (λ reply. IfSome reply (HasBoundedRows kind)) }
+    ensures bounded { IfOk result (λ reply. IfSome reply (HasBoundedParts kind)) }
 {
     for logs in 0..LOG_LIMIT {
         match receive_line(alloc, servers, slot, kind, logs) {
@@ -102,7 +102,7 @@ pub fn ask<C: Servers>(
     requires whole { IsWhole line.now }
     ensures went { Asks C.Servers servers.old servers.new slot line.now kind result }
     ensures ends { EndsOnce C.Servers servers.old servers.new None result }
-    ensures bounded { IfOk result (λ reply. IfSome reply (HasBoundedRows kind)) }
+    ensures bounded { IfOk result (λ reply. IfSome reply (HasBoundedParts kind)) }
 {
     match send_prompt(alloc, servers, slot, line) {
         Ok(true) => receive_reply(alloc, servers, slot, kind),

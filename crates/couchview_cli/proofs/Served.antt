@@ -1,5 +1,5 @@
 -- What serving did, from the end of its session.
-use Rattle.std.specs.Prelude.{◌≡◌, ◌<◌, ◌≤◌, ℕ, List, [], ◌∷◌, Option, Some, None, length}
+use Rattle.std.specs.Prelude.{◌≡◌, ◌≤◌, ℕ, List, [], ◌∷◌, Option, Some, None, length}
 use Rattle.std.proofs.Common.{refl, sym, ◌∙◌, subst, inl, inr}
 use Rattle.std.proofs.KnownBytes.{Appends-trans}
 use Rattle.std.specs.Io.KnownBytes.{Appends, Consumes, IsAtEnd}
@@ -71,7 +71,7 @@ module _ (languages : List (List ℕ × List ℕ)) (opening : World) where
     after_at folder = record { left = left; held = held; disk = f.disk folder; disk_faults = f.faults folder; faults = s.faults stopped.servers }
 
     are_left : (moment : Moment) → s.may_follow now.servers moment.calls → AreLeft (s.may_follow stopped.servers) moment.calls
-    are_left moment follows = let left = stops moment.calls follows in record { added = left.added; only = left.only; follows = left.follows; stopped = λ slot below. left.stopped.stopped slot (subst (λ (w : ℕ). slot < w) (sym wide) below) }
+    are_left moment follows = let left = stops moment.calls follows in record { added = left.added; only = left.only; follows = left.follows; stopped = λ slot below. left.stopped.stopped slot (subst (λ (w : ℕ). slot ≤ w) (sym wide) below) }
 
     -- a session that came to its end, and then the children were ended
     pub finishes : (bytes : List ℕ) (end : RunEnd) → Consumes before.left left bytes → HasRead end (length bytes) → Ended f s (origin_of languages opening before) (IsAtEnd left) before.held held bytes now end

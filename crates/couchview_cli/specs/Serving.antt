@@ -49,12 +49,12 @@ outside s k f c source sink folder servers =
 abbrev pub width : ℕ
 width = 1
 
--- the children were stopped at the end, and nothing else was called: no slot has a child
+-- the children were stopped at the end, and nothing else was called: no slot has a child, those that map nor that which reduces
 pub record AreLeft (may_follow : List Call → Type 0) (calls : List Call) : Type 0 where
   pub added : List Call
   pub only : AllStops added
   pub follows : may_follow (added ++ calls)
-  pub stopped : (slot : ℕ) → slot < width → child slot (added ++ calls) ≡ None
+  pub stopped : (slot : ℕ) → slot ≤ width → child slot (added ++ calls) ≡ None
 
 module _ (functions : List ℕ → Functions) (honest : List ℕ → Type 0) (languages : List (List ℕ × List ℕ)) where
   abbrev Sound : World → Type 0

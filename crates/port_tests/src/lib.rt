@@ -13,4 +13,6 @@ mod real_folder_tests;
 #[cfg(test)]
 mod real_servers_tests;
 #[cfg(test)]
+mod reduce_tests;
+#[cfg(test)]
 mod view_ports_tests;

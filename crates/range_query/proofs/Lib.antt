@@ -1,9 +1,2 @@
-mod Falling
-mod Ends
-mod Prefixes
-mod Printed
-mod RunParts
-mod GroupTexts
-pub mod Pieces
-pub mod Lines
-mod AnswerLines
+pub mod PartSums
+pub mod BuiltinTexts

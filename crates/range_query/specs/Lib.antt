@@ -1,4 +1,2 @@
-pub mod Written
-pub mod Ends
-pub mod Progress
-pub mod Value
+pub mod Summed
+pub mod Through

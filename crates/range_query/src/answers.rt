@@ -1,172 +1,44 @@
-//! The answer of a query. Where memory runs out, part of it may be written.
+//! The answer of a query of a view whose values a summer gives.
 
-ghost use Rattle.std.specs.Prelude.{◌≡◌, ◌+◌, min, filter, length, map, IsSorted, OnOk};
-ghost use Rattle.std.specs.List.{flat_map};
-ghost use Rattle.json_terms.specs.Seen.{json};
+ghost use Rattle.std.specs.Prelude.{◌≡◌, false, IsSorted, IfErr, OnOk};
 ghost use Rattle.raw_collation.specs.Collation.{rows_cmp};
-ghost use Rattle.view_ports.specs.Lines.{IsLine};
-ghost use Rattle.view_model.specs.Answer as print;
-ghost use Rattle.view_model.specs.Selection as pick;
-ghost use Rattle.range_query.specs.Progress.{due_text};
-ghost use Rattle.range_query.specs.Value.{picked_values, value_text};
-ghost use Rattle.range_query.specs.Written.{Adds, KeepsBefore};
+ghost use Rattle.view_model.specs.Adding.{AddsAnswer};
+ghost use Rattle.view_model.specs.GroupValues.{IsCaused};
+ghost use Rattle.view_model.specs.Written.{KeepsBefore};
+ghost use Rattle.range_query.specs.Summed.{IsSummedText};
 
-use crate::find::{before_start, ranged, rows_of};
-use crate::groups::print_groups;
-use crate::print::{Progress, print_part};
-use crate::reply::Reply;
-use design_docs::Builtin;
-use json_terms::{NoMemory, Row, Term};
+use crate::print_value::PrintValue;
+use crate::summed::SummedValues;
+use builtin_reduces::RowItem;
+use json_terms::Row;
 use query_args::Query;
 use std::alloc::Global;
+use tree_laws::Summer;
+use view_model::{AnswerFault, Reply};
 
-/// Prints the answer to a query of a view that has these rows and whose index is at this sequence. The values of its groups are those
-/// of this reduce; of a view that has none no query is reduced.
-pub fn answer(
+/// Prints the answer to a query of a view that has these rows and whose index is at this sequence. Only where the query is reduced is
+/// the summer asked, and only for the values of groups that the query picks. Where a row of these is out of the bounds of what a tree
+/// keeps, the fault is want of memory.
+pub fn answer<M: Summer<Unit = RowItem>>(
     alloc: Global,
     rows: &[Row],
-    reduce: Option<Builtin>,
+    summer: &mut M,
     seq: u64,
     query: &Query,
     reply: &mut Reply,
-) -> Result<(), NoMemory>
-    requires sorted { IsSorted rows_cmp rows.now }
-    ensures ok { OnOk result (Adds reply.old reply.new
-        (print.answer (value_text reduce) query.now seq rows.now)) }
-    ensures before { KeepsBefore reply.old reply.new }
-    ensures line { OnOk result (IsLine (print.answer (value_text reduce) query.now seq rows.now)) }
-{
-    if query.reduced {
-        groups_answer(alloc, rows, reduce, seq, query, reply)
-    } else {
-        rows_answer(alloc, rows, seq, query, reply)
-    }
-}
-
-fn rows_answer(
-    alloc: Global,
-    rows: &[Row],
-    seq: u64,
-    query: &Query,
-    reply: &mut Reply,
-) -> Result<(), NoMemory>
+) -> Result<(), AnswerFault<M::Fault>>
+where
+    M::Sum: PrintValue,
     requires { IsSorted rows_cmp rows.now }
-    ensures ok { OnOk result (Adds reply.old reply.new (print.rows_answer query.now seq rows.now)) }
+    ensures ok { OnOk result
+        (AddsAnswer
+        (IsSummedText M.Sum.text M.Sum.within (M.lawful summer.old) (M.meaning summer.old))
+        query.now seq rows.now reply.old reply.new) }
     ensures before { KeepsBefore reply.old reply.new }
-    ensures line { OnOk result (IsLine (print.rows_answer query.now seq rows.now)) }
+    ensures goes { M.goes summer.old summer.new }
+    ensures cause { IfErr result (IsCaused (M.fails summer.old summer.new)) }
+    ensures unasked { query.now.reduced ≡ false → summer.new ≡ summer.old }
 {
-    reply.put(b"{\"total_rows\":")?;
-    reply.put_number(rows.len() as u64)?;
-    reply.put(b",")?;
-    print_seq(seq, query, reply)?;
-    reply.put(b"\"offset\":")?;
-    print_offset(rows, query, reply)?;
-    reply.put(b",\"rows\":[")?;
-    print_picked(alloc, rows, query, reply)?;
-    reply.put(b"]}")
-}
-
-fn groups_answer(
-    alloc: Global,
-    rows: &[Row],
-    reduce: Option<Builtin>,
-    seq: u64,
-    query: &Query,
-    reply: &mut Reply,
-) -> Result<(), NoMemory>
-    requires { IsSorted rows_cmp rows.now }
-    ensures ok { OnOk result (Adds reply.old reply.new
-        (print.groups_answer query.now seq (picked_values reduce query.now rows.now))) }
-    ensures before { KeepsBefore reply.old reply.new }
-    ensures line { OnOk result (IsLine
-        (print.groups_answer query.now seq (picked_values reduce query.now rows.now))) }
-{
-    reply.put(b"{")?;
-    print_seq(seq, query, reply)?;
-    reply.put(b"\"rows\":[")?;
-    print_groups(alloc, rows, reduce, query, reply)?;
-    reply.put(b"]}")
-}
-
-/// Prints the sequence of the index, where the query asks for it.
-fn print_seq(seq: u64, query: &Query, reply: &mut Reply) -> Result<(), NoMemory>
-    ensures ok { OnOk result (Adds reply.old reply.new (print.seq_text query.now seq)) }
-    ensures before { KeepsBefore reply.old reply.new }
-    ensures line { OnOk result (IsLine (print.seq_text query.now seq)) }
-{
-    if !query.show_seq {
-        return Ok(());
-    }
-    reply.put(b"\"update_seq\":")?;
-    reply.put_number(seq)?;
-    reply.put(b",")
-}
-
-/// Prints how many rows stand before the first that is picked, or `null` where keys are listed.
-fn print_offset(rows: &[Row], query: &Query, reply: &mut Reply) -> Result<(), NoMemory>
-    requires { IsSorted rows_cmp rows.now }
-    ensures ok { OnOk result (Adds reply.old reply.new
-        (print.offset_text (pick.offset query.now rows.now))) }
-    ensures before { KeepsBefore reply.old reply.new }
-    ensures line { OnOk result (IsLine (print.offset_text (pick.offset query.now rows.now))) }
-{
-    match &query.keys {
-        Some(_) => reply.put(b"null"),
-        None => reply.put_number(range_offset(rows, query)),
-    }
-}
-
-fn range_offset(rows: &[Row], query: &Query) -> u64
-    requires { IsSorted rows_cmp rows.now }
-    ensures { result ≡ pick.before_start query.now rows.now + min query.now.skip
-        (length (filter (pick.is_in_range query.now) rows.now)) }
-{
-    let skipped = query.skip.min(ranged(rows, query).len() as u64);
-    before_start(rows, query) as u64 + skipped
-}
-
-fn print_picked(
-    alloc: Global,
-    rows: &[Row],
-    query: &Query,
-    reply: &mut Reply,
-) -> Result<(), NoMemory>
-    requires { IsSorted rows_cmp rows.now }
-    ensures ok { OnOk result (Adds reply.old reply.new
-        (print.with_commas print.row_text (pick.picked query.now rows.now))) }
-    ensures before { KeepsBefore reply.old reply.new }
-    ensures line { OnOk result (IsLine (print.with_commas print.row_text (pick.picked query.now rows.now))) }
-{
-    let start = Progress::start(query);
-    match &query.keys {
-        Some(keys) => print_keys(alloc, rows, keys.as_slice(), query, start, reply),
-        None => {
-            print_part(alloc, ranged(rows, query), query.descending, start, reply)?;
-            Ok(())
-        }
-    }
-}
-
-/// Prints the rows of each key in turn.
-fn print_keys(
-    alloc: Global,
-    rows: &[Row],
-    keys: &[Term],
-    query: &Query,
-    start: Progress,
-    reply: &mut Reply,
-) -> Result<(), NoMemory>
-    requires { IsSorted rows_cmp rows.now }
-    ensures ok { OnOk result (Adds reply.old reply.new
-        (due_text print.row_text start (flat_map (pick.rows_of_key query.now rows.now) (map json keys.now)))) }
-    ensures before { KeepsBefore reply.old reply.new }
-    ensures line { OnOk result (IsLine
-        (due_text print.row_text start (flat_map (pick.rows_of_key query.now rows.now) (map json keys.now)))) }
-{
-    let mut progress = start;
-    for key in keys {
-        let part = rows_of(rows, key);
-        progress = print_part(alloc, part, query.descending, progress, reply)?;
-    }
-    Ok(())
+    let mut values = SummedValues::new(summer);
+    view_model::answer(alloc, rows, &mut values, seq, query, reply)
 }

@@ -1,14 +1,14 @@
-//! The answer of a query of a view, printed straight from the view's sorted rows.
+//! The answer of a query of a view whose values are had from a summer: a reduce whose values of lists of rows can be joined.
 //!
-//! The ends of a range are found by binary search, and no row is copied. `view_model`'s `specs/Selection.antt` says which rows
-//! are printed, its `specs/Groups.antt` which groups of rows, and its `specs/Answer.antt` how.
+//! `view_model` prints the answer. A group whose value is asked for is cut in parts, as a tree's leaves hold rows, and its value is
+//! that of the parts joined.
 #![tactic(auto)]
 
 mod answers;
-mod find;
-mod groups;
-mod print;
-mod reply;
+mod parts;
+mod print_value;
+mod summed;
 
 pub use answers::answer;
-pub use reply::Reply;
+pub use print_value::PrintValue;
+pub use view_model::{AnswerFault, Reply};

@@ -149,7 +149,7 @@ module _ {F C : Type 0} (f : Folders F) (s : Servers C) (docs docs' : Docs) (poo
     DocumentsAt = IfTold (f.disk old) (λ d. AreAt docs d.now before.world.history)
 
     kept : KeepsChild f s (scene after_it new servers) before
-    kept = record { width = at.child.width; started = at.child.started; child = at.child.child; follows = at.child.follows; counts = at.child.counts }
+    kept = record { width = at.child.width; started = at.child.started; reducer = at.child.reducer; child = at.child.child; follows = at.child.follows; counts = at.child.counts }
 
     -- where no file changed the moment is as it was
     still_there : (Allows : Moment → Type 0) (Known : World → Type 0) → Tells (f.disk old) (f.disk new) MovesNone → Tells (f.disk old) (f.disk new) (MovesDocuments (λ image. Unit {0}))
@@ -158,7 +158,7 @@ module _ {F C : Type 0} (f : Folders F) (s : Servers C) (docs docs' : Docs) (poo
       after = with_world before left.after;
       is_at = record {
         documents = whole own before.world left.after at.documents (told_now (f.disk old) (λ d. Known left.after) (λ d. GrowsAlone before.world left.after) (λ d known. grows_none before.world left.after (allows left.after known).0) left.allowed) left.is_at;
-        child = record { width = at.child.width; started = at.child.started; child = at.child.child; follows = at.child.follows; counts = at.child.counts };
+        child = record { width = at.child.width; started = at.child.started; reducer = at.child.reducer; child = at.child.child; follows = at.child.follows; counts = at.child.counts };
       };
       moments = told_leaves_before before_it before.world left.after (f.disk old) (f.disk new) none at.documents;
       allowed = told_now (f.disk old) (λ d. Known left.after) (λ d. Allows (with_world before left.after)) (λ d known. (allows left.after known).1) left.allowed;
@@ -187,7 +187,7 @@ module _ {F C : Type 0} (f : Folders F) (s : Servers C) (docs docs' : Docs) (poo
             is_at = record {
               documents = whole keeps.own before.world left.after at.documents
                   (told_now (f.disk old) (λ d. DoesHere before.world request done.reply left.after) (λ d. GrowsAlone before.world left.after) (λ d does. does_grow request before.world done.reply left.after does) left.allowed) left.is_at;
-              child = record { width = at.child.width; started = at.child.started; child = at.child.child; follows = at.child.follows; counts = at.child.counts };
+              child = record { width = at.child.width; started = at.child.started; reducer = at.child.reducer; child = at.child.child; follows = at.child.follows; counts = at.child.counts };
             };
             moments = moments_done request done.reply before.world left.after at.documents left.allowed (keeps.moved before.world here);
             allowed = told_now (f.disk old) (λ d. DoesHere before.world request done.reply left.after)

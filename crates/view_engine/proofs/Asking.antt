@@ -106,10 +106,10 @@ module _ {C : Type 0} (s : Servers C) (before : Moment) (name : ViewQuery) (id :
 
   -- the moment after these calls
   abbrev pub then : World → List Call → Moment
-  then left now = record { world = left; width = before.width; started = pool'.started; calls = now; faults = s.faults servers' }
+  then left now = record { world = left; width = before.width; started = pool'.started; reducer = pool'.reducer; calls = now; faults = s.faults servers' }
 
   pub has_child : (left : World) (now : List Call) → s.may_follow servers' now → HasItsChildren pool' now → HasChild (s.may_follow servers') (s.faults servers') pool' (then left now)
-  has_child left now follows there = record { width = keeps.width ∙ child.width; started = refl; child = there; follows = follows; counts = refl }
+  has_child left now follows there = record { width = keeps.width ∙ child.width; started = refl; reducer = refl; child = there; follows = follows; counts = refl }
 
   -- ---- nothing was done of the world
 
@@ -127,6 +127,7 @@ module _ {C : Type 0} (s : Servers C) (before : Moment) (name : ViewQuery) (id :
         world = before.world;
         width = before.width;
         started = (ap (λ (p : Pool). p.started) same_pool ∙ child.started) i;
+        reducer = (ap (λ (p : Pool). p.reducer) same_pool ∙ child.reducer) i;
         calls = before.calls;
         faults = (ap s.faults same_servers ∙ child.counts) i;
       } in
@@ -148,7 +149,7 @@ module _ {C : Type 0} (s : Servers C) (before : Moment) (name : ViewQuery) (id :
   broken_left f cause documents known [] rest all lists mapped = let idle = mapped.idle refl in idle_left f idle.0 idle.1 (λ r is. break_stops f id r cause is)
   broken_left f cause documents known (first ∷ done) rest all lists mapped =
       let some : first ∷ done ≢ [] = λ none. let clash : ⊥ = cc in clash in
-      let w = breaks_at_moment s.functions s.honest languages before name id design place path within documents (s.may_follow servers') (s.faults servers) (s.faults servers') pool' child.counts later pool child.width child.started (first ∷ done) lists
+      let w = breaks_at_moment s.functions s.honest languages before name id design place path within documents (s.may_follow servers') (s.faults servers) (s.faults servers') pool' child.counts later pool child.width child.started child.reducer (first ∷ done) lists
       (subst (λ (all_of : List (List (List ℕ × Json))). WentIn (s.may_follow servers') (job_of path (map_sources design.views) all_of) pool.width before.calls
       (HasMappedFirst s.functions s.honest (job_of path (map_sources design.views) all_of) pool (first ∷ done) (Rose (s.faults servers) (s.faults servers')) pool' lists)) (sym all)
       (mapped.maps some rest path before.calls child.follows path_is child.child)) in
@@ -156,7 +157,7 @@ module _ {C : Type 0} (s : Servers C) (before : Moment) (name : ViewQuery) (id :
         now = w.now;
         has_child = has_child before.world w.now w.follows w.holds.is_ready.there;
         called = told_now x (λ d. Known documents) (λ d. MayHaveCalled s.functions s.honest languages before (Ok (view_request name)) (then before.world w.now))
-            (λ d k. asked_some s.functions s.honest languages before name id design place path within documents (s.may_follow servers') (s.faults servers) (s.faults servers') pool' child.counts later pool child.width child.started (first ∷ done) rest lists all some w k) known;
+            (λ d k. asked_some s.functions s.honest languages before name id design place path within documents (s.may_follow servers') (s.faults servers) (s.faults servers') pool' child.counts later pool child.width child.started child.reducer (first ∷ done) rest lists all some w k) known;
         refused = never_told f w.now (λ r is. break_stops f id r cause is);
       }
 
@@ -164,13 +165,13 @@ module _ {C : Type 0} (s : Servers C) (before : Moment) (name : ViewQuery) (id :
     -- all were mapped, and then it was refused
     mapped_left : (lists : DocRowLists) → IsMetAs {T = ℕ} (Ok lists) (Err f) → (documents ≡ [] → (servers' ≡ servers) × (pool' ≡ pool)) → MapsAll s servers servers' pool design documents pool' (Ok lists) → IsLeft f
     mapped_left lists met idle maps =
-        let w = at_moment s.functions s.honest languages before name id design place path within documents (s.may_follow servers') (s.faults servers) (s.faults servers') pool' child.counts later pool child.width child.started (Ok lists)
+        let w = at_moment s.functions s.honest languages before name id design place path within documents (s.may_follow servers') (s.faults servers) (s.faults servers') pool' child.counts later pool child.width child.started child.reducer (Ok lists)
         (maps path before.calls child.follows path_is child.child) in
         record {
           now = w.now;
           has_child = has_child before.world w.now w.follows w.holds.1.0;
           called = told_now x (λ d. Known documents) (λ d. MayHaveCalled s.functions s.honest languages before (Ok (view_request name)) (then before.world w.now))
-              (λ d k. asked_in_vain s.functions s.honest languages before name id design place path within documents (s.may_follow servers') (s.faults servers) (s.faults servers') pool' child.counts later pool child.width child.started lists (λ none. ap (λ (p : Pool). p.started) (idle none).1) w k) known;
+              (λ d k. asked_in_vain s.functions s.honest languages before name id design place path within documents (s.may_follow servers') (s.faults servers) (s.faults servers') pool' child.counts later pool child.width child.started child.reducer lists (λ none. ap (λ (p : Pool). p.started) (idle none).1) w k) known;
           refused = never_told f w.now (λ r is. mapped_stops f id r lists kind met is);
         }
 
@@ -178,16 +179,16 @@ module _ {C : Type 0} (s : Servers C) (before : Moment) (name : ViewQuery) (id :
     given_left : (g : PoolFault) → IsMetAs {T = ℕ} (Err g) (Err f) → documents ≢ [] → MapsAll s servers servers' pool design documents pool' (Err g) → IsLeft f
     given_left g met some maps =
         let same : f ≡ by_pool g = cc in
-        let w = at_moment s.functions s.honest languages before name id design place path within documents (s.may_follow servers') (s.faults servers) (s.faults servers') pool' child.counts later pool child.width child.started (Err g)
+        let w = at_moment s.functions s.honest languages before name id design place path within documents (s.may_follow servers') (s.faults servers) (s.faults servers') pool' child.counts later pool child.width child.started child.reducer (Err g)
         (maps path before.calls child.follows path_is child.child) in
         let told : g ≡ fault.ServerFault → RoseBy 2 (s.faults servers) (s.faults servers') = λ is. twice (same ∙ ap by_pool is) in
         record {
           now = w.now;
           has_child = has_child before.world w.now w.follows (stands_stopped pool' w.now w.holds.1.stopped);
           called = told_now x (λ d. Known documents) (λ d. MayHaveCalled s.functions s.honest languages before (Ok (view_request name)) (then before.world w.now))
-              (λ d k. asked_up s.functions s.honest languages before name id design place path within documents (s.may_follow servers') (s.faults servers) (s.faults servers') pool' child.counts later pool child.width child.started g some told w k) known;
+              (λ d k. asked_up s.functions s.honest languages before name id design place path within documents (s.may_follow servers') (s.faults servers) (s.faults servers') pool' child.counts later pool child.width child.started child.reducer g some told w k) known;
           refused = λ r is. told_now x (λ d. Known documents) (λ d. DoesRequest s.functions s.honest languages before (Ok (view_request name)) (refusal_text r) (then before.world w.now))
-              (λ d k. inl (inl (refuses s.functions s.honest languages before name id design place path within documents (s.may_follow servers') (s.faults servers) (s.faults servers') pool' child.counts later pool child.width child.started g r w some k told (sym (ap (met_by id) same ∙ by_pool_met id g) ∙ is)))) known;
+              (λ d k. inl (inl (refuses s.functions s.honest languages before name id design place path within documents (s.may_follow servers') (s.faults servers) (s.faults servers') pool' child.counts later pool child.width child.started child.reducer g r w some k told (sym (ap (met_by id) same ∙ by_pool_met id g) ∙ is)))) known;
         }
 
     pub asked_left : HasAskedFor s servers servers' pool pool' design documents {T = ℕ} (Err f) → IsLeft f

@@ -110,7 +110,7 @@ module _ {F C : Type 0} (f : Folders F) (s : Servers C) (docs : Docs) (pool : Po
     moved before at = cleans.stands before.world (told_now (f.disk old) (λ d. IsAtWorld before_it d.now before.world) _ (λ d here. (here.documents, here.indexes)) at.documents)
 
     children : (before : Moment) → StandsAt f s now before → KeepsChild f s later before
-    children before at = record { width = at.child.width; started = at.child.started; child = at.child.child; follows = at.child.follows; counts = at.child.counts }
+    children before at = record { width = at.child.width; started = at.child.started; reducer = at.child.reducer; child = at.child.child; follows = at.child.follows; counts = at.child.counts }
 
     stopped : (before : Moment) → StandsAt f s now before → CrashesAround f s now later before (Ok Cleanup) × LeavesChild f s now later (MayHaveCalled s.functions s.honest (languages_of pool) before (Ok Cleanup))
     stopped before at = (
@@ -131,7 +131,7 @@ module _ {F C : Type 0} (f : Folders F) (s : Servers C) (docs : Docs) (pool : Po
           after = with_world before to.after;
           is_at = record {
             documents = to.at;
-            child = record { width = at.child.width; started = at.child.started; child = at.child.child; follows = at.child.follows; counts = at.child.counts };
+            child = record { width = at.child.width; started = at.child.started; reducer = at.child.reducer; child = at.child.child; follows = at.child.follows; counts = at.child.counts };
           };
           moments = to.moments;
           allowed = told_now (f.disk old) (λ d. IsCleaned before.world to.after) (λ d. DoesRequestText s.functions s.honest (languages_of pool) before (Ok Cleanup) (ended done_text) (with_world before to.after))

@@ -1,5 +1,5 @@
 -- A view, performed: refused before any server is asked, refused by the update of its index, or answered.
-use Rattle.std.specs.Prelude.{◌≡◌, ◌≢◌, ◌<◌, ◌≤◌, ◌++◌, ℕ, List, [], length, Option, Some, Result, Ok, Err, IfErr, OnErr, OnOk, slice_get, slice_index_or}
+use Rattle.std.specs.Prelude.{◌≡◌, ◌≢◌, ◌<◌, ◌≤◌, ℕ, List, [], length, Option, Some, Result, Ok, Err, IfErr, OnErr, OnOk, slice_get, slice_index_or}
 use Rattle.std.specs.List.{AllByRecursion}
 use Rattle.std.proofs.Common.{true, refl, sym, ap, ◌∙◌, subst, inl, arith}
 use Rattle.std.proofs.lemmas.List.{length-map}
@@ -8,7 +8,6 @@ use Rattle.json_terms.specs.Json.{Json}
 use Rattle.design_docs.specs.declared.design.Design.{Design}
 use Rattle.design_docs.specs.Design.{IsDesignOf}
 use Rattle.view_ports.specs.Disk.{Disk, IfTold, LeavesOnly, MovesNone, Tells}
-use Rattle.view_ports.specs.Lines.{ended}
 use Rattle.view_ports.specs.declared.file_name.FileName.{FileName}
 use Rattle.view_ports.specs.declared.folder.Folder.{Ghosts as Folders}
 use Rattle.view_ports.specs.declared.servers.Servers.{Ghosts as Servers}
@@ -37,11 +36,10 @@ use Rattle.view_engine.specs.declared.halt.Halt.{Halt}
 use Rattle.view_engine.specs.declared.halt.Halt.TheVariants.{Refused, Stopped}
 use Rattle.view_engine.specs.declared.halt.StepFault.TheVariants.{Full, NoMemory}
 use Rattle.view_engine.specs.declared.refusal.Refusal.TheVariants.{ServerFault}
-use Rattle.range_query.specs.Value.{value_text}
-use Rattle.view_model.specs.Answer.{answer}
+use Rattle.view_model.specs.Answer.{IsAnswer}
 use Rattle.design_docs.specs.declared.design.Builtin.{Builtin}
 use Rattle.query_args.specs.declared.query.Query.{Query}
-use Rattle.view_engine.specs.Calls.{scene, IsReplyLine, LeavesMoment, Performed, Scene, StandsAt}
+use Rattle.view_engine.specs.Calls.{scene, LeavesMoment, Performed, Scene, StandsAt}
 use Rattle.view_engine.specs.Disks.{IfStopped, IsAskedFor, IsReadReason, LiesOpen, Reads}
 use Rattle.view_engine.specs.Halts.{GoesOn}
 use Rattle.view_engine.specs.Moments.{Moment}
@@ -58,8 +56,9 @@ use Rattle.view_engine.proofs.Viewing.{does_halted, viewed, Halts}
 use Rattle.view_engine.proofs.Whole.{leaves_none, view_moves_none}
 use Rattle.view_engine.proofs.Between.{stands_same}
 use Rattle.query_args.specs.Query.{is_updated}
-use Rattle.view_engine.specs.View.{answer_of}
-use Rattle.view_engine.specs.ViewQuery.{ViewQuery, builtin_named, parameters_of, query_for, view_request}
+use Rattle.view_engine.specs.Answering.{AppendsAnswer}
+use Rattle.view_engine.specs.View.{IsAnswerOf}
+use Rattle.view_engine.specs.ViewQuery.{ViewQuery, IsValueOf, builtin_named, parameters_of, query_for, view_request}
 
 -- what is open stays so where no file changes
 pub open_still : (engine : Engine) (x y : Option (Disk FileName)) → Tells x y MovesNone → IfTold x (λ d. IsOpen engine d.now) → IfTold y (λ d. IsOpen engine d.now)
@@ -146,25 +145,29 @@ module _ {F C : Type 0} (f : Folders F) (s : Servers C) (docs : Docs) (pool : Po
       same_seq : seq ≡ (picture_of brings.place.0).seq
       same_seq = seq_is ∙ ap (λ (i : Index). (picture_of i).seq) same_index
 
-      same_answer : answer (value_text reduce) query seq printed ≡ answer_of design.views name (picture_of brings.place.0).seq shown
-      same_answer = λ i. answer (value_text (reduce_is i)) (query_is i) (same_seq i) (same_rows i)
+      same_answer : (reply : List ℕ) → IsAnswer (IsValueOf reduce) query seq printed reply → IsAnswerOf design.views name (picture_of brings.place.0).seq shown reply
+      same_answer reply is =
+          subst (λ (kind : Option Builtin). IsAnswer (IsValueOf kind) (query_for design.views name) (picture_of brings.place.0).seq shown reply) reduce_is
+          (subst (λ (q : Query). IsAnswer (IsValueOf reduce) q (picture_of brings.place.0).seq shown reply) query_is
+          (subst (λ (n : ℕ). IsAnswer (IsValueOf reduce) query n shown reply) same_seq
+          (subst (λ (shown_rows : List Row). IsAnswer (IsValueOf reduce) query seq shown_rows reply) same_rows is)))
 
       each : length (picture_of brings.place.0).rows ≡ length design.views
       each = length-map (both_in brings.place.0) (λ (both : List Row × List Row). both.0) ∙ (brings.place.1).number
 
-      pub shown_then : {out' : List ℕ} (result : Result (Unit {0}) Halt) → OnOk result (out' ≡ out ++ ended (answer (value_text reduce) query seq printed)) → OnOk result (IsReplyLine (answer (value_text reduce) query seq printed)) → OnErr result (out' ≡ out) → IfErr result (λ halt. halt ≡ Stopped NoMemory)
+      pub shown_then : {out' : List ℕ} (result : Result (Unit {0}) Halt) → OnOk result (AppendsAnswer reduce query seq printed out out') → OnErr result (out' ≡ out) → IfErr result (λ halt. halt ≡ Stopped NoMemory)
           → Performed f s now later (Ok (view_request name)) out out' result
-      shown_then {out'} (Ok done) appended line silent memory =
+      shown_then {out'} (Ok done) answers silent memory =
           viewed f s now later name
           (λ before at. shown_leaves f s docs pool pool' groups groups' old mid new servers servers' name id design place path within path_is read plans slot brings before at (subst (AllByRecursion HasParts) same_rows parts) each out out'
-          (appended ∙ ap (λ (text : List ℕ). out ++ ended text) same_answer))
-          (record { reply = answer (value_text reduce) query seq printed; line = line; appended = appended; unlike = λ other. unlike_answer (value_text reduce) query seq printed }) tt (λ is. let clash : ⊥ = cc in absurd clash)
+          answers.reply (same_answer answers.reply answers.is) answers.appended)
+          (record { reply = answers.reply; line = answers.line; appended = answers.appended; unlike = λ other. unlike_answer (IsValueOf reduce) query seq printed answers.reply answers.is }) tt (λ is. let clash : ⊥ = cc in absurd clash)
           (view_moves f s docs pool pool' groups groups' old mid new servers servers' name id design place path true updates read earlier plans is_open asked (Ok slot) refl brings)
           (λ goes. view_open f s docs pool pool' groups groups' old mid new servers servers' name id design place path true updates read earlier plans is_open asked (Ok slot) refl brings (λ lost. lost))
           (λ before at file limit is. absurd cc)
           tt
           (record { languages = brings.keeps.languages; width = brings.keeps.width; disk_faults = omega (arith, earlier, brings.later.0); server_faults = brings.later.1 })
-      shown_then {out'} (Err halt) appended line silent memory = subst (λ (h : Halt). Performed f s now later (Ok (view_request name)) out out' (Err h)) (sym memory)
+      shown_then {out'} (Err halt) answers silent memory = subst (λ (h : Halt). Performed f s now later (Ok (view_request name)) out out' (Err h)) (sym memory)
           (viewed f s now later name
           (λ before at. let left = spent_leaves f s docs pool pool' groups groups' old mid new servers servers' name id design place path within path_is read plans slot brings before at in
           does_halted f s now later name out out' (Stopped NoMemory) (λ goes before at. spent_leaves f s docs pool pool' groups groups' old mid new servers servers' name id design place path within path_is read plans slot brings before at)

@@ -27,8 +27,7 @@ use Rattle.child_pool.specs.Pools.{languages_of}
 use Rattle.doc_file.specs.declared.docs.Docs.{Docs}
 use Rattle.doc_file.specs.Docs.{seq_of as update_seq, IsAt as AreAt}
 use Rattle.doc_file.specs.History.{Write}
-use Rattle.range_query.specs.Value.{value_text}
-use Rattle.view_model.specs.Answer.{answer}
+use Rattle.view_model.specs.Answer.{IsAnswer}
 use Rattle.design_docs.specs.declared.design.Builtin.{Builtin}
 use Rattle.view_model.specs.Picture.{Picture}
 use Rattle.view_model.specs.Rows.{view_rows}
@@ -54,15 +53,16 @@ use Rattle.view_engine.specs.declared.halt.Halt.{Halt}
 use Rattle.view_engine.specs.declared.halt.Halt.TheVariants.{Stopped}
 use Rattle.view_engine.specs.declared.halt.StepFault.TheVariants.{DiskFault, Damaged, NoMemory}
 use Rattle.view_engine.specs.declared.halt.StepFault.{StepFault}
-use Rattle.view_engine.specs.Calls.{scene, AppendsText, IsReplyLine, LeavesMoment, Performed, Scene, StandsAt, Stays}
+use Rattle.view_engine.specs.Answering.{AppendsAnswer}
+use Rattle.view_engine.specs.Calls.{scene, AppendsText, LeavesMoment, Performed, Scene, StandsAt, Stays}
 use Rattle.view_engine.specs.Disks.{IsAskedFor, IsReasonOf, LiesOpen, MovesIndexOf}
 use Rattle.view_engine.specs.Moments.{Moment}
 use Rattle.view_engine.specs.Steps.{DoesRequestText, MayHaveCalled}
 use Rattle.view_engine.specs.Updating.{picture_in}
-use Rattle.view_engine.specs.View.{answer_of, design_id, rows_in, DoesKeptView, PrintsRows}
+use Rattle.view_engine.specs.View.{design_id, rows_in, DoesKeptView, IsAnswerOf, PrintsRows}
 use Rattle.view_engine.specs.ViewPlan.{met_by, source_at, IsPlan}
 use Rattle.query_args.specs.Query.{is_updated}
-use Rattle.view_engine.specs.ViewQuery.{ViewQuery, builtin_named, parameters_of, query_for, view_request}
+use Rattle.view_engine.specs.ViewQuery.{ViewQuery, IsValueOf, builtin_named, parameters_of, query_for, view_request}
 use Rattle.view_engine.specs.World.{World}
 use Rattle.view_engine.specs.Worlds.{IsAtWorld, StandsAround, StandsEither}
 use Rattle.view_engine.proofs.Apart.{documents_beside, old_stands}
@@ -271,8 +271,18 @@ module _ {F C : Type 0} (f : Folders F) (s : Servers C) (docs : Docs) (pool : Po
         abbrev Asked : List Write
         Asked = first (picture_in here_world document).seq here_world.history
 
-        prints : PrintsRows s.functions s.honest (languages_of pool) name document path (source_at design.views place) here_world here_world (answer (value_text reduce) query seq printed)
-        prints = record {
+        same_seq : seq ≡ (picture_in here_world document).seq
+        same_seq = seq_is ∙ ap (λ (p : Picture). p.seq) same
+
+        same_answer : (reply : List ℕ) → IsAnswer (IsValueOf reduce) query seq printed reply → IsAnswerOf (views_of document) name (picture_in here_world document).seq printed reply
+        same_answer reply answers =
+            subst (λ (views : List DesignView). IsAnswerOf views name (picture_in here_world document).seq printed reply) plan.views
+            (subst (λ (kind : Option Builtin). IsAnswer (IsValueOf kind) (query_for design.views name) (picture_in here_world document).seq printed reply) reduce_is
+            (subst (λ (q : Query). IsAnswer (IsValueOf reduce) q (picture_in here_world document).seq printed reply) query_is
+            (subst (λ (n : ℕ). IsAnswer (IsValueOf reduce) query n printed reply) same_seq answers)))
+
+        prints : (reply : List ℕ) → IsAnswer (IsValueOf reduce) query seq printed reply → PrintsRows s.functions s.honest (languages_of pool) name document path (source_at design.views place) here_world here_world reply
+        prints reply answers = record {
           rows = printed;
           shown =
               ap (λ (p : Picture). rows_in (views_of document) p.rows name.view) (sym same)
@@ -287,11 +297,11 @@ module _ {F C : Type 0} (f : Folders F) (s : Servers C) (docs : Docs) (pool : Po
               ∙ ap (λ (r : List (List Row)). slice_index_or r place []) was.rows
               ∙ rows_at_place (s.functions path) (views_of document) Asked place (subst (λ (views : List DesignView). place < length views) plan.views within)
               ∙ ap (λ (views : List DesignView). view_rows (s.functions path) (source_at views place) Asked) (sym plan.views);
-          prints = (λ i. answer (value_text (reduce_is i)) (query_is i) ((seq_is ∙ ap (λ (p : Picture). p.seq) same) i) printed) ∙ ap (λ (views : List DesignView). answer_of views name (picture_in here_world document).seq printed) plan.views;
+          prints = same_answer reply answers;
         }
 
-        does : DoesKeptView s.functions s.honest (languages_of pool) before name (answer (value_text reduce) query seq printed) before
-        does = record {
+        does : (reply : List ℕ) → IsAnswer (IsValueOf reduce) query seq printed reply → DoesKeptView s.functions s.honest (languages_of pool) before name reply before
+        does reply answers = record {
           keeps = plan.updates;
           accepted = plan.accepted;
           design = document;
@@ -300,15 +310,15 @@ module _ {F C : Type 0} (f : Folders F) (s : Servers C) (docs : Docs) (pool : Po
           live = plan.live;
           source_is = plan.source_is;
           path_is = plan.path_is;
-          rows = prints;
+          rows = prints reply answers;
           same = refl;
         }
 
-      shown_leaves : (out' : List ℕ) → out' ≡ out ++ ended (answer (value_text reduce) query seq printed) → AppendsText f s now later before (DoesRequestText s.functions s.honest (languages_of pool) before (Ok (view_request name))) out out'
-      shown_leaves out' appended = record {
-        text = ended (answer (value_text reduce) query seq printed);
-        leaves = left_before (Ok slot) opens before at (DoesRequestText s.functions s.honest (languages_of pool) before (Ok (view_request name)) (ended (answer (value_text reduce) query seq printed))) (λ d ends. ends)
-            (told_now (f.disk old) _ _ (λ d both. (answer (value_text reduce) query seq printed, inl (inr (does both.0 both.1)), refl)) planned);
+      shown_leaves : (out' reply : List ℕ) → IsAnswer (IsValueOf reduce) query seq printed reply → out' ≡ out ++ ended reply → AppendsText f s now later before (DoesRequestText s.functions s.honest (languages_of pool) before (Ok (view_request name))) out out'
+      shown_leaves out' reply answers appended = record {
+        text = ended reply;
+        leaves = left_before (Ok slot) opens before at (DoesRequestText s.functions s.honest (languages_of pool) before (Ok (view_request name)) (ended reply)) (λ d ends. ends)
+            (told_now (f.disk old) _ _ (λ d both. (reply, inl (inr (does both.0 both.1 reply answers)), refl)) planned);
         appended = appended;
       }
 
@@ -319,14 +329,14 @@ module _ {F C : Type 0} (f : Folders F) (s : Servers C) (docs : Docs) (pool : Po
     kept_stays : Stays f s now later
     kept_stays = record { languages = refl; width = refl; disk_faults = (let late = opens.cause.later in omega (arith, earlier, late)); server_faults = omega arith }
 
-    pub kept_then : {out' : List ℕ} (result : Result (Unit {0}) Halt) → OnOk result (out' ≡ out ++ ended (answer (value_text reduce) query seq printed)) → OnOk result (IsReplyLine (answer (value_text reduce) query seq printed)) → OnErr result (out' ≡ out) → IfErr result (λ halt. halt ≡ Stopped NoMemory)
+    pub kept_then : {out' : List ℕ} (result : Result (Unit {0}) Halt) → OnOk result (AppendsAnswer reduce query seq printed out out') → OnErr result (out' ≡ out) → IfErr result (λ halt. halt ≡ Stopped NoMemory)
         → Performed f s now later (Ok (view_request name)) out out' result
-    kept_then {out'} (Ok done) appended line silent memory =
+    kept_then {out'} (Ok done) answers silent memory =
         viewed f s now later name
-        (λ before at. shown_leaves before at out' appended)
-        (record { reply = answer (value_text reduce) query seq printed; line = line; appended = appended; unlike = λ other. unlike_answer (value_text reduce) query seq printed }) tt (λ is. let clash : ⊥ = cc in absurd clash)
+        (λ before at. shown_leaves before at out' answers.reply answers.is answers.appended)
+        (record { reply = answers.reply; line = answers.line; appended = answers.appended; unlike = λ other. unlike_answer (IsValueOf reduce) query seq printed answers.reply answers.is }) tt (λ is. let clash : ⊥ = cc in absurd clash)
         (moves_of opens) (λ goes. kept_open) (λ before at file limit is. absurd (let clash : ⊥ = cc in clash)) tt kept_stays
-    kept_then {out'} (Err halt) appended line silent memory = subst (λ (h : Halt). Performed f s now later (Ok (view_request name)) out out' (Err h)) (sym memory)
+    kept_then {out'} (Err halt) answers silent memory = subst (λ (h : Halt). Performed f s now later (Ok (view_request name)) out out' (Err h)) (sym memory)
         (viewed f s now later name
         (does_halted f s now later name out out' (Stopped NoMemory)
         (λ goes before at. left_before (Ok slot) opens before at (Halts f s now later name before (Stopped NoMemory)) (λ d ends. ends)

@@ -32,6 +32,7 @@ pub mod Reading
 pub mod ServerFaults
 pub mod Rooms
 pub mod ReplyLines
+pub mod Answering
 pub mod Whole
 pub mod Updated
 pub mod Apart

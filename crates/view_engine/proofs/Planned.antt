@@ -46,7 +46,7 @@ use Rattle.view_engine.proofs.Bringing.{asked_there, brought_at, failed_at, move
 use Rattle.view_engine.proofs.Viewed.{answered, asked_all, at_moment, IsKnown, IsNextOf, Updates}
 use Rattle.view_engine.proofs.Viewing.{Halts, LeavesStopped}
 use Rattle.view_engine.proofs.Whole.{leaves_none, world_none}
-use Rattle.view_engine.specs.View.{answer_of}
+use Rattle.view_engine.specs.View.{IsAnswerOf}
 use Rattle.view_engine.specs.ViewQuery.{ViewQuery, view_request}
 
 -- a history that a document is live in isn't empty
@@ -167,8 +167,8 @@ module _ {F C : Type 0} (f : Folders F) (s : Servers C) (docs : Docs) (pool pool
           (asked_there f s docs pool pool' groups groups' mid new servers servers' name id design place path within path_is (Ok slot) brings before (at_mid before at)))
 
       -- what the pool did, in the words of the moment
-      went : Updates s.functions s.honest (languages_of pool) before name id design place path within mapped.documents (s.may_follow servers') (s.faults servers) (s.faults servers') pool' at.child.counts brings.later.1 pool at.child.width at.child.started before.width (Ok mapped.lists)
-      went = at_moment s.functions s.honest (languages_of pool) before name id design place path within mapped.documents (s.may_follow servers') (s.faults servers) (s.faults servers') pool' at.child.counts brings.later.1 pool at.child.width at.child.started (Ok mapped.lists)
+      went : Updates s.functions s.honest (languages_of pool) before name id design place path within mapped.documents (s.may_follow servers') (s.faults servers) (s.faults servers') pool' at.child.counts brings.later.1 pool at.child.width at.child.started at.child.reducer before.width (Ok mapped.lists)
+      went = at_moment s.functions s.honest (languages_of pool) before name id design place path within mapped.documents (s.may_follow servers') (s.faults servers) (s.faults servers') pool' at.child.counts brings.later.1 pool at.child.width at.child.started at.child.reducer (Ok mapped.lists)
           (mapped.maps path before.calls at.child.follows path_is at.child.child)
 
       abbrev IsMadeThere : Type 0
@@ -207,15 +207,15 @@ module _ {F C : Type 0} (f : Folders F) (s : Servers C) (docs : Docs) (pool pool
         allowed = allowed;
       }
 
-      pub shown_leaves : (parts : AllByRecursion (λ (row : Row). IsPart (json row.key) × IsPart (json row.value)) rows) → length (picture_of index).rows ≡ length design.views → (out out' : List ℕ) → out' ≡ out ++ ended (answer_of design.views name (picture_of index).seq rows)
+      pub shown_leaves : (parts : AllByRecursion (λ (row : Row). IsPart (json row.key) × IsPart (json row.value)) rows) → length (picture_of index).rows ≡ length design.views → (out out' reply : List ℕ) → IsAnswerOf design.views name (picture_of index).seq rows reply → out' ≡ out ++ ended reply
           → AppendsText f s now later before (DoesRequestText s.functions s.honest (languages_of pool) before (Ok (view_request name))) out out'
-      shown_leaves parts each out out' appended = record {
-        text = ended (answer_of design.views name (picture_of index).seq rows);
-        leaves = left_it (DoesRequestText s.functions s.honest (languages_of pool) before (Ok (view_request name)) (ended (answer_of design.views name (picture_of index).seq rows)))
+      shown_leaves parts each out out' reply answers appended = record {
+        text = ended reply;
+        leaves = left_it (DoesRequestText s.functions s.honest (languages_of pool) before (Ok (view_request name)) (ended reply))
             (told_now (f.disk old) _ _ (λ d both. (
-              answer_of design.views name (picture_of index).seq rows,
-              inl (inl (answered s.functions s.honest (languages_of pool) before name id design place path within mapped.documents (s.may_follow servers') (s.faults servers) (s.faults servers') pool' at.child.counts brings.later.1 pool at.child.width at.child.started mapped.lists mapped.idle went
-                  (picture_of index) after_world both.0 both.1 each parts)),
+              reply,
+              inl (inl (answered s.functions s.honest (languages_of pool) before name id design place path within mapped.documents (s.may_follow servers') (s.faults servers) (s.faults servers') pool' at.child.counts brings.later.1 pool at.child.width at.child.started at.child.reducer mapped.lists mapped.idle went
+                  (picture_of index) after_world both.0 both.1 each parts reply answers)),
               refl,
             )) known_made);
         appended = appended;
@@ -225,6 +225,6 @@ module _ {F C : Type 0} (f : Folders F) (s : Servers C) (docs : Docs) (pool pool
       spent_leaves = left_it (Halts f s now later name before (Stopped NoMemory))
           (told_now (f.disk old) _ _ (λ d both. (
             λ r is. absurd (let clash : ⊥ = cc in clash),
-            asked_all s.functions s.honest (languages_of pool) before name id design place path within mapped.documents (s.may_follow servers') (s.faults servers) (s.faults servers') pool' at.child.counts brings.later.1 pool at.child.width at.child.started mapped.lists mapped.idle went
+            asked_all s.functions s.honest (languages_of pool) before name id design place path within mapped.documents (s.may_follow servers') (s.faults servers) (s.faults servers') pool' at.child.counts brings.later.1 pool at.child.width at.child.started at.child.reducer mapped.lists mapped.idle went
                 (picture_of index) after_world both.0 both.1,
           )) known_made)

@@ -1,19 +1,18 @@
 -- Each reply is one line, which isn't empty.
-use Rattle.std.proofs.Common.{◌≡◌, ◌≢◌, ◌<◌, ◌^◌, ◌++◌, ℕ, List, [], Bool, true, false, codes, decimal, map, Result, Ok, Err, refl}
-use Rattle.std.specs.Prelude.{if◌then◌else◌, OnOk}
+use Rattle.std.proofs.Common.{◌≡◌, ◌≢◌, ◌<◌, ◌^◌, ◌++◌, ℕ, List, [], Bool, true, false, codes, decimal, refl, sym, ◌∙◌}
 use Rattle.json_terms.specs.Json.{Json, array, is_false, is_null, is_true, number, object, string}
 use Rattle.json_terms.specs.Text.{text_of}
 use Rattle.json_terms.specs.declared.term.Row.{Row}
 use Rattle.json_terms.proofs.OneLine.{line-quoted, line-text_of}
 use Rattle.view_ports.specs.Lines.{IsLine}
-use Rattle.range_query.proofs.Lines.{is_line, line, lines3, lines5, lines7}
+use Rattle.view_model.proofs.Lines.{is_line, line, lines3, lines5, lines7}
 use Rattle.doc_file.specs.declared.docs.Info.{Info}
 use Rattle.doc_file.specs.Held.{IsDocument, IsObject}
 use Rattle.doc_file.proofs.RevisionLines.{line-decimal}
 use Rattle.view_engine.specs.declared.refusal.Refusal.{Refusal}
 use Rattle.view_engine.specs.declared.refusal.Refusal.TheVariants.{LineTooLong, NotJson, NotWhole, TooDeep, UnknownRequest, NotBuiltYet, BadId, BadMember, BadRev, DocumentTooLarge, DocumentTooDeep, InvalidDesign, Missing, Deleted, MissingNamedView, Conflict, BadQuery, UnknownLanguage, CompilationError, ServerFault, ServerReply, NoMemory}
 use Rattle.query_args.specs.declared.query.Query.{Query}
-use Rattle.view_model.specs.Answer.{answer, groups_answer, key_of_group, rows_answer}
+use Rattle.view_model.specs.Answer.{groups_answer, keyed, rows_answer, IsAnswer}
 use Rattle.view_model.specs.Groups.{picked_groups}
 use Rattle.view_engine.specs.Answer.{info_text, write_text}
 use Rattle.view_engine.specs.Calls.{IsReplyLine}
@@ -114,17 +113,12 @@ object_some (string s) is none = absurd is
 pub document_line : (document : Json) → IsDocument document → IsReplyLine (text_of document)
 document_line document is = record { some = object_some document is.object; plain = line-text_of document is.term }
 
--- ---- rows
+-- ---- answers
 
--- the answer to a query begins with a brace
-pub answer_line : (value : List Row → List ℕ) (query : Query) (seq : ℕ) (rows : List Row) → IsLine (answer value query seq rows) → IsReplyLine (answer value query seq rows)
-answer_line value query seq rows plain = record { some = some query.reduced; plain = plain }
+-- the answer of a query begins with a brace
+pub answer_line : (IsValue : List Row → List ℕ → Type 0) (query : Query) (seq : ℕ) (rows : List Row) (reply : List ℕ) → IsAnswer IsValue query seq rows reply → IsLine reply → IsReplyLine reply
+answer_line IsValue query seq rows reply is plain = record { some = some query.reduced refl; plain = plain }
   where
-    some : (reduced : Bool) → (if reduced then groups_answer query seq (map (λ group. (key_of_group query.level group, value group)) (picked_groups query rows)) else rows_answer query seq rows) ≢ []
-    some true none = cc
-    some false none = cc
-
--- both of a result
-pub on_ok_both : {T E : Type 0} (result : Result T E) (P Q : Type 0) → OnOk result P → OnOk result Q → OnOk result (P × Q)
-on_ok_both (Ok value) P Q first second = (first, second)
-on_ok_both (Err error) P Q first second = tt
+    some : (reduced : Bool) → query.reduced ≡ reduced → reply ≢ []
+    some true reduced none = let never : groups_answer query seq (keyed query.level (picked_groups query rows) (is.reduced reduced).values) ≡ [] = sym (is.reduced reduced).is ∙ none in cc
+    some false whole none = let never : rows_answer query seq rows ≡ [] = sym (is.whole whole) ∙ none in cc

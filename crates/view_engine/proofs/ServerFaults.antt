@@ -1,7 +1,7 @@
 -- Which reply lines are `server_fault`, and which are not.
 use Rattle.std.specs.Prelude.{IfErr, bytes_eq, cond, if◌then◌else◌, not, ok_or}
 use Rattle.std.specs.List.{starts_with}
-use Rattle.std.proofs.Common.{◌≡◌, ◌≢◌, ◌≤◌, ◌+◌, ◌*◌, ◌++◌, ◌∙◌, ℕ, List, [], ◌∷◌, Bool, true, false, nat_eq, nat_lt, length, map, codes, decimal, refl, sym, ap, subst, arith, length-append, Option, Some, None, Result, Ok, Err}
+use Rattle.std.proofs.Common.{◌≡◌, ◌≢◌, ◌≤◌, ◌+◌, ◌*◌, ◌++◌, ◌∙◌, ℕ, List, [], ◌∷◌, Bool, true, false, nat_eq, nat_lt, length, codes, decimal, refl, sym, ap, subst, arith, length-append, Option, Some, None, Result, Ok, Err}
 use Rattle.std.proofs.lemmas.Bool.{and_parts, false≢true, not-true}
 use Rattle.std.proofs.lemmas.Slice.Eq.{bytes_eq-Decides}
 use Rattle.std.proofs.lemmas.List.Sums.{sum_by-cons}
@@ -31,8 +31,7 @@ use Rattle.view_engine.specs.declared.refusal.Refusal.{Refusal}
 use Rattle.view_engine.specs.declared.refusal.Refusal.TheVariants.{LineTooLong, NotJson, NotWhole, TooDeep, UnknownRequest, NotBuiltYet, BadId, BadMember, BadRev, DocumentTooLarge, DocumentTooDeep, InvalidDesign, Missing, Deleted, MissingNamedView, Conflict, BadQuery, UnknownLanguage, CompilationError, ServerFault, ServerReply, NoMemory}
 use Rattle.view_engine.specs.declared.request.Request.{Request}
 use Rattle.view_engine.specs.Answer.{info_text, write_text}
-use Rattle.view_model.specs.Answer.{answer, group_text, key_of_group, rows_answer, with_commas}
-use Rattle.view_model.specs.Groups.{picked_groups}
+use Rattle.view_model.specs.Answer.{group_text, rows_answer, with_commas, IsAnswer}
 use Rattle.query_args.specs.declared.query.Query.{Query}
 use Rattle.view_engine.specs.Calls.{AppendsReplyTo}
 use Rattle.view_engine.specs.Cleanup.{done_text}
@@ -65,20 +64,21 @@ unlike_info info = unlike (info_text info) refl
 pub unlike_done : done_text ≢ refusal_text ServerFault
 unlike_done = unlike done_text refl
 
-pub unlike_answer : (value : List Row → List ℕ) (query : Query) (seq : ℕ) (rows : List Row) → answer value query seq rows ≢ refusal_text ServerFault
-unlike_answer value query seq rows = unlike (answer value query seq rows) (begins_otherwise query.reduced query.show_seq)
+-- an answer of a query begins otherwise, whatever the values are
+pub unlike_answer : (IsValue : List Row → List ℕ → Type 0) (query : Query) (seq : ℕ) (rows : List Row) (reply : List ℕ) → IsAnswer IsValue query seq rows reply → reply ≢ refusal_text ServerFault
+unlike_answer IsValue query seq rows reply is = unlike reply (either query.reduced refl)
   where
-    groups : List (Json × List ℕ)
-    groups = map (λ group. (key_of_group query.level group, value group)) (picked_groups query rows)
+    groups_begin : (shown : Bool) (groups : List (Json × List ℕ))
+        → begins (codes "{" ++ (if shown then codes "\"update_seq\":" ++ decimal seq ++ codes "," else []) ++ codes "\"rows\":[" ++ with_commas group_text groups ++ codes "]}") ≡ false
+    groups_begin true groups = refl
+    groups_begin false groups = refl
 
-    begins_otherwise : (reduced shown : Bool)
-        → begins (if reduced
-        then codes "{" ++ (if shown then codes "\"update_seq\":" ++ decimal seq ++ codes "," else []) ++ codes "\"rows\":[" ++ with_commas group_text groups ++ codes "]}"
-        else rows_answer query seq rows)
-        ≡ false
-    begins_otherwise true true = refl
-    begins_otherwise true false = refl
-    begins_otherwise false shown = refl
+    rows_begin : begins (rows_answer query seq rows) ≡ false
+    rows_begin = refl
+
+    either : (reduced : Bool) → query.reduced ≡ reduced → begins reply ≡ false
+    either true reduced = ap begins (is.reduced reduced).is ∙ groups_begin query.show_seq _
+    either false whole = ap begins (is.whole whole) ∙ rows_begin
 
 -- of the refusals one alone has this text
 pub refusal_is_fault : (refusal : Refusal) → refusal_text refusal ≡ refusal_text ServerFault → refusal ≡ ServerFault

@@ -34,7 +34,7 @@ use Rattle.child_pool.specs.Outcomes.{IsCaused}
 use Rattle.child_pool.specs.Tries.{AllAnswered, Prompt, StopsAt}
 use Rattle.child_pool.specs.Updates.{AfterTries, AfterUpdate}
 use Rattle.child_pool.proofs.Remembered.{kept_is}
-use Rattle.child_pool.proofs.Honesty.{complains_rightly, no_bad_reply}
+use Rattle.child_pool.proofs.Honesty.{maps_complain_rightly, no_bad_reply}
 use Rattle.doc_file.specs.History.{IsStoredAs, AreStored, Write, mapped_after}
 use Rattle.doc_file.proofs.CanBeStored.{mapped_are_stored}
 use Rattle.view_index.specs.Held.{empty_views, or_empty}
@@ -54,7 +54,7 @@ use Rattle.view_engine.specs.Moments.{Moment}
 use Rattle.view_engine.specs.Refusals.{refusal_text}
 use Rattle.view_engine.specs.Steps.{EndsUpdate, MayHaveCalled}
 use Rattle.view_engine.specs.Updating.{picture_in, AreFit, IsBrought, IsSound}
-use Rattle.view_engine.specs.View.{answer_of, design_id, rows_in, DoesUpdatedView, IsBrokenOff, IsGivenUp, IsJobOf, IsMet, IsServed, PrintsRows, fault_of, prompts_of}
+use Rattle.view_engine.specs.View.{design_id, rows_in, DoesUpdatedView, IsAnswerOf, IsBrokenOff, IsGivenUp, IsJobOf, IsMet, IsServed, PrintsRows, fault_of, prompts_of}
 use Rattle.view_engine.specs.ViewPlan.{IsPlan, met_by_pool, source_at}
 use Rattle.view_engine.specs.World.{World}
 use Rattle.view_engine.proofs.Updated.{are_spoiled, can_be_answered, rows_are_afresh, rows_at_place}
@@ -214,8 +214,8 @@ module _ (functions : List ℕ → Functions) (honest : List ℕ → Type 0) (la
     rows_there = slice_index_or next.rows place []
 
     pub prints : length next.rows ≡ length design.views → AllByRecursion (λ (row : Row). IsPart (json row.key) × IsPart (json row.value)) rows_there
-        → PrintsRows functions honest languages name known.plan.document path source before.world left (answer_of design.views name next.seq rows_there)
-    prints each parts = record {
+        → (reply : List ℕ) → IsAnswerOf design.views name next.seq rows_there reply → PrintsRows functions honest languages name known.plan.document path source before.world left reply
+    prints each parts reply answers = record {
       rows = rows_there;
       shown =
           ap (λ picture. rows_in (views_of known.plan.document) (picture_or_none (views_of known.plan.document) picture).rows name.view) (set_there (signature_of known.plan.document) next before.world.pictures left.pictures signed)
@@ -231,14 +231,14 @@ module _ (functions : List ℕ → Functions) (honest : List ℕ → Type 0) (la
           ∙ ap (λ picture. view_rows (functions path) source (first (picture_or_none (views_of known.plan.document) picture).seq before.world.history))
           (sym (set_there (signature_of known.plan.document) next before.world.pictures left.pictures signed));
       prints =
-          ap (λ views. answer_of views name next.seq rows_there) known.plan.views
-          ∙ ap (λ picture. answer_of (views_of known.plan.document) name (picture_or_none (views_of known.plan.document) picture).seq rows_there)
-          (sym (set_there (signature_of known.plan.document) next before.world.pictures left.pictures signed));
+          subst (λ picture. IsAnswerOf (views_of known.plan.document) name (picture_or_none (views_of known.plan.document) picture).seq rows_there reply)
+          (sym (set_there (signature_of known.plan.document) next before.world.pictures left.pictures signed))
+          (subst (λ views. IsAnswerOf views name next.seq rows_there reply) known.plan.views answers);
     }
 
   -- ---- the calls
 
-  module _ (may_follow : List Call → Type 0) (old new : ℕ) (pool : Pool) (counts : old ≡ before.faults) (later : old ≤ new) (old_pool : Pool) (was : old_pool.width ≡ before.width) (started : old_pool.started ≡ before.started) where
+  module _ (may_follow : List Call → Type 0) (old new : ℕ) (pool : Pool) (counts : old ≡ before.faults) (later : old ≤ new) (old_pool : Pool) (was : old_pool.width ≡ before.width) (started : old_pool.started ≡ before.started) (reducer : old_pool.reducer ≡ before.reducer) where
     later_there : before.faults ≤ new
     later_there = subst (λ (n : ℕ). n ≤ new) counts later
 
@@ -251,7 +251,7 @@ module _ (functions : List ℕ → Functions) (honest : List ℕ → Type 0) (la
     at_moment result w = subst (λ (n : ℕ). Updates n result) was w
 
     abbrev pub after : World → List Call → Moment
-    after left now = record { world = left; width = before.width; started = pool.started; calls = now; faults = new }
+    after left now = record { world = left; width = before.width; started = pool.started; reducer = pool.reducer; calls = now; faults = new }
 
     -- what the pool asked, in the words of the moment
     kept_was : (kept : ℕ) → IsKeptOf old_pool job.path kept → kept ≡ kept_of job.path before.started
@@ -262,7 +262,7 @@ module _ (functions : List ℕ → Functions) (honest : List ℕ → Type 0) (la
 
     served : (left : World) (lists : List (List (List (Json × Json)))) (w : Updates before.width (Ok lists)) → (documents ≡ [] → pool.started ≡ old_pool.started) → IsServed job before (after left w.now) w.added
     served left lists w idle =
-        let tries = w.holds.0 in
+        let tries = w.holds.0.0 in
         let is = tries.1 in
         record {
           answered = subst (λ (prompts : List Prompt). AllAnswered (Rose before.faults new) prompts w.added) (same_prompts tries.0 is)
@@ -270,6 +270,7 @@ module _ (functions : List ℕ → Functions) (honest : List ℕ → Type 0) (la
           talked = subst (λ (n : ℕ). AreTurns (talk_of job.sources job.documents before.width) (talk w.added) ⊎ Rose n new) counts w.holds.1.1.talked;
           kept = λ some. tries.2.remembers some ∙ ap (λ (n : ℕ). Some (record { path = path; count = n })) (ap (λ (n : ℕ). max (min n (length documents)) tries.0) was ∙ ap (max (min before.width (length documents))) (kept_was tries.0 is));
           idle = λ none. idle none ∙ started;
+          reducer = w.holds.0.1 ∙ reducer;
         }
 
     given_up : (f : PoolFault) (w : Updates before.width (Err f)) → documents ≢ [] → IsGivenUp job before (after before.world w.now) f w.added
@@ -286,7 +287,7 @@ module _ (functions : List ℕ → Functions) (honest : List ℕ → Type 0) (la
               (subst (λ (n : ℕ). StopsAt f (Rose n new) (update_prompts job old_pool.width tries.0) all.tried) counts all.refused.stops);
           talked = subst (λ (n : ℕ). AreCutShortIn before.width (talk_of job.sources job.documents before.width) (talk w.added) ⊎ Rose n new) counts w.holds.1.refused.talked;
           stopped = w.holds.1.stopped.stopped;
-          none_kept = w.holds.1.stopped.forgotten;
+          none_kept = (w.holds.1.stopped.forgotten, w.holds.1.stopped.reducer);
         }
 
     -- the first documents alone were mapped
@@ -305,6 +306,7 @@ module _ (functions : List ℕ → Functions) (honest : List ℕ → Type 0) (la
           left = rest;
           all = all;
           some = some;
+          reducer = w.holds.reducer ∙ reducer;
           answered =
               subst (λ (n : ℕ). AllAnswered (Rose before.faults new) (first_prompts job before.width n done) w.added) (kept_was kept tried.1)
               (subst (λ (n : ℕ). AllAnswered (Rose before.faults new) (first_prompts job n kept done) w.added) was
@@ -334,8 +336,8 @@ module _ (functions : List ℕ → Functions) (honest : List ℕ → Type 0) (la
     module _ (lists : DocRowLists) (idle : documents ≡ [] → pool.started ≡ old_pool.started) (w : Updates before.width (Ok lists)) where
       pub answered : (next : Picture) (left : World) (known : Known) → IsNextOf functions honest before.world design path documents next left → length next.rows ≡ length design.views
           → AllByRecursion (λ (row : Row). IsPart (json row.key) × IsPart (json row.value)) (slice_index_or next.rows place [])
-          → DoesUpdatedView functions honest languages before name (answer_of design.views name next.seq (slice_index_or next.rows place [])) (after left w.now)
-      answered next left known made each parts = record {
+          → (reply : List ℕ) → IsAnswerOf design.views name next.seq (slice_index_or next.rows place []) reply → DoesUpdatedView functions honest languages before name reply (after left w.now)
+      answered next left known made each parts reply answers = record {
         updates = known.plan.updates;
         accepted = known.plan.accepted;
         design = known.plan.document;
@@ -350,7 +352,7 @@ module _ (functions : List ℕ → Functions) (honest : List ℕ → Type 0) (la
           later = later_there;
           holds = inl (record {
             brought = is_brought next left known made;
-            rows = prints next left known made each parts;
+            rows = prints next left known made each parts reply answers;
             served = served left lists w idle;
           });
         };
@@ -391,7 +393,7 @@ module _ (functions : List ℕ → Functions) (honest : List ℕ → Type 0) (la
         (caused, λ h. no_bad_reply functions honest job added before.calls line (record { path = h; few = few known; stored = are_mappable languages before name id design place path documents known }) caused)
     met fault.Compile added now r known caused twice is =
         let same : refusal.CompilationError id ≡ r = cc in
-        subst (IsMet functions honest name job before (after before.world now) added) same (known.plan.id_is, caused, λ h. complains_rightly functions honest job added before.calls h caused)
+        subst (IsMet functions honest name job before (after before.world now) added) same (known.plan.id_is, caused, λ h. maps_complain_rightly functions honest path (map_sources design.views) documents added before.calls h caused)
     met fault.NoMemory added now r known caused twice is = absurd (let clash : ⊥ = cc in clash)
     met fault.UnknownLanguage added now r known caused twice is = absurd caused
 
@@ -403,7 +405,7 @@ module _ (functions : List ℕ → Functions) (honest : List ℕ → Type 0) (la
     complains (fault.BadReply line) w r other known some is complaint = let clash : ⊥ = cc in absurd clash
     complains fault.Compile w r other known some is complaint = λ is_honest sound fit.
         are_spoiled functions honest languages before.world (design_id name.design) known.plan.document path refl known.plan.live known.plan.path_is is_honest sound fit
-        (subst (λ views. SomeSourceFails (functions path) (map_sources views)) known.plan.views (complains_rightly functions honest job w.added before.calls is_honest w.holds.1.refused.caused))
+        (subst (λ views. SomeSourceFails (functions path) (map_sources views)) known.plan.views (maps_complain_rightly functions honest path (map_sources design.views) documents w.added before.calls is_honest w.holds.1.refused.caused))
         (some_mapped languages before name id design place path documents known some)
     complains fault.NoMemory w r other known some is complaint = let clash : ⊥ = cc in absurd clash
     complains fault.UnknownLanguage w r other known some is complaint = let clash : ⊥ = cc in absurd clash

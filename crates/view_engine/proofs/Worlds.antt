@@ -12,6 +12,7 @@ use Rattle.view_ports.proofs.Told.{told_now, told_refl}
 use Rattle.gate_file.proofs.Looks.{told_none_then}
 use Rattle.child_pool.specs.declared.pool.Started.{Started}
 use Rattle.child_pool.specs.Pools.{AreThere}
+use Rattle.child_pool.specs.Sessions.{IsThere}
 use Rattle.doc_file.specs.History.{Write}
 use Rattle.doc_file.proofs.Stores.{at_holds}
 use Rattle.view_engine.specs.declared.engine.Engine.{Engine}
@@ -85,8 +86,12 @@ module _ (disk : Option (Disk FileName)) (may_follow : List Call → Type 0) (fa
     documents = at;
     child = record {
       width = is;
-      started = childless;
-      child = subst (λ (started : Option Started). MatchOption started (Unit {0}) (λ kept. (kept.count ≤ engine.pool.width) × AreThere kept.path kept.count [])) (sym childless) tt;
+      started = childless.0;
+      reducer = childless.1;
+      child = record {
+        mapping = subst (λ (started : Option Started). MatchOption started (Unit {0}) (λ kept. (kept.count ≤ engine.pool.width) × AreThere kept.path kept.count [])) (sym childless.0) tt;
+        reducing = subst (λ (reducer : Option (List ℕ)). MatchOption reducer (Unit {0}) (λ path. IsThere path engine.pool.width [])) (sym childless.1) tt;
+      };
       follows = follows;
       counts = refl;
     };

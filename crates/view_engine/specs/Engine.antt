@@ -5,7 +5,7 @@ use Rattle.view_ports.specs.Disk.{Disk, IfTold, LeavesOnly, Tells}
 use Rattle.view_ports.specs.declared.file_name.FileName.{FileName}
 use Rattle.child_pool.specs.declared.pool.Pool.{Pool}
 use Rattle.child_pool.specs.Histories.{AllStops}
-use Rattle.child_pool.specs.Pools.{AreStopped, HasItsChildren, started_of, width_of}
+use Rattle.child_pool.specs.Pools.{AreStopped, HasItsChildren, reducer_of, started_of, width_of}
 use Rattle.view_engine.specs.declared.engine.Engine.{Engine}
 use Rattle.view_engine.specs.Moments.{Moment}
 use Rattle.view_engine.specs.Worlds.{IsAtWorld, StandsEither}
@@ -14,6 +14,7 @@ use Rattle.view_engine.specs.Worlds.{IsAtWorld, StandsEither}
 pub record HasChild (may_follow : List Call → Type 0) (faults : ℕ) (pool : Pool) (moment : Moment) : Type 0 where
   pub width : width_of pool ≡ moment.width
   pub started : started_of pool ≡ moment.started
+  pub reducer : reducer_of pool ≡ moment.reducer
   pub child : HasItsChildren pool moment.calls
   pub follows : may_follow moment.calls
   pub counts : faults ≡ moment.faults

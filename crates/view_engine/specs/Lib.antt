@@ -24,6 +24,7 @@ pub mod Cleaning
 pub mod Openings
 pub mod ServerFaults
 pub mod Calls
+pub mod Answering
 pub mod Accepted
 pub mod Laws
 pub mod ViewQuery

@@ -9,8 +9,10 @@ pub record Moment : Type 0 where
   pub world : World
   -- how many children map documents: those of the slots below this one
   pub width : ℕ
-  -- the children that are kept: their path, and how many they are
+  -- the children that map and are kept: their path, and how many they are
   pub started : Option Started
+  -- the path of the child that reduces, where one is kept
+  pub reducer : Option (List ℕ)
   -- the calls on the query servers, the newest first
   pub calls : List Call
   -- how many faults they had

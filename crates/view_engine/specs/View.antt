@@ -32,11 +32,10 @@ use Rattle.view_model.specs.Since.{first}
 use Rattle.json_terms.specs.Seen.{json}
 use Rattle.json_terms.specs.declared.term.Row.{Row}
 use Rattle.design_docs.specs.declared.design.View.{View}
-use Rattle.view_model.specs.Answer.{answer}
+use Rattle.view_model.specs.Answer.{IsAnswer}
 use Rattle.query_args.specs.Faults.{query_fault}
 use Rattle.query_args.specs.Query.{is_updated}
-use Rattle.range_query.specs.Value.{value_text}
-use Rattle.view_engine.specs.ViewQuery.{ViewQuery, builtin_named, parameters_of, query_for, target_for}
+use Rattle.view_engine.specs.ViewQuery.{ViewQuery, IsValueOf, builtin_named, parameters_of, query_for, target_for}
 use Rattle.view_engine.specs.Refusals.{first_of, refusal_text}
 
 -- the id of the design document with this name
@@ -69,9 +68,9 @@ view_refusal languages world name =
     first_of
     (get_refusal world (design_id name.design) ∷ no_view (option_and_then (source_of name.view) design) ∷ bad_query name design ∷ no_language languages design ∷ [])
 
--- the answer to the query of a view, from its rows at a sequence
-abbrev pub answer_of : List View → ViewQuery → ℕ → List Row → List ℕ
-answer_of views name = answer (value_text (builtin_named name.view views)) (query_for views name)
+-- the text answers the query of a view, from its rows at a sequence
+abbrev pub IsAnswerOf : List View → ViewQuery → ℕ → List Row → List ℕ → Type 0
+IsAnswerOf views name = IsAnswer (IsValueOf (builtin_named name.view views)) (query_for views name)
 
 -- the rows of the view with this name, in the order of the views
 abbrev pub rows_in : List View → List (List Row) → List ℕ → Option (List Row)
@@ -96,12 +95,13 @@ prompts_of job before = update_prompts job before.width (kept_of job.path before
 
 -- An update was done. Each prompt was answered within two tries; where no fault was counted the talk is that of an update which
 -- maps all documents; and where there are some, the children that it used are kept, with those of its path that were kept before.
--- Without documents nothing is asked, and no child is started or stopped.
+-- Without documents nothing is asked, and no child is started or stopped. The child that reduces is as it was.
 pub record IsServed (job : Job) (before after : Moment) (added : List Call) : Type 0 where
   pub answered : AllAnswered (Rose before.faults after.faults) (prompts_of job before) added
   pub talked : AreTurns (talk_of job.sources job.documents before.width) (talk added) ⊎ Rose before.faults after.faults
   pub kept : job.documents ≢ [] → after.started ≡ Some (record { path = job.path; count = max (min before.width (length job.documents)) (kept_of job.path before.started) })
   pub idle : job.documents ≡ [] → after.started ≡ before.started
+  pub reducer : after.reducer ≡ before.reducer
 
 -- An update of some documents was given up with this fault. The prompts before the one at which that came were answered; of a
 -- server's fault both tries of that one failed. Then all children were stopped, and nothing else was called. Where no fault was
@@ -115,7 +115,7 @@ pub record IsGivenUp (job : Job) (before after : Moment) (f : PoolFault) (added 
   pub ends : StopsAt f (Rose before.faults after.faults) (prompts_of job before) tried
   pub talked : AreCutShortIn before.width (talk_of job.sources job.documents before.width) (talk added) ⊎ Rose before.faults after.faults
   pub stopped : NoneIsLeft before.width after.calls
-  pub none_kept : after.started ≡ None
+  pub none_kept : (after.started ≡ None) × (after.reducer ≡ None)
 
 -- An update was broken off behind the first of its documents, since memory ran out or the documents could not be read. Each prompt up
 -- to there was answered within two tries, and the children that the update needs are kept, with those of its path that were kept
@@ -125,6 +125,7 @@ pub record IsBrokenOff (job : Job) (before after : Moment) (added : List Call) :
   pub left : List (List (List ℕ × Json))
   pub all : job.documents ≡ done ++ left
   pub some : done ≢ []
+  pub reducer : after.reducer ≡ before.reducer
   pub answered : AllAnswered (Rose before.faults after.faults) (first_prompts job before.width (kept_of job.path before.started) done) added
   pub kept : after.started ≡ Some (record { path = job.path; count = max (min before.width (length job.documents)) (kept_of job.path before.started) })
 
@@ -144,7 +145,7 @@ module _ (functions : List ℕ → Functions) (honest : List ℕ → Type 0) whe
     pub shown : rows_in (views_of design) (picture_in after design).rows name.view ≡ Some rows
     pub parts : AllByRecursion (λ row. IsPart (json row.key) × IsPart (json row.value)) rows
     pub afresh : honest path → IsSound functions honest languages before → AreFit before.history → rows ≡ view_rows (functions path) source (first (picture_in after design).seq before.history)
-    pub prints : reply ≡ answer_of (views_of design) name (picture_in after design).seq rows
+    pub prints : IsAnswerOf (views_of design) name (picture_in after design).seq rows reply
 
   -- a refusal that is met while documents are mapped, and its cause: on an honest path a source that doesn't compile, and
   -- elsewhere a complaint; two failed attempts; or a bad reply, which is none on an honest path

@@ -1,6 +1,7 @@
 -- A view that is asked for, with the parameters of the query.
-use Rattle.std.specs.Prelude.{ℕ, List, [], ◌∷◌, bytes_eq, if◌then◌else◌, Option, Some, None, is_some}
+use Rattle.std.specs.Prelude.{◌≡◌, ℕ, List, [], ◌∷◌, bytes_eq, if◌then◌else◌, Option, Some, None, is_some}
 use Rattle.json_terms.specs.Json.{Json, object, no_members, members_of}
+use Rattle.json_terms.specs.declared.term.Row.{Row}
 use Rattle.design_docs.specs.declared.design.Builtin.{Builtin}
 use Rattle.design_docs.specs.declared.design.Reduce.{Reduce}
 use Rattle.design_docs.specs.declared.design.Reduce.TheVariants as reduce
@@ -9,6 +10,7 @@ use Rattle.query_args.specs.declared.query.Query.{Query}
 use Rattle.query_args.specs.declared.query.Target.{Target}
 use Rattle.query_args.specs.declared.query.Target.TheVariants as target
 use Rattle.query_args.specs.Query.{query_of}
+use Rattle.view_model.specs.Values.{builtin_text}
 use Rattle.view_engine.specs.declared.request.Request.{Request}
 use Rattle.view_engine.specs.declared.request.Request.TheVariants as request
 use Rattle.view_engine.specs.declared.request.ViewName.{ViewName}
@@ -45,6 +47,11 @@ builtin_in (reduce.Source source) = None
 abbrev pub builtin_named : List ℕ → List View → Option Builtin
 builtin_named name [] = None
 builtin_named name (view ∷ views) = if bytes_eq view.name name then builtin_in view.reduce else builtin_named name views
+
+-- the text is the value of a group of rows by it. Without one a group has no value.
+abbrev pub IsValueOf : Option Builtin → List Row → List ℕ → Type 0
+IsValueOf None rows text = ⊥
+IsValueOf (Some kind) rows text = text ≡ builtin_text kind rows
 
 -- the view that is asked for, of a design with these views, has a reduce or none
 abbrev pub target_for : List View → ViewQuery → Target

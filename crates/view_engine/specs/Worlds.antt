@@ -4,7 +4,7 @@ use Rattle.std.specs.Prelude.{◌≡◌, ◌⊎◌, ℕ, List, [], ◌++◌, Opt
 use Rattle.view_ports.specs.File.{File}
 use Rattle.view_ports.specs.Functions.{Functions}
 use Rattle.view_ports.specs.declared.file_name.FileName.{FileName}
-use Rattle.child_pool.specs.Pools.{languages_of, started_of, width_of}
+use Rattle.child_pool.specs.Pools.{languages_of, reducer_of, started_of, width_of}
 use Rattle.doc_file.specs.declared.docs.Docs.{Docs}
 use Rattle.doc_file.specs.Docs.{HoldsHistory, IsAt as AreAt, IsDamagedAt, IsOpen as AreOpen}
 use Rattle.doc_file.specs.Held.{Stands}
@@ -27,7 +27,7 @@ GoesOnFrom before after = (newer : List Write) × (after.history ≡ newer ++ be
 
 -- a world, and query servers of which so many map documents and that had so many faults, before any call
 abbrev pub at_start : World → ℕ → ℕ → Moment
-at_start world width faults = record { world = world; width = width; started = None; calls = []; faults = faults }
+at_start world width faults = record { world = world; width = width; started = None; reducer = None; calls = []; faults = faults }
 
 -- ---- files, and what a crash leaves of them
 
@@ -120,4 +120,4 @@ pub record IsAtWorld (engine : Engine) (files : FileName → File) (world : Worl
 
 -- an engine keeps no child
 abbrev pub IsChildless : Engine → Type 0
-IsChildless engine = started_of engine.pool ≡ None
+IsChildless engine = (started_of engine.pool ≡ None) × (reducer_of engine.pool ≡ None)

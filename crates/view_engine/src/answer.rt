@@ -3,12 +3,12 @@
 ghost use Rattle.std.specs.Prelude.{OnOk};
 ghost use Rattle.view_engine.specs.Answer as print;
 ghost use Rattle.view_engine.specs.Calls.{IsReplyLine};
-ghost use Rattle.range_query.specs.Written.{Adds, KeepsBefore};
+ghost use Rattle.view_model.specs.Written.{Adds, KeepsBefore};
 
 use doc_file::Info;
 use json_terms::NoMemory;
-use range_query::Reply;
 use std::alloc::Global;
+use view_model::Reply;
 
 /// Writes the reply to an accepted write.
 pub fn write_accepted(alloc: Global, id: &str, rev: &str, reply: &mut Reply) -> Result<(), NoMemory>

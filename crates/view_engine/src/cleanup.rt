@@ -15,10 +15,10 @@ use crate::design::design_of;
 use crate::halt::{Halt, StepFault};
 use doc_file::{DocFault, Docs};
 use json_terms::NoMemory;
-use range_query::Reply;
 use std::alloc::Global;
 use view_groups::Groups;
 use view_index::IndexFault;
+use view_model::Reply;
 use view_ports::Folder;
 use view_signature::signature;
 

@@ -24,9 +24,9 @@ use crate::writes::{delete, put};
 use child_pool::Pool;
 use doc_file::{DocFault, Docs};
 use json_terms::NoMemory;
-use range_query::Reply;
 use std::alloc::Global;
 use view_groups::Groups;
+use view_model::Reply;
 use view_ports::{Folder, Servers};
 
 /// A database of documents in a folder, with the indexes and the query servers of its views, and what its requests do.

@@ -19,8 +19,8 @@ use crate::halt::Halt;
 use crate::request::Request;
 use doc_file::Docs;
 use json_terms::NoMemory;
-use range_query::Reply;
 use std::alloc::Global;
+use view_model::Reply;
 use view_ports::Folder;
 
 /// Appends the reply line with a live document.

@@ -3,13 +3,13 @@
 ghost use Rattle.std.specs.Prelude.{◌≡◌, ◌++◌, IfOk, OnOk, string_bytes};
 ghost use Rattle.view_engine.specs.DesignReasons.{design_reason as reason_of};
 ghost use Rattle.view_engine.specs.QueryReasons.{query_reason as query_reason_of};
-ghost use Rattle.range_query.specs.Written.{Adds, KeepsBefore};
+ghost use Rattle.view_model.specs.Written.{Adds, KeepsBefore};
 
 use design_docs::DesignFault;
 use json_terms::{Chars, NoMemory, TermFault};
 use query_args::QueryFault;
-use range_query::Reply;
 use std::alloc::Global;
+use view_model::Reply;
 
 /// Why a request line was not done, in the order in which the causes are looked for.
 #[derive(Drop, Debug)]

@@ -20,8 +20,8 @@ use crate::request::Request;
 use design_docs::{DESIGN_PREFIX, DesignFault, Reduce, View, id_of, is_design_id, read_design};
 use doc_file::{DocFault, Docs};
 use json_terms::{Chars, DOCUMENT_DEPTH, Members, NoMemory, Term, depth_within, member};
-use range_query::Reply;
 use std::alloc::Global;
+use view_model::Reply;
 use view_ports::Folder;
 
 /// Puts a document and appends the reply line.

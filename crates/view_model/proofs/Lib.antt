@@ -14,3 +14,15 @@ pub mod Strict
 pub mod Shapes
 pub mod Apart
 pub mod Designs
+mod Falling
+mod Ends
+mod Prefixes
+mod Printed
+mod RunParts
+mod GroupTexts
+pub mod GroupAnswers
+pub mod OneAnswer
+mod PlainAnswers
+pub mod Pieces
+pub mod Lines
+mod AnswerLines

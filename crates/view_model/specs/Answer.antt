@@ -1,6 +1,6 @@
 -- The text that answers a query of a view (CouchDB's view API).
-use Rattle.std.specs.Prelude.{ℕ, List, [], ◌∷◌, ◌++◌, codes, decimal, length, map, if◌then◌else◌, Option, Some, None}
-use Rattle.std.specs.List.{flat_map}
+use Rattle.std.specs.Prelude.{◌≡◌, ℕ, true, false, List, [], ◌∷◌, ◌++◌, codes, decimal, length, map, if◌then◌else◌, Option, Some, None}
+use Rattle.std.specs.List.{flat_map, AllZip}
 use Rattle.json_terms.specs.Json.{Json, is_null, string}
 use Rattle.json_terms.specs.Text.{text_of}
 use Rattle.json_terms.specs.Seen.{json}
@@ -57,6 +57,12 @@ group_text (key, value) = codes "{\"key\":" ++ text_of key ++ codes ",\"value\":
 abbrev pub groups_answer : Query → ℕ → List (Json × List ℕ) → List ℕ
 groups_answer query seq groups = codes "{" ++ seq_text query seq ++ codes "\"rows\":[" ++ with_commas group_text groups ++ codes "]}"
 
+-- the groups, each with the text of its own value: their keys and these texts
+abbrev pub keyed : Level → List (List Row) → List (List ℕ) → List (Json × List ℕ)
+keyed level [] texts = []
+keyed level (group ∷ groups) [] = []
+keyed level (group ∷ groups) (text ∷ texts) = (key_of_group level group, text) ∷ keyed level groups texts
+
 -- ---- either
 
 -- The answer of an index at this sequence, whose view has these rows. Reduced, it has the groups of rows that are picked; `value` is the
@@ -66,3 +72,13 @@ answer value query seq rows =
     if query.reduced
     then groups_answer query seq (map (λ group. (key_of_group query.level group, value group)) (picked_groups query rows))
     else rows_answer query seq rows
+
+-- The same where the values may be any of some: each group that is picked has a text of which `IsValue` holds.
+pub record IsGroupsAnswer (IsValue : List Row → List ℕ → Type 0) (query : Query) (seq : ℕ) (rows : List Row) (text : List ℕ) : Type 0 where
+  pub values : List (List ℕ)
+  pub each : AllZip IsValue (picked_groups query rows) values
+  pub is : text ≡ groups_answer query seq (keyed query.level (picked_groups query rows) values)
+
+pub record IsAnswer (IsValue : List Row → List ℕ → Type 0) (query : Query) (seq : ℕ) (rows : List Row) (text : List ℕ) : Type 0 where
+  pub whole : query.reduced ≡ false → text ≡ rows_answer query seq rows
+  pub reduced : query.reduced ≡ true → IsGroupsAnswer IsValue query seq rows text

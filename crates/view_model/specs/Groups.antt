@@ -1,5 +1,5 @@
 -- The groups of rows whose values a query asks for (CouchDB's view API, `group` and `group_level`).
-use Rattle.std.specs.Prelude.{ℕ, List, [], ◌∷◌, Bool, filter, if◌then◌else◌, Option, Some, None}
+use Rattle.std.specs.Prelude.{List, [], ◌∷◌, Bool, filter, if◌then◌else◌, Option, Some, None}
 use Rattle.std.specs.List.{flat_map}
 use Rattle.std.specs.Ordering.{is_eq}
 use Rattle.json_terms.specs.Json.{Json}
@@ -42,3 +42,7 @@ groups_of query rows = listed_or_runs query.keys query rows
 
 abbrev pub picked_groups : Query → List Row → List (List Row)
 picked_groups query rows = page query (groups_of query rows)
+
+-- the groups of these keys, where they are listed
+abbrev pub groups_of_keys : List Row → List Json → List (List Row)
+groups_of_keys rows keys = flat_map (λ key. one_group (filter (has_key key) rows)) keys

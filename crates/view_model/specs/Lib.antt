@@ -6,4 +6,12 @@ pub mod Laws
 pub mod Standing
 pub mod Selection
 pub mod Groups
+pub mod Values
 pub mod Answer
+pub mod Written
+pub mod Ends
+pub mod Progress
+pub mod Adding
+pub mod GroupValues
+pub mod SameValues
+pub mod AnswerLaws

@@ -1,6 +1,6 @@
 -- Which rows of a view a query picks: a range of the sorted list, or the rows of listed keys, of which some are skipped and so
 -- many are taken.
-use Rattle.std.specs.Prelude.{ℕ, ◌+◌, min, List, [], ◌∷◌, Bool, not, filter, reverse, drop, take, length, if◌then◌else◌, Option, Some, None}
+use Rattle.std.specs.Prelude.{ℕ, ◌+◌, min, List, Bool, not, filter, reverse, drop, take, length, if◌then◌else◌, Option, Some, None}
 use Rattle.std.specs.List.{flat_map}
 use Rattle.std.specs.Ordering.{is_eq}
 use Rattle.json_terms.specs.Json.{Json}

@@ -3,6 +3,7 @@ ghost use Rattle.std.specs.Prelude.{List, Option, ℕ};
 ghost use Rattle.json_terms.specs.Json.{Json};
 ghost use Rattle.view_model.specs.Standing.{DigestsTellDesigns, DropsKeepPictures, FirstsHavePictures, NoPicturesStand, UpdatesKeepPictures, WritesKeepPictures};
 ghost use Rattle.design_docs.specs.declared.design.View.{View};
+ghost use Rattle.view_model.specs.AnswerLaws.{HasAnswer, IsOneAnswer};
 ghost use Rattle.view_model.specs.Laws.{AreEmittedByView, AreInsertedInOrder, AreTakenByView, ChangedIsWrittenSince, FirstDropsNewest, MapsDistinctIds, MapsWrittenSince, ComplaintsMeetAll, IsSpoiledAsMet, IsSpoiledByMapped, IsTrueBefore, IsUpdatedInOrder, NoPictureIsTrue, RowsAreBySequence, RisingRowsAreSorted, RowsOfOthers, RowsRise, StaysTrue, TruePicturesAreShaped, UpdatesAreAfresh, UpdatesAreFree, UpdatesExist, UpdatesGoInBatches, UpdatesGoInPages, UpdatesKeepShape, UpdatesOfNothing, UpdatesRise, UpdatesStayTrue, ViewsAreUpdatedApart};
 
 use view_ports::Servers;
@@ -90,4 +91,10 @@ pub fn rows_rise_strictly()
 /// Where digests tell the designs of a history apart, designs with one digest have the same path and the same sources.
 pub fn digests_tell_designs()
     ensures { DigestsTellDesigns }
+{}
+
+/// Where the value of each group is one text, so is an answer, and there is one.
+pub fn answers_are_one()
+    ensures one { IsOneAnswer }
+    ensures some { HasAnswer }
 {}

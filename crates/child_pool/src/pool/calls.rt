@@ -3,15 +3,16 @@ ghost use Rattle.std.specs.Prelude.{◌≡◌, ◌≢◌, ◌≤◌, ◌<◌, �
 ghost use Rattle.design_docs.specs.Design.{map_sources};
 ghost use Rattle.child_pool.specs.Firsts.{MapsNext};
 ghost use Rattle.child_pool.specs.Mapping.{AreBounded};
-ghost use Rattle.child_pool.specs.PoolCalls.{Ends, MapsNothing, StaysAsMade, Maps, MapsAll, MapsBatch, Prepares, Readies, RefusesIdly, RefusesStopping, RefusesUnknown, StopsAll, path_for};
-ghost use Rattle.child_pool.specs.Pools.{IsKeptOf};
+ghost use Rattle.child_pool.specs.PoolCalls.{Ends, MapsNothing, StaysAsMade, Maps, MapsAll, MapsBatch, Prepares, Readies, RefusesIdly, RefusesStopping, RefusesUnknown, ResetsReducer, StopsAll, path_for};
+ghost use Rattle.child_pool.specs.Pools.{IsKeptOf, started_of};
+ghost use Rattle.child_pool.specs.Ends.{EndsTwice};
 
 use crate::doc_rows::DocRowLists;
 use crate::document::Document;
 use crate::pool::each::map_each;
 use crate::pool::{Pool, Started};
 use crate::pool_fault::PoolFault;
-use crate::preparing::prepare_slots;
+use crate::preparing::{prepare_slot, prepare_slots};
 use design_docs::{Design, View};
 use json_terms::{Chars, NoMemory};
 use std::alloc::Global;
@@ -247,16 +248,48 @@ impl Pool {
         0
     }
 
-    /// Stops all children: those of the slots below the width. No other slot is called.
+    /// Makes the child that reduces ready: it is reset, after it is started where none is kept that was started by this path.
+    /// After a refusal the children may be as they were left.
+    pub(crate) fn reset_reducer<C: Servers>(
+        &mut self,
+        alloc: Global,
+        servers: &mut C,
+        path: &str,
+    ) -> Result<(), PoolFault>
+        ensures went { ResetsReducer C.Servers servers.old servers.new
+            self.old path.now self.new result }
+        ensures ends { EndsTwice C.Servers servers.old servers.new result }
+        ensures keeps { StaysAsMade self.old self.new }
+        ensures mapping { started_of self.new ≡ started_of self.old }
+    {
+        let kept = match &self.reducer {
+            Some(started) => started.as_str() == path,
+            None => false,
+        };
+        let own = match Chars::from_text(alloc, path) {
+            Ok(own) => own,
+            Err(NoMemory) => return Err(PoolFault::NoMemory),
+        };
+        match prepare_slot(alloc, servers, self.width, path, &[], !kept) {
+            Ok(()) => {
+                self.reducer = Some(own);
+                Ok(())
+            }
+            Err(fault) => Err(fault),
+        }
+    }
+
+    /// Stops all children: those that map and the one that reduces.
     pub fn stop_all<C: Servers>(&mut self, servers: &mut C)
         ensures went { StopsAll C.Servers servers.old servers.new self.old self.new }
         ensures keeps { StaysAsMade self.old self.new }
         ensures faults { C.faults servers.new ≡ C.faults servers.old }
     {
-        for slot in 0..self.width {
+        for slot in 0..self.width + 1 {
             servers.stop(slot);
         }
         self.started = None;
+        self.reducer = None;
     }
 }
 

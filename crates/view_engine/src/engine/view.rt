@@ -1,17 +1,16 @@
 //! The request `view`.
 
-ghost use Rattle.std.specs.Prelude.{◌≡◌, ◌≢◌, ◌++◌, ◌<◌, ◌≤◌, bytes_eq, IfErr, IfOk, OnErr, OnOk, Ok, IfSome, IsSorted, option_map, map, length};
+ghost use Rattle.std.specs.Prelude.{◌≡◌, ◌≢◌, ◌++◌, ◌<◌, is_some, true, ◌≤◌, bytes_eq, IfErr, IfOk, OnErr, OnOk, Ok, IfSome, IsSorted, option_map, map, length};
 ghost use Rattle.std.specs.Map.{lookup};
 ghost use Rattle.view_ports.specs.Lines.{ended};
 ghost use Rattle.design_docs.specs.Laws.{entry_of as named};
 ghost use Rattle.json_terms.specs.Seen.{json};
 ghost use Rattle.raw_collation.specs.Collation.{rows_cmp};
-ghost use Rattle.view_model.specs.Answer.{answer as answer_text};
-ghost use Rattle.view_engine.specs.Calls.{scene, IsReplyLine, Performed};
+ghost use Rattle.view_engine.specs.Answering.{AppendsAnswer};
+ghost use Rattle.view_engine.specs.Calls.{scene, Performed};
 ghost use Rattle.view_engine.specs.Disks.{LiesOpen, Reads};
 ghost use Rattle.view_engine.specs.View as spec;
 ghost use Rattle.view_engine.specs.Planning.{HasPath, PlansView, ReadsDesign, RefusesView};
-ghost use Rattle.range_query.specs.Value.{value_text};
 ghost use Rattle.view_engine.specs.ViewQuery as query;
 ghost use Rattle.view_engine.specs.ViewQuery.{builtin_named, parameters_in, query_for, view_query};
 ghost use Rattle.view_engine.specs.ViewPlan.{met_by, met_by_pool, met_by_query, source_at, HasReduce, IsUpdateFault, ShowsRows};
@@ -21,14 +20,16 @@ use crate::engine::Engine;
 use crate::halt::{Halt, StepFault};
 use crate::refusal::Refusal;
 use crate::request::{Request, ViewName};
+use builtin_reduces::BuiltinSummer;
 use child_pool::PoolFault;
 use design_docs::{Builtin, DESIGN_PREFIX, Design, Reduce, View};
 use doc_file::DocFault;
 use json_terms::{Chars, Members, NoMemory, Row, Term};
 use query_args::{Query, QueryFault, Target, read_query};
-use range_query::{Reply, answer};
+use range_query::{AnswerFault, answer};
 use std::alloc::Global;
 use view_index::IndexFault;
+use view_model::Reply;
 use view_ports::{Folder, Servers};
 use view_updater::UpdateFault;
 
@@ -223,14 +224,18 @@ fn append_answer(
     out: &mut Vec<u8>,
 ) -> Result<(), Halt>
     requires sorted { IsSorted rows_cmp rows.now }
-    ensures ok { OnOk result (out.new.items ≡ out.old.items
-        ++ ended (answer_text (value_text reduce) query.now seq rows.now)) }
-    ensures line { OnOk result (IsReplyLine (answer_text (value_text reduce) query.now seq rows.now)) }
+    requires reduced { query.now.reduced ≡ true → is_some reduce ≡ true }
+    ensures ok { OnOk result (AppendsAnswer reduce query.now seq rows.now out.old.items out.new.items) }
     ensures silent { OnErr result (out.new.items ≡ out.old.items) }
     ensures memory { IfErr result (λ halt. halt ≡ Halt.Stopped StepFault.NoMemory) }
 {
+    // A query that isn't reduced asks for no value.
+    let mut summer = BuiltinSummer::new(reduce.unwrap_or(Builtin::Count));
     let mut reply = Reply::behind(alloc, out);
-    let written = answer(alloc, rows, reduce, seq, query, &mut reply);
+    let written = match answer(alloc, rows, &mut summer, seq, query, &mut reply) {
+        Ok(()) => Ok(()),
+        Err(AnswerFault::Values(NoMemory) | AnswerFault::NoMemory) => Err(NoMemory),
+    };
     reply.end(written, out)?;
     Ok(())
 }

@@ -20,7 +20,7 @@ loop-slot-init g c = (
       let honest = g.C.Servers.honest in
       let job = job_of c.args.path.now c.args.sources.now documents in
       let rose = Rose (g.C.Servers.faults c.args.servers.now) (g.C.Servers.faults c.args.servers.now) in
-      none_in follows (HasReadied functions honest job c.args.kept c.args.slots 0 rose) (none_readied functions honest job c.args.kept c.args.slots rose calls there),
+      none_in follows (HasReadied functions honest job c.args.kept c.args.slots 0 rose calls) (none_readied functions honest job c.args.kept c.args.slots rose calls there),
 )
 
 pub loop-slot-preserved : goal.loop-slot-preserved
@@ -67,4 +67,4 @@ returns-clause-went g c = λ width documents calls within follows there.
     let all : c.loop-slot.slot ≡ c.args.slots = omega arith in
     let w = c.loop-slot.invariant.1 width documents calls within follows there in
     all_readied functions honest job c.args.kept c.args.slots rose
-    (subst (λ (n : ℕ). WentIn (g.C.Servers.may_follow c.loop-slot.servers) job width calls (HasReadied functions honest job c.args.kept c.args.slots n rose)) all w)
+    (subst (λ (n : ℕ). WentIn (g.C.Servers.may_follow c.loop-slot.servers) job width calls (HasReadied functions honest job c.args.kept c.args.slots n rose calls)) all w)

@@ -15,4 +15,4 @@ invariant-loop-slot g l =
     × ((width : ℕ) (documents : List (List (List ℕ × Json))) (calls : List Call) → l.slots ≤ width → g.C.Servers.may_follow l.initial.servers calls
     → AreThere l.path l.kept calls
     → WentIn (g.C.Servers.may_follow l.servers) (job_of l.path l.sources documents) width calls
-    (HasReadied g.C.Servers.functions g.C.Servers.honest (job_of l.path l.sources documents) l.kept l.slots l.slot (HasRisen g.C.Servers l.initial.servers l.servers)))
+    (HasReadied g.C.Servers.functions g.C.Servers.honest (job_of l.path l.sources documents) l.kept l.slots l.slot (HasRisen g.C.Servers l.initial.servers l.servers) calls))

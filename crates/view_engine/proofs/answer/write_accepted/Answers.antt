@@ -1,8 +1,8 @@
 use Rattle.std.specs.Prelude.{codes}
 use Rattle.json_terms.specs.Json.{string}
 use Rattle.json_terms.specs.Text.{text_of}
-use Rattle.range_query.specs.Written.{written_of}
-use Rattle.range_query.proofs.Pieces.{appended5}
+use Rattle.view_model.specs.Written.{written_of}
+use Rattle.view_model.proofs.Pieces.{appended5}
 use Rattle.view_engine.proofs.answer.write_accepted.Goals as goal
 
 pub returns-clause-ok : goal.returns-clause-ok

@@ -2,8 +2,8 @@
 use Rattle.std.specs.Prelude.{codes, decimal}
 use Rattle.std.proofs.Common.{arith}
 use Rattle.view_engine.proofs.ReplyLines.{info_line}
-use Rattle.range_query.specs.Written.{written_of}
-use Rattle.range_query.proofs.Pieces.{appended7}
+use Rattle.view_model.specs.Written.{written_of}
+use Rattle.view_model.proofs.Pieces.{appended7}
 use Rattle.view_engine.proofs.answer.write_info.Goals as goal
 
 pub returns-clause-ok : goal.returns-clause-ok

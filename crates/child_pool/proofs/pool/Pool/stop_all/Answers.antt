@@ -27,9 +27,9 @@ loop-slot-preserved g c = (
   c.stop.ensures.cause ∙ c.loop-slot.invariant.0,
   λ job calls follows.
       let slot = c.loop-slot.slot in
-      let below : slot < c.args.self.now.width = omega arith in
+      let within : slot ≤ c.args.self.now.width = omega arith in
       let w = c.loop-slot.invariant.1 job calls follows in
-      stop_in slot below w c.stop.ensures.told (λ added now. ((other : ℕ) → other < slot + 1 → child other now ≡ None) × AllStops added)
+      stop_in slot within w c.stop.ensures.told (λ added now. ((other : ℕ) → other < slot + 1 → child other now ≡ None) × AllStops added)
       (λ other less. one_more_stopped slot other w.now w.holds.0 less, (tt, w.holds.1)),
 )
 
@@ -37,4 +37,4 @@ pub returns-clause-went : goal.returns-clause-went
 returns-clause-went g c = λ job calls follows.
     let w = c.loop-slot.invariant.1 job calls follows in
     map_in w _
-    (record { forgotten = refl; stopped = λ other less. w.holds.0 other (omega arith) }, w.holds.1)
+    (record { forgotten = refl; reducer = refl; stopped = λ other less. w.holds.0 other (omega arith) }, w.holds.1)

@@ -6,11 +6,11 @@ use Rattle.child_pool.specs.declared.pool_fault.PoolFault.{PoolFault}
 use Rattle.child_pool.specs.declared.pool_fault.PoolFault.TheVariants.{NoMemory}
 use Rattle.child_pool.specs.Histories.{WentIn}
 use Rattle.child_pool.specs.Jobs.{job_of}
-use Rattle.child_pool.specs.PoolCalls.{path_for}
+use Rattle.child_pool.specs.PoolCalls.{AreLeft, path_for}
 use Rattle.child_pool.specs.Pools.{AfterReadying, AfterTrying, IsKeptOf, AreThere}
 use Rattle.child_pool.specs.Prompts.{slots_prompts}
 use Rattle.child_pool.specs.Refused.{Refused}
-use Rattle.child_pool.proofs.Pooled.{for_job, kept_there, one_path, prepared_pool, some_kept, unprepared_pool}
+use Rattle.child_pool.proofs.Pooled.{for_job, kept_there, one_path, prepared_pool, some_kept, unasked_pool, unprepared_pool}
 use Rattle.child_pool.proofs.Slots.{none_in}
 use Rattle.child_pool.proofs.Trying.{stops_first}
 use Rattle.child_pool.proofs.pool.Pool.try_prepare.Goals as goal
@@ -31,6 +31,11 @@ returns-in-Err-clause-went g c = λ path documents calls follows known stands.
     none_in follows (AfterTrying functions honest job c.args.self.now c.args.slots rose c.args.self.now (Err c.in-Err.fault) calls)
     (kept.0, kept.1, subst (λ (f : PoolFault). Refused functions honest job prompts rose f calls []) (sym memory) (record { caused = tt; stops = stops_first rose prompts }))
 
+pub returns-then-slots-eq0-clause-went : goal.returns-then-slots-eq0-clause-went
+returns-then-slots-eq0-clause-went g c = λ path documents calls follows known stands.
+    let job = job_of path (map_sources c.args.design.now.views) documents in
+    unasked_pool g.C.Servers.functions g.C.Servers.honest job c.args.self.now c.args.slots _ c.if-slots-eq0.true follows stands
+
 pub returns-in-Ok-prepare_slots-clause-went : goal.returns-in-Ok-prepare_slots-clause-went
 returns-in-Ok-prepare_slots-clause-went g c = λ path documents calls follows known stands.
     let functions = g.C.Servers.functions in
@@ -46,11 +51,12 @@ returns-in-Ok-prepare_slots-clause-went g c = λ path documents calls follows kn
     let there = kept_there c.args.self.now path kept calls was stands in
     let here = subst (λ (p : List ℕ). AreThere p kept calls) (sym same_path) there.1 in
     let result = subst (λ (r : Result (Unit {0}) PoolFault). WentIn (g.C.Servers.may_follow c.prepare_slots.new.servers) (job_of c.as_str-2.result.now c.as_slice.result.now documents) width calls
-    (λ added now. AfterReadying functions honest (job_of c.as_str-2.result.now c.as_slice.result.now documents) kept slots rose r calls added now × OnOk r (AreThere c.as_str-2.result.now kept now))) c.in-Ok-prepare_slots.is (c.prepare_slots.ensures.went width documents calls c.requires.slots follows here) in
+    (λ added now. AfterReadying functions honest (job_of c.as_str-2.result.now c.as_slice.result.now documents) kept slots rose r calls added now × OnOk r (AreThere c.as_str-2.result.now kept now × AreLeft slots calls now))) c.in-Ok-prepare_slots.is (c.prepare_slots.ensures.went width documents calls c.requires.slots follows here) in
     let count = c.max.result in
     let most : count ≡ max slots kept = c.max.ensures in
-    prepared_pool functions honest (job_of path (map_sources c.args.design.now.views) documents) c.args.self.now slots kept count rose (record c.args.self.now { started = Some (record { path = c.in-Ok.plan.path; count = count }) }) was most (omega (arith, most, there.0, c.requires.slots)) (ap (λ (p : List ℕ). Some (record { path = p; count = count })) mine)
-    (for_job (λ p s. WentIn (g.C.Servers.may_follow c.prepare_slots.new.servers) (job_of p s documents) width calls (λ added now. AfterReadying functions honest (job_of p s documents) kept slots rose (Ok tt) calls added now × AreThere p kept now)) same_path same_sources result)
+    prepared_pool functions honest (job_of path (map_sources c.args.design.now.views) documents) c.args.self.now slots kept count rose _ was most (omega (arith, most, there.0, c.requires.slots)) (ap (λ (p : List ℕ). Some (record { path = p; count = count })) mine)
+    refl refl c.requires.slots stands.reducing
+    (for_job (λ p s. WentIn (g.C.Servers.may_follow c.prepare_slots.new.servers) (job_of p s documents) width calls (λ added now. AfterReadying functions honest (job_of p s documents) kept slots rose (Ok tt) calls added now × (AreThere p kept now × AreLeft slots calls now))) same_path same_sources result)
 
 pub returns-in-Err-prepare_slots-clause-went : goal.returns-in-Err-prepare_slots-clause-went
 returns-in-Err-prepare_slots-clause-went g c = λ path documents calls follows known stands.
@@ -67,6 +73,6 @@ returns-in-Err-prepare_slots-clause-went g c = λ path documents calls follows k
     let there = kept_there c.args.self.now path kept calls was stands in
     let here = subst (λ (p : List ℕ). AreThere p kept calls) (sym same_path) there.1 in
     let result = subst (λ (r : Result (Unit {0}) PoolFault). WentIn (g.C.Servers.may_follow c.prepare_slots.new.servers) (job_of c.as_str-2.result.now c.as_slice.result.now documents) width calls
-    (λ added now. AfterReadying functions honest (job_of c.as_str-2.result.now c.as_slice.result.now documents) kept slots rose r calls added now × OnOk r (AreThere c.as_str-2.result.now kept now))) c.in-Err-prepare_slots.is (c.prepare_slots.ensures.went width documents calls c.requires.slots follows here) in
+    (λ added now. AfterReadying functions honest (job_of c.as_str-2.result.now c.as_slice.result.now documents) kept slots rose r calls added now × OnOk r (AreThere c.as_str-2.result.now kept now × AreLeft slots calls now))) c.in-Err-prepare_slots.is (c.prepare_slots.ensures.went width documents calls c.requires.slots follows here) in
     unprepared_pool functions honest (job_of path (map_sources c.args.design.now.views) documents) c.args.self.now slots kept rose c.args.self.now c.in-Err-prepare_slots.fault was
     (for_job (λ p s. WentIn (g.C.Servers.may_follow c.prepare_slots.new.servers) (job_of p s documents) width calls (λ added now. AfterReadying functions honest (job_of p s documents) kept slots rose (Err c.in-Err-prepare_slots.fault) calls added now × Unit {0})) same_path same_sources result)

@@ -42,7 +42,7 @@ returns-in-Ok-update g c =
     shown_then g.F.Folder g.C.Servers args.docs args.pool args.groups c.args.folder.now c.plan.new.folder c.args.servers.now (view_query c.args.name c.args.query) c.args.out.now.items
     c.update.new.pool c.update.new.self c.update.new.folder c.update.new.servers plan.id plan.design plan.place known.0 c.in-Ok.ensures.within known.1 (sym (ap (λ (q : Query). q.update) c.in-Ok.ensures.query) ∙ c.if-not-plan.false)
     c.in-Ok.ensures.reads.disk c.in-Ok.ensures.reads.later (λ history. told_now (g.F.Folder.disk c.args.folder.now) _ _ (λ d is there. subst (λ (updating : Bool). IsPlan updating (languages_of args.pool) history (view_query c.args.name c.args.query) plan.id plan.design plan.place known.0) c.if-not-plan.false (is there known.0 known.1)) (c.in-Ok.ensures.plan history)) c.requires.open c.in-Ok.ensures.read
-    c.in-Ok-update.place c.in-Ok-update.ensures c.index-index.result.now c.index-index.ensures c.rows-rows.result.now c.rows-rows.ensures.rows c.rows-rows.ensures.parts plan.reduce c.in-Ok.ensures.reduce plan.query c.in-Ok.ensures.query c.seq-in-Ok-update.result c.seq-in-Ok-update.ensures c.append_answer-in-Ok-update.result c.append_answer-in-Ok-update.ensures.ok c.append_answer-in-Ok-update.ensures.line c.append_answer-in-Ok-update.ensures.silent c.append_answer-in-Ok-update.ensures.memory
+    c.in-Ok-update.place c.in-Ok-update.ensures c.index-index.result.now c.index-index.ensures c.rows-rows.result.now c.rows-rows.ensures.rows c.rows-rows.ensures.parts plan.reduce c.in-Ok.ensures.reduce plan.query c.in-Ok.ensures.query c.seq-in-Ok-update.result c.seq-in-Ok-update.ensures c.append_answer-in-Ok-update.result c.append_answer-in-Ok-update.ensures.ok c.append_answer-in-Ok-update.ensures.silent c.append_answer-in-Ok-update.ensures.memory
 
 pub returns : goal.returns
 returns g c =
@@ -99,5 +99,5 @@ returns-then-not-plan g c =
     ⊎_elim
     (λ opens. kept_then g.F.Folder g.C.Servers args.docs args.pool args.groups c.open.new.self c.args.folder.now c.plan.new.folder c.open.new.folder c.args.servers.now name c.args.out.now.items plan.id plan.design plan.place known.0
     c.in-Ok.ensures.within known.1 (sym (ap (λ (q : Query). q.update) c.in-Ok.ensures.query) ∙ c.if-not-plan.true) c.in-Ok.ensures.reads.disk c.in-Ok.ensures.reads.later plans c.requires.open c.in-Ok.ensures.read c.in-Ok-open.place opens c.index-kept.result.now c.index-kept.ensures
-    c.rows-shown.result.now c.rows-shown.ensures.rows c.rows-shown.ensures.parts plan.reduce c.in-Ok.ensures.reduce plan.query c.in-Ok.ensures.query c.seq.result c.seq.ensures c.append_answer.result c.append_answer.ensures.ok c.append_answer.ensures.line c.append_answer.ensures.silent c.append_answer.ensures.memory)
+    c.rows-shown.result.now c.rows-shown.ensures.rows c.rows-shown.ensures.parts plan.reduce c.in-Ok.ensures.reduce plan.query c.in-Ok.ensures.query c.seq.result c.seq.ensures c.append_answer.result c.append_answer.ensures.ok c.append_answer.ensures.silent c.append_answer.ensures.memory)
     (λ none. absurd (let clash : ⊥ = cc in clash)) c.in-Ok-open.ensures

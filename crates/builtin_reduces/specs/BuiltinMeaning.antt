@@ -1,0 +1,11 @@
+-- What a built-in reduce gives for each list of rows, and its bytes.
+use Rattle.json_terms.specs.declared.term.Row.{Row}
+use Rattle.design_docs.specs.declared.design.Builtin.{Builtin}
+use Rattle.tree_laws.specs.Meaning.{Meaning}
+use Rattle.builtin_reduces.specs.declared.sum.BuiltinSum.{BuiltinSum}
+use Rattle.builtin_reduces.specs.Seen.{values}
+use Rattle.builtin_reduces.specs.SumBytes.{sum_bytes}
+use Rattle.builtin_reduces.specs.Values.{value_of}
+
+abbrev pub builtin_meaning : Builtin → Meaning Row BuiltinSum
+builtin_meaning kind = record { value = λ rows. value_of kind (values rows); spelled = sum_bytes }

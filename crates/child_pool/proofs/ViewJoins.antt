@@ -1,0 +1,109 @@
+-- The reduces of a design's views: what they ask for, and what they join.
+use Rattle.std.proofs.Common.{◌≡◌, ℕ, zero, suc, List, [], ◌∷◌, ◌++◌, map, refl, sym, ap, ◌∙◌, subst, inl, inr}
+use Rattle.json_terms.specs.Json.{Json}
+use Rattle.design_docs.specs.declared.design.Builtin.{Builtin as Kind}
+use Rattle.design_docs.specs.declared.design.Reduce.{Reduce}
+use Rattle.design_docs.specs.declared.design.Reduce.TheVariants as reduce
+use Rattle.design_docs.specs.declared.design.View.{View}
+use Rattle.view_ports.specs.declared.servers.Servers.{Ghosts as Servers}
+use Rattle.tree_laws.specs.Meaning.{IsJoinValue}
+use Rattle.builtin_reduces.specs.declared.sum.BuiltinSum.{BuiltinSum}
+use Rattle.builtin_reduces.specs.BuiltinMeaning.{builtin_meaning}
+use Rattle.builtin_reduces.specs.Kept.{IsKept}
+use Rattle.child_pool.specs.declared.pool_fault.PoolFault.{PoolFault}
+use Rattle.child_pool.specs.declared.pool_fault.PoolFault.TheVariants.{NoMemory}
+use Rattle.child_pool.specs.declared.reduce_slot.ReduceSlot.{ReduceSlot}
+use Rattle.child_pool.specs.declared.summers.Summers.{Summers}
+use Rattle.child_pool.specs.declared.view_sum.ViewSum.{ViewSum}
+use Rattle.child_pool.specs.declared.view_sum.ViewSum.TheVariants as value
+use Rattle.child_pool.specs.Jobs.{IsAmong}
+use Rattle.child_pool.specs.ReduceTalk.{Blames, Fails, Goes, Rejoins, Talks, reduce_in, reduce_source, reduce_sources}
+use Rattle.child_pool.specs.Summers.{IsLawfulFor, SummersFail, SummersGo, functions_for, reduce_of, view_meaning}
+use Rattle.child_pool.specs.TalkLaws.{fails_none}
+use Rattle.builtin_reduces.proofs.Joinable.{joined_value}
+use Rattle.view_ports.specs.ReduceRow.{reduce_row}
+use Rattle.child_pool.specs.ViewSums.{JoinsBuiltins}
+use Rattle.child_pool.proofs.Joining.{join_value}
+
+among_front : (xs ys : List (List ℕ)) (x : List ℕ) → IsAmong xs x → IsAmong (xs ++ ys) x
+among_front [] ys x among = absurd among
+among_front (first ∷ xs) ys x (inl same) = inl same
+among_front (first ∷ xs) ys x (inr later) = inr (among_front xs ys x later)
+
+among_back : (xs ys : List (List ℕ)) (x : List ℕ) → IsAmong ys x → IsAmong (xs ++ ys) x
+among_back [] ys x among = among
+among_back (first ∷ xs) ys x among = inr (among_back xs ys x among)
+
+among_sources : (views : List View) (place : ℕ) (source : List ℕ) → reduce_in views place ≡ reduce.Source source → IsAmong (reduce_sources views) source
+among_sources [] place source is = absurd (cc)
+among_sources (view ∷ views) zero source is =
+    among_front (reduce_source view.reduce) (reduce_sources views) source (subst (λ (r : Reduce). IsAmong (reduce_source r) source) (sym is) (inl refl))
+among_sources (view ∷ views) (suc place) source is = among_back (reduce_source view.reduce) (reduce_sources views) source (among_sources views place source is)
+
+-- values of one kind are told apart as what they are of
+child_apart : (xs ys : List Json) → map value.Child xs ≡ map value.Child ys → xs ≡ ys
+child_apart [] [] same = refl
+child_apart [] (y ∷ ys) same = absurd (cc)
+child_apart (x ∷ xs) [] same = absurd (cc)
+child_apart (x ∷ xs) (y ∷ ys) same =
+    let first : x ≡ y = cc in
+    let others : map value.Child xs ≡ map value.Child ys = cc in
+    let rest = child_apart xs ys others in
+    λ i. first i ∷ rest i
+
+builtin_apart : (xs ys : List BuiltinSum) → map value.Builtin xs ≡ map value.Builtin ys → xs ≡ ys
+builtin_apart [] [] same = refl
+builtin_apart [] (y ∷ ys) same = absurd (cc)
+builtin_apart (x ∷ xs) [] same = absurd (cc)
+builtin_apart (x ∷ xs) (y ∷ ys) same =
+    let first : x ≡ y = cc in
+    let others : map value.Builtin xs ≡ map value.Builtin ys = cc in
+    let rest = builtin_apart xs ys others in
+    λ i. first i ∷ rest i
+
+map_map : {A B D : Type 0} (f : A → B) (g : B → D) (xs : List A) → map (λ x. g (f x)) xs ≡ map g (map f xs)
+map_map f g [] = refl
+map_map f g (x ∷ xs) = ap (λ ys. g (f x) ∷ ys) (map_map f g xs)
+
+module _ {C : Type 0} (s : Servers C) where
+  -- the source of the view is asked for
+  pub source_goes : (a b : Summers C) (source language own : List ℕ) → reduce_of s a ≡ reduce.Source source → b.design ≡ a.design → b.view ≡ a.view → language ≡ a.design.now.language → own ≡ source → Talks s language own a.slot b.slot → SummersGo s a b
+  source_goes a b source language own is design view of_design of_view talks = record {
+    design = design;
+    view = view;
+    slot = subst (λ (l : List ℕ). Goes s l (reduce_sources a.design.now.views) a.slot b.slot) of_design
+        (talks (reduce_sources a.design.now.views) (subst (IsAmong (reduce_sources a.design.now.views)) (sym of_view) (among_sources a.design.now.views a.view source is)));
+    idle = λ none. let some : reduce_source (reduce_of s a) ≡ source ∷ [] = ap reduce_source is in absurd (cc);
+  }
+
+  pub source_fails : (a b : Summers C) (source language own : List ℕ) (fault : PoolFault) → reduce_of s a ≡ reduce.Source source → b.design ≡ a.design → b.view ≡ a.view → language ≡ a.design.now.language → own ≡ source → Blames s language own a.slot b.slot fault
+      → SummersFail s a b fault
+  source_fails a b source language own fault is design view of_design of_view blames = record {
+    design = design;
+    view = view;
+    slot = subst (λ (l : List ℕ). Fails s l (reduce_sources a.design.now.views) a.slot b.slot fault) of_design
+        (blames (reduce_sources a.design.now.views) (subst (IsAmong (reduce_sources a.design.now.views)) (sym of_view) (among_sources a.design.now.views a.view source is)));
+  }
+
+  -- want of memory, where nothing was asked
+  pub no_memory : (a : Summers C) → SummersFail s a a NoMemory
+  no_memory a = record { design = refl; view = refl; slot = fails_none s a.design.now.language (reduce_sources a.design.now.views) a.slot }
+
+  module _ (language : List ℕ) (slot : ReduceSlot C) where
+    abbrev Joins : Reduce → List ViewSum → ViewSum → Type 0
+    Joins reduce parts sum = IsJoinValue IsKept (IsLawfulFor s reduce language slot) (view_meaning (functions_for s language slot) reduce) parts sum
+
+    pub join_source : (found : Reduce) (source : List ℕ) (parts : List ViewSum) (sums : List Json) (sum : Json) → found ≡ reduce.Source source → map value.Child sums ≡ parts → Rejoins s language source slot sums sum → Joins found parts (value.Child sum)
+    join_source found source parts sums sum is are rejoins = subst (λ (r : Reduce). Joins r parts (value.Child sum)) (sym is)
+        (λ lawful groups some whole fits few each.
+        let own = join_value s language source slot sums sum rejoins in
+        let f = functions_for s language slot in
+        let same : sums ≡ map (λ rows. f.reduce_of source (map reduce_row rows)) groups = child_apart sums (map (λ rows. f.reduce_of source (map reduce_row rows)) groups) (are ∙ each ∙ map_map (λ rows. f.reduce_of source (map reduce_row rows)) value.Child groups) in
+        ap value.Child (own lawful groups some whole fits few same))
+
+    pub join_builtin : (found : Reduce) (kind : Kind) (parts : List ViewSum) (sum : BuiltinSum) → found ≡ reduce.Builtin kind → JoinsBuiltins kind parts sum → Joins found parts (value.Builtin sum)
+    join_builtin found kind parts sum is joins = subst (λ (r : Reduce). Joins r parts (value.Builtin sum)) (sym is)
+        (λ lawful groups some whole fits few each.
+        let m = builtin_meaning kind in
+        let same : joins.sums ≡ map m.value groups = builtin_apart joins.sums (map m.value groups) (joins.are ∙ each ∙ map_map m.value value.Builtin groups) in
+        ap value.Builtin (joined_value kind joins.sums sum joins.joined tt groups some whole fits few same))

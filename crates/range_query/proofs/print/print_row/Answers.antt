@@ -1,5 +1,0 @@
-use Rattle.range_query.proofs.AnswerLines.{line-row}
-use Rattle.range_query.proofs.print.print_row.Goals as goal
-
-pub returns-clause-line : goal.returns-clause-line
-returns-clause-line c = line-row c.args.row.now c.text_is_line.ensures c.text_is_line-2.ensures

@@ -1,5 +1,0 @@
-use Rattle.range_query.proofs.Printed.{without_first_walked}
-use Rattle.range_query.proofs.print.without_first.Goals as goal
-
-pub returns-then-descending : goal.returns-then-descending
-returns-then-descending c = without_first_walked c.args.descending c.args.count c.at_most-count.result c.args.rows.now c.if-descending.true c.at_most-count.ensures

@@ -1,0 +1,72 @@
+//! Values of lists of items, which can be joined.
+
+ghost use Rattle.std.specs.Prelude.{◌≡◌, ◌≤◌, ◌++◌, List, ℕ, IfErr, IfOk, OnErr, OnOk, length};
+ghost use Rattle.tree_laws.specs.Meaning.{Meaning, AreSteps, IsJoinValue, IsLeafValue, KeepsMeaning, StaysCaused, sum_limit};
+ghost use Rattle.tree_laws.specs.Spelled.{IsReadBack, IsSpelledOnce};
+
+use crate::item::{Item, ItemFault};
+use json_terms::NoMemory;
+use std::alloc::Global;
+
+/// Values of lists of items, which can be joined.
+///
+/// What a value means and how it is spelled is `meaning`; `lawful` says whether the values that the calls answer are those, `usable`
+/// whether `leaf` may answer any, and `fits` which values there are. No call changes a meaning or what fits, what is lawful stays so,
+/// and what comes to be usable was so before. `goes` says what the calls may do besides, as with a child that is asked, and
+/// `fails` why one of them answered a fault.
+pub trait Summer {
+    type Unit: Item;
+
+    type Sum: Drop;
+
+    type Fault: Drop;
+
+    ghost meaning: { Self → Meaning Self.Unit Self.Sum };
+
+    ghost lawful: { Self → Type 0 };
+
+    ghost usable: { Self → Type 0 };
+
+    ghost fits: { Self → Self.Sum → Type 0 };
+
+    ghost goes: { Self → Self → Type 0 };
+
+    ghost fails: { Self → Self → Self.Fault → Type 0 };
+
+    /// The value of items.
+    fn leaf(&mut self, alloc: Global, items: &[Self::Unit]) -> Result<Self::Sum, Self::Fault>
+        ensures value { IfOk result (IsLeafValue (lawful self.old) (meaning self.old) items.now) }
+        ensures usable { OnOk result (usable self.old) }
+        ensures goes { goes self.old self.new }
+        ensures cause { IfErr result (fails self.old self.new) };
+
+    /// The value of the items of parts joined, from the values of the parts.
+    fn join(&mut self, alloc: Global, parts: &[Self::Sum]) -> Result<Self::Sum, Self::Fault>
+        ensures value { IfOk result (IsJoinValue Self.Unit.fits (lawful self.old) (meaning self.old) parts.now) }
+        ensures goes { goes self.old self.new }
+        ensures cause { IfErr result (fails self.old self.new) };
+
+    /// Appends the bytes of a value. Where memory runs out `out` is as it was.
+    fn encode_sum(&self, alloc: Global, sum: &Self::Sum, out: &mut Vec<u8>) -> Result<(), NoMemory>
+        ensures ok { OnOk result (out.new.items ≡ out.old.items ++ (meaning self.now).spelled sum.now) }
+        ensures fits { OnOk result (fits self.now sum.now) }
+        ensures err { OnErr result (out.new.items ≡ out.old.items) };
+
+    /// The value of these bytes, or `ItemFault` exactly where they are those of none.
+    fn decode_sum(
+        &self,
+        alloc: Global,
+        bytes: &[u8],
+    ) -> Result<Result<Self::Sum, ItemFault>, NoMemory>
+        ensures { IfOk result (IsReadBack (fits self.now) (meaning self.now).spelled bytes.now) };
+
+    ghost are_steps: { AreSteps goes };
+
+    ghost keeps: { KeepsMeaning goes meaning lawful usable fits };
+
+    ghost stays_caused: { StaysCaused goes fails };
+
+    ghost one_spelling: { (s : Self) → IsSpelledOnce (fits s) (meaning s).spelled };
+
+    ghost is_short: { (s : Self) (sum : Self.Sum) → fits s sum → length ((meaning s).spelled sum) ≤ sum_limit };
+}

@@ -1,0 +1,20 @@
+use Rattle.std.proofs.Common.{◌≡◌, false, drop, map}
+use Rattle.json_terms.specs.Seen.{json}
+use Rattle.view_model.specs.declared.reply.Reply.{Reply}
+use Rattle.view_model.specs.Adding.{AddsGroups}
+use Rattle.view_model.specs.Groups.{groups_of_keys}
+use Rattle.view_model.specs.Progress.{due, start_of}
+use Rattle.view_model.specs.Written.{before_of}
+use Rattle.view_model.proofs.groups.print_listed.Given as goal
+
+-- once what is due of the keys that are left is printed too, all that is due is; and nothing before it has changed
+abbrev pub invariant-loop-key : goal.invariant-loop-key
+invariant-loop-key g l =
+    let is_value = g.V.GroupValues.is_value l.initial.values in
+    let all = groups_of_keys l.rows (map json l.keys) in
+    let left = groups_of_keys l.rows (map json (drop l.key-index l.keys)) in record {
+      whole : (end : Reply) → AddsGroups is_value l.query.level l.progress.printed (due l.progress left) l.reply end
+          → AddsGroups is_value l.query.level false (due (start_of l.query) all) l.initial.reply end;
+      before : before_of l.reply ≡ before_of l.initial.reply;
+      goes : g.V.GroupValues.goes l.initial.values l.values;
+    }
