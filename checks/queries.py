@@ -25,8 +25,9 @@ TABLE.update({name: "switch" for name in SWITCHES}, **{name: "count" for name in
 NUMBERS = [0, 1, -1, 7, 2**63 - 1, -2**63]
 VALUES = NUMBERS + [[], [1], [2, -3], [2**63 - 1, 1, 1]]
 
-# The views of the two versions of the design: three of them have a reduce.
-REDUCES = {"c": "_count", "s": "_sum", "t": "_stats"}
+# The views of the two versions of the design: these have a reduce, three a built-in one and five one that the query server runs.
+REDUCES = {"c": "_count", "s": "_sum", "t": "_stats", "r": "rows", "i": "min", "x": "max", "f": "first", "l": "last"}
+SERVED = {"rows": len, "min": lambda values: min(values, key=order), "max": lambda values: max(values, key=order), "first": lambda values: values[0], "last": lambda values: values[-1]}
 MAPS = [
     {"a": {"map": "emit doc.n, null"}, "v": {"map": "for x in doc.k { emit x, doc.n }"}},
     {"a": {"map": "emit doc.n, null"}, "v": {"map": "emit doc.k, doc.n"}},
@@ -122,6 +123,8 @@ def is_number(value):
 
 def value_of(reduce, values):
     """The value of a group of rows with these values."""
+    if reduce in SERVED:
+        return SERVED[reduce](values)
     if reduce == "_count":
         return len(values)
     refused, overflow = {"error": "builtin_reduce_error"}, {"error": "builtin_reduce_overflow"}
@@ -308,7 +311,7 @@ def database(number):
         if rng.random() < 0.03:
             design = 1 - design
             write({"_id": "_design/d", "language": "pick", "views": MAPS[design]})
-        view = rng.choice(["v", "v", "v", "v", "a", "c", "s", "s", "t"])
+        view = rng.choice(["v", "v", "v", "v", "a", "c", "s", "s", "t", "r", "i", "x", "f", "l"])
         name, query = ["d", view], query_for(rng, view in REDUCES)
         if rng.random() < 0.05:
             name = rng.choice([["u", "v"], ["d", "w"], ["w", "v"]])

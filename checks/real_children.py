@@ -67,6 +67,25 @@ for _ in range(2):
 {does}
 """
 
+# What a server does that maps each document to one row, with a line of this name.
+REDUCERS = {
+    "reduce_dies": ("reduce", "os.kill(os.getpid(), signal.SIGKILL)"),
+    "rereduce_dies": ("rereduce", "os.kill(os.getpid(), signal.SIGKILL)"),
+    "reduce_two": ("reduce", "answer = [True, [1, 2]]"),
+    "rereduce_complains": ("rereduce", "answer = ['error', 'compilation_error', 'no']"),
+    "rereduce_lies": ("rereduce", "answer = [True, [{'b': 1, 'a': None}]]"),
+}
+
+REDUCER = r"""#!{python} -u
+import json, os, signal, sys
+for line in sys.stdin:
+    name = json.loads(line)[0]
+    answer = True if name in ("reset", "add_fun") else [[[0, 1]]] if name == "map_doc" else [True, [7]]
+    if name == {name!r}:
+        {does}
+    print(json.dumps(answer), flush=True)
+"""
+
 
 # The programs that run.
 programs = []
@@ -160,6 +179,13 @@ class Program:
         views = {view: {"map": source} for view, source in maps.items()}
         self.put("design %s" % name, {"_id": "_design/" + name, "language": language, "views": views})
 
+    def reducing(self, name, language, source, reduce):
+        """A design with one view, `v`, that has a reduce."""
+        self.put("design %s" % name, {"_id": "_design/" + name, "language": language, "views": {"v": {"map": source, "reduce": reduce}}})
+
+    def seq(self):
+        return json.loads(self.ask("info", '{"info":true}'))["update_seq"]
+
     def check_memory(self, step):
         with open("/proc/%d/status" % self.process.pid) as file:
             most = next(int(line.split()[1]) for line in file if line.startswith("VmHWM"))
@@ -222,6 +248,71 @@ def good_servers(program):
     program.expect("python: no compilation", {"view": ["bad_py", "v"]}, {"error": "compilation_error", "reason": "_design/bad_py"})
 
 
+def groups(*all_groups):
+    """The reply of a reduced view with these groups, each a key and a value."""
+    return {"rows": [{"key": key, "value": value} for key, value in all_groups]}
+
+
+# In each language a map that emits the tag of a document and its text, a reduce that adds up the lengths of texts and tells the values of
+# parts from those of rows, and one that counts rows by their keys.
+LENGTHS = {
+    "javascript": (
+        "function (doc) { if (doc.tag) emit(doc.tag, doc.text) }",
+        "function (keys, values, rereduce) { return sum(rereduce ? values : values.map((text) => text.length)) }",
+        "function (keys, values, rereduce) { return rereduce ? sum(values) : keys.filter((key) => key[1] !== '').length }",
+        "function (keys, values { }",
+    ),
+    "python": (
+        "def fun(doc):\n    if 'tag' in doc: yield doc['tag'], doc['text']\n",
+        "def fun(keys, values, rereduce):\n    return sum(values) if rereduce else sum(map(len, values))\n",
+        "def fun(keys, values, rereduce):\n    return sum(values) if rereduce else len([key for key in keys if key[1] != ''])\n",
+        "def fun(keys, values:",
+    ),
+}
+
+
+def reduces(program):
+    """Reduces of two languages over more rows than a line has, beside what the built-in `_stats` gives of the lengths themselves."""
+    lengths = {tag: [(7 * number + start) % 23 for number in range(count)] for tag, start, count in (("few", 3, 5), ("many", 0, 100), ("more", 1, 1100))}
+    for tag, numbers in lengths.items():
+        for number, length in enumerate(numbers):
+            program.put("a text", {"_id": "%s%04d" % (tag, number), "tag": tag, "text": "x" * length, "length": length})
+    totals = groups(*[(tag, sum(numbers)) for tag, numbers in lengths.items()])
+    counts = groups(*[(tag, len(numbers)) for tag, numbers in lengths.items()])
+    program.reducing("stats", "pick", "emit doc.tag, doc.length", "_stats")
+    stats = json.loads(program.ask("stats", compact({"view": ["stats", "v"], "query": {"group": True}})))
+    if [(row["key"], row["value"]["sum"]) for row in stats["rows"]] != [(row["key"], row["value"]) for row in totals["rows"]]:
+        complain("stats", "the sums are %s" % stats)
+    for language, (source, lengths_of, count, wrong) in LENGTHS.items():
+        program.reducing(language, language, source, lengths_of)
+        program.expect(language + ": lengths", {"view": [language, "v"], "query": {"group": True}}, totals)
+        program.expect(language + ": descending", {"view": [language, "v"], "query": {"group": True, "descending": True}}, groups(*[(row["key"], row["value"]) for row in totals["rows"][::-1]]))
+        program.expect(language + ": all", {"view": [language, "v"]}, groups((None, sum(map(sum, lengths.values())))))
+        program.expect(language + ": no rows", {"view": [language, "v"], "query": {"key": "none"}}, groups())
+        program.reducing(language, language, source, count)
+        program.expect(language + ": counts", {"view": [language, "v"], "query": {"group": True}}, counts)
+        program.expect(language + ": as it stands", {"view": [language, "v"], "query": {"update": False, "group": True, "limit": 1}}, {"update_seq": program.seq(), **groups(("few", 5))})
+        program.reducing("wrong_" + language, language, source, wrong)
+        program.expect(language + ": no compilation", {"view": ["wrong_" + language, "v"]}, {"error": "compilation_error", "reason": "_design/wrong_" + language})
+        program.expect(language + ": not updated", {"view": ["wrong_" + language, "v"], "query": {"update": False}}, {"update_seq": 0, **groups()})
+        program.expect(language + ": after it", {"view": [language, "v"], "query": {"group": True}}, counts)
+
+
+def bad_reducers(program, folder, replies):
+    """Asks for the value of 40 rows from each server, and for one of a good server after it."""
+    for number in range(40):
+        program.put("document", {"_id": "d%02d" % number, "tag": "t", "text": "x"})
+    source, lengths_of, _, _ = LENGTHS["javascript"]
+    program.reducing("js", "javascript", source, lengths_of)
+    for server, reply in replies.items():
+        program.reducing(server, server, "m", "r")
+        program.expect(server, {"view": [server, "v"]}, reply)
+        # No child is left of a view that was refused.
+        if "error" in reply and processes(os.path.join(folder, server), program.process.pid):
+            complain(server, "its child is left behind")
+        program.expect("after " + server, {"view": ["js", "v"]}, groups((None, 40)))
+
+
 def bad_servers(program, folder, replies):
     """Asks for a view of each server, and for one of a good server after it."""
     two_documents(program)
@@ -247,6 +338,15 @@ PRINTING = {
     "thousand_logs": rows(("a", "quiet", 1), ("b", "quiet", 1)),
     "flood": shown('["log","x"]'),
     "endless": FAULT,
+}
+
+REDUCING = {
+    "reduce_dies": FAULT,
+    "rereduce_dies": FAULT,
+    "reduce_two": shown("[true, [1, 2]]"),
+    "rereduce_complains": {"error": "compilation_error", "reason": "_design/rereduce_complains"},
+    # The members of an object are printed in the order of their names.
+    "rereduce_lies": groups((None, {"a": None, "b": 1})),
 }
 
 
@@ -278,6 +378,12 @@ def main():
                 file.write(BAD_SERVER.format(python=sys.executable, folder=folder, does=does))
             os.chmod(languages[name], 0o755)
 
+        for name, (line, does) in REDUCERS.items():
+            languages[name] = os.path.join(folder, name)
+            with open(languages[name], "w") as file:
+                file.write(REDUCER.format(python=sys.executable, name=line, does=does))
+            os.chmod(languages[name], 0o755)
+
         def run(step, names, does):
             """A run with these languages, of which there may be eight."""
             program = Program(couchview, {name: languages[name] for name in names})
@@ -289,6 +395,8 @@ def main():
         run("failing servers", ["javascript", *FAILING], lambda program: bad_servers(program, folder, FAILING))
         run("printing servers", ["javascript", *PRINTING], lambda program: bad_servers(program, folder, PRINTING))
         run("long documents", ["early", "echo"], long_documents)
+        run("reduces", ["javascript", "python"], reduces)
+        run("bad reduces", ["javascript", *REDUCING], lambda program: bad_reducers(program, folder, REDUCING))
         left = processes(folder)
         if left:
             complain("end", "children are left behind: %s" % left)

@@ -65,7 +65,7 @@ each-append f (x ∷ xs) ys = ap (cons_where (f x)) (each-append f xs ys) ∙ co
 
 -- ---- which are small, and ps many ps the values
 
-abbrev Numbers : ℕ → Option (List ℤ) → Type 0
+abbrev pub Numbers : ℕ → Option (List ℤ) → Type 0
 Numbers n (Some ns) = AreSmall ns × (length ns ≡ n)
 Numbers n None = Unit {0}
 
@@ -83,11 +83,11 @@ one_more (object ms) n ns t s = tt
 one_more (array ts) n ns t s = tt
 one_more (string b) n ns t s = tt
 
-numbers_of_terms : (vs : List Json) → AllTerms vs → Numbers (length vs) (each number_in vs)
+pub numbers_of_terms : (vs : List Json) → AllTerms vs → Numbers (length vs) (each number_in vs)
 numbers_of_terms [] t = (tt, refl)
 numbers_of_terms (v ∷ vs) t = one_more v (length vs) (each number_in vs) t.0 (numbers_of_terms vs t.1)
 
-items_are_terms : (ts : Items) → AreTerms ts → AllTerms (list_of_items ts)
+pub items_are_terms : (ts : Items) → AreTerms ts → AllTerms (list_of_items ts)
 items_are_terms no_items t = tt
 items_are_terms (item v ts) t = (t.0, items_are_terms ts t.1)
 

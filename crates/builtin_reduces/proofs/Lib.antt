@@ -8,3 +8,6 @@ pub mod SumReads
 mod ItemParts
 pub mod Joinable
 mod SumLines
+mod AddedFits
+mod ValueFits
+mod Caused

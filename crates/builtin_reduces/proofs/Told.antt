@@ -17,7 +17,7 @@ use Rattle.builtin_reduces.proofs.Bounds.{AreSmall, near-total}
 abbrev squares : List ℤ → ℕ
 squares ns = sum_by square ns
 
-abbrev told : List ℤ → Stats
+abbrev pub told : List ℤ → Stats
 told ns = record { sum = total ns; count = length ns; min = least ns; max = greatest ns; sumsqr = squares ns }
 
 min_assoc : (x y z : ℤ) → int_min (int_min x y) z ≡ int_min x (int_min y z)

@@ -22,7 +22,7 @@ length-decimal n =
     let glyph = digit_glyph false (n % 10) in
     one_of (n / 10 == 0) (glyph ∷ []) (digits_onto 63 10 false (n / 10) (glyph ∷ [])) (omega arith) (length-digits_onto 63 (n / 10) (glyph ∷ []) (omega arith))
 
-length-number : (n : ℤ) → 1 ≤ length (text_of (number n))
+pub length-number : (n : ℤ) → 1 ≤ length (text_of (number n))
 length-number (pos n) = length-decimal n
 length-number (negsuc n) = omega arith
 

@@ -1,8 +1,9 @@
 //! The value of several groups of rows as one.
 
-ghost use Rattle.std.specs.Prelude.{◌≡◌, ◌≢◌, [], IfOk, IsOk};
+ghost use Rattle.std.specs.Prelude.{◌≡◌, ◌≢◌, [], All, IfOk, IsOk};
 ghost use Rattle.builtin_reduces.specs.Added.{IsFree, add_two, count_with, number_with, numbers_with, stats_with, overflow_with};
 ghost use Rattle.builtin_reduces.specs.Joined.{IsJoined};
+ghost use Rattle.builtin_reduces.specs.SumFits.{FitsUnder};
 ghost use Rattle.builtin_reduces.specs.Values.{value_of};
 
 use crate::stats::{check, merge, stats_of_none};
@@ -15,6 +16,7 @@ use std::alloc::Global;
 /// and `_stats` take none.
 pub fn join(alloc: Global, kind: Builtin, parts: &[BuiltinSum]) -> Result<BuiltinSum, NoMemory>
     ensures value { IfOk result (IsJoined kind parts.now) }
+    ensures fits { All (FitsUnder kind) parts.now → IfOk result (FitsUnder kind) }
     ensures free { kind ≢ Builtin.Sum → IsOk result }
 {
     let mut total = value_of_none(kind);

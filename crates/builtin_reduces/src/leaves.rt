@@ -4,6 +4,7 @@ ghost use Rattle.std.specs.Prelude.{◌≡◌, ◌≢◌, ◌∷◌, [], map, If
 ghost use Rattle.json_terms.specs.Seen.{json};
 ghost use Rattle.builtin_reduces.specs.Seen.{values};
 ghost use Rattle.builtin_reduces.specs.Added.{IsFree, add_two, places_or_refused};
+ghost use Rattle.builtin_reduces.specs.SumFits.{FitsUnder};
 ghost use Rattle.builtin_reduces.specs.Values.{value_of, each, number_in};
 
 use crate::item::RowItem;
@@ -35,6 +36,7 @@ pub(crate) fn leaf_of_items(
     items: &[RowItem],
 ) -> Result<BuiltinSum, NoMemory>
     ensures value { IfOk result (λ sum. sum ≡ value_of kind (values items.now)) }
+    ensures fits { IfOk result (FitsUnder kind) }
     ensures free { kind ≢ Builtin.Sum → IsOk result }
 {
     let mut total = value_of_none(kind);

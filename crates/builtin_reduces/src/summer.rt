@@ -1,6 +1,7 @@
 //! A built-in reduce as the values of lists of rows.
 
 ghost use Rattle.std.specs.Prelude.{◌≡◌, ◌↔◌, IsTrue};
+ghost use Rattle.design_docs.specs.declared.design.Builtin.TheVariants as builtin;
 ghost use Rattle.builtin_reduces.specs.BuiltinMeaning.{builtin_meaning};
 ghost use Rattle.builtin_reduces.specs.SumFits.{FitsUnder, IsUnder};
 
@@ -22,8 +23,11 @@ use tree_laws::{ItemFault, Summer};
 /// be negative. The low byte comes first.
 ///
 /// Only what the reduce may give has bytes: `_count` gives a count; `_sum` a number, or a list of 524,287 numbers at most;
-/// `_stats` what it tells, or a value that is too great. The latter two also give one that is refused. For any other value
-/// `encode_sum` answers want of memory, and for its bytes `decode_sum` answers `ItemFault`.
+/// `_stats` what it tells, or a value that is too great. The latter two also give one that is refused. `leaf` answers no
+/// other value, nor does `join` of parts that have bytes. For any other value `encode_sum` answers want of memory, and for
+/// its bytes `decode_sum` answers `ItemFault`.
+///
+/// `leaf` and `join` take memory under `_sum` alone.
 #[derive(Clone, Copy, Debug)]
 pub struct BuiltinSummer {
     kind: Builtin,
@@ -57,7 +61,7 @@ impl Summer for BuiltinSummer {
 
     ghost goes = { λ a b. b ≡ a };
 
-    ghost fails = { λ a b fault. Unit {0} };
+    ghost fails = { λ a b fault. a.kind ≡ builtin.Sum };
 
     fn leaf(&mut self, alloc: Global, items: &[RowItem]) -> Result<BuiltinSum, NoMemory> {
         leaf_of_items(alloc, self.kind, items)
@@ -101,7 +105,7 @@ impl Summer for BuiltinSummer {
 
     ghost keeps = { same_keeps _ _ _ _ };
 
-    ghost stays_caused = { same_stays_caused };
+    ghost stays_caused = { same_stays_caused (λ summer fault. summer.kind ≡ builtin.Sum) };
 
     ghost one_spelling = { λ summer. sums_spelled_once_under summer.kind };
 

@@ -2,7 +2,7 @@
 use Rattle.std.proofs.Common.{◌≡◌, ◌<◌, ◌≤◌, ◌+◌, ℕ, suc, OnOk, length-append, List, [], ◌∷◌, ◌++◌, length, map, Ok, Err, Result, IfOk, IfErr, false, refl, sym, ap, ◌∙◌, subst, inl, arith, append_assoc, append-nil}
 use Rattle.std.specs.List.{AllByRecursion, AllZip}
 use Rattle.std.specs.Result.{is_err}
-use Rattle.std.proofs.lemmas.List.{map-append}
+use Rattle.std.proofs.lemmas.List.{length-map, map-append}
 use Rattle.json_terms.specs.Json.{Json}
 use Rattle.json_terms.specs.Seen.{json}
 use Rattle.json_terms.specs.declared.fault.NoMemory.{NoMemory as OutOfMemory}
@@ -20,8 +20,8 @@ use Rattle.builtin_reduces.specs.Kept.{IsKept}
 use Rattle.child_pool.specs.declared.pool_fault.PoolFault.{PoolFault}
 use Rattle.child_pool.specs.declared.pool_fault.PoolFault.TheVariants.{NoMemory}
 use Rattle.child_pool.specs.declared.reduce_slot.ReduceSlot.{ReduceSlot}
-use Rattle.child_pool.specs.Reducing.{IsReduceLine, ReducesBy}
-use Rattle.child_pool.specs.ReduceTalk.{AreRightFor, Blames, Compiles, FoldsIn, IsMadeOf, IsRightFor, IsWholeOf, Rejoins, Spells, Stands, Talks}
+use Rattle.child_pool.specs.Reducing.{IsLineOf, IsReduceLine, ReducesBy}
+use Rattle.child_pool.specs.ReduceTalk.{AreRightFor, Blames, Compiles, FoldsIn, IsMadeOf, IsRightFor, IsWholeOf, Rejoins, Stands, Talks}
 use Rattle.child_pool.specs.TalkLaws.{fails_behind, fails_none, goes_both, goes_none, stands_on}
 
 -- ---- lists
@@ -56,7 +56,7 @@ module _ {C : Type 0} (s : Servers C) (language source : List ℕ) where
   stands_later first slot talks path calls stands =
       let go = talks (source ∷ []) (inl refl) in
       let w = go.talks path calls stands in
-      (w.now, stands_on s language (source ∷ []) (λ fault. Unit {0}) first slot path calls go.keeps stands w)
+      (w.now, stands_on s language (source ∷ []) (λ fault. ⊥) first slot path calls go.keeps stands w)
 
   -- what is right behind was right before
   pub right_before : (first slot : ReduceSlot C) (rows : List Row) (value : Json) → Talks s language source first slot → IsRightFor s language source slot rows value → IsRightFor s language source first rows value
@@ -66,6 +66,11 @@ module _ {C : Type 0} (s : Servers C) (language source : List ℕ) where
 
   pub talks_both : (a b c : ReduceSlot C) → Talks s language source a b → Talks s language source b c → Talks s language source a c
   talks_both a b c first second = λ reduces among. goes_both s language reduces a b c (first reduces among) (second reduces among)
+
+  -- a value is had behind some calls
+  pub talks_on : (a b c : ReduceSlot C) (result : Result Term PoolFault) → Talks s language source a b → OnOk result (Talks s language source b c) → OnOk result (Talks s language source a c)
+  talks_on a b c (Ok value) first second = talks_both a b c first second
+  talks_on a b c (Err fault) first second = tt
 
   -- want of memory behind some calls
   pub fails_late : (a b : ReduceSlot C) → Talks s language source a b → Blames s language source a b NoMemory
@@ -242,18 +247,18 @@ module _ {C : Type 0} (s : Servers C) (language source : List ℕ) where
 
 -- ---- what is asked
 
-pub spells_line : (asked : Command) (line sent : List ℕ) → IsReduceLine asked line → IsProperCommand asked → sent ≡ line → Spells asked sent
+pub spells_line : (asked : Command) (line sent : List ℕ) → IsReduceLine asked line → IsProperCommand asked → sent ≡ line → IsLineOf asked sent
 spells_line asked line sent made proper same = (same ∙ made.spelled, ap command same ∙ made.reads proper)
 
 kept_rows : (rows : List Row) → AllByRecursion IsKept rows → AllByRecursion IsReduceRowWithinBounds (map reduce_row rows)
 kept_rows [] kept = tt
 kept_rows (row ∷ rows) kept = ((kept.0.key, kept.0.value), kept_rows rows kept.1)
 
-pub reduces_rows : (source : List ℕ) (rows : List Row) → 0 < length rows → AllByRecursion IsKept rows → ReducesBy source (Reduce source (map reduce_row rows))
-reduces_rows source rows long kept = (refl, some_map reduce_row rows (some_long rows long), kept_rows rows kept)
+pub reduces_rows : (source : List ℕ) (rows : List Row) → 0 < length rows → length rows ≤ 32 → AllByRecursion IsKept rows → ReducesBy source (Reduce source (map reduce_row rows))
+reduces_rows source rows long few kept = (refl, (some_map reduce_row rows (some_long rows long), kept_rows rows kept, subst (λ (n : ℕ). n ≤ 32) (sym (length-map rows reduce_row)) few))
 
-pub reduces_values : (source : List ℕ) (values : List Json) → 0 < length values → AllByRecursion IsWithinBounds values → ReducesBy source (Rereduce source values)
-reduces_values source values long bounded = (refl, some_long values long, bounded)
+pub reduces_values : (source : List ℕ) (values : List Json) → 0 < length values → length values ≤ 32 → AllByRecursion IsWithinBounds values → ReducesBy source (Rereduce source values)
+reduces_values source values long few bounded = (refl, (some_long values long, bounded, few))
 
 module _ {C : Type 0} (s : Servers C) (language source : List ℕ) (slot : ReduceSlot C) where
   pub compiles_of : (asked : Command) (result : Result Term PoolFault) → IfOk result (λ value. IsMadeOf s language source asked slot (json value)) → OnOk result (Compiles s language source slot)

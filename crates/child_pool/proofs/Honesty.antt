@@ -74,8 +74,8 @@ module _ (functions : List ℕ → Functions) (honest : List ℕ → Type 0) (jo
   answerable h sources Reset of = tt
   answerable h sources (AddFun source) of = tt
   answerable h sources (MapDoc document) of = (one_of IsMappable job.documents document h.stored of.0, subst (λ (s : List (List ℕ)). length s ≤ source_limit) (sym of.1) h.few)
-  answerable h sources (Reduce source rows) of = of.2
-  answerable h sources (Rereduce source values) of = of.2
+  answerable h sources (Reduce source rows) of = of.1.1
+  answerable h sources (Rereduce source values) of = of.1.1
   answerable h sources Other of = absurd of
 
   -- an honest answer is a proper reply
@@ -87,9 +87,9 @@ module _ (functions : List ℕ → Functions) (honest : List ℕ → Type 0) (jo
       let within = answerable h sources (MapDoc document) of in
       (reply.Rows lists, proper_reply (length sources) lists line answers ((functions job.path).proper_maps sources document within.1 within.0) (length-map sources (λ source. (functions job.path).map_of source document)))
   proper h sources (Reduce source rows) line of log answers =
-      value_answer line ((functions job.path).reduce_compiles source) ((functions job.path).reduce_of source rows) ((functions job.path).proper_reduces source rows of.1 of.2) log answers
+      value_answer line ((functions job.path).reduce_compiles source) ((functions job.path).reduce_of source rows) ((functions job.path).proper_reduces source rows of.1.0 of.1.1) log answers
   proper h sources (Rereduce source values) line of log answers =
-      value_answer line ((functions job.path).reduce_compiles source) ((functions job.path).rereduce_of source values) ((functions job.path).proper_rereduces source values of.1 of.2) log answers
+      value_answer line ((functions job.path).reduce_compiles source) ((functions job.path).rereduce_of source values) ((functions job.path).proper_rereduces source values of.1.0 of.1.1) log answers
   proper h sources Other line of log answers = absurd of
 
   never_bad : IsHonestJob honest job → (sources : List (List ℕ)) (logs : ℕ) (c : Command) (line : List ℕ) → IsPromptOf job sources c → IsHonestLine (functions job.path) sources logs c line → IsBadReply c (length sources) logs line → ⊥
@@ -143,8 +143,8 @@ module _ (functions : List ℕ → Functions) (honest : List ℕ → Type 0) (jo
   -- what has a source can be answered
   asked_of : (sources : List (List ℕ)) (c : Command) (source : List ℕ) → AsksSource job source c → IsPromptOf job sources c → IsAnswerable sources c
   asked_of sources (AddFun added) source asks of = tt
-  asked_of sources (Reduce reduced rows) source asks of = of.2
-  asked_of sources (Rereduce reduced values) source asks of = of.2
+  asked_of sources (Reduce reduced rows) source asks of = of.1.1
+  asked_of sources (Rereduce reduced values) source asks of = of.1.1
   asked_of sources Reset source asks of = absurd asks
   asked_of sources (MapDoc document) source asks of = absurd asks
   asked_of sources Other source asks of = absurd asks

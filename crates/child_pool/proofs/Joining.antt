@@ -9,7 +9,7 @@ use Rattle.json_terms.specs.declared.term.Row.{Row}
 use Rattle.view_ports.specs.declared.servers.Servers.{Ghosts as Servers}
 use Rattle.view_ports.specs.Functions.{IsSomeList}
 use Rattle.view_ports.specs.ReduceRow.{reduce_row}
-use Rattle.tree_laws.specs.Meaning.{IsJoinValue, IsLeafValue, joined}
+use Rattle.tree_laws.specs.Meaning.{IsJoinValue, joined}
 use Rattle.builtin_reduces.specs.Kept.{IsKept}
 use Rattle.child_pool.specs.declared.reduce_slot.ReduceSlot.{ReduceSlot}
 use Rattle.child_pool.specs.Languages.{path_in}
@@ -37,9 +37,6 @@ module _ {C : Type 0} (s : Servers C) (language source : List ℕ) (slot : Reduc
   -- the functions of the one path by which the talk may stand
   functions_of : (talk : IsHonestTalk s language slot) → functions_for s language slot ≡ s.functions talk.path
   functions_of talk = ap (λ o. s.functions (or_no_path o)) talk.known
-
-  pub leaf_value : (items : List Row) (value : Json) → IsRightFor s language source slot items value → IsLeafValue (IsHonestTalk s language slot) (child_meaning (functions_for s language slot) source) items value
-  leaf_value items value right = λ talk some few. right talk.path talk.calls talk.stands talk.honest ∙ ap (λ f. f.reduce_of source (map reduce_row items)) (sym (functions_of talk))
 
   pub join_value : (sums : List Json) (value : Json) → Rejoins s language source slot sums value → IsJoinValue IsKept (IsHonestTalk s language slot) (child_meaning (functions_for s language slot) source) sums value
   join_value sums value rejoins = λ talk parts some each fits few is.

@@ -18,6 +18,7 @@ pub mod ValueReplies
 pub mod RowReplies
 pub mod Mapped
 pub mod Widened
+pub mod WiderTalk
 pub mod Reduced
 pub mod Batches
 pub mod Pooled
@@ -33,3 +34,4 @@ mod Tried
 mod Folds
 mod Joining
 mod ViewJoins
+pub mod Whole

@@ -15,7 +15,7 @@ use Rattle.view_ports.specs.Commands.{command, command_term, reduce_row_term}
 use Rattle.view_ports.specs.Functions.{Functions, IsWithinBounds, part_depth}
 use Rattle.view_ports.specs.Honest.{IsAnswerable, IsHonestLine, is_complaint_read}
 use Rattle.view_ports.specs.ReduceRow.{reduce_row}
-use Rattle.query_protocol.specs.CommandLines.{command_line, IsProperCommand}
+use Rattle.query_protocol.specs.CommandLines.{command_line}
 use Rattle.query_protocol.specs.declared.reply.Kind.{Kind}
 use Rattle.query_protocol.specs.declared.reply.Kind.TheVariants as kind
 use Rattle.query_protocol.specs.declared.reply.Reply.{Reply}
@@ -73,16 +73,16 @@ value_kind source (MapDoc document) count by = absurd by
 value_kind source Other count by = absurd by
 
 pub reduce_command : (job : Job) (source : List ℕ) (asked : Command) → ReducesBy source asked → IsAmong job.reduces source → IsCommandOf job asked
-reduce_command job source (Reduce reduced rows) by among = subst (IsAmong job.reduces) (sym by.0) among
-reduce_command job source (Rereduce reduced values) by among = subst (IsAmong job.reduces) (sym by.0) among
+reduce_command job source (Reduce reduced rows) by among = (subst (IsAmong job.reduces) (sym by.0) among, by.1)
+reduce_command job source (Rereduce reduced values) by among = (subst (IsAmong job.reduces) (sym by.0) among, by.1)
 reduce_command job source Reset by among = absurd by
 reduce_command job source (AddFun added) by among = absurd by
 reduce_command job source (MapDoc document) by among = absurd by
 reduce_command job source Other by among = absurd by
 
 pub reduce_prompted : (job : Job) (sources : List (List ℕ)) (source : List ℕ) (asked : Command) → ReducesBy source asked → IsAmong job.reduces source → IsPromptOf job sources asked
-reduce_prompted job sources source (Reduce reduced rows) by among = (subst (IsAmong job.reduces) (sym by.0) among, by.1, by.2)
-reduce_prompted job sources source (Rereduce reduced values) by among = (subst (IsAmong job.reduces) (sym by.0) among, by.1, by.2)
+reduce_prompted job sources source (Reduce reduced rows) by among = (subst (IsAmong job.reduces) (sym by.0) among, by.1)
+reduce_prompted job sources source (Rereduce reduced values) by among = (subst (IsAmong job.reduces) (sym by.0) among, by.1)
 reduce_prompted job sources source Reset by among = absurd by
 reduce_prompted job sources source (AddFun added) by among = absurd by
 reduce_prompted job sources source (MapDoc document) by among = absurd by
@@ -105,30 +105,22 @@ keeps_sources source (MapDoc document) accepted sources by = absurd by
 keeps_sources source Other accepted sources by = absurd by
 
 reduce_answerable : (source : List ℕ) (asked : Command) (sources : List (List ℕ)) → ReducesBy source asked → IsAnswerable sources asked
-reduce_answerable source (Reduce reduced rows) sources by = by.2
-reduce_answerable source (Rereduce reduced values) sources by = by.2
+reduce_answerable source (Reduce reduced rows) sources by = by.1.1
+reduce_answerable source (Rereduce reduced values) sources by = by.1.1
 reduce_answerable source Reset sources by = absurd by
 reduce_answerable source (AddFun added) sources by = absurd by
 reduce_answerable source (MapDoc document) sources by = absurd by
 reduce_answerable source Other sources by = absurd by
 
-pub reduce_proper : (source : List ℕ) (asked : Command) → ReducesBy source asked → IsProperCommand asked
-reduce_proper source (Reduce reduced rows) by = by.1
-reduce_proper source (Rereduce reduced values) by = by.1
-reduce_proper source Reset by = absurd by
-reduce_proper source (AddFun added) by = absurd by
-reduce_proper source (MapDoc document) by = absurd by
-reduce_proper source Other by = absurd by
-
 right_value : (functions : Functions) (source : List ℕ) (asked : Command) (sources : List (List ℕ)) (logs : ℕ) (line : List ℕ) (value : Term) → ReducesBy source asked → is_log line ≡ false → reply_of kind.Value line ≡ Some (reply.Value value)
     → IsHonestLine functions sources logs asked line → (functions.reduce_compiles source ≡ true) × IsValueBy functions asked (json value)
 right_value functions source (Reduce reduced rows) sources logs line value by no_log reads (inl log) = absurd (let yes : is_log line ≡ true = log.0 in cc)
 right_value functions source (Reduce reduced rows) sources logs line value by no_log reads (inr answer) =
-    let found = honest_value line (functions.reduce_compiles reduced) (functions.reduce_of reduced rows) value no_log (functions.proper_reduces reduced rows by.1 by.2) answer.1 reads in
+    let found = honest_value line (functions.reduce_compiles reduced) (functions.reduce_of reduced rows) value no_log (functions.proper_reduces reduced rows by.1.0 by.1.1) answer.1 reads in
     (subst (λ (s : List ℕ). functions.reduce_compiles s ≡ true) by.0 found.0, found.1)
 right_value functions source (Rereduce reduced values) sources logs line value by no_log reads (inl log) = absurd (let yes : is_log line ≡ true = log.0 in cc)
 right_value functions source (Rereduce reduced values) sources logs line value by no_log reads (inr answer) =
-    let found = honest_value line (functions.reduce_compiles reduced) (functions.rereduce_of reduced values) value no_log (functions.proper_rereduces reduced values by.1 by.2) answer.1 reads in
+    let found = honest_value line (functions.reduce_compiles reduced) (functions.rereduce_of reduced values) value no_log (functions.proper_rereduces reduced values by.1.0 by.1.1) answer.1 reads in
     (subst (λ (s : List ℕ). functions.reduce_compiles s ≡ true) by.0 found.0, found.1)
 right_value functions source Reset sources logs line value by no_log reads h = absurd by
 right_value functions source (AddFun added) sources logs line value by no_log reads h = absurd by

@@ -60,7 +60,7 @@ module _ (functions : List ℕ → Functions) (honest : List ℕ → Type 0) (pa
       → Went follow (job_of path [] []) old.width calls (AfterPrepare functions honest (job_of path [] []) old.width (reset_prompts old.width (is_fresh path old)) rose (Ok tt) calls)
       → Went follow (reduce_job path reduces) old.width calls (AfterReset functions honest path reduces old rose pool (Ok tt) calls)
   reset_pool old pool rose wide kept mine stands was =
-      let w = prepare_wider path reduces functions honest (reset_prompts old.width (is_fresh path old)) rose (Ok tt) was in
+      let w = prepare_wider path [] reduces (λ source none. absurd none) functions honest (reset_prompts old.width (is_fresh path old)) rose (Ok tt) was in
       let told = w.holds.0 in
       Went-map w (AfterReset functions honest path reduces old rose pool (Ok tt) calls) (
         (subst (λ (n : ℕ). HasTold functions honest path [] n w.now) (sym wide) told, mine),

@@ -12,19 +12,19 @@ use Rattle.child_pool.specs.declared.reduce_slot.ReduceSlot.{ReduceSlot}
 use Rattle.child_pool.specs.declared.reduce_slot.Stage.{Stage}
 use Rattle.child_pool.specs.declared.reduce_slot.Stage.TheVariants.{Idle, Begun, GivenUp}
 use Rattle.child_pool.specs.Ends.{HasRisen}
-use Rattle.child_pool.specs.Histories.{AllStops, Went, WentReducing}
+use Rattle.child_pool.specs.Histories.{AllOn, AllStops, Went, WentReducing}
 use Rattle.child_pool.specs.Jobs.{AllLawful, AllLawfulIn, AllReducing, IsAmong, Job, reduce_job}
 use Rattle.child_pool.specs.Languages.{path_in}
 use Rattle.child_pool.specs.Outcomes.{IsCaused}
 use Rattle.child_pool.specs.PoolCalls.{StaysAsMade, StopsAll}
 use Rattle.child_pool.specs.Pools.{AreStopped, AreThere, HasItsChildren, languages_of}
 use Rattle.child_pool.specs.ReduceSlot.{is_fresh}
-use Rattle.child_pool.specs.ReduceTalk.{AfterTry, Asks, Goes, HasTalked, IsLeftOff, MayBePath, Spells, Stands, Stretch, Tries, talk_prompts}
-use Rattle.child_pool.specs.Reducing.{ReducesBy, reduce_prompt}
-use Rattle.child_pool.specs.TalkLaws.{fails_none, goes_none, reducing_append}
+use Rattle.child_pool.specs.ReduceTalk.{AfterTry, AreAnswered, Asks, Goes, HasTalked, IsLeftOff, MayBePath, Stands, Stretch, Tries, talk_prompts}
+use Rattle.child_pool.specs.Reducing.{IsLineOf, ReducesBy, reduce_prompt}
+use Rattle.child_pool.specs.TalkLaws.{fails_none, reducing_append}
 use Rattle.child_pool.specs.TryLaws.{caused_more, stops_wider}
 use Rattle.child_pool.specs.Sessions.{IsThere}
-use Rattle.child_pool.specs.Tries.{AllAnswered, Prompt, StopsAt}
+use Rattle.child_pool.specs.Tries.{Prompt, StopsAt}
 use Rattle.child_pool.proofs.Cutting.{cut_at_once}
 use Rattle.child_pool.proofs.Trying.{given_up_by, stops_before, stops_one}
 
@@ -48,6 +48,11 @@ stops_reducing job path reduces width (call ∷ added) before lawful only = (
   stops_reducing job path reduces width added before lawful.1 only.1,
 )
 
+-- each is on the slot
+own_calls : (job : Job) (slot : ℕ) (added before : List Call) → AllLawful job slot added before → AllOn slot added
+own_calls job slot [] before lawful = tt
+own_calls job slot (call ∷ added) before lawful = (lawful.0, own_calls job slot added before lawful.2)
+
 -- where all children are stopped, those that are remembered are there
 stopped_children : (width : ℕ) (pool : Pool) (calls : List Call) → AreStopped width pool calls → HasItsChildren pool calls
 stopped_children width pool calls stopped = record {
@@ -63,7 +68,7 @@ stops_at_once fault rose prompt more other =
 -- ---- stages
 
 talked_ok : (F : PoolFault → Type 0) (from to : Stage) (slot : ℕ) (fresh : Bool) (commands : List Command) (rose : Type 0) (old pool : Pool) (added now : List Call) → from ≢ GivenUp → to ≡ Begun
-    → AllAnswered rose (talk_prompts from Begun slot fresh commands) added → HasTalked F from to (talk_prompts from to slot fresh commands) rose old pool added now
+    → AreAnswered (talk_prompts from Begun slot fresh commands) rose old pool added → HasTalked F from to (talk_prompts from to slot fresh commands) rose old pool added now
 talked_ok F Idle Begun slot fresh commands rose old pool added now going is h = h
 talked_ok F Begun Begun slot fresh commands rose old pool added now going is h = h
 talked_ok F GivenUp to slot fresh commands rose old pool added now going is h = absurd (going refl)
@@ -71,7 +76,7 @@ talked_ok F from Idle slot fresh commands rose old pool added now going is h = a
 talked_ok F from GivenUp slot fresh commands rose old pool added now going is h = absurd (cc)
 
 talked_err : (F : PoolFault → Type 0) (from to : Stage) (slot : ℕ) (fresh : Bool) (commands : List Command) (rose : Type 0) (old pool : Pool) (added now : List Call) → from ≢ GivenUp → to ≡ GivenUp
-    → IsLeftOff F (talk_prompts from Begun slot fresh commands) rose pool added now → HasTalked F from to (talk_prompts from to slot fresh commands) rose old pool added now
+    → IsLeftOff F (talk_prompts from Begun slot fresh commands) rose old pool added now → HasTalked F from to (talk_prompts from to slot fresh commands) rose old pool added now
 talked_err F Idle GivenUp slot fresh commands rose old pool added now going is h = h
 talked_err F Begun GivenUp slot fresh commands rose old pool added now going is h = h
 talked_err F GivenUp to slot fresh commands rose old pool added now going is h = absurd (going refl)
@@ -94,12 +99,12 @@ path_or_none : (found : Option (List ℕ)) (path : List ℕ) → MayBePath found
 path_or_none None path known = inl refl
 path_or_none (Some other) path known = inr (ap Some (sym known))
 
-module _ {C : Type 0} (s : Servers C) (language line source : List ℕ) (asked : Command) (spells : Spells asked line) (by : ReducesBy source asked) where
+module _ {C : Type 0} (s : Servers C) (language line source : List ℕ) (asked : Command) (spells : IsLineOf asked line) (by : ReducesBy source asked) where
   abbrev Found : ReduceSlot C → Option (List ℕ)
   Found a = path_in (languages_of a.pool.now) language
 
   pub ask_none : (a : ReduceSlot C) → Asks s language source asked a a (Err NoMemory)
-  ask_none a = record { talks = λ reduces among. goes_none s language reduces a; bounded = tt; made = tt; cause = λ reduces among. fails_none s language reduces a }
+  ask_none a = record { talks = tt; bounded = tt; made = tt; cause = λ reduces among. fails_none s language reduces a }
 
   -- ---- a value was given
 
@@ -129,7 +134,8 @@ module _ {C : Type 0} (s : Servers C) (language line source : List ℕ) (asked :
           holds = record {
             commands = asked ∷ [];
             each = ((source, among, by), tt);
-            talked = talked_ok (λ fault. Unit {0}) a.stage b.stage a.pool.now.width (is_fresh path a.pool.now) (asked ∷ []) (HasRisen s a.servers.now b.servers.now) a.pool.now b.pool.now w.added w.now going tries.stage w.holds.0;
+            talked = talked_ok (λ fault. ⊥) a.stage b.stage a.pool.now.width (is_fresh path a.pool.now) (asked ∷ []) (HasRisen s a.servers.now b.servers.now) a.pool.now b.pool.now w.added w.now going tries.stage
+                (record { answered = w.holds.0; own = own_calls (reduce_job path reduces) a.pool.now.width w.added calls w.lawful; mapping = tries.mapping });
             there = w.holds.2;
             ready = λ begun. w.holds.1;
           };
@@ -160,6 +166,7 @@ module _ {C : Type 0} (s : Servers C) (language line source : List ℕ) (asked :
     is_now : now ≡ added ++ calls
     follows : s.may_follow b.servers.now now
     lawful : AllReducing path reduces a.pool.now.width added calls
+    own : AllOn a.pool.now.width added
     left : Left reduces path fault a b calls added
 
   went_err : (reduces : List (List ℕ)) → IsAmong reduces source → (a b : ReduceSlot C) (fault : PoolFault) → a.stage ≢ GivenUp → Tries s language line a b (Err fault) → (path : List ℕ) (calls : List Call) → Stands s language a path calls → WentLeft reduces path fault a b calls
@@ -173,6 +180,7 @@ module _ {C : Type 0} (s : Servers C) (language line source : List ℕ) (asked :
           is_now = refl;
           follows = subst (λ (c : C). s.may_follow c calls) (sym is.1) stands.follows;
           lawful = tt;
+          own = tt;
           left = (
             subst (λ (f : PoolFault). StopsAt f (HasRisen s a.servers.now b.servers.now) (talk_prompts a.stage Begun a.pool.now.width (is_fresh path a.pool.now) (asked ∷ [])) []) (sym unknown)
                 (stops_first a.stage a.pool.now.width (is_fresh path a.pool.now) asked (HasRisen s a.servers.now b.servers.now) going),
@@ -187,6 +195,7 @@ module _ {C : Type 0} (s : Servers C) (language line source : List ℕ) (asked :
           is_now = w.is_now;
           follows = w.follows;
           lawful = on_slot path reduces a.pool.now.width w.added calls (some_source reduces source among) w.lawful;
+          own = own_calls (reduce_job path reduces) a.pool.now.width w.added calls w.lawful;
           left = (w.holds.stops, inr w.holds.caused);
         }
   ]
@@ -201,10 +210,10 @@ module _ {C : Type 0} (s : Servers C) (language line source : List ℕ) (asked :
     pub faults : s.faults n.servers.now ≡ s.faults b.servers.now
 
   stopped_stretch : (reduces : List (List ℕ)) → IsAmong reduces source → (a b n : ReduceSlot C) (fault : PoolFault) → a.stage ≢ GivenUp → Tries s language line a b (Err fault) → IsStoppedBy b n
-      → (F : PoolFault → Type 0) → F fault → (path : List ℕ) (calls : List Call) → Stands s language a path calls
-      → WentReducing (s.may_follow n.servers.now) path reduces a.pool.now.width calls (λ added now. Stretch s language reduces F path a n added now
+      → (path : List ℕ) (calls : List Call) → Stands s language a path calls
+      → WentReducing (s.may_follow n.servers.now) path reduces a.pool.now.width calls (λ added now. Stretch s language reduces (λ met. met ≡ fault) path a n added now
       × ((fault ≡ UnknownLanguage) ⊎ IsCaused s.functions s.honest (reduce_job path reduces) added calls fault))
-  stopped_stretch reduces among a b n fault going tries stopped F f path calls stands =
+  stopped_stretch reduces among a b n fault going tries stopped path calls stands =
       let w = went_err reduces among a b fault going tries path calls stands in
       let job = reduce_job path reduces in
       let v = stopped.stops job w.now w.follows in
@@ -222,13 +231,14 @@ module _ {C : Type 0} (s : Servers C) (language line source : List ℕ) (asked :
           record {
             commands = asked ∷ [];
             each = ((source, among, by), tt);
-            talked = talked_err F a.stage n.stage a.pool.now.width (is_fresh path a.pool.now) (asked ∷ []) (HasRisen s a.servers.now n.servers.now) a.pool.now n.pool.now (v.added ++ w.added) v.now going stopped.stage (record {
+            talked = talked_err (λ met. met ≡ fault) a.stage n.stage a.pool.now.width (is_fresh path a.pool.now) (asked ∷ []) (HasRisen s a.servers.now n.servers.now) a.pool.now n.pool.now (v.added ++ w.added) v.now going stopped.stage (record {
               fault = fault;
-              is_fault = f;
+              is_fault = refl;
               tried = w.added;
               stops = v.added;
               is = refl;
               only = v.holds.1;
+              own = w.own;
               ends = stops_wider (HasRisen s a.servers.now b.servers.now) (HasRisen s a.servers.now n.servers.now) (λ r. let same = stopped.faults in omega (arith, r, same)) fault
                   (talk_prompts a.stage Begun a.pool.now.width (is_fresh path a.pool.now) (asked ∷ [])) w.added w.left.0;
               stopped = none_left;
@@ -245,22 +255,15 @@ module _ {C : Type 0} (s : Servers C) (language line source : List ℕ) (asked :
 
   pub ask_err : (a b n : ReduceSlot C) (fault : PoolFault) → a.stage ≢ GivenUp → Tries s language line a b (Err fault) → IsStoppedBy b n → Asks s language source asked a n (Err fault)
   ask_err a b n fault going tries stopped = record {
-    talks = λ reduces among. record {
+    talks = tt;
+    bounded = tt;
+    made = tt;
+    cause = λ reduces among. record {
       pool = stopped.pool ∙ tries.lent.pool;
       servers = stopped.servers ∙ tries.lent.servers;
       keeps = record { languages = stopped.keeps.languages ∙ tries.lent.keeps.languages; width = stopped.keeps.width ∙ tries.lent.keeps.width };
       later = let same = stopped.faults in omega (arith, tries.lent.later, same);
-      stays = λ given_up. absurd (going given_up);
-      talks = λ path calls stands.
-          let w = stopped_stretch reduces among a b n fault going tries stopped (λ met. Unit {0}) tt path calls stands in
-          record { added = w.added; now = w.now; is_now = w.is_now; follows = w.follows; lawful = w.lawful; holds = w.holds.0 };
-    };
-    bounded = tt;
-    made = tt;
-    cause = λ reduces among. record {
-      keeps = record { languages = stopped.keeps.languages ∙ tries.lent.keeps.languages; width = stopped.keeps.width ∙ tries.lent.keeps.width };
-      later = let same = stopped.faults in omega (arith, tries.lent.later, same);
-      talks = λ path calls stands. stopped_stretch reduces among a b n fault going tries stopped (λ met. (met ≡ fault) ⊎ (fault ≡ NoMemory)) (inl refl) path calls stands;
+      talks = λ path calls stands. stopped_stretch reduces among a b n fault going tries stopped path calls stands;
       given_up = λ some. stopped.stage;
       silent = λ given_up. absurd (going given_up);
       twice = λ e. let rose = tries.twice (ap Err e) in let same = stopped.faults in omega (arith, rose, same);

@@ -19,10 +19,10 @@ use Rattle.child_pool.specs.Histories.{Went}
 use Rattle.child_pool.specs.Jobs.{IsAmong, Job, reduce_job}
 use Rattle.child_pool.specs.Languages.{path_in}
 use Rattle.child_pool.specs.PoolCalls.{ResetsReducer}
-use Rattle.child_pool.specs.Pools.{HasItsChildren, languages_of}
+use Rattle.child_pool.specs.Pools.{HasItsChildren, languages_of, started_of}
 use Rattle.child_pool.specs.ReduceSlot.{IsReset, is_fresh}
-use Rattle.child_pool.specs.ReduceTalk.{AfterBegin, AfterTry, Begins, IsLent, Spells, Stands, Tries, opening, talk_prompts}
-use Rattle.child_pool.specs.Reducing.{ReducesBy, ReducesOne, reduce_prompt}
+use Rattle.child_pool.specs.ReduceTalk.{AfterBegin, AfterTry, Begins, IsLent, Stands, Tries, opening, talk_prompts}
+use Rattle.child_pool.specs.Reducing.{IsLineOf, ReducesBy, ReducesOne, reduce_prompt}
 use Rattle.child_pool.specs.Refused.{Refused}
 use Rattle.child_pool.specs.Sessions.{HasTold, IsThere}
 use Rattle.child_pool.specs.TryLaws.{answered_then, answered_wider}
@@ -71,6 +71,7 @@ module _ {C : Type 0} (s : Servers C) where
   begins_already path a is = record {
     lent = record { pool = refl; servers = refl; keeps = record { languages = refl; width = refl }; later = omega arith };
     stage = is;
+    mapping = refl;
     ends = record { later = omega arith; twice = λ e. absurd (cc); language = λ e. cc };
     went = λ reduces calls follows children ready. Went-none follows (AfterBegin s path reduces a a (Ok (tt {0})) calls) (
       subst (λ (stage : Stage). AllAnswered (HasRisen s a.servers.now a.servers.now) (opening stage Begun a.pool.now.width (is_fresh path a.pool.now)) []) (sym is) refl,
@@ -79,11 +80,12 @@ module _ {C : Type 0} (s : Servers C) where
     );
   }
 
-  pub begins_ok : (path : List ℕ) (a b : ReduceSlot C) → a.stage ≡ Idle → b.stage ≡ Begun → IsLent s a b → EndsTwice s a.servers.now b.servers.now (Ok (tt {0}))
+  pub begins_ok : (path : List ℕ) (a b : ReduceSlot C) → a.stage ≡ Idle → b.stage ≡ Begun → IsLent s a b → started_of b.pool.now ≡ started_of a.pool.now → EndsTwice s a.servers.now b.servers.now (Ok (tt {0}))
       → ResetsReducer s a.servers.now b.servers.now a.pool.now path b.pool.now (Ok (tt {0})) → Begins s path a b (Ok (tt {0}))
-  begins_ok path a b idle begun lent ends resets = record {
+  begins_ok path a b idle begun lent mapping ends resets = record {
     lent = lent;
     stage = begun;
+    mapping = mapping;
     ends = ends;
     went = λ reduces calls follows children ready.
         let w = resets reduces calls follows children in
@@ -94,11 +96,12 @@ module _ {C : Type 0} (s : Servers C) where
         );
   }
 
-  pub begins_err : (path : List ℕ) (a b : ReduceSlot C) (fault : PoolFault) → a.stage ≡ Idle → IsLent s a b → EndsTwice s a.servers.now b.servers.now {T = Unit {0}} (Err fault)
+  pub begins_err : (path : List ℕ) (a b : ReduceSlot C) (fault : PoolFault) → a.stage ≡ Idle → IsLent s a b → started_of b.pool.now ≡ started_of a.pool.now → EndsTwice s a.servers.now b.servers.now {T = Unit {0}} (Err fault)
       → ResetsReducer s a.servers.now b.servers.now a.pool.now path b.pool.now (Err fault) → Begins s path a b (Err fault)
-  begins_err path a b fault idle lent ends resets = record {
+  begins_err path a b fault idle lent mapping ends resets = record {
     lent = lent;
     stage = tt;
+    mapping = mapping;
     ends = ends;
     went = λ reduces calls follows children ready.
         let w = resets reduces calls follows children in
@@ -117,6 +120,7 @@ module _ {C : Type 0} (s : Servers C) where
     tries_none fault unknown refused = record {
       lent = record { pool = refl; servers = refl; keeps = record { languages = refl; width = refl }; later = omega arith };
       stage = tt;
+      mapping = refl;
       bounded = tt;
       twice = λ e. elim refused [
         | inl none ↦ absurd (cc)
@@ -148,6 +152,7 @@ module _ {C : Type 0} (s : Servers C) where
       tries_unbegun b fault begins = record {
         lent = begins.lent;
         stage = tt;
+        mapping = begins.mapping;
         bounded = tt;
         twice = λ e. begins.ends.twice (let f : fault ≡ ServerFault = cc in ap Err f);
         went = λ other reduces source asked calls known among spells by stands.
@@ -180,7 +185,7 @@ module _ {C : Type 0} (s : Servers C) where
         }
 
         went_both : (result : Result Term PoolFault) → ReducesOne s m.servers.now b.servers.now a.pool.now.width path line result → (reduces : List (List ℕ)) (source : List ℕ) (asked : Command) (calls : List Call) → IsAmong reduces source
-            → Spells asked line → ReducesBy source asked → Stands s language a path calls
+            → IsLineOf asked line → ReducesBy source asked → Stands s language a path calls
             → Went (s.may_follow b.servers.now) (reduce_job path reduces) a.pool.now.width calls (AfterTry s language path reduces source asked a b result calls)
         went_both (Ok value) one reduces source asked calls among spells by stands =
             let w = begins.went reduces calls stands.follows stands.children stands.ready in
@@ -220,6 +225,7 @@ module _ {C : Type 0} (s : Servers C) where
         tries_both result one ends bounded = record {
           lent = both_lent;
           stage = begun_still result;
+          mapping = ap started_of pool ∙ begins.mapping;
           bounded = bounded;
           twice = λ e. let rose = ends.twice e in omega (arith, rose, begins.lent.later);
           went = λ other reduces source asked calls known among spells by stands.

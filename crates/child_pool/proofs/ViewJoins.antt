@@ -1,10 +1,11 @@
 -- The reduces of a design's views: what they ask for, and what they join.
-use Rattle.std.proofs.Common.{◌≡◌, ℕ, zero, suc, List, [], ◌∷◌, ◌++◌, map, refl, sym, ap, ◌∙◌, subst, inl, inr}
+use Rattle.std.proofs.Common.{◌≡◌, ℕ, List, [], ◌∷◌, map, refl, sym, ap, ◌∙◌, subst, inl, arith}
+use Rattle.std.specs.List.{All}
+use Rattle.std.proofs.lemmas.List.{get_or-map, length-map}
 use Rattle.json_terms.specs.Json.{Json}
 use Rattle.design_docs.specs.declared.design.Builtin.{Builtin as Kind}
 use Rattle.design_docs.specs.declared.design.Reduce.{Reduce}
 use Rattle.design_docs.specs.declared.design.Reduce.TheVariants as reduce
-use Rattle.design_docs.specs.declared.design.View.{View}
 use Rattle.view_ports.specs.declared.servers.Servers.{Ghosts as Servers}
 use Rattle.tree_laws.specs.Meaning.{IsJoinValue}
 use Rattle.builtin_reduces.specs.declared.sum.BuiltinSum.{BuiltinSum}
@@ -17,28 +18,15 @@ use Rattle.child_pool.specs.declared.summers.Summers.{Summers}
 use Rattle.child_pool.specs.declared.view_sum.ViewSum.{ViewSum}
 use Rattle.child_pool.specs.declared.view_sum.ViewSum.TheVariants as value
 use Rattle.child_pool.specs.Jobs.{IsAmong}
-use Rattle.child_pool.specs.ReduceTalk.{Blames, Fails, Goes, Rejoins, Talks, reduce_in, reduce_source, reduce_sources}
+use Rattle.child_pool.specs.ReduceTalk.{Blames, Fails, Goes, Rejoins, Talks, reduce_source}
 use Rattle.child_pool.specs.Summers.{IsLawfulFor, SummersFail, SummersGo, functions_for, reduce_of, view_meaning}
 use Rattle.child_pool.specs.TalkLaws.{fails_none}
 use Rattle.builtin_reduces.proofs.Joinable.{joined_value}
+use Rattle.builtin_reduces.specs.SumFits.{FitsUnder}
+use Rattle.view_ports.specs.Functions.{IsWithinBounds}
 use Rattle.view_ports.specs.ReduceRow.{reduce_row}
-use Rattle.child_pool.specs.ViewSums.{JoinsBuiltins}
+use Rattle.child_pool.specs.ViewSums.{FitsView, JoinsBuiltins}
 use Rattle.child_pool.proofs.Joining.{join_value}
-
-among_front : (xs ys : List (List ℕ)) (x : List ℕ) → IsAmong xs x → IsAmong (xs ++ ys) x
-among_front [] ys x among = absurd among
-among_front (first ∷ xs) ys x (inl same) = inl same
-among_front (first ∷ xs) ys x (inr later) = inr (among_front xs ys x later)
-
-among_back : (xs ys : List (List ℕ)) (x : List ℕ) → IsAmong ys x → IsAmong (xs ++ ys) x
-among_back [] ys x among = among
-among_back (first ∷ xs) ys x among = inr (among_back xs ys x among)
-
-among_sources : (views : List View) (place : ℕ) (source : List ℕ) → reduce_in views place ≡ reduce.Source source → IsAmong (reduce_sources views) source
-among_sources [] place source is = absurd (cc)
-among_sources (view ∷ views) zero source is =
-    among_front (reduce_source view.reduce) (reduce_sources views) source (subst (λ (r : Reduce). IsAmong (reduce_source r) source) (sym is) (inl refl))
-among_sources (view ∷ views) (suc place) source is = among_back (reduce_source view.reduce) (reduce_sources views) source (among_sources views place source is)
 
 -- values of one kind are told apart as what they are of
 child_apart : (xs ys : List Json) → map value.Child xs ≡ map value.Child ys → xs ≡ ys
@@ -65,14 +53,35 @@ map_map : {A B D : Type 0} (f : A → B) (g : B → D) (xs : List A) → map (λ
 map_map f g [] = refl
 map_map f g (x ∷ xs) = ap (λ ys. g (f x) ∷ ys) (map_map f g xs)
 
+-- ---- which values fit
+
+pub source_fits : (found : Reduce) (source : List ℕ) (term : Json) → found ≡ reduce.Source source → IsWithinBounds term → FitsView found (value.Child term)
+source_fits found source term is bounded = subst (λ (r : Reduce). FitsView r (value.Child term)) (sym is) bounded
+
+pub builtin_fits : (found : Reduce) (kind : Kind) (sum : BuiltinSum) → found ≡ reduce.Builtin kind → FitsUnder kind sum → FitsView found (value.Builtin sum)
+builtin_fits found kind sum is fits = subst (λ (r : Reduce). FitsView r (value.Builtin sum)) (sym is) fits
+
+-- parts that fit have values that fit the kind
+pub parts_fit : (kind : Kind) (sums : List BuiltinSum) (parts : List ViewSum) → map value.Builtin sums ≡ parts → All (FitsView (reduce.Builtin kind)) parts → All (FitsUnder kind) sums
+parts_fit kind sums parts are all k d within =
+    let each = subst (All (FitsView (reduce.Builtin kind))) (sym are) all in
+    subst (FitsView (reduce.Builtin kind)) (get_or-map value.Builtin sums k d (value.Builtin d) within) (each k (value.Builtin d) (omega (arith, within, length-map sums value.Builtin)))
+
+pub joined_fits : (found : Reduce) (kind : Kind) (parts : List ViewSum) (sum : BuiltinSum) → found ≡ reduce.Builtin kind → (All (FitsView (reduce.Builtin kind)) parts → FitsUnder kind sum) → All (FitsView found) parts → FitsView found (value.Builtin sum)
+joined_fits found kind parts sum is fits all = builtin_fits found kind sum is (fits (subst (λ (r : Reduce). All (FitsView r) parts) is all))
+
+-- the source of a reduce is asked for by it
+is_own : (found : Reduce) (source asked : List ℕ) → found ≡ reduce.Source source → asked ≡ source → IsAmong (reduce_source found) asked
+is_own found source asked is same = subst (λ (r : Reduce). IsAmong (reduce_source r) asked) (sym is) (inl same)
+
 module _ {C : Type 0} (s : Servers C) where
   -- the source of the view is asked for
   pub source_goes : (a b : Summers C) (source language own : List ℕ) → reduce_of s a ≡ reduce.Source source → b.design ≡ a.design → b.view ≡ a.view → language ≡ a.design.now.language → own ≡ source → Talks s language own a.slot b.slot → SummersGo s a b
   source_goes a b source language own is design view of_design of_view talks = record {
     design = design;
     view = view;
-    slot = subst (λ (l : List ℕ). Goes s l (reduce_sources a.design.now.views) a.slot b.slot) of_design
-        (talks (reduce_sources a.design.now.views) (subst (IsAmong (reduce_sources a.design.now.views)) (sym of_view) (among_sources a.design.now.views a.view source is)));
+    slot = subst (λ (l : List ℕ). Goes s l (reduce_source (reduce_of s a)) a.slot b.slot) of_design
+        (talks (reduce_source (reduce_of s a)) (is_own (reduce_of s a) source own is of_view));
     idle = λ none. let some : reduce_source (reduce_of s a) ≡ source ∷ [] = ap reduce_source is in absurd (cc);
   }
 
@@ -81,13 +90,13 @@ module _ {C : Type 0} (s : Servers C) where
   source_fails a b source language own fault is design view of_design of_view blames = record {
     design = design;
     view = view;
-    slot = subst (λ (l : List ℕ). Fails s l (reduce_sources a.design.now.views) a.slot b.slot fault) of_design
-        (blames (reduce_sources a.design.now.views) (subst (IsAmong (reduce_sources a.design.now.views)) (sym of_view) (among_sources a.design.now.views a.view source is)));
+    slot = subst (λ (l : List ℕ). Fails s l (reduce_source (reduce_of s a)) a.slot b.slot fault) of_design
+        (blames (reduce_source (reduce_of s a)) (is_own (reduce_of s a) source own is of_view));
   }
 
   -- want of memory, where nothing was asked
   pub no_memory : (a : Summers C) → SummersFail s a a NoMemory
-  no_memory a = record { design = refl; view = refl; slot = fails_none s a.design.now.language (reduce_sources a.design.now.views) a.slot }
+  no_memory a = record { design = refl; view = refl; slot = fails_none s a.design.now.language (reduce_source (reduce_of s a)) a.slot }
 
   module _ (language : List ℕ) (slot : ReduceSlot C) where
     abbrev Joins : Reduce → List ViewSum → ViewSum → Type 0

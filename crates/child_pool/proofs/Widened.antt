@@ -1,4 +1,4 @@
--- A fresh child is reset for a reduction as it is for maps.
+-- What reduces by some sources reduces by more sources. A fresh child is reset for a reduction by any.
 use Rattle.std.proofs.Common.{ℕ, List, [], ◌∷◌, ◌++◌, Bool, true, false, Option, Some, None, Result, Ok, Err, inl, inr}
 use Rattle.view_ports.specs.declared.command.Command.{Command}
 use Rattle.view_ports.specs.declared.command.Command.TheVariants.{Reset, AddFun, MapDoc, Reduce, Rereduce, Other}
@@ -8,7 +8,7 @@ use Rattle.view_ports.specs.Functions.{Functions}
 use Rattle.child_pool.specs.declared.pool_fault.PoolFault.{PoolFault}
 use Rattle.child_pool.specs.declared.pool_fault.PoolFault.TheVariants.{ServerFault, BadReply, Compile, UnknownLanguage, NoMemory}
 use Rattle.child_pool.specs.Histories.{HasReceived, IsReceipt, Went}
-use Rattle.child_pool.specs.Jobs.{AllLawful, IsCommandOf, IsLawful, IsPromptOf, Job, job_of, reduce_job}
+use Rattle.child_pool.specs.Jobs.{AllLawful, IsAmong, IsCommandOf, IsLawful, IsPromptOf, Job, reduce_job}
 use Rattle.child_pool.specs.Outcomes.{AsksSource, IsCaused, IsReplyFor, WasBad, WasComplaint}
 use Rattle.child_pool.specs.Preparing.{AfterPrepare}
 use Rattle.child_pool.specs.Stages.{AfterStages}
@@ -30,39 +30,39 @@ received_wider P Q f (call ∷ added) before h = elim h [
   | inr there ↦ inr (received_wider P Q f added before there)
 ]
 
-module _ (path : List ℕ) (reduces : List (List ℕ)) where
-  -- a job without sources, and one that reduces
+module _ (path : List ℕ) (few many : List (List ℕ)) (among : (source : List ℕ) → IsAmong few source → IsAmong many source) where
+  -- a job that reduces by few sources, and one by many
   abbrev bare : Job
-  bare = job_of path [] []
+  bare = reduce_job path few
 
   abbrev wide : Job
-  wide = reduce_job path reduces
+  wide = reduce_job path many
 
   command_wider : (c : Command) → IsCommandOf bare c → IsCommandOf wide c
   command_wider Reset h = h
   command_wider (AddFun source) h = h
   command_wider (MapDoc document) h = h
-  command_wider (Reduce source rows) h = absurd h
-  command_wider (Rereduce source values) h = absurd h
+  command_wider (Reduce source rows) h = (among source h.0, h.1)
+  command_wider (Rereduce source values) h = (among source h.0, h.1)
   command_wider Other h = h
 
   prompt_wider : (sources : List (List ℕ)) (c : Command) → IsPromptOf bare sources c → IsPromptOf wide sources c
   prompt_wider sources Reset h = h
   prompt_wider sources (AddFun source) h = h
   prompt_wider sources (MapDoc document) h = h
-  prompt_wider sources (Reduce source rows) h = absurd h.0
-  prompt_wider sources (Rereduce source values) h = absurd h.0
+  prompt_wider sources (Reduce source rows) h = (among source h.0, h.1)
+  prompt_wider sources (Rereduce source values) h = (among source h.0, h.1)
   prompt_wider sources Other h = h
 
   asks_wider : (source : List ℕ) (c : Command) → AsksSource bare source c → AsksSource wide source c
   asks_wider source Reset h = h
   asks_wider source (AddFun added) h = h
   asks_wider source (MapDoc document) h = h
-  asks_wider source (Reduce reduced rows) h = absurd h.1
-  asks_wider source (Rereduce reduced values) h = absurd h.1
+  asks_wider source (Reduce reduced rows) h = (h.0, among source h.1)
+  asks_wider source (Rereduce reduced values) h = (h.0, among source h.1)
   asks_wider source Other h = h
 
-  lawful_wider : (call : Call) (before : List Call) → IsLawful bare call before → IsLawful wide call before
+  pub lawful_wider : (call : Call) (before : List Call) → IsLawful bare call before → IsLawful wide call before
   lawful_wider (start slot at started) before h = h
   lawful_wider (send slot line sent) before h = ((h.0.0, command_wider h.0.0 h.0.1, h.0.2), h.1, h.2)
   lawful_wider (receive slot line) before h = h
@@ -83,7 +83,7 @@ module _ (path : List ℕ) (reduces : List (List ℕ)) where
       answers = h.answers;
     }
 
-    caused_wider : (f : PoolFault) (added before : List Call) → IsCaused functions honest bare added before f → IsCaused functions honest wide added before f
+    pub caused_wider : (f : PoolFault) (added before : List Call) → IsCaused functions honest bare added before f → IsCaused functions honest wide added before f
     unfolding reply_wider
     caused_wider (BadReply text) added before h = received_wider (WasBad functions honest bare text) (WasBad functions honest wide text)
         (λ st line was. record { reply = reply_wider st line was.reply; bad = was.bad; as_shown = was.as_shown }) added before h

@@ -1,6 +1,6 @@
 -- The calls that a function made on the query servers, the newest first.
 use Rattle.std.specs.Prelude.{◌≡◌, ◌⊎◌, ℕ, List, [], ◌∷◌, ◌++◌, Bool, true, false, Option, Some, None}
-use Rattle.view_ports.specs.Calls.{Call, start, send, receive, stop, Session, child, is_log}
+use Rattle.view_ports.specs.Calls.{Call, start, send, receive, stop, Session, child, is_log, slot_of}
 use Rattle.child_pool.specs.Jobs.{Job, AllLawful, AllLawfulIn, AllReducing, IsStop}
 
 -- what a function did on a slot: after the calls that were made `before` it made those that it `added`, each lawful, and of
@@ -93,6 +93,11 @@ pub record FailsAfter (turns : List Turn) (added : List Call) : Type 0 where
   pub is : added ≡ last ∷ earlier
   pub failed : HasFailed last
   pub went : course added ≡ turns
+
+-- each of these calls is on this slot
+abbrev pub AllOn : ℕ → List Call → Type 0
+AllOn slot [] = Unit {0}
+AllOn slot (call ∷ calls) = (slot_of call ≡ slot) × AllOn slot calls
 
 abbrev pub AllStops : List Call → Type 0
 AllStops [] = Unit {0}

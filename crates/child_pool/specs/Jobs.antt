@@ -6,6 +6,7 @@ use Rattle.view_ports.specs.declared.command.Command.{Command}
 use Rattle.view_ports.specs.declared.command.Command.TheVariants.{Reset, AddFun, MapDoc, Reduce, Rereduce, Other}
 use Rattle.view_ports.specs.Calls.{Call, start, send, receive, stop, Session, child, slot_of}
 use Rattle.view_ports.specs.Functions.{line_limit, IsReduceRowWithinBounds, IsSomeList, IsWithinBounds}
+use Rattle.view_ports.specs.ReduceRow.{ReduceRow}
 use Rattle.view_ports.specs.Honest.{log_limit}
 use Rattle.query_protocol.specs.CommandLines.{command_line}
 
@@ -30,26 +31,33 @@ abbrev pub IsAmong : {A : Type 0} → List A → A → Type 0
 IsAmong [] x = ⊥
 IsAmong (y ∷ ys) x = (x ≡ y) ⊎ IsAmong ys x
 
+-- what one line asks the value of: some rows, or some values of parts, 32 at most
+abbrev pub IsRowPart : List ReduceRow → Type 0
+IsRowPart rows = IsSomeList rows × AllByRecursion IsReduceRowWithinBounds rows × (length rows ≤ 32)
+
+abbrev pub IsValuePart : List Json → Type 0
+IsValuePart values = IsSomeList values × AllByRecursion IsWithinBounds values × (length values ≤ 32)
+
 -- a command that maps the job's documents by the job's functions, or reduces by them
 abbrev pub IsCommandOf : Job → Command → Type 0
 IsCommandOf job Reset = Unit {0}
 IsCommandOf job (AddFun source) = IsAmong job.sources source
 IsCommandOf job (MapDoc document) = IsAmong job.documents document
-IsCommandOf job (Reduce source rows) = IsAmong job.reduces source
-IsCommandOf job (Rereduce source values) = IsAmong job.reduces source
+IsCommandOf job (Reduce source rows) = IsAmong job.reduces source × IsRowPart rows
+IsCommandOf job (Rereduce source values) = IsAmong job.reduces source × IsValuePart values
 IsCommandOf job Other = ⊥
 
 abbrev pub IsLineOfJob : Job → List ℕ → Type 0
 IsLineOfJob job line = (command : Command) × IsCommandOf job command × (line ≡ command_line command)
 
 -- a prompt of the job to a child that has these sources: where it maps a document, they are all those of the job, and where it
--- reduces, there is something to reduce, within the bounds
+-- reduces, there is something to reduce, within the bounds of a line
 abbrev pub IsPromptOf : Job → List (List ℕ) → Command → Type 0
 IsPromptOf job sources Reset = Unit {0}
 IsPromptOf job sources (AddFun source) = IsAmong job.sources source
 IsPromptOf job sources (MapDoc document) = IsAmong job.documents document × (sources ≡ job.sources)
-IsPromptOf job sources (Reduce source rows) = IsAmong job.reduces source × IsSomeList rows × AllByRecursion IsReduceRowWithinBounds rows
-IsPromptOf job sources (Rereduce source values) = IsAmong job.reduces source × IsSomeList values × AllByRecursion IsWithinBounds values
+IsPromptOf job sources (Reduce source rows) = IsAmong job.reduces source × IsRowPart rows
+IsPromptOf job sources (Rereduce source values) = IsAmong job.reduces source × IsValuePart values
 IsPromptOf job sources Other = ⊥
 
 -- a child is there, of whose session no call failed

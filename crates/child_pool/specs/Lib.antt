@@ -25,6 +25,7 @@ pub mod PoolCalls
 pub mod Firsts
 pub mod Reducing
 pub mod ReduceTalk
+pub mod Reductions
 pub mod TryLaws
 pub mod TalkLaws
 pub mod ChildSumLaws

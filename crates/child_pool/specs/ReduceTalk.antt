@@ -12,10 +12,8 @@ use Rattle.view_ports.specs.declared.command.Command.{Command}
 use Rattle.view_ports.specs.declared.servers.Servers.{Ghosts as Servers}
 use Rattle.view_ports.specs.Calls.{Call}
 use Rattle.view_ports.specs.Faults.{RoseBy}
-use Rattle.view_ports.specs.Commands.{command}
 use Rattle.view_ports.specs.Functions.{Functions, IsSomeList, IsWithinBounds, joined}
 use Rattle.view_ports.specs.ReduceRow.{ReduceRow, reduce_row}
-use Rattle.query_protocol.specs.CommandLines.{command_line}
 use Rattle.child_pool.specs.declared.pool.Pool.{Pool}
 use Rattle.child_pool.specs.declared.pool_fault.PoolFault.{PoolFault}
 use Rattle.child_pool.specs.declared.pool_fault.PoolFault.TheVariants.{NoMemory, ServerFault, UnknownLanguage}
@@ -23,14 +21,14 @@ use Rattle.child_pool.specs.declared.reduce_slot.ReduceSlot.{ReduceSlot}
 use Rattle.child_pool.specs.declared.reduce_slot.Stage.{Stage}
 use Rattle.child_pool.specs.declared.reduce_slot.Stage.TheVariants.{Idle, Begun, GivenUp}
 use Rattle.child_pool.specs.Ends.{EndsTwice, HasRisen}
-use Rattle.child_pool.specs.Histories.{AllStops, Went, WentReducing}
+use Rattle.child_pool.specs.Histories.{AllOn, AllStops, Went, WentReducing}
 use Rattle.child_pool.specs.Jobs.{IsAmong, reduce_job}
 use Rattle.child_pool.specs.Languages.{path_in}
 use Rattle.child_pool.specs.Outcomes.{IsCaused}
 use Rattle.child_pool.specs.PoolCalls.{StaysAsMade}
-use Rattle.child_pool.specs.Pools.{AreStopped, HasItsChildren, languages_of}
+use Rattle.child_pool.specs.Pools.{AreStopped, HasItsChildren, languages_of, started_of}
 use Rattle.child_pool.specs.ReduceSlot.{IsReset, is_fresh, reset_prompts}
-use Rattle.child_pool.specs.Reducing.{IsValueBy, ReducesBy, reduce_prompt}
+use Rattle.child_pool.specs.Reducing.{IsValueBy, ReducesBy, IsLineOf, reduce_prompt}
 use Rattle.child_pool.specs.Refused.{Refused}
 use Rattle.child_pool.specs.Tries.{AllAnswered, Prompt, StopsAt}
 
@@ -72,14 +70,22 @@ opening GivenUp to slot fresh = []
 abbrev pub talk_prompts : Stage → Stage → ℕ → Bool → List Command → List Prompt
 talk_prompts from to slot fresh commands = opening from to slot fresh ++ map (reduce_prompt slot) commands
 
--- prompts were given up with a fault of which `IsFault` holds, and then all children were stopped, and nothing else was done
-pub record IsLeftOff (IsFault : PoolFault → Type 0) (prompts : List Prompt) (rose : Type 0) (pool : Pool) (added now : List Call) : Type 0 where
+-- the prompts were answered on the slot at the width, and the children that map are those that were kept
+pub record AreAnswered (prompts : List Prompt) (rose : Type 0) (old pool : Pool) (added : List Call) : Type 0 where
+  pub answered : AllAnswered rose prompts added
+  pub own : AllOn old.width added
+  pub mapping : started_of pool ≡ started_of old
+
+-- prompts were given up with a fault of which `IsFault` holds, on the slot at the width, and then all children were stopped, and nothing
+-- else was done
+pub record IsLeftOff (IsFault : PoolFault → Type 0) (prompts : List Prompt) (rose : Type 0) (old pool : Pool) (added now : List Call) : Type 0 where
   pub fault : PoolFault
   pub is_fault : IsFault fault
   pub tried : List Call
   pub stops : List Call
   pub is : added ≡ stops ++ tried
   pub only : AllStops stops
+  pub own : AllOn old.width tried
   pub ends : StopsAt fault rose prompts tried
   pub stopped : AreStopped pool.width pool now
 
@@ -89,11 +95,11 @@ NothingSaid old pool added = (added ≡ []) × (pool ≡ old)
 -- from one stage to another these prompts were answered, or given up
 abbrev pub HasTalked : (PoolFault → Type 0) → Stage → Stage → List Prompt → Type 0 → Pool → Pool → List Call → List Call → Type 0
 HasTalked IsFault Idle Idle prompts rose old pool added now = NothingSaid old pool added
-HasTalked IsFault Idle Begun prompts rose old pool added now = AllAnswered rose prompts added
-HasTalked IsFault Idle GivenUp prompts rose old pool added now = IsLeftOff IsFault prompts rose pool added now
+HasTalked IsFault Idle Begun prompts rose old pool added now = AreAnswered prompts rose old pool added
+HasTalked IsFault Idle GivenUp prompts rose old pool added now = IsLeftOff IsFault prompts rose old pool added now
 HasTalked IsFault Begun Idle prompts rose old pool added now = ⊥
-HasTalked IsFault Begun Begun prompts rose old pool added now = AllAnswered rose prompts added
-HasTalked IsFault Begun GivenUp prompts rose old pool added now = IsLeftOff IsFault prompts rose pool added now
+HasTalked IsFault Begun Begun prompts rose old pool added now = AreAnswered prompts rose old pool added
+HasTalked IsFault Begun GivenUp prompts rose old pool added now = IsLeftOff IsFault prompts rose old pool added now
 HasTalked IsFault GivenUp Idle prompts rose old pool added now = ⊥
 HasTalked IsFault GivenUp Begun prompts rose old pool added now = ⊥
 HasTalked IsFault GivenUp GivenUp prompts rose old pool added now = NothingSaid old pool added
@@ -104,10 +110,6 @@ HasTalked IsFault GivenUp GivenUp prompts rose old pool added now = NothingSaid 
 abbrev pub MayBePath : Option (List ℕ) → List ℕ → Type 0
 MayBePath None path = Unit {0}
 MayBePath (Some known) path = path ≡ known
-
--- the line is that of the command, and reads as it
-abbrev pub Spells : Command → List ℕ → Type 0
-Spells asked line = (line ≡ command_line asked) × (command line ≡ asked)
 
 module _ {C : Type 0} (s : Servers C) where
   -- the pool and the servers are those that were lent, and are as they may become
@@ -128,6 +130,7 @@ module _ {C : Type 0} (s : Servers C) where
   pub record Begins (path : List ℕ) (old new : ReduceSlot C) (result : Result (Unit {0}) PoolFault) : Type 0 where
     pub lent : IsLent old new
     pub stage : OnOk result (new.stage ≡ Begun)
+    pub mapping : started_of new.pool.now ≡ started_of old.pool.now
     pub ends : EndsTwice s old.servers.now new.servers.now result
     pub went : (reduces : List (List ℕ)) (calls : List Call) → s.may_follow old.servers.now calls → HasItsChildren old.pool.now calls → (old.stage ≡ Begun → IsReset s.functions s.honest old.pool.now path calls)
         → Went (s.may_follow new.servers.now) (reduce_job path reduces) old.pool.now.width calls (AfterBegin path reduces old new result calls)
@@ -150,7 +153,7 @@ module _ {C : Type 0} (s : Servers C) (language : List ℕ) where
       pub there : HasItsChildren new.pool.now now
       pub ready : new.stage ≡ Begun → IsReset s.functions s.honest new.pool.now path now
 
-    -- what calls may do: they talk on, and the pool and the servers are those that they were lent
+    -- what calls that answer a value may do: they talk on, and the pool and the servers are those that they were lent
     pub record Goes (old new : ReduceSlot C) : Type 0 where
       pub pool : new.pool.ghost_name ≡ old.pool.ghost_name
       pub servers : new.servers.ghost_name ≡ old.servers.ghost_name
@@ -158,15 +161,17 @@ module _ {C : Type 0} (s : Servers C) (language : List ℕ) where
       pub later : s.faults old.servers.now ≤ s.faults new.servers.now
       pub stays : old.stage ≡ GivenUp → new.stage ≡ GivenUp
       pub talks : (path : List ℕ) (calls : List Call) → Stands old path calls
-          → WentReducing (s.may_follow new.servers.now) path reduces old.pool.now.width calls (Stretch (λ fault. Unit {0}) path old new)
+          → WentReducing (s.may_follow new.servers.now) path reduces old.pool.now.width calls (Stretch (λ fault. ⊥) path old new)
 
     -- a fault was answered: it ended the talk, but for want of memory, and has its cause among the calls that were added
     pub record Fails (old new : ReduceSlot C) (fault : PoolFault) : Type 0 where
+      pub pool : new.pool.ghost_name ≡ old.pool.ghost_name
+      pub servers : new.servers.ghost_name ≡ old.servers.ghost_name
       pub keeps : StaysAsMade old.pool.now new.pool.now
       pub later : s.faults old.servers.now ≤ s.faults new.servers.now
       pub talks : (path : List ℕ) (calls : List Call) → Stands old path calls
           → WentReducing (s.may_follow new.servers.now) path reduces old.pool.now.width calls (λ added now.
-          Stretch (λ met. (met ≡ fault) ⊎ (fault ≡ NoMemory)) path old new added now
+          Stretch (λ met. met ≡ fault) path old new added now
           × ((fault ≡ UnknownLanguage) ⊎ IsCaused s.functions s.honest (reduce_job path reduces) added calls fault))
       pub given_up : fault ≢ NoMemory → new.stage ≡ GivenUp
       pub silent : old.stage ≡ GivenUp → fault ≡ NoMemory
@@ -204,14 +209,14 @@ module _ {C : Type 0} (s : Servers C) (language : List ℕ) where
 
   -- one command is asked
   pub record Asks (source : List ℕ) (asked : Command) (old new : ReduceSlot C) (result : Result Term PoolFault) : Type 0 where
-    pub talks : Talks source old new
+    pub talks : OnOk result (Talks source old new)
     pub bounded : IfOk result (λ value. IsWithinBounds (json value))
     pub made : IfOk result (λ value. IsMadeOf source asked old (json value))
     pub cause : IfErr result (Blames source old new)
 
   -- by its line
   abbrev pub AsksBy : List ℕ → ReduceSlot C → ReduceSlot C → Result Term PoolFault → Type 0
-  AsksBy line old new result = (source : List ℕ) (asked : Command) → Spells asked line → ReducesBy source asked → Asks source asked old new result
+  AsksBy line old new result = (source : List ℕ) (asked : Command) → IsLineOf asked line → ReducesBy source asked → Asks source asked old new result
 
   -- a command is asked, and what is done after a refusal isn't done yet
   abbrev pub AfterTry : List ℕ → List (List ℕ) → List ℕ → Command → ReduceSlot C → ReduceSlot C → Result Term PoolFault → List Call → List Call → List Call → Type 0
@@ -225,9 +230,10 @@ module _ {C : Type 0} (s : Servers C) (language : List ℕ) where
   pub record Tries (line : List ℕ) (old new : ReduceSlot C) (result : Result Term PoolFault) : Type 0 where
     pub lent : IsLent s old new
     pub stage : OnOk result (new.stage ≡ Begun)
+    pub mapping : started_of new.pool.now ≡ started_of old.pool.now
     pub bounded : IfOk result (λ value. IsWithinBounds (json value))
     pub twice : result ≡ Err ServerFault → RoseBy 2 (s.faults old.servers.now) (s.faults new.servers.now)
-    pub went : (path : List ℕ) (reduces : List (List ℕ)) (source : List ℕ) (asked : Command) (calls : List Call) → path_in (languages_of old.pool.now) language ≡ Some path → IsAmong reduces source → Spells asked line → ReducesBy source asked → Stands old path calls
+    pub went : (path : List ℕ) (reduces : List (List ℕ)) (source : List ℕ) (asked : Command) (calls : List Call) → path_in (languages_of old.pool.now) language ≡ Some path → IsAmong reduces source → IsLineOf asked line → ReducesBy source asked → Stands old path calls
         → Went (s.may_follow new.servers.now) (reduce_job path reduces) old.pool.now.width calls (AfterTry path reduces source asked old new result calls)
     pub unknown : path_in (languages_of old.pool.now) language ≡ None → (result ≡ Err UnknownLanguage) × (new.servers.now ≡ old.servers.now) × (new.pool.now ≡ old.pool.now)
     pub known : result ≡ Err UnknownLanguage → path_in (languages_of old.pool.now) language ≡ None

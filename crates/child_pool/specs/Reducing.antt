@@ -1,6 +1,5 @@
 -- The value of rows, or of the values of parts, through the child that reduces: it was reset, and has no map functions.
 use Rattle.std.specs.Prelude.{◌≡◌, ℕ, List, [], ◌∷◌, ◌++◌, Bool, true, ◌&&◌, nat_le, Option, Some, None, Result, Ok, Err}
-use Rattle.std.specs.List.{AllByRecursion}
 use Rattle.json_terms.specs.Json.{Json, depth}
 use Rattle.json_terms.specs.Seen.{json}
 use Rattle.json_terms.specs.declared.term.Row.{Row}
@@ -11,7 +10,7 @@ use Rattle.view_ports.specs.declared.command.Command.TheVariants.{Reset, AddFun,
 use Rattle.view_ports.specs.declared.servers.Servers.{Ghosts as Servers}
 use Rattle.view_ports.specs.Calls.{Call}
 use Rattle.view_ports.specs.Commands.{command}
-use Rattle.view_ports.specs.Functions.{Functions, IsReduceRowWithinBounds, IsSomeList, IsWithinBounds, part_depth}
+use Rattle.view_ports.specs.Functions.{Functions, IsWithinBounds, part_depth}
 use Rattle.query_protocol.specs.CommandLines.{command_line, IsProperCommand, IsWhole}
 use Rattle.query_protocol.specs.declared.reply.Reply.{Reply}
 use Rattle.query_protocol.specs.declared.reply.Reply.TheVariants as reply
@@ -19,20 +18,20 @@ use Rattle.child_pool.specs.declared.pool_fault.PoolFault.{PoolFault}
 use Rattle.child_pool.specs.declared.pool_fault.PoolFault.TheVariants.{Compile}
 use Rattle.child_pool.specs.Ends.{HasRisen}
 use Rattle.child_pool.specs.Histories.{Went, course}
-use Rattle.child_pool.specs.Jobs.{IsAmong, Job, reduce_job}
+use Rattle.child_pool.specs.Jobs.{IsAmong, IsRowPart, IsValuePart, Job, reduce_job}
 use Rattle.child_pool.specs.Refused.{Refused, TryRefused}
 use Rattle.child_pool.specs.Sessions.{HasTold}
 use Rattle.child_pool.specs.Stages.{anew}
 use Rattle.child_pool.specs.Talk.{AreTurns, Due, asks}
 use Rattle.child_pool.specs.Tries.{HasFailedIn, IsAnswered, Prompt}
 
--- the command reduces by this source: some rows, or some values, within the bounds
+-- the command reduces by this source: some rows, or some values, within the bounds of a line
 abbrev pub ReducesBy : List ℕ → Command → Type 0
 ReducesBy source Reset = ⊥
 ReducesBy source (AddFun added) = ⊥
 ReducesBy source (MapDoc document) = ⊥
-ReducesBy source (Reduce reduced rows) = (reduced ≡ source) × IsSomeList rows × AllByRecursion IsReduceRowWithinBounds rows
-ReducesBy source (Rereduce reduced values) = (reduced ≡ source) × IsSomeList values × AllByRecursion IsWithinBounds values
+ReducesBy source (Reduce reduced rows) = (reduced ≡ source) × IsRowPart rows
+ReducesBy source (Rereduce reduced values) = (reduced ≡ source) × IsValuePart values
 ReducesBy source Other = ⊥
 
 -- what the functions of a path make of it
@@ -70,11 +69,11 @@ module _ (functions : List ℕ → Functions) (honest : List ℕ → Type 0) whe
 
 -- ---- what is promised of it
 
-module _ {C : Type 0} (s : Servers C) (old new : C) (slot : ℕ) where
-  -- the line is that of the command, and reads as it
-  abbrev pub IsLineOf : Command → List ℕ → Type 0
-  IsLineOf asked line = (line ≡ command_line asked) × (command line ≡ asked)
+-- the line is that of the command, and reads as it
+abbrev pub IsLineOf : Command → List ℕ → Type 0
+IsLineOf asked line = (line ≡ command_line asked) × (command line ≡ asked)
 
+module _ {C : Type 0} (s : Servers C) (old new : C) (slot : ℕ) where
   -- a child that was reset is asked once
   abbrev pub AsksValue : List ℕ → Result (Option Term) PoolFault → Type 0
   AsksValue line result = (path : List ℕ) (reduces : List (List ℕ)) (source : List ℕ) (asked : Command) (calls : List Call) → s.may_follow old calls
@@ -86,13 +85,6 @@ module _ {C : Type 0} (s : Servers C) (old new : C) (slot : ℕ) where
   abbrev pub ReducesOne : List ℕ → List ℕ → Result Term PoolFault → Type 0
   ReducesOne path line result = (reduces : List (List ℕ)) (source : List ℕ) (asked : Command) (calls : List Call) → s.may_follow old calls
       → IsLineOf asked line → ReducesBy source asked → IsAmong reduces source → HasTold s.functions s.honest path [] slot calls
-      → Went (s.may_follow new) (reduce_job path reduces) slot calls
-      (AfterReduce s.functions s.honest (reduce_job path reduces) slot source asked (HasRisen s old new) result calls)
-
-  -- a command of this path's functions is asked, in two attempts at most
-  abbrev pub Reduces : List ℕ → Command → Result Term PoolFault → Type 0
-  Reduces path asked result = (reduces : List (List ℕ)) (source : List ℕ) (calls : List Call) → s.may_follow old calls
-      → ReducesBy source asked → IsAmong reduces source → HasTold s.functions s.honest path [] slot calls
       → Went (s.may_follow new) (reduce_job path reduces) slot calls
       (AfterReduce s.functions s.honest (reduce_job path reduces) slot source asked (HasRisen s old new) result calls)
 

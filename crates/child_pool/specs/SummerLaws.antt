@@ -14,9 +14,9 @@ use Rattle.child_pool.specs.declared.summers.Summers.{Summers}
 use Rattle.child_pool.specs.declared.view_sum.ViewSum.{ViewSum}
 use Rattle.child_pool.specs.Languages.{path_in}
 use Rattle.child_pool.specs.PoolCalls.{StaysAsMade}
-use Rattle.child_pool.specs.ReduceTalk.{Compiles, Fails, Goes, reduce_in, reduce_source, reduce_sources}
+use Rattle.child_pool.specs.ReduceTalk.{Compiles, Fails, Goes, reduce_in, reduce_source}
 use Rattle.child_pool.specs.Summers.{ChildFails, ChildGoes, IsHonestTalk, IsLawfulFor, IsUsableFor, SummersFail, SummersGo, child_meaning, functions_for, or_no_path, reduce_of, view_meaning}
-use Rattle.child_pool.specs.TalkLaws.{fails_behind, fails_still, goes_both, goes_none, stands_on}
+use Rattle.child_pool.specs.TalkLaws.{fails_behind, goes_both, goes_none, stands_on}
 use Rattle.child_pool.specs.ViewSums.{FitsView}
 
 module _ {C : Type 0} (s : Servers C) where
@@ -33,13 +33,13 @@ module _ {C : Type 0} (s : Servers C) where
         known = subst (λ (l : List (List ℕ × List ℕ)). path_in l language ≡ Some talk.path) (sym goes.keeps.languages) talk.known;
         honest = talk.honest;
         calls = w.now;
-        stands = stands_on s language reduces (λ fault. Unit {0}) a b talk.path talk.calls goes.keeps talk.stands w;
+        stands = stands_on s language reduces (λ fault. ⊥) a b talk.path talk.calls goes.keeps talk.stands w;
       }
 
   compiles_before : (language source : List ℕ) (reduces : List (List ℕ)) (a b : ReduceSlot C) → Goes s language reduces a b → Compiles s language source b → Compiles s language source a
   compiles_before language source reduces a b goes compiles = λ path calls stands honest.
       let w = goes.talks path calls stands in
-      compiles path w.now (stands_on s language reduces (λ fault. Unit {0}) a b path calls goes.keeps stands w) honest
+      compiles path w.now (stands_on s language reduces (λ fault. ⊥) a b path calls goes.keeps stands w) honest
 
   -- ---- one view
 
@@ -90,36 +90,41 @@ module _ {C : Type 0} (s : Servers C) where
   }
 
   pub child_stays_caused : StaysCaused (ChildGoes s) (ChildFails s)
-  child_stays_caused = λ a b c d fault before cause after.
+  child_stays_caused = λ a b c fault before cause.
       let sources = reduce_source (reduce.Source a.source.now) in
-      let language = cause.language ∙ before.language in
-      let source = cause.source ∙ before.source in
-      let first = fails_behind s a.language.now sources a.slot b.slot c.slot fault before.slot (fails_as a b b c fault before.language before.source cause.slot) in
       record {
-        language = after.language ∙ language;
-        source = after.source ∙ source;
-        slot = fails_still s a.language.now sources a.slot c.slot d.slot fault first (goes_as a c c d language source after.slot);
+        language = cause.language ∙ before.language;
+        source = cause.source ∙ before.source;
+        slot = fails_behind s a.language.now sources a.slot b.slot c.slot fault before.slot (fails_as a b b c fault before.language before.source cause.slot);
       }
 
   -- ---- the views of a design
 
-  -- what is said of summers is said of others of the same design
-  all_go_as : (a b c d : Summers C) → b.design ≡ a.design → Goes s b.design.now.language (reduce_sources b.design.now.views) c.slot d.slot → Goes s a.design.now.language (reduce_sources a.design.now.views) c.slot d.slot
-  all_go_as a b c d design goes = subst (λ t. Goes s t.now.language (reduce_sources t.now.views) c.slot d.slot) design goes
-
-  all_fail_as : (a b c d : Summers C) (fault : PoolFault) → b.design ≡ a.design → Fails s b.design.now.language (reduce_sources b.design.now.views) c.slot d.slot fault → Fails s a.design.now.language (reduce_sources a.design.now.views) c.slot d.slot fault
-  all_fail_as a b c d fault design fails = subst (λ t. Fails s t.now.language (reduce_sources t.now.views) c.slot d.slot fault) design fails
-
   same_reduce : (a b : Summers C) → b.design ≡ a.design → b.view ≡ a.view → reduce_of s b ≡ reduce_of s a
   same_reduce a b design view = ap (λ t. reduce_in t.now.views b.view) design ∙ ap (reduce_in a.design.now.views) view
 
+  -- what may be asked for
+  abbrev own : Summers C → List (List ℕ)
+  own summers = reduce_source (reduce_of s summers)
+
+  -- what is said of summers is said of others of the same view
+  all_go_as : (a b c d : Summers C) → b.design ≡ a.design → b.view ≡ a.view → Goes s b.design.now.language (own b) c.slot d.slot → Goes s a.design.now.language (own a) c.slot d.slot
+  all_go_as a b c d design view goes =
+      subst (λ (r : Reduce). Goes s a.design.now.language (reduce_source r) c.slot d.slot) (same_reduce a b design view)
+      (subst (λ t. Goes s t.now.language (own b) c.slot d.slot) design goes)
+
+  all_fail_as : (a b c d : Summers C) (fault : PoolFault) → b.design ≡ a.design → b.view ≡ a.view → Fails s b.design.now.language (own b) c.slot d.slot fault → Fails s a.design.now.language (own a) c.slot d.slot fault
+  all_fail_as a b c d fault design view fails =
+      subst (λ (r : Reduce). Fails s a.design.now.language (reduce_source r) c.slot d.slot fault) (same_reduce a b design view)
+      (subst (λ t. Fails s t.now.language (own b) c.slot d.slot fault) design fails)
+
   pub summers_steps : AreSteps (SummersGo s)
   summers_steps = record {
-    none = λ a. record { design = refl; view = refl; slot = goes_none s a.design.now.language (reduce_sources a.design.now.views) a.slot; idle = λ none. refl };
+    none = λ a. record { design = refl; view = refl; slot = goes_none s a.design.now.language (own a) a.slot; idle = λ none. refl };
     both = λ a b c first second. record {
       design = second.design ∙ first.design;
       view = second.view ∙ first.view;
-      slot = goes_both s a.design.now.language (reduce_sources a.design.now.views) a.slot b.slot c.slot first.slot (all_go_as a b b c first.design second.slot);
+      slot = goes_both s a.design.now.language (own a) a.slot b.slot c.slot first.slot (all_go_as a b b c first.design first.view second.slot);
       idle = λ none. second.idle (ap reduce_source (same_reduce a b first.design first.view) ∙ none) ∙ first.idle none;
     };
   }
@@ -156,10 +161,10 @@ module _ {C : Type 0} (s : Servers C) where
         ∙ ap (λ t. view_meaning (functions_for s t.now.language b.slot) (reduce_of s a)) goes.design
         ∙ ap (λ f. view_meaning f (reduce_of s a)) functions;
     lawful = λ a b goes h.
-        let still = lawful_still (reduce_of s a) a.design.now.language (reduce_sources a.design.now.views) a.slot b.slot goes.slot h in
+        let still = lawful_still (reduce_of s a) a.design.now.language (own a) a.slot b.slot goes.slot h in
         subst (λ (r : Reduce). IsLawfulFor s r b.design.now.language b.slot) (sym (same_reduce a b goes.design goes.view)) (subst (λ t. IsLawfulFor s (reduce_of s a) t.now.language b.slot) (sym goes.design) still);
     usable = λ a b goes h.
-        usable_before (reduce_of s a) a.design.now.language (reduce_sources a.design.now.views) a.slot b.slot goes.slot
+        usable_before (reduce_of s a) a.design.now.language (own a) a.slot b.slot goes.slot
         (subst (λ t. IsUsableFor s (reduce_of s a) t.now.language b.slot) goes.design (subst (λ (r : Reduce). IsUsableFor s r b.design.now.language b.slot) (same_reduce a b goes.design goes.view) h));
     fits = λ a b sum goes.
         let same = same_reduce a b goes.design goes.view in
@@ -167,13 +172,8 @@ module _ {C : Type 0} (s : Servers C) where
   }
 
   pub summers_stay_caused : StaysCaused (SummersGo s) (SummersFail s)
-  summers_stay_caused = λ a b c d fault before cause after.
-      let language = a.design.now.language in
-      let sources = reduce_sources a.design.now.views in
-      let design = cause.design ∙ before.design in
-      let first = fails_behind s language sources a.slot b.slot c.slot fault before.slot (all_fail_as a b b c fault before.design cause.slot) in
-      record {
-        design = after.design ∙ design;
-        view = after.view ∙ cause.view ∙ before.view;
-        slot = fails_still s language sources a.slot c.slot d.slot fault first (all_go_as a c c d design after.slot);
-      }
+  summers_stay_caused = λ a b c fault before cause. record {
+    design = cause.design ∙ before.design;
+    view = cause.view ∙ before.view;
+    slot = fails_behind s a.design.now.language (own a) a.slot b.slot c.slot fault before.slot (all_fail_as a b b c fault before.design before.view cause.slot);
+  }

@@ -23,7 +23,7 @@ use Rattle.child_pool.specs.declared.view_sum.ViewSum.{ViewSum}
 use Rattle.child_pool.specs.declared.view_sum.ViewSum.TheVariants as value
 use Rattle.child_pool.specs.Languages.{path_in}
 use Rattle.child_pool.specs.Pools.{languages_of}
-use Rattle.child_pool.specs.ReduceTalk.{Compiles, Fails, Goes, Stands, reduce_in, reduce_source, reduce_sources}
+use Rattle.child_pool.specs.ReduceTalk.{Compiles, Fails, Goes, Stands, reduce_in, reduce_source}
 use Rattle.child_pool.specs.ViewSums.{view_sum_bytes}
 
 -- the path, or an empty one where there is none
@@ -96,15 +96,15 @@ module _ {C : Type 0} (s : Servers C) where
   IsUsableFor (reduce.Builtin kind) language slot = Unit {0}
   IsUsableFor (reduce.Source source) language slot = Compiles s language source slot
 
-  -- nothing is asked where no query server runs the reduce
+  -- the source of that reduce alone is asked for, and nothing where no query server runs the reduce; each value is had
   pub record SummersGo (old new : Summers C) : Type 0 where
     pub design : new.design ≡ old.design
     pub view : new.view ≡ old.view
-    pub slot : Goes s old.design.now.language (reduce_sources old.design.now.views) old.slot new.slot
+    pub slot : Goes s old.design.now.language (reduce_source (reduce_of old)) old.slot new.slot
     pub idle : reduce_source (reduce_of old) ≡ [] → new.slot ≡ old.slot
 
   -- and a fault ended the talk, or came of want of memory
   pub record SummersFail (old new : Summers C) (fault : PoolFault) : Type 0 where
     pub design : new.design ≡ old.design
     pub view : new.view ≡ old.view
-    pub slot : Fails s old.design.now.language (reduce_sources old.design.now.views) old.slot new.slot fault
+    pub slot : Fails s old.design.now.language (reduce_source (reduce_of old)) old.slot new.slot fault

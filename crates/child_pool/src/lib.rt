@@ -28,6 +28,6 @@ pub use languages::language_word;
 pub use laws::{honest_paths_are_refused_rightly, updates_go_in_pages};
 pub use pool::Pool;
 pub use pool_fault::PoolFault;
-pub use reducing::{reduce_one, reduce_rows, rereduce_values};
+pub use reduce_slot::ReduceSlot;
 pub use summers::Summers;
 pub use view_sum::{ViewSum, print_view_sum, view_sum_is_line};

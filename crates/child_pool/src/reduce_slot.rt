@@ -46,7 +46,7 @@ pub struct ReduceSlot<'a, C: Servers> {
 
 impl<'a, C: Servers> ReduceSlot<'a, C> {
     /// The slot of a pool, of whose child nothing was asked yet.
-    pub(crate) fn over(pool: &'a mut Pool, servers: &'a mut C) -> ReduceSlot<'a, C>
+    pub fn over(pool: &'a mut Pool, servers: &'a mut C) -> ReduceSlot<'a, C>
         ensures pool { result.pool.ghost_name ≡ pool.entry.ghost_name }
         ensures servers { result.servers.ghost_name ≡ servers.entry.ghost_name }
         ensures lent { result.pool.now ≡ pool.old }
@@ -69,7 +69,7 @@ impl<'a, C: Servers> ReduceSlot<'a, C> {
         source: &str,
         items: &[RowItem],
     ) -> Result<Term, PoolFault>
-        ensures talks { talk.Talks C.Servers language.now source.now self.old self.new }
+        ensures talks { OnOk result (talk.Talks C.Servers language.now source.now self.old self.new) }
         ensures compiles { OnOk result (talk.Compiles C.Servers language.now source.now self.old) }
         ensures bounded { IfOk result (λ value. IsWithinBounds (json value)) }
         ensures right { IfOk result (λ value. talk.IsRightFor C.Servers language.now source.now
@@ -101,7 +101,7 @@ impl<'a, C: Servers> ReduceSlot<'a, C> {
         source: &str,
         sums: &[ChildSum],
     ) -> Result<Term, PoolFault>
-        ensures talks { talk.Talks C.Servers language.now source.now self.old self.new }
+        ensures talks { OnOk result (talk.Talks C.Servers language.now source.now self.old self.new) }
         ensures bounded { IfOk result (λ value. IsWithinBounds (json value)) }
         ensures right { IfOk result (λ value. talk.Rejoins C.Servers language.now source.now
             self.old sums.now (json value)) }
@@ -132,7 +132,7 @@ impl<'a, C: Servers> ReduceSlot<'a, C> {
         requires short { length values.old.items < 32 }
         requires bounded { AllByRecursion IsWithinBounds (map json values.old.items) }
         requires within { IsWithinBounds (json value) }
-        ensures talks { talk.Talks C.Servers language.now source.now self.old self.new }
+        ensures talks { OnOk result (talk.Talks C.Servers language.now source.now self.old self.new) }
         ensures short { OnOk result (length values.new.items < 32) }
         ensures some { OnOk result (0 < length values.new.items) }
         ensures bounded { OnOk result (AllByRecursion IsWithinBounds (map json values.new.items)) }
@@ -165,8 +165,9 @@ impl<'a, C: Servers> ReduceSlot<'a, C> {
         source: &str,
         mut values: Vec<Term>,
     ) -> Result<Term, PoolFault>
+        requires few { length values.items ≤ 32 }
         requires bounded { AllByRecursion IsWithinBounds (map json values.items) }
-        ensures talks { talk.Talks C.Servers language.now source.now self.old self.new }
+        ensures talks { OnOk result (talk.Talks C.Servers language.now source.now self.old self.new) }
         ensures some { OnOk result (0 < length values.items) }
         ensures bounded { IfOk result (λ value. IsWithinBounds (json value)) }
         ensures whole { IfOk result (λ value. talk.IsWholeOf C.Servers language.now source.now self.old
@@ -191,7 +192,8 @@ impl<'a, C: Servers> ReduceSlot<'a, C> {
         part: &[RowItem],
     ) -> Result<Term, PoolFault>
         requires some { 0 < length part.now }
-        ensures talks { talk.Talks C.Servers language.now source.now self.old self.new }
+        requires few { length part.now ≤ 32 }
+        ensures talks { OnOk result (talk.Talks C.Servers language.now source.now self.old self.new) }
         ensures compiles { OnOk result (talk.Compiles C.Servers language.now source.now self.old) }
         ensures bounded { IfOk result (λ value. IsWithinBounds (json value)) }
         ensures right { IfOk result (λ value. talk.IsRightFor C.Servers language.now source.now
@@ -213,8 +215,9 @@ impl<'a, C: Servers> ReduceSlot<'a, C> {
         values: &[Term],
     ) -> Result<Term, PoolFault>
         requires some { 0 < length values.now }
+        requires few { length values.now ≤ 32 }
         requires bounded { AllByRecursion IsWithinBounds (map json values.now) }
-        ensures talks { talk.Talks C.Servers language.now source.now self.old self.new }
+        ensures talks { OnOk result (talk.Talks C.Servers language.now source.now self.old self.new) }
         ensures bounded { IfOk result (λ value. IsWithinBounds (json value)) }
         ensures made { IfOk result (λ value. talk.IsMadeOf C.Servers language.now source.now
             (Command.Rereduce source.now (map json values.now)) self.old (json value)) }

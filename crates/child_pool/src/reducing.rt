@@ -8,7 +8,7 @@ ghost use Rattle.view_ports.specs.Functions.{IsWithinBounds};
 ghost use Rattle.view_ports.specs.ReduceRow.{reduce_row};
 ghost use Rattle.query_protocol.specs.CommandLines.{IsWhole};
 ghost use Rattle.child_pool.specs.Ends.{EndsOnce, EndsTwice};
-ghost use Rattle.child_pool.specs.Reducing.{AsksValue, IsReduceLine, Reduces, ReducesOne, is_shallow_row, is_shallow_value, value_said};
+ghost use Rattle.child_pool.specs.Reducing.{AsksValue, IsReduceLine, ReducesOne, is_shallow_row, is_shallow_value, value_said};
 
 use crate::pool_fault::PoolFault;
 use crate::prompt::ask;
@@ -61,7 +61,7 @@ fn ask_value<C: Servers>(
 
 /// Asks for a value, in two attempts at most. Between them the child is stopped, and the second begins with a fresh child, which
 /// is reset.
-pub fn reduce_one<C: Servers>(
+pub(crate) fn reduce_one<C: Servers>(
     alloc: Global,
     servers: &mut C,
     slot: u32,
@@ -90,52 +90,6 @@ pub fn reduce_one<C: Servers>(
         Ok(None) => Err(PoolFault::ServerFault),
         Err(fault) => Err(fault),
     }
-}
-
-/// Reduces rows by the source of a reduce function, through a child that was reset. Where a key or a value nests deeper than 96,
-/// nothing is sent, and the error is want of memory.
-pub fn reduce_rows<C: Servers>(
-    alloc: Global,
-    servers: &mut C,
-    slot: u32,
-    path: &str,
-    source: &str,
-    rows: &[Row],
-) -> Result<Term, PoolFault>
-    requires { slot < SLOT_COUNT }
-    ensures went { Reduces C.Servers servers.old servers.new slot path.now
-        (Command.Reduce source.now (map reduce_row rows.now)) result }
-    ensures ends { EndsTwice C.Servers servers.old servers.new result }
-    ensures bounded { IfOk result (λ value. IsWithinBounds (json value)) }
-{
-    let line = match rows_line(alloc, source, rows) {
-        Ok(line) => line,
-        Err(NoMemory) => return Err(PoolFault::NoMemory),
-    };
-    reduce_one(alloc, servers, slot, path, line.as_slice())
-}
-
-/// Reduces the values of parts to one, by the source of a reduce function, through a child that was reset. Where a value nests
-/// deeper than 96, nothing is sent, and the error is want of memory.
-pub fn rereduce_values<C: Servers>(
-    alloc: Global,
-    servers: &mut C,
-    slot: u32,
-    path: &str,
-    source: &str,
-    values: &[Term],
-) -> Result<Term, PoolFault>
-    requires { slot < SLOT_COUNT }
-    ensures went { Reduces C.Servers servers.old servers.new slot path.now
-        (Command.Rereduce source.now (map json values.now)) result }
-    ensures ends { EndsTwice C.Servers servers.old servers.new result }
-    ensures bounded { IfOk result (λ value. IsWithinBounds (json value)) }
-{
-    let line = match values_line(alloc, source, values) {
-        Ok(line) => line,
-        Err(NoMemory) => return Err(PoolFault::NoMemory),
-    };
-    reduce_one(alloc, servers, slot, path, line.as_slice())
 }
 
 /// The line that asks for the value of rows.

@@ -1,11 +1,11 @@
 //! The reduces of a design's views as the values of lists of rows.
 
-ghost use Rattle.std.specs.Prelude.{◌≡◌, IfOk, map};
-ghost use Rattle.child_pool.specs.ViewSums.{JoinsBuiltins};
+ghost use Rattle.std.specs.Prelude.{◌≡◌, All, IfOk, map};
+ghost use Rattle.builtin_reduces.specs.SumFits.{FitsUnder};
+ghost use Rattle.child_pool.specs.ViewSums.{FitsView, JoinsBuiltins};
 
 use crate::child_sum::ChildSum;
 use crate::child_summer::reduce_at;
-use crate::pool::Pool;
 use crate::pool_fault::PoolFault;
 use crate::reduce_slot::ReduceSlot;
 use crate::view_sum::{ViewSum, decode_view_sum, encode_view_sum};
@@ -22,29 +22,18 @@ use view_ports::Servers;
 /// The child is reset before it is asked first, whatever the view. Rows and values are cut in parts of 32 a line. A refusal stops
 /// all children of the pool, and nothing more is asked then: the further calls for reduces by a query server answer want of memory.
 #[derive(Drop)]
-pub struct Summers<'a, C: Servers> {
-    slot: ReduceSlot<'a, C>,
-    design: &'a Design,
-    view: u32,
+pub struct Summers<'a, 'd, C: Servers> {
+    /// The slot whose child reduces.
+    pub slot: ReduceSlot<'a, C>,
+    /// The design that has the views.
+    pub design: &'d Design,
+    /// The view to which they are turned.
+    pub view: u32,
 }
 
-impl<'a, C: Servers> Summers<'a, C> {
-    ghost use Rattle.child_pool.specs.Summers.{IsSlotOver};
-
-    /// The reduces of the views of a design, through the children of a pool. They are turned to the first view.
-    pub fn over(pool: &'a mut Pool, servers: &'a mut C, design: &'a Design) -> Summers<'a, C>
-        ensures slot { IsSlotOver pool.entry servers.entry result.slot }
-        ensures design { result.design.now ≡ design.now }
-    {
-        Summers {
-            slot: ReduceSlot::over(pool, servers),
-            design,
-            view: 0,
-        }
-    }
-
+impl<'a, 'd, C: Servers> Summers<'a, 'd, C> {
     /// Turns to a view of the design. Where the design has no such view there is no reduce.
-    pub fn summer(&mut self, view: u32) -> &mut Summers<'a, C>
+    pub fn summer(&mut self, view: u32) -> &mut Summers<'a, 'd, C>
         ensures same { result.ghost_name ≡ self.entry.ghost_name }
         ensures slot { result.now.slot ≡ self.old.slot }
         ensures design { result.now.design ≡ self.old.design }
@@ -55,7 +44,7 @@ impl<'a, C: Servers> Summers<'a, C> {
     }
 }
 
-impl<'a, C: Servers> Summer for Summers<'a, C> {
+impl<'a, 'd, C: Servers> Summer for Summers<'a, 'd, C> {
     ghost use Rattle.child_pool.specs.SummerLaws.{fits, lawful, means, summers_keep, summers_stay_caused, summers_steps, usable};
     ghost use Rattle.child_pool.specs.Summers.{SummersFail, SummersGo, reduce_of};
     ghost use Rattle.child_pool.specs.ViewSumLaws.{view_sums_are_short, view_sums_spelled_once};
@@ -143,7 +132,8 @@ impl<'a, C: Servers> Summer for Summers<'a, C> {
 
 /// The values of a built-in reduce joined. Where one is of another kind, the error is want of memory too.
 fn join_builtins(alloc: Global, kind: Builtin, parts: &[ViewSum]) -> Result<BuiltinSum, NoMemory>
-    ensures { IfOk result (JoinsBuiltins kind parts.now) }
+    ensures value { IfOk result (JoinsBuiltins kind parts.now) }
+    ensures fits { All (FitsView (Reduce.Builtin kind)) parts.now → IfOk result (FitsUnder kind) }
 {
     let sums = builtins_of(alloc, parts)?;
     join(alloc, kind, sums.as_slice())

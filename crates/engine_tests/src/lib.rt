@@ -4,6 +4,8 @@
 #[cfg(test)]
 mod queries;
 #[cfg(test)]
+mod reduce_tests;
+#[cfg(test)]
 mod replies;
 #[cfg(test)]
 mod request_tests;

@@ -124,10 +124,10 @@ const REFUSED: &str = r#"{"info":true
 {"error":"invalid_design_doc","reason":"language"}
 {"put":{"_id":"_design/d","_x":1,"language":""}}
 {"error":"bad_member","reason":"_x"}
-{"put":{"_id":"_design/d","language":"field","views":{"v":{"map":"n","reduce":"sum"}}}}
-{"error":"bad_request","reason":"not built yet"}
 {"put":{"_id":"_design/d","_x":1,"_rev":1,"views":{"u":{"map":"n"},"v":{"map":"n","reduce":"r"}}}}
-{"error":"bad_request","reason":"not built yet"}
+{"error":"bad_member","reason":"_x"}
+{"put":{"_id":"_design/d","_rev":1,"views":{"u":{"map":"n"},"v":{"map":"n","reduce":"r"}}}}
+{"error":"bad_rev","reason":"revision is not well formed"}
 {"put":{"_id":"_design/d","_deleted":true,"views":{"v":{"map":"n","reduce":"_sum"}}}}
 {"error":"not_found","reason":"missing"}
 {"put":{"_id":"_design/","views":{"v":{"map":"n","reduce":"_sum"}}}}
@@ -316,6 +316,35 @@ const GROUPS: &str =
 {"view":["g","n"],"query":{"reduce":true}}
 {"error":"query_parse_error","reason":"reduce of a map-only view"}"#;
 
-pub const RUNS: [&str; 10] = [
-    REFUSED, PEOPLE, ORDER, KNOWN, LANGUAGES, DESIGNS, STATES, VIEW, QUERIES, GROUPS,
+/// The language has no reduce functions, so a source of one doesn't compile. It is asked where its view has rows.
+const SOURCES: &str =
+    r#"{"put":{"_id":"_design/d","language":"field","views":{"m":{"map":"m"},"v":{"map":"n","reduce":"sum"}}}}
+{"ok":true,"id":"_design/d","rev":"1-00000000000000000000000000000001"}
+{"view":["d","v"]}
+{"rows":[]}
+{"put":{"_id":"x","m":1}}
+{"ok":true,"id":"x","rev":"1-00000000000000000000000000000002"}
+{"view":["d","v"]}
+{"rows":[]}
+{"view":["d","m"]}
+{"total_rows":1,"offset":0,"rows":[{"id":"x","key":1,"value":null}]}
+{"put":{"_id":"y","n":1}}
+{"ok":true,"id":"y","rev":"1-00000000000000000000000000000003"}
+{"view":["d","v"]}
+{"error":"compilation_error","reason":"_design/d"}
+{"view":["d","m"]}
+{"error":"compilation_error","reason":"_design/d"}
+{"view":["d","v"],"query":{"reduce":false}}
+{"error":"compilation_error","reason":"_design/d"}
+{"view":["d","v"],"query":{"update":false}}
+{"update_seq":2,"rows":[]}
+{"view":["d","m"],"query":{"update":false}}
+{"total_rows":1,"update_seq":2,"offset":0,"rows":[{"id":"x","key":1,"value":null}]}
+{"delete":"y","rev":"1-00000000000000000000000000000003"}
+{"ok":true,"id":"y","rev":"2-00000000000000000000000000000004"}
+{"view":["d","v"]}
+{"rows":[]}"#;
+
+pub const RUNS: [&str; 11] = [
+    REFUSED, PEOPLE, ORDER, KNOWN, LANGUAGES, DESIGNS, STATES, VIEW, QUERIES, GROUPS, SOURCES,
 ];

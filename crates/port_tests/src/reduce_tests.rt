@@ -1,7 +1,9 @@
 //! Rows reduced through the child that reduces, by the summers of one view and of a whole design.
 
 use builtin_reduces::RowItem;
-use child_pool::{ChildSum, ChildSummer, Pool, PoolFault, Summers, ViewSum, print_view_sum};
+use child_pool::{
+    ChildSum, ChildSummer, Pool, PoolFault, ReduceSlot, Summers, ViewSum, print_view_sum,
+};
 use design_docs::{Design, DesignFault, Reduce, View, read_design};
 use json_terms::{Chars, NoMemory, Row, Term, read_term, write_term};
 use std::alloc::Global;
@@ -129,7 +131,11 @@ fn by_view(alloc: Global, view: u32, count: u32, lines: &[&str]) -> Result<Strin
     let items = items_of(alloc, count)?;
     let mut servers = servers_of(alloc, lines)?;
     let mut pool = Pool::new(alloc, 1, &[])?;
-    let mut summers = Summers::over(&mut pool, &mut servers, &design);
+    let mut summers = Summers {
+        slot: ReduceSlot::over(&mut pool, &mut servers),
+        design: &design,
+        view: 0,
+    };
     view_text(alloc, joined(alloc, summers.summer(view), items.as_slice()))
 }
 
@@ -226,12 +232,20 @@ fn a_refusal_ends_the_talk(rt: HostRuntime) -> Result<(), Fail> {
     let items = items_of(alloc, 1)?;
     let mut servers = servers_of(alloc, &["true", "1", "true", "[true,[1]]"])?;
     let mut pool = Pool::new(alloc, 1, &[])?;
-    let mut summers = Summers::over(&mut pool, &mut servers, &design);
+    let mut summers = Summers {
+        slot: ReduceSlot::over(&mut pool, &mut servers),
+        design: &design,
+        view: 0,
+    };
     let first = summers.summer(0).leaf(alloc, items.as_slice());
     same_text(view_text(alloc, first), "bad reply 1", "first")?;
     let second = summers.summer(0).leaf(alloc, items.as_slice());
     same_text(view_text(alloc, second), "out of memory", "second")?;
-    let mut again = Summers::over(&mut pool, &mut servers, &design);
+    let mut again = Summers {
+        slot: ReduceSlot::over(&mut pool, &mut servers),
+        design: &design,
+        view: 0,
+    };
     let third = again.summer(0).leaf(alloc, items.as_slice());
     same_text(view_text(alloc, third), "1", "third")
 }

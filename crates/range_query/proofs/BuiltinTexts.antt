@@ -13,12 +13,12 @@ use Rattle.view_model.specs.Values.{builtin_text}
 use Rattle.view_model.proofs.OneAnswer.{one_answer, weaker_answer}
 use Rattle.range_query.specs.Summed.{IsSummedText}
 
-module _ (kind : Builtin) (Within : BuiltinSum → Type 0) (Lawful : Type 0) (lawful : Lawful) (m : Meaning Row BuiltinSum) (means : m ≡ builtin_meaning kind) where
-  pub builtin_value : (group : List Row) (text : List ℕ) → IsSummedText sum_text Within Lawful m group text → text ≡ builtin_text kind group
+module _ (kind : Builtin) (Fits : BuiltinSum → Type 0) (Lawful : Type 0) (lawful : Lawful) (m : Meaning Row BuiltinSum) (means : m ≡ builtin_meaning kind) where
+  pub builtin_value : (group : List Row) (text : List ℕ) → IsSummedText sum_text Fits Lawful m group text → text ≡ builtin_text kind group
   builtin_value group text is = is.shown ∙ ap sum_text (is.is lawful ∙ ap (λ own. own.value group) means)
 
-  pub builtin_answer : (query : Query) (seq : ℕ) (rows : List Row) (text : List ℕ) → IsAnswer (IsSummedText sum_text Within Lawful m) query seq rows text
+  pub builtin_answer : (query : Query) (seq : ℕ) (rows : List Row) (text : List ℕ) → IsAnswer (IsSummedText sum_text Fits Lawful m) query seq rows text
       → text ≡ answer (builtin_text kind) query seq rows
   builtin_answer query seq rows text is =
       one_answer (builtin_text kind) query seq rows text
-      (weaker_answer (IsSummedText sum_text Within Lawful m) (λ group own. own ≡ builtin_text kind group) builtin_value query seq rows text is)
+      (weaker_answer (IsSummedText sum_text Fits Lawful m) (λ group own. own ≡ builtin_text kind group) builtin_value query seq rows text is)

@@ -1,2 +1,3 @@
 pub mod PartSums
 pub mod BuiltinTexts
+pub mod ViewTexts

@@ -4,7 +4,7 @@ use Rattle.std.proofs.Common.{ap, get_or, sym, subst, ◌∙◌, arith}
 use Rattle.std.proofs.lemmas.Bool.{eqb-true}
 use Rattle.std.proofs.lemmas.List.{append-nil, map-append, take-append-drop, take_more}
 use Rattle.std.proofs.lemmas.List.Concat.{flat_map-append}
-use Rattle.std.proofs.lemmas.List.Elements.{All-append, All-cons, All-nil}
+use Rattle.std.proofs.lemmas.List.Elements.{All-append, All-cons, All-nil, All-push}
 use Rattle.json_terms.specs.declared.term.Row.{Row}
 use Rattle.builtin_reduces.specs.Kept.{IsKept}
 use Rattle.tree_laws.specs.Meaning.{IsJoinValue, KeepsMeaning, Meaning, item_limit, joined}
@@ -79,3 +79,7 @@ module _ {A S : Type 0} {Goes : A → A → Type 0} {means : A → Meaning Row S
   join_before sums sum is lawful parts some whole kept few each =
       let same = k.meaning a b goes in
       is (k.lawful a b goes lawful) parts some whole kept few (each ∙ sym (ap (λ m. map m.value parts) same)) ∙ ap (λ m. m.value (joined parts)) same
+
+  -- one value more that fits
+  pub more_fit : (sums now : List S) (sum : S) → All (Fits a) sums → Fits b sum → now ≡ sums ++ sum ∷ [] → All (Fits a) now
+  more_fit sums now sum all fits pushed = subst (All (Fits a)) (sym pushed) (All-push (Fits a) sums sum all ((k.fits a b sum goes).1 fits))

@@ -14,9 +14,9 @@ pub record ArePartSums {S : Type 0} (Lawful : Type 0) (m : Meaning Row S) (group
   pub whole : All (λ part. part ≢ []) parts
   pub each : Lawful → sums ≡ map m.value parts
 
--- the text is that of such a value, which is within the bounds of its type
-pub record IsSummedText {S : Type 0} (text_of : S → List ℕ) (Within : S → Type 0) (Lawful : Type 0) (m : Meaning Row S) (group : List Row) (text : List ℕ) : Type 0 where
+-- the text is that of such a value, which is one of those that fit
+pub record IsSummedText {S : Type 0} (text_of : S → List ℕ) (Fits : S → Type 0) (Lawful : Type 0) (m : Meaning Row S) (group : List Row) (text : List ℕ) : Type 0 where
   pub sum : S
   pub is : IsGroupSum Lawful m group sum
-  pub within : Within sum
+  pub fits : Fits sum
   pub shown : text ≡ text_of sum

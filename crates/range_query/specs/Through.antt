@@ -1,7 +1,6 @@
 -- Values of groups that are had through a reference to a summer.
-use Rattle.std.proofs.Common.{◌≡◌, ◌↔◌, ℕ, List, refl, ap, sym, ◌∙◌}
+use Rattle.std.proofs.Common.{◌≡◌, ℕ, List, refl, ap, ◌∙◌}
 use Rattle.json_terms.specs.declared.term.Row.{Row}
-use Rattle.builtin_reduces.specs.Kept.{IsKept}
 use Rattle.tree_laws.specs.Meaning.{AreSteps, KeepsMeaning, Meaning, StaysCaused}
 use Rattle.view_model.specs.GroupValues.{KeepsValues}
 use Rattle.range_query.specs.Summed.{IsSummedText}
@@ -17,20 +16,21 @@ module _ {A B N : Type 0} (name : A → N) (at : A → B) (Goes : B → B → Ty
     both = λ a b c first second. (second.0 ∙ first.0, steps.both (at a) (at b) (at c) first.1 second.1);
   }
 
-  pub stays_caused_through : {F : Type 0} (Fails : B → B → F → Type 0) → StaysCaused Goes Fails → StaysCaused (Through name at Goes) (λ a b. Fails (at a) (at b))
-  stays_caused_through Fails stays = λ a b c d fault before cause after. stays (at a) (at b) (at c) (at d) fault before.1 cause after.1
+  pub stays_caused_through : {F : Type 0} (Fails : B → B → F → Type 0) → StaysCaused Goes Fails → StaysCaused (Through name at Goes) (λ a b fault. Through name at (λ x y. Fails x y fault) a b)
+  stays_caused_through Fails stays = λ a b c fault before cause. (cause.0 ∙ before.0, stays (at a) (at b) (at c) fault before.1 cause.1)
 
 -- ---- what the values mean
 
-module _ {S : Type 0} (text_of : S → List ℕ) (Within : S → Type 0) (Lawful Now : Type 0) (m now : Meaning Row S) (same : now ≡ m) (lawful : Lawful → Now) (group : List Row) (text : List ℕ) where
-  earlier : IsSummedText text_of Within Now now group text → IsSummedText text_of Within Lawful m group text
-  earlier is = record { sum = is.sum; is = λ l. is.is (lawful l) ∙ ap (λ own. own.value group) same; within = is.within; shown = is.shown }
+module _ {S : Type 0} (text_of : S → List ℕ) (Fits Still : S → Type 0) (Lawful Now : Type 0) (m now : Meaning Row S) (same : now ≡ m) (lawful : Lawful → Now) (fits : (sum : S) → Still sum → Fits sum) (group : List Row) (text : List ℕ) where
+  earlier : IsSummedText text_of Still Now now group text → IsSummedText text_of Fits Lawful m group text
+  earlier is = record { sum = is.sum; is = λ l. is.is (lawful l) ∙ ap (λ own. own.value group) same; fits = fits is.sum is.fits; shown = is.shown }
 
-pub keeps_through : {A B N S : Type 0} (name : A → N) (at : A → B) (Goes : B → B → Type 0) (text_of : S → List ℕ) (Within : S → Type 0) (means : B → Meaning Row S) (Lawful Usable : B → Type 0)
+pub keeps_through : {A B N S : Type 0} (name : A → N) (at : A → B) (Goes : B → B → Type 0) (text_of : S → List ℕ) (means : B → Meaning Row S) (Lawful Usable : B → Type 0)
     (Fits : B → S → Type 0) → KeepsMeaning Goes means Lawful Usable Fits
-    → KeepsValues (Through name at Goes) (λ a. IsSummedText text_of Within (Lawful (at a)) (means (at a))) (λ a row. Unit {0})
-keeps_through name at Goes text_of Within means Lawful Usable Fits k = record {
+    → KeepsValues (Through name at Goes) (λ a. IsSummedText text_of (Fits (at a)) (Lawful (at a)) (means (at a))) (λ a row. Unit {0})
+keeps_through name at Goes text_of means Lawful Usable Fits k = record {
   value = λ a b group text goes.
-      earlier text_of Within (Lawful (at a)) (Lawful (at b)) (means (at a)) (means (at b)) (k.meaning (at a) (at b) goes.1) (k.lawful (at a) (at b) goes.1) group text;
+      earlier text_of (Fits (at a)) (Fits (at b)) (Lawful (at a)) (Lawful (at b)) (means (at a)) (means (at b)) (k.meaning (at a) (at b) goes.1) (k.lawful (at a) (at b) goes.1)
+      (λ sum. (k.fits (at a) (at b) sum goes.1).1) group text;
   takes = λ a b row goes. (λ h. h, λ h. h);
 }

@@ -22,8 +22,9 @@ pub(crate) fn group_sum<M: Summer<Unit = RowItem>>(
 ) -> Result<M::Sum, AnswerFault<M::Fault>>
     requires { 0 < length group.now }
     ensures value { IfOk result (IsGroupSum (M.lawful summer.old) (M.meaning summer.old) group.now) }
-    ensures goes { M.goes summer.old summer.new }
-    ensures cause { IfErr result (IsCaused (M.fails summer.old summer.new)) }
+    ensures fits { IfOk result (M.fits summer.old) }
+    ensures goes { OnOk result (M.goes summer.old summer.new) }
+    ensures cause { IfErr result (IsCaused (M.goes summer.old summer.new) (M.fails summer.old summer.new)) }
 {
     if group.len() <= PART {
         return part_sum(alloc, summer, group);
@@ -43,9 +44,10 @@ fn part_sums<M: Summer<Unit = RowItem>>(
 ) -> Result<Vec<M::Sum>, AnswerFault<M::Fault>>
     ensures value { IfOk result (λ sums.
         ArePartSums (M.lawful summer.old) (M.meaning summer.old) group.now sums.items) }
+    ensures fits { IfOk result (λ sums. All (M.fits summer.old) sums.items) }
     ensures kept { OnOk result (All IsKept group.now) }
-    ensures goes { M.goes summer.old summer.new }
-    ensures cause { IfErr result (IsCaused (M.fails summer.old summer.new)) }
+    ensures goes { OnOk result (M.goes summer.old summer.new) }
+    ensures cause { IfErr result (IsCaused (M.goes summer.old summer.new) (M.fails summer.old summer.new)) }
 {
     let mut sums = Vec::new(alloc);
     let mut left = group;
@@ -68,9 +70,10 @@ fn part_sum<M: Summer<Unit = RowItem>>(
 ) -> Result<M::Sum, AnswerFault<M::Fault>>
     requires { 0 < length part.now }
     ensures value { IfOk result (IsGroupSum (M.lawful summer.old) (M.meaning summer.old) part.now) }
+    ensures fits { IfOk result (M.fits summer.old) }
     ensures kept { OnOk result (All IsKept part.now) }
-    ensures goes { M.goes summer.old summer.new }
-    ensures cause { IfErr result (IsCaused (M.fails summer.old summer.new)) }
+    ensures goes { OnOk result (M.goes summer.old summer.new) }
+    ensures cause { IfErr result (IsCaused (M.goes summer.old summer.new) (M.fails summer.old summer.new)) }
 {
     let items = items_of(alloc, part)?;
     match summer.leaf(alloc, items.as_slice()) {

@@ -34,13 +34,13 @@ where
 
     type Fault = M::Fault;
 
-    ghost is_value = { λ values. IsSummedText M.Sum.text M.Sum.within (M.lawful values.summer.now) (M.meaning values.summer.now) };
+    ghost is_value = { λ values. IsSummedText M.Sum.text (M.fits values.summer.now) (M.lawful values.summer.now) (M.meaning values.summer.now) };
 
     ghost takes = { λ values row. Unit {0} };
 
     ghost goes = { Through (λ values. values.summer.ghost_name) (λ values. values.summer.now) M.goes };
 
-    ghost fails = { λ a b. M.fails a.summer.now b.summer.now };
+    ghost fails = { λ a b fault. Through (λ values. values.summer.ghost_name) (λ values. values.summer.now) (λ x y. M.fails x y fault) a b };
 
     fn print(
         &mut self,
@@ -55,7 +55,7 @@ where
 
     ghost are_steps = { are_steps_through _ _ _ M.are_steps };
 
-    ghost keeps = { keeps_through _ _ _ M.Sum.text M.Sum.within _ _ _ _ M.keeps };
+    ghost keeps = { keeps_through _ _ _ M.Sum.text _ _ _ _ M.keeps };
 
     ghost stays_caused = { stays_caused_through _ _ _ _ M.stays_caused };
 }

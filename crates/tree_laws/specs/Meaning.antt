@@ -35,9 +35,9 @@ pub record AreSteps {A : Type 0} (Goes : A → A → Type 0) : Type 0 where
   pub none : (a : A) → Goes a a
   pub both : (a b c : A) → Goes a b → Goes b c → Goes a c
 
--- a fault has its cause in a longer stretch too
+-- a fault has its cause behind steps too
 abbrev pub StaysCaused : {A F : Type 0} → (A → A → Type 0) → (A → A → F → Type 0) → Type 0
-StaysCaused {A} {F} Goes Fails = (a b c d : A) (fault : F) → Goes a b → Fails b c fault → Goes c d → Fails a d fault
+StaysCaused {A} {F} Goes Fails = (a b c : A) (fault : F) → Goes a b → Fails b c fault → Fails a c fault
 
 -- no step changes what values mean and which of them fit; where they were lawful they stay so, and where they can be had they could be
 -- had before

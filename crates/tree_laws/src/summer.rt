@@ -1,6 +1,6 @@
 //! Values of lists of items, which can be joined.
 
-ghost use Rattle.std.specs.Prelude.{◌≡◌, ◌≤◌, ◌++◌, List, ℕ, IfErr, IfOk, OnErr, OnOk, length};
+ghost use Rattle.std.specs.Prelude.{◌≡◌, ◌≤◌, ◌++◌, All, List, ℕ, IfErr, IfOk, OnErr, OnOk, length};
 ghost use Rattle.tree_laws.specs.Meaning.{Meaning, AreSteps, IsJoinValue, IsLeafValue, KeepsMeaning, StaysCaused, sum_limit};
 ghost use Rattle.tree_laws.specs.Spelled.{IsReadBack, IsSpelledOnce};
 
@@ -11,9 +11,9 @@ use std::alloc::Global;
 /// Values of lists of items, which can be joined.
 ///
 /// What a value means and how it is spelled is `meaning`; `lawful` says whether the values that the calls answer are those, `usable`
-/// whether `leaf` may answer any, and `fits` which values there are. No call changes a meaning or what fits, what is lawful stays so,
-/// and what comes to be usable was so before. `goes` says what the calls may do besides, as with a child that is asked, and
-/// `fails` why one of them answered a fault.
+/// whether `leaf` may answer any, and `fits` which values there are: `leaf` answers no other, nor does `join` of parts that fit.
+/// `goes` says what a call that answers a value may do besides, as with a child that is asked: it changes no meaning nor what fits,
+/// what is lawful stays so, and what comes to be usable was so before. `fails` says why a call answered a fault, and what it did.
 pub trait Summer {
     type Unit: Item;
 
@@ -36,14 +36,16 @@ pub trait Summer {
     /// The value of items.
     fn leaf(&mut self, alloc: Global, items: &[Self::Unit]) -> Result<Self::Sum, Self::Fault>
         ensures value { IfOk result (IsLeafValue (lawful self.old) (meaning self.old) items.now) }
+        ensures fits { IfOk result (fits self.old) }
         ensures usable { OnOk result (usable self.old) }
-        ensures goes { goes self.old self.new }
+        ensures goes { OnOk result (goes self.old self.new) }
         ensures cause { IfErr result (fails self.old self.new) };
 
     /// The value of the items of parts joined, from the values of the parts.
     fn join(&mut self, alloc: Global, parts: &[Self::Sum]) -> Result<Self::Sum, Self::Fault>
         ensures value { IfOk result (IsJoinValue Self.Unit.fits (lawful self.old) (meaning self.old) parts.now) }
-        ensures goes { goes self.old self.new }
+        ensures fits { All (fits self.old) parts.now → IfOk result (fits self.old) }
+        ensures goes { OnOk result (goes self.old self.new) }
         ensures cause { IfErr result (fails self.old self.new) };
 
     /// Appends the bytes of a value. Where memory runs out `out` is as it was.

@@ -16,10 +16,11 @@ use Rattle.view_ports.specs.Functions.{Functions}
 use Rattle.view_engine.specs.Moments.{Moment}
 use Rattle.view_engine.specs.World.{World}
 use Rattle.view_engine.specs.Refusals.{request_of, refusal_text}
-use Rattle.view_engine.specs.Steps.{Answers, Does, DoesRequest, MayHaveCalled, Performs, Refuses}
+use Rattle.view_engine.specs.Steps.{Answers, AskedBy, Does, DoesRequest, MayHaveCalled, Performs, Refuses}
 use Rattle.view_engine.specs.Accepted.{is_ok, accepted, after_exchange, after_request, EachOk}
 use Rattle.view_engine.specs.View.{DoesView}
-use Rattle.view_engine.specs.ViewQuery.{ViewQuery, view_query}
+use Rattle.view_engine.specs.ViewQuery.{ViewQuery, parameters_in, view_query}
+use Rattle.query_args.specs.Query.{is_updated}
 
 -- ---- worlds of one history
 
@@ -73,11 +74,14 @@ module _ (functions : List ℕ → Functions) (honest : List ℕ → Type 0) (la
 
   -- a view adds no write
   view-accepted : (before : Moment) (name : ViewQuery) (reply : List ℕ) (after : Moment) → DoesView functions honest languages before name reply after → (after.world).history ≡ (before.world).history
-  view-accepted before name reply after (inl does) = elim does.called.holds [
-    | inl answered ↦ answered.brought.history
-    | inr refused ↦ ap (λ (w : World). w.history) refused.same
+  view-accepted before name reply after (inl does) = elim does.ends [
+    | inl refused ↦ ap (λ (w : World). w.history) refused.holds.same
+    | inr mapped ↦ elim mapped.ends [
+      | inl refused ↦ ap (λ (w : World). w.history) refused.same
+      | inr brought ↦ brought.brought.history
+    ]
   ]
-  view-accepted before name reply after (inr kept) = same_moment before after kept.same
+  view-accepted before name reply after (inr kept) = ap (λ (w : World). w.history) kept.same
 
   -- a request that is done adds its write, if it is a put or a deletion
   performs-accepted : (before : Moment) (request : Request) (e : Exchange) (reply : List ℕ) (after : Moment) → request_of e.line ≡ Ok request
@@ -107,10 +111,14 @@ module _ (functions : List ℕ → Functions) (honest : List ℕ → Type 0) (la
   -- where memory ran out no document was written
   pub kept_world : (before : Moment) (request : Result Request Refusal) (after : Moment) → MayHaveCalled functions honest languages before request after → (after.world).history ≡ (before.world).history
   kept_world before (Ok (View view query)) after (inl same) = same_moment before after same
-  kept_world before (Ok (View view query)) after (inr asked) = elim (asked.1).world [
-    | inl same ↦ ap (λ (w : World). w.history) same
-    | inr brought ↦ brought.history
-  ]
+  kept_world before (Ok (View view query)) after (inr asked) = by_query (is_updated (parameters_in query)) asked.1
+    where
+      by_query : (updating : Bool) → AskedBy functions honest languages updating before (view_query view query) after → (after.world).history ≡ (before.world).history
+      by_query false asked = ap (λ (w : World). w.history) asked.same
+      by_query true asked = elim asked.world [
+        | inl same ↦ ap (λ (w : World). w.history) same
+        | inr brought ↦ brought.history
+      ]
   kept_world before other after same = same_moment before after same
 
   gave_up-accepted : (before : Moment) (e : Exchange) (after : Moment) → e.text ≡ ended (refusal_text NoMemory) → (after.world).history ≡ (before.world).history → IsAfter before e after

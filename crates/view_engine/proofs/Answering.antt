@@ -1,40 +1,42 @@
--- An answer whose values a built-in reduce gives is one of the view's.
-use Rattle.std.specs.Prelude.{◌≡◌, ◌++◌, ℕ, List, true, Option, Some, None, is_some, unwrap_or}
-use Rattle.std.proofs.Common.{ap, ◌∙◌}
+-- An answer whose values the reduces of a design give is one of the view's.
+use Rattle.std.proofs.Common.{◌≡◌, ℕ, List, true, Some}
 use Rattle.std.proofs.lemmas.Bool.{false≢true}
 use Rattle.json_terms.specs.declared.term.Row.{Row}
-use Rattle.design_docs.specs.declared.design.Builtin.{Builtin}
-use Rattle.design_docs.specs.declared.design.Builtin.TheVariants.{Count}
+use Rattle.design_docs.specs.declared.design.Reduce.{Reduce}
+use Rattle.design_docs.specs.declared.design.Reduce.TheVariants as reduce
 use Rattle.query_args.specs.declared.query.Query.{Query}
-use Rattle.tree_laws.specs.Meaning.{Meaning}
-use Rattle.builtin_reduces.specs.declared.sum.BuiltinSum.{BuiltinSum}
-use Rattle.builtin_reduces.specs.BuiltinMeaning.{builtin_meaning}
-use Rattle.builtin_reduces.specs.Text.{sum_text}
-use Rattle.view_ports.specs.Lines.{ended, IsLine}
+use Rattle.view_ports.specs.Calls.{Call}
+use Rattle.view_ports.specs.declared.servers.Servers.{Ghosts as Servers}
+use Rattle.child_pool.specs.declared.summers.Summers.{Summers}
+use Rattle.child_pool.specs.Languages.{path_in}
+use Rattle.child_pool.specs.Pools.{languages_of}
+use Rattle.child_pool.specs.ReduceTalk.{Stands}
+use Rattle.child_pool.specs.SummerLaws.{fits, lawful, means}
+use Rattle.child_pool.specs.Summers.{IsLawfulFor, functions_for, reduce_of, view_meaning}
+use Rattle.child_pool.specs.ViewSums.{FitsView, view_sum_text}
 use Rattle.view_model.specs.Answer.{IsAnswer}
-use Rattle.view_model.specs.Values.{builtin_text}
+use Rattle.view_model.specs.Values.{IsValueText}
 use Rattle.view_model.proofs.OneAnswer.{weaker_answer}
 use Rattle.range_query.specs.Summed.{IsSummedText}
-use Rattle.range_query.proofs.BuiltinTexts.{builtin_value}
-use Rattle.view_engine.specs.Answering.{AppendsAnswer}
-use Rattle.view_engine.specs.ViewQuery.{IsValueOf}
-use Rattle.view_engine.proofs.ReplyLines.{answer_line}
+use Rattle.range_query.proofs.ViewTexts.{view_text}
+use Rattle.view_engine.specs.Answering.{Answers}
+use Rattle.view_engine.specs.ViewQuery.{has_reduce}
 
-module _ (query : Query) (seq : ℕ) (rows : List Row) (kind : Builtin) (Within : BuiltinSum → Type 0) (m : Meaning Row BuiltinSum) (means : m ≡ builtin_meaning kind) where
-  abbrev Summed : List Row → List ℕ → Type 0
-  Summed = IsSummedText sum_text Within (Unit {0}) m
+module _ {C : Type 0} (s : Servers C) (summers : Summers C) (path : List ℕ) (calls : List Call) (known : path_in (languages_of summers.slot.pool.now) summers.design.now.language ≡ Some path)
+    (stands : Stands s summers.design.now.language summers.slot path calls) (query : Query) (seq : ℕ) (rows : List Row) (reply : List ℕ) where
+  abbrev Summed : Reduce → List Row → List ℕ → Type 0
+  Summed own = IsSummedText view_sum_text (FitsView own) (IsLawfulFor s own summers.design.now.language summers.slot) (view_meaning (functions_for s summers.design.now.language summers.slot) own)
+
+  by_reduce : (own : Reduce) → (query.reduced ≡ true → has_reduce own ≡ true) → IsAnswer (Summed own) query seq rows reply → Answers (s.functions path) (s.honest path) own query seq rows reply
+  by_reduce reduce.Absent has is = record { whole = is.whole; reduced = λ reduced. absurd (false≢true (has reduced)) }
+  by_reduce (reduce.Builtin kind) has is =
+      weaker_answer (Summed (reduce.Builtin kind)) (IsValueText (s.functions path) (s.honest path) (reduce.Builtin kind))
+      (λ group text summed. view_text s summers.design.now.language summers.slot path calls known stands group text (reduce.Builtin kind) (λ none. let clash : ⊥ = cc in clash) summed) query seq rows reply is
+  by_reduce (reduce.Source source) has is =
+      weaker_answer (Summed (reduce.Source source)) (IsValueText (s.functions path) (s.honest path) (reduce.Source source))
+      (λ group text summed. view_text s summers.design.now.language summers.slot path calls known stands group text (reduce.Source source) (λ none. let clash : ⊥ = cc in clash) summed) query seq rows reply is
 
   -- its values are the view's
-  own_answer : (reduce : Option Builtin) → kind ≡ unwrap_or reduce Count → (query.reduced ≡ true → is_some reduce ≡ true) → (text : List ℕ) → IsAnswer Summed query seq rows text → IsAnswer (IsValueOf reduce) query seq rows text
-  own_answer (Some own) kind_is has text is =
-      weaker_answer Summed (IsValueOf (Some own)) (λ group value shown. builtin_value kind Within (Unit {0}) tt m means group value shown ∙ ap (λ (k : Builtin). builtin_text k group) kind_is) query seq rows text is
-  own_answer None kind_is has text is = record { whole = is.whole; reduced = λ reduced. absurd (false≢true (has reduced)) }
-
-  pub appends_answer : (reduce : Option Builtin) → kind ≡ unwrap_or reduce Count → (query.reduced ≡ true → is_some reduce ≡ true) → (text : List ℕ) → IsAnswer Summed query seq rows text → IsLine text
-      → (out out' : List ℕ) → out' ≡ out ++ ended text → AppendsAnswer reduce query seq rows out out'
-  appends_answer reduce kind_is has text is plain out out' appended = record {
-    reply = text;
-    is = own_answer reduce kind_is has text is;
-    line = answer_line Summed query seq rows text is plain;
-    appended = appended;
-  }
+  pub own_answer : (query.reduced ≡ true → has_reduce (reduce_of s summers) ≡ true) → IsAnswer (IsSummedText view_sum_text (fits s summers) (lawful s summers) (means s summers)) query seq rows reply
+      → Answers (s.functions path) (s.honest path) (reduce_of s summers) query seq rows reply
+  own_answer has is = by_reduce (reduce_of s summers) has is

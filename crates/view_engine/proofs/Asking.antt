@@ -1,7 +1,8 @@
 -- What was asked of the query servers as the index of a view's design was brought up to date.
-use Rattle.std.specs.Prelude.{◌≡◌, ◌≢◌, ◌⊎◌, ◌<◌, ◌≤◌, ◌++◌, ℕ, List, [], ◌∷◌, filter_map, length, map, Option, Some, Result, Ok, Err, IfErr, IfOk}
+use Rattle.std.specs.Prelude.{◌≡◌, ◌≢◌, ◌⊎◌, ◌<◌, ◌≤◌, ◌++◌, ℕ, List, [], ◌∷◌, filter_map, length, map, Option, None, Some, Result, Ok, Err, IfErr, IfOk}
 use Rattle.std.proofs.Common.{refl, sym, ap, ◌∙◌, subst, inl, inr, arith}
 use Rattle.json_terms.specs.Json.{Json}
+use Rattle.json_terms.specs.declared.term.Row.{Row}
 use Rattle.design_docs.specs.declared.design.Design.{Design}
 use Rattle.design_docs.specs.Design.{map_sources}
 use Rattle.query_protocol.specs.CommandLines.{document_of}
@@ -10,7 +11,7 @@ use Rattle.view_ports.specs.Disk.{Disk, IfTold}
 use Rattle.view_ports.specs.Faults.{Rose, RoseBy}
 use Rattle.view_ports.specs.declared.file_name.FileName.{FileName}
 use Rattle.view_ports.specs.declared.servers.Servers.{Ghosts as Servers}
-use Rattle.view_ports.proofs.Told.{told_all, told_now}
+use Rattle.view_ports.proofs.Told.{told_all, told_now, told_pair}
 use Rattle.gate_file.specs.declared.fault.GateFault.{GateFault}
 use Rattle.gate_file.specs.declared.fault.GateFault.TheVariants as gate
 use Rattle.child_pool.specs.declared.doc_rows.DocRowLists.{DocRowLists}
@@ -22,6 +23,8 @@ use Rattle.child_pool.specs.Histories.{WentIn}
 use Rattle.child_pool.specs.Jobs.{job_of}
 use Rattle.child_pool.specs.Languages.{path_in}
 use Rattle.child_pool.specs.PoolCalls.{MapsAll, StaysAsMade}
+use Rattle.child_pool.specs.ReduceTalk.{reduce_sources}
+use Rattle.child_pool.specs.Reductions.{Reduces}
 use Rattle.child_pool.specs.Pools.{languages_of, HasItsChildren}
 use Rattle.child_pool.proofs.Nexts.{first_whole, nothing_first}
 use Rattle.child_pool.proofs.Updated.{stands_stopped}
@@ -31,17 +34,22 @@ use Rattle.view_updater.specs.declared.fault.UpdateFault.{UpdateFault}
 use Rattle.view_updater.specs.declared.fault.UpdateFault.TheVariants as update
 use Rattle.view_index.specs.declared.fault.IndexFault.TheVariants as index
 use Rattle.view_updater.specs.Faults.{by_pool}
-use Rattle.view_updater.specs.Updates.{documents_since, HasAskedFor, IsBreak, IsIdleEnd, IsMetAs}
+use Rattle.view_updater.specs.Checking.{Checks, FailsChecking, HasChecked}
+use Rattle.view_updater.specs.Updates.{documents_since, ComplainsRightly, HasAskedFor, HasMappedSome, IsBreak, IsIdleEnd, IsMetAs, IsMetBy, IsThenChecked}
 use Rattle.view_groups.specs.Reached.{picture_for}
 use Rattle.view_engine.specs.declared.halt.Halt.TheVariants.{Refused}
 use Rattle.view_engine.specs.declared.refusal.Refusal.{Refusal}
 use Rattle.view_engine.specs.Engine.{HasChild}
-use Rattle.view_engine.specs.Moments.{Moment}
+use Rattle.view_engine.specs.Moments.{CalledReducing, Moment}
+use Rattle.view_engine.specs.Reducing.{Reduced, ReducedSomehow, TriedAndReduced}
 use Rattle.view_engine.specs.Refusals.{refusal_text}
 use Rattle.view_engine.specs.Steps.{DoesRequest, MayHaveCalled}
-use Rattle.view_engine.specs.ViewPlan.{met_by, met_by_pool, IsUpdateFault}
+use Rattle.view_engine.specs.Updating.{IsBrought}
+use Rattle.view_engine.specs.View.{all_reduces, own_reduces, DoesUpdatedView, IsBroughtUp, IsRefusedReducing, IsRefusedTrying, IsRightly}
+use Rattle.view_engine.specs.ViewPlan.{met_by, met_by_pool, source_at, IsUpdateFault}
 use Rattle.view_engine.specs.World.{World}
-use Rattle.view_engine.proofs.Viewed.{asked_in_vain, asked_some, asked_up, at_moment, breaks_at_moment, refuses, IsKnown}
+use Rattle.view_engine.proofs.Viewed.{all_are, asked_some, asked_then, asked_up, at_moment, breaks_at_moment, mapped_then, refuses, spoiled_there, IsKnown, Updates}
+use Rattle.view_engine.proofs.Reduced.{HasGone, all_had, met_there, reduced_none, refused_reducing, somehow_had, somehow_met}
 use Rattle.view_engine.specs.ViewQuery.{ViewQuery, view_request}
 
 -- ---- how a refusal is met
@@ -54,7 +62,7 @@ file_stops (gate.Full name length) id r is = let clash : ⊥ = cc in clash
 file_stops gate.NoMemory id r is = let clash : ⊥ = cc in clash
 
 -- what breaks an update off is no refusal
-break_stops : (f : UpdateFault) (id : List ℕ) (r : Refusal) → IsBreak {T = ℕ} (Err f) → met_by id f ≡ Refused r → ⊥
+break_stops : (f : UpdateFault) (id : List ℕ) (r : Refusal) → IsBreak {T = Unit {0}} (Err f) → met_by id f ≡ Refused r → ⊥
 break_stops update.NoMemory id r cause is = let clash : ⊥ = cc in clash
 break_stops (update.Docs g) id r cause is = file_stops g id r is
 break_stops (update.Pool f) id r cause is = cause
@@ -77,7 +85,7 @@ by_pool_met id fault.NoMemory = refl
 by_pool_met id fault.UnknownLanguage = refl
 
 -- where all was mapped no refusal is told
-mapped_stops : (f : UpdateFault) (id : List ℕ) (r : Refusal) (lists : DocRowLists) → IsUpdateFault f → IsMetAs {T = ℕ} (Ok lists) (Err f) → met_by id f ≡ Refused r → ⊥
+mapped_stops : (f : UpdateFault) (id : List ℕ) (r : Refusal) (lists : DocRowLists) → IsUpdateFault f → IsMetAs {T = Unit {0}} (Ok lists) (Err f) → met_by id f ≡ Refused r → ⊥
 mapped_stops update.NoMemory id r lists kind met is = let clash : ⊥ = cc in clash
 mapped_stops (update.Docs g) id r lists kind met is = file_stops g id r is
 mapped_stops (update.Pool fault.NoMemory) id r lists kind met is = let clash : ⊥ = cc in clash
@@ -88,13 +96,37 @@ mapped_stops (update.Pool fault.Compile) id r lists kind met is = let told = met
 mapped_stops (update.Index (index.Store g)) id r lists kind met is = file_stops g id r is
 mapped_stops (update.Index other) id r lists kind met is = kind.0
 
+-- nor where all values were had
+had_stops : (f : UpdateFault) (id : List ℕ) (r : Refusal) → IsUpdateFault f → IsMetBy {T = ℕ} (Ok tt) (Err f) → met_by id f ≡ Refused r → ⊥
+had_stops update.NoMemory id r kind met is = let clash : ⊥ = cc in clash
+had_stops (update.Docs g) id r kind met is = file_stops g id r is
+had_stops (update.Pool fault.NoMemory) id r kind met is = let clash : ⊥ = cc in clash
+had_stops (update.Pool fault.UnknownLanguage) id r kind met is = let clash : ⊥ = cc in clash
+had_stops (update.Pool fault.ServerFault) id r kind met is = let told = met fault.ServerFault refl in let clash : ⊥ = cc in clash
+had_stops (update.Pool (fault.BadReply line)) id r kind met is = let told = met (fault.BadReply line) refl in let clash : ⊥ = cc in clash
+had_stops (update.Pool fault.Compile) id r kind met is = let told = met fault.Compile refl in let clash : ⊥ = cc in clash
+had_stops (update.Index (index.Store g)) id r kind met is = file_stops g id r is
+had_stops (update.Index other) id r kind met is = kind.0
+
 -- no document is mapped of a picture of all writes
 none_since : (seq : ℕ) (history : List Write) → seq ≡ length history → documents_since seq history ≡ []
 none_since seq history same = ap (λ changes. map (λ entry. document_of entry.1) (filter_map (λ change. mapped_by change.1) changes)) (changes_none seq history (omega (arith, same)))
 
+-- where this is so something is told
+told_if : {P : Type 0} (Q : Type 0) (x : Option (Disk FileName)) → (P → IfTold x (λ d. Q)) → IfTold x (λ d. P → Q)
+told_if Q None told = tt
+told_if Q (Some d) told = told
+
+-- nothing was asked of the child that reduces
+nothing_reduced : {C : Type 0} (s : Servers C) (servers : C) (pool : Pool) (language : List ℕ) (reduces : List (List ℕ)) → Reduces s servers servers pool pool language reduces
+nothing_reduced s servers pool language reduces = record {
+  keeps = record { languages = refl; width = refl };
+  later = omega arith;
+  went = λ path calls follows is child. record { added = []; now = calls; is_now = refl; follows = follows; lawful = tt; holds = (child, inl (refl, refl)) };
+}
+
 module _ {C : Type 0} (s : Servers C) (before : Moment) (name : ViewQuery) (id : List ℕ) (design : Design) (place : ℕ) (path : List ℕ) (within : place < length design.views)
-    (pool pool' : Pool) (servers servers' : C) (path_is : path_in (languages_of pool) design.language ≡ Some path)
-    (child : HasChild (s.may_follow servers) (s.faults servers) pool before) (keeps : StaysAsMade pool pool') (later : s.faults servers ≤ s.faults servers') (x : Option (Disk FileName)) where
+    (pool : Pool) (servers : C) (path_is : path_in (languages_of pool) design.language ≡ Some path) (child : HasChild (s.may_follow servers) (s.faults servers) pool before) (x : Option (Disk FileName)) where
   abbrev languages : List (List ℕ × List ℕ)
   languages = languages_of pool
 
@@ -105,25 +137,29 @@ module _ {C : Type 0} (s : Servers C) (before : Moment) (name : ViewQuery) (id :
   Known documents = IsKnown languages before name id design place path documents
 
   -- the moment after these calls
-  abbrev pub then : World → List Call → Moment
-  then left now = record { world = left; width = before.width; started = pool'.started; reducer = pool'.reducer; calls = now; faults = s.faults servers' }
+  abbrev pub then : Pool → C → World → List Call → Moment
+  then pool' servers' left now = record { world = left; width = before.width; started = pool'.started; reducer = pool'.reducer; calls = now; faults = s.faults servers' }
 
-  pub has_child : (left : World) (now : List Call) → s.may_follow servers' now → HasItsChildren pool' now → HasChild (s.may_follow servers') (s.faults servers') pool' (then left now)
-  has_child left now follows there = record { width = keeps.width ∙ child.width; started = refl; reducer = refl; child = there; follows = follows; counts = refl }
+  abbrev pub HasChildThen : Pool → C → World → List Call → Type 0
+  HasChildThen pool' servers' left now = HasChild (s.may_follow servers') (s.faults servers') pool' (then pool' servers' left now)
 
-  -- ---- nothing was done of the world
+  abbrev MayHave : Moment → Type 0
+  MayHave = MayHaveCalled s.functions s.honest languages before (Ok (view_request name))
 
-  -- how the query servers were left, and what that is
-  pub record IsLeft (f : UpdateFault) : Type 0 where
+  abbrev MayRefuse : Refusal → Moment → Type 0
+  MayRefuse r = DoesRequest s.functions s.honest languages before (Ok (view_request name)) (refusal_text r)
+
+  -- how the query servers were left where the world is as it was, and what that is
+  pub record IsLeft (pool' : Pool) (servers' : C) (f : UpdateFault) : Type 0 where
     pub now : List Call
-    pub has_child : HasChild (s.may_follow servers') (s.faults servers') pool' (then before.world now)
-    pub called : IfTold x (λ d. MayHaveCalled s.functions s.honest languages before (Ok (view_request name)) (then before.world now))
-    pub refused : (r : Refusal) → met_by id f ≡ Refused r → IfTold x (λ d. DoesRequest s.functions s.honest languages before (Ok (view_request name)) (refusal_text r) (then before.world now))
+    pub has_child : HasChildThen pool' servers' before.world now
+    pub called : IfTold x (λ d. MayHave (then pool' servers' before.world now))
+    pub refused : (r : Refusal) → met_by id f ≡ Refused r → IfTold x (λ d. MayRefuse r (then pool' servers' before.world now))
 
   -- nothing was asked
-  idle_left : (f : UpdateFault) → servers' ≡ servers → pool' ≡ pool → ((r : Refusal) → met_by id f ≡ Refused r → ⊥) → IsLeft f
-  idle_left f same_servers same_pool never =
-      let same : then before.world before.calls ≡ before = λ i. record {
+  idle_left : (pool' : Pool) (servers' : C) (f : UpdateFault) → servers' ≡ servers → pool' ≡ pool → ((r : Refusal) → met_by id f ≡ Refused r → ⊥) → IsLeft pool' servers' f
+  idle_left pool' servers' f same_servers same_pool never =
+      let same : then pool' servers' before.world before.calls ≡ before = λ i. record {
         world = before.world;
         width = before.width;
         started = (ap (λ (p : Pool). p.started) same_pool ∙ child.started) i;
@@ -133,102 +169,269 @@ module _ {C : Type 0} (s : Servers C) (before : Moment) (name : ViewQuery) (id :
       } in
       record {
         now = before.calls;
-        has_child = has_child before.world before.calls (subst (λ c. s.may_follow c before.calls) (sym same_servers) child.follows) (subst (λ p. HasItsChildren p before.calls) (sym same_pool) child.child);
-        called = told_all x (λ d. MayHaveCalled s.functions s.honest languages before (Ok (view_request name)) (then before.world before.calls)) (λ d. inl same);
+        has_child = record {
+          width = ap (λ (p : Pool). p.width) same_pool ∙ child.width;
+          started = refl;
+          reducer = refl;
+          child = subst (λ p. HasItsChildren p before.calls) (sym same_pool) child.child;
+          follows = subst (λ c. s.may_follow c before.calls) (sym same_servers) child.follows;
+          counts = refl;
+        };
+        called = told_all x (λ d. MayHave (then pool' servers' before.world before.calls)) (λ d. inl same);
         refused = λ r is. absurd (never r is);
       }
 
-  -- no refusal is told where the result isn't a pool's
-  never_told : (f : UpdateFault) (now : List Call) → ((r : Refusal) → met_by id f ≡ Refused r → ⊥)
-      → (r : Refusal) → met_by id f ≡ Refused r → IfTold x (λ d. DoesRequest s.functions s.honest languages before (Ok (view_request name)) (refusal_text r) (then before.world now))
-  never_told f now never r is = absurd (never r is)
+  -- ---- documents were mapped: by the pool and the servers between
 
-  -- the first documents alone were mapped
-  broken_left : (f : UpdateFault) → IsBreak {T = ℕ} (Err f) → (documents : List (List (List ℕ × Json))) → IfTold x (λ d. Known documents) → (done rest : List (List (List ℕ × Json))) → documents ≡ done ++ rest → (lists : DocRowLists)
-      → FirstAreMapped s servers servers' pool pool' design done lists → IsLeft f
-  broken_left f cause documents known [] rest all lists mapped = let idle = mapped.idle refl in idle_left f idle.0 idle.1 (λ r is. break_stops f id r cause is)
-  broken_left f cause documents known (first ∷ done) rest all lists mapped =
-      let some : first ∷ done ≢ [] = λ none. let clash : ⊥ = cc in clash in
-      let w = breaks_at_moment s.functions s.honest languages before name id design place path within documents (s.may_follow servers') (s.faults servers) (s.faults servers') pool' child.counts later pool child.width child.started child.reducer (first ∷ done) lists
-      (subst (λ (all_of : List (List (List ℕ × Json))). WentIn (s.may_follow servers') (job_of path (map_sources design.views) all_of) pool.width before.calls
-      (HasMappedFirst s.functions s.honest (job_of path (map_sources design.views) all_of) pool (first ∷ done) (Rose (s.faults servers) (s.faults servers')) pool' lists)) (sym all)
-      (mapped.maps some rest path before.calls child.follows path_is child.child)) in
-      record {
-        now = w.now;
-        has_child = has_child before.world w.now w.follows w.holds.is_ready.there;
-        called = told_now x (λ d. Known documents) (λ d. MayHaveCalled s.functions s.honest languages before (Ok (view_request name)) (then before.world w.now))
-            (λ d k. asked_some s.functions s.honest languages before name id design place path within documents (s.may_follow servers') (s.faults servers) (s.faults servers') pool' child.counts later pool child.width child.started child.reducer (first ∷ done) rest lists all some w k) known;
-        refused = never_told f w.now (λ r is. break_stops f id r cause is);
-      }
+  module _ (between : C) (pool_between : Pool) (keeps : StaysAsMade pool pool_between) (later : s.faults servers ≤ s.faults between) where
+    has_child : (left : World) (now : List Call) → s.may_follow between now → HasItsChildren pool_between now → HasChildThen pool_between between left now
+    has_child left now follows there = record { width = keeps.width ∙ child.width; started = refl; reducer = refl; child = there; follows = follows; counts = refl }
 
-  module _ (f : UpdateFault) (kind : IsUpdateFault f) (twice : f ≡ update.Pool fault.ServerFault → RoseBy 2 (s.faults servers) (s.faults servers')) (documents : List (List (List ℕ × Json))) (known : IfTold x (λ d. Known documents)) where
-    -- all were mapped, and then it was refused
-    mapped_left : (lists : DocRowLists) → IsMetAs {T = ℕ} (Ok lists) (Err f) → (documents ≡ [] → (servers' ≡ servers) × (pool' ≡ pool)) → MapsAll s servers servers' pool design documents pool' (Ok lists) → IsLeft f
-    mapped_left lists met idle maps =
-        let w = at_moment s.functions s.honest languages before name id design place path within documents (s.may_follow servers') (s.faults servers) (s.faults servers') pool' child.counts later pool child.width child.started child.reducer (Ok lists)
-        (maps path before.calls child.follows path_is child.child) in
+    -- the first documents alone were mapped
+    broken_left : (f : UpdateFault) → IsBreak {T = Unit {0}} (Err f) → (documents : List (List (List ℕ × Json))) → IfTold x (λ d. Known documents) → (done rest : List (List (List ℕ × Json))) → documents ≡ done ++ rest → (lists : DocRowLists)
+        → FirstAreMapped s servers between pool pool_between design done lists → IsLeft pool_between between f
+    broken_left f cause documents known [] rest all lists mapped = let idle = mapped.idle refl in idle_left pool_between between f idle.0 idle.1 (λ r is. break_stops f id r cause is)
+    broken_left f cause documents known (first ∷ done) rest all lists mapped =
+        let some : first ∷ done ≢ [] = λ none. let clash : ⊥ = cc in clash in
+        let w = breaks_at_moment s.functions s.honest languages before name id design place path within documents (s.may_follow between) (s.faults servers) (s.faults between) pool_between child.counts later pool child.width child.started child.reducer (first ∷ done) lists
+        (subst (λ (all_of : List (List (List ℕ × Json))). WentIn (s.may_follow between) (job_of path (map_sources design.views) all_of) pool.width before.calls
+        (HasMappedFirst s.functions s.honest (job_of path (map_sources design.views) all_of) pool (first ∷ done) (Rose (s.faults servers) (s.faults between)) pool_between lists)) (sym all)
+        (mapped.maps some rest path before.calls child.follows path_is child.child)) in
         record {
           now = w.now;
-          has_child = has_child before.world w.now w.follows w.holds.1.0;
-          called = told_now x (λ d. Known documents) (λ d. MayHaveCalled s.functions s.honest languages before (Ok (view_request name)) (then before.world w.now))
-              (λ d k. asked_in_vain s.functions s.honest languages before name id design place path within documents (s.may_follow servers') (s.faults servers) (s.faults servers') pool' child.counts later pool child.width child.started child.reducer lists (λ none. ap (λ (p : Pool). p.started) (idle none).1) w k) known;
-          refused = never_told f w.now (λ r is. mapped_stops f id r lists kind met is);
+          has_child = has_child before.world w.now w.follows w.holds.is_ready.there;
+          called = told_now x (λ d. Known documents) (λ d. MayHave (then pool_between between before.world w.now))
+              (λ d k. asked_some s.functions s.honest languages before name id design place path within documents (s.may_follow between) (s.faults servers) (s.faults between) pool_between child.counts later pool child.width child.started child.reducer (first ∷ done) rest lists all some w k) known;
+          refused = λ r is. absurd (break_stops f id r cause is);
         }
 
     -- the servers gave up
-    given_left : (g : PoolFault) → IsMetAs {T = ℕ} (Err g) (Err f) → documents ≢ [] → MapsAll s servers servers' pool design documents pool' (Err g) → IsLeft f
-    given_left g met some maps =
+    given_left : (f : UpdateFault) → (f ≡ update.Pool fault.ServerFault → RoseBy 2 (s.faults servers) (s.faults between)) → (documents : List (List (List ℕ × Json))) → IfTold x (λ d. Known documents)
+        → (g : PoolFault) → IsMetAs {T = Unit {0}} (Err g) (Err f) → documents ≢ [] → MapsAll s servers between pool design documents pool_between (Err g) → IsLeft pool_between between f
+    given_left f twice documents known g met some maps =
         let same : f ≡ by_pool g = cc in
-        let w = at_moment s.functions s.honest languages before name id design place path within documents (s.may_follow servers') (s.faults servers) (s.faults servers') pool' child.counts later pool child.width child.started child.reducer (Err g)
+        let w = at_moment s.functions s.honest languages before name id design place path within documents (s.may_follow between) (s.faults servers) (s.faults between) pool_between child.counts later pool child.width child.started child.reducer (Err g)
         (maps path before.calls child.follows path_is child.child) in
-        let told : g ≡ fault.ServerFault → RoseBy 2 (s.faults servers) (s.faults servers') = λ is. twice (same ∙ ap by_pool is) in
+        let told : g ≡ fault.ServerFault → RoseBy 2 (s.faults servers) (s.faults between) = λ is. twice (same ∙ ap by_pool is) in
         record {
           now = w.now;
-          has_child = has_child before.world w.now w.follows (stands_stopped pool' w.now w.holds.1.stopped);
-          called = told_now x (λ d. Known documents) (λ d. MayHaveCalled s.functions s.honest languages before (Ok (view_request name)) (then before.world w.now))
-              (λ d k. asked_up s.functions s.honest languages before name id design place path within documents (s.may_follow servers') (s.faults servers) (s.faults servers') pool' child.counts later pool child.width child.started child.reducer g some told w k) known;
-          refused = λ r is. told_now x (λ d. Known documents) (λ d. DoesRequest s.functions s.honest languages before (Ok (view_request name)) (refusal_text r) (then before.world w.now))
-              (λ d k. inl (inl (refuses s.functions s.honest languages before name id design place path within documents (s.may_follow servers') (s.faults servers) (s.faults servers') pool' child.counts later pool child.width child.started child.reducer g r w some k told (sym (ap (met_by id) same ∙ by_pool_met id g) ∙ is)))) known;
+          has_child = has_child before.world w.now w.follows (stands_stopped pool_between w.now w.holds.1.stopped);
+          called = told_now x (λ d. Known documents) (λ d. MayHave (then pool_between between before.world w.now))
+              (λ d k. asked_up s.functions s.honest languages before name id design place path within documents (s.may_follow between) (s.faults servers) (s.faults between) pool_between child.counts later pool child.width child.started child.reducer g some told w k) known;
+          refused = λ r is. told_now x (λ d. Known documents) (λ d. MayRefuse r (then pool_between between before.world w.now))
+              (λ d k. inl (inl (refuses s.functions s.honest languages before name id design place path within documents (s.may_follow between) (s.faults servers) (s.faults between) pool_between child.counts later pool child.width child.started child.reducer g r w some k told (sym (ap (met_by id) same ∙ by_pool_met id g) ∙ is)))) known;
         }
 
-    pub asked_left : HasAskedFor s servers servers' pool pool' design documents {T = ℕ} (Err f) → IsLeft f
-    asked_left (inl mapped) = by_end mapped.mapped mapped.met mapped.idle mapped.some mapped.maps
+    -- not all were mapped
+    unmapped_left : (f : UpdateFault) → (f ≡ update.Pool fault.ServerFault → RoseBy 2 (s.faults servers) (s.faults between)) → (documents : List (List (List ℕ × Json))) → IfTold x (λ d. Known documents)
+        → HasMappedSome s servers between pool pool_between design documents {T = Unit {0}} (Err f) → ((lists : DocRowLists) → IsMetAs {T = Unit {0}} (Ok lists) (Err f) → (r : Refusal) → met_by id f ≡ Refused r → ⊥) → IsLeft pool_between between f
+    unmapped_left f twice documents known (inl mapped) never = by_end mapped.mapped mapped.met mapped.idle mapped.some mapped.maps
       where
-        by_end : (end : Result DocRowLists PoolFault) → IsMetAs {T = ℕ} end (Err f) → IfOk end (λ lists. documents ≡ [] → (servers' ≡ servers) × (pool' ≡ pool)) → IfErr end (λ fault. documents ≢ []) → MapsAll s servers servers' pool design documents pool' end → IsLeft f
-        by_end (Ok lists) met idle some maps = mapped_left lists met idle maps
-        by_end (Err g) met idle some maps = given_left g met some maps
-    asked_left (inr broken) = broken_left f broken.cause documents known broken.done broken.left broken.all broken.lists broken.mapped
+        by_end : (end : Result DocRowLists PoolFault) → IsMetAs {T = Unit {0}} end (Err f) → IfOk end (λ lists. documents ≡ [] → (between ≡ servers) × (pool_between ≡ pool)) → IfErr end (λ fault. documents ≢ []) → MapsAll s servers between pool design documents pool_between end → IsLeft pool_between between f
+        by_end (Ok lists) met idle some maps =
+            let w = at_moment s.functions s.honest languages before name id design place path within documents (s.may_follow between) (s.faults servers) (s.faults between) pool_between child.counts later pool child.width child.started child.reducer (Ok lists)
+            (maps path before.calls child.follows path_is child.child) in
+            record {
+              now = w.now;
+              has_child = has_child before.world w.now w.follows w.holds.1.0;
+              called = told_now x (λ d. Known documents) (λ d. MayHave (then pool_between between before.world w.now))
+                  (λ d k. asked_then s.functions s.honest languages before name id design place path within documents (s.may_follow between) (s.faults servers) (s.faults between) pool_between child.counts later pool child.width child.started child.reducer lists (λ none. ap (λ (p : Pool). p.started) (idle none).1) w k
+                  (then pool_between between before.world w.now)
+                  (record {
+                    between = then pool_between between before.world w.now;
+                    tried = somehow_had path (all_reduces k.plan.document) _ _ (reduced_none path (all_reduces k.plan.document) (then pool_between between before.world w.now));
+                    reduced = somehow_had path (own_reduces name k.plan.document) _ _ (reduced_none path (own_reduces name k.plan.document) (then pool_between between before.world w.now));
+                  }) (inl refl)) known;
+              refused = λ r is. absurd (never lists met r is);
+            }
+        by_end (Err g) met idle some maps = given_left f twice documents known g met some maps
+    unmapped_left f twice documents known (inr broken) never = broken_left f broken.cause documents known broken.done broken.left broken.all broken.lists broken.mapped
 
-  -- however the update was refused
-  pub left_there : (f : UpdateFault) → IsUpdateFault f → (f ≡ update.Pool fault.ServerFault → RoseBy 2 (s.faults servers) (s.faults servers'))
-      → ((documents : List (List (List ℕ × Json))) → IfTold x (λ d. documents ≡ documents_since seq before.world.history) → IfTold x (λ d. Known documents))
-      → ((servers' ≡ servers) × (pool' ≡ pool)) × IsIdleEnd {T = ℕ} (Err f) ⊎ ((documents : List (List (List ℕ × Json))) × HasAskedFor s servers servers' pool pool' design documents {T = ℕ} (Err f) × IfTold x (λ d. documents ≡ documents_since seq before.world.history))
-      → IsLeft f
-  left_there f kind twice knows (inl idle) = idle_left f idle.0.0 idle.0.1 (λ r is. idle_stops f id r kind idle.1 is)
-  left_there f kind twice knows (inr some) = asked_left f kind twice some.0 (knows some.0 some.2) some.1
+    -- ---- all were mapped, and then the reduces were tried
 
-  -- ---- the index was brought up to date
+    module _ (documents : List (List (List ℕ × Json))) (lists : DocRowLists) (idle : documents ≡ [] → (between ≡ servers) × (pool_between ≡ pool)) (maps : MapsAll s servers between pool design documents pool_between (Ok lists))
+        (pool' : Pool) (servers' : C) where
+      pub went : Updates s.functions s.honest languages before name id design place path within documents (s.may_follow between) (s.faults servers) (s.faults between) pool_between child.counts later pool child.width child.started child.reducer before.width (Ok lists)
+      went = at_moment s.functions s.honest languages before name id design place path within documents (s.may_follow between) (s.faults servers) (s.faults between) pool_between child.counts later pool child.width child.started child.reducer (Ok lists)
+          (maps path before.calls child.follows path_is child.child)
 
-  -- all documents were mapped
-  pub record AreMapped : Type 0 where
-    pub documents : List (List (List ℕ × Json))
-    pub lists : DocRowLists
-    pub since : IfTold x (λ d. documents ≡ documents_since seq before.world.history)
-    pub idle : documents ≡ [] → pool'.started ≡ pool.started
-    pub maps : MapsAll s servers servers' pool design documents pool' (Ok lists)
+      abbrev pub mapped : Moment
+      mapped = then pool_between between before.world went.now
 
-  pub all_mapped : (slot : ℕ) → ((servers' ≡ servers) × (pool' ≡ pool)) × IfTold x (λ d. seq ≡ length before.world.history) ⊎ ((documents : List (List (List ℕ × Json))) × HasAskedFor s servers servers' pool pool' design documents (Ok slot) × IfTold x (λ d. documents ≡ documents_since seq before.world.history))
-      → AreMapped
-  all_mapped slot (inl idle) = record {
-    documents = [];
-    lists = [];
-    since = told_now x (λ d. seq ≡ length before.world.history) (λ d. [] ≡ documents_since seq before.world.history) (λ d same. sym (none_since seq before.world.history same)) idle.1;
-    idle = λ none. ap (λ (p : Pool). p.started) idle.0.1;
-    maps = subst (λ (c : C). MapsAll s servers c pool design [] pool' (Ok [])) (sym idle.0.0) (subst (λ (p : Pool). MapsAll s servers servers pool design [] p (Ok [])) (sym idle.0.1) (first_whole s design servers servers pool pool [] [] (nothing_first s design servers pool)));
-  }
-  all_mapped slot (inr (documents, inl mapped, since)) = by_end mapped.mapped mapped.met mapped.idle mapped.maps
-    where
-      by_end : (end : Result DocRowLists PoolFault) → IsMetAs end (Ok slot) → IfOk end (λ lists. documents ≡ [] → (servers' ≡ servers) × (pool' ≡ pool)) → MapsAll s servers servers' pool design documents pool' end → AreMapped
-      by_end (Ok lists) met idle maps = record { documents = documents; lists = lists; since = since; idle = λ none. ap (λ (p : Pool). p.started) (idle none).1; maps = maps }
-      by_end (Err g) met idle maps = let clash : ⊥ = cc in absurd clash
-  all_mapped slot (inr (documents, inr broken, since)) = absurd broken.cause
+      pub mapped_child : HasChild (s.may_follow between) (s.faults between) pool_between mapped
+      mapped_child = has_child before.world went.now went.follows went.holds.1.0
+
+      pub path_still : path_in (languages_of pool_between) design.language ≡ Some path
+      path_still = ap (λ (l : List (List ℕ × List ℕ)). path_in l design.language) keeps.languages ∙ path_is
+
+      -- of the moment then and of a later one
+      pub asked_later : (now : Moment) (left : World) → now.world ≡ left → (k : Known documents) → TriedAndReduced path (all_reduces k.plan.document) (own_reduces name k.plan.document) mapped now
+          → (left ≡ before.world) ⊎ IsBrought s.functions s.honest languages k.plan.document path before.world left → MayHave now
+      asked_later now left is k reduced world =
+          asked_then s.functions s.honest languages before name id design place path within documents (s.may_follow between) (s.faults servers) (s.faults between) pool_between child.counts later pool child.width child.started child.reducer lists (λ none. ap (λ (p : Pool). p.started) (idle none).1) went k now reduced
+          (subst (λ (w : World). (w ≡ before.world) ⊎ IsBrought s.functions s.honest languages k.plan.document path before.world w) (sym is) world)
+
+      pub does_later : (k : Known documents) (now : Moment) (reply : List ℕ)
+          → IsRefusedTrying s.functions s.honest languages name k.plan.document path before.world mapped now reply ⊎ IsBroughtUp s.functions s.honest languages name k.plan.document path (source_at design.views place) before.world mapped now reply
+          → DoesUpdatedView s.functions s.honest languages before name reply now
+      does_later k now reply ends =
+          mapped_then s.functions s.honest languages before name id design place path within documents (s.may_follow between) (s.faults servers) (s.faults between) pool_between child.counts later pool child.width child.started child.reducer lists (λ none. ap (λ (p : Pool). p.started) (idle none).1) went k now reply ends
+
+      -- they were tried, and this is how they were asked for
+      tried_so : (k : Known documents) (now : Moment) → ReducedSomehow path (reduce_sources design.views) mapped now → TriedAndReduced path (all_reduces k.plan.document) (own_reduces name k.plan.document) mapped now
+      tried_so k now tried = record {
+        between = now;
+        tried = subst (λ (r : List (List ℕ)). ReducedSomehow path r mapped now) (all_are s.functions s.honest languages before name id design place path within documents k) tried;
+        reduced = somehow_had path (own_reduces name k.plan.document) now now (reduced_none path (own_reduces name k.plan.document) now);
+      }
+
+      -- all values were had
+      pub tried_there : Reduces s between servers' pool_between pool' design.language (reduce_sources design.views) → (left : World) → HasGone s between servers' pool_between pool' mapped mapped_child design.language path path_still (reduce_sources design.views)
+          (λ after. Reduced path (reduce_sources design.views) mapped after) left
+      tried_there all left = all_had s between servers' pool_between pool' mapped mapped_child design.language path path_still (reduce_sources design.views) all left
+
+      -- and then it was refused
+      had_left : (f : UpdateFault) (rows : List (List Row)) → IfTold x (λ d. Known documents) → HasChecked s between servers' pool_between pool' design rows → ((r : Refusal) → met_by id f ≡ Refused r → ⊥) → IsLeft pool' servers' f
+      had_left f rows known checked never =
+          let gone = tried_there checked.reduces before.world in
+          record {
+            now = gone.now;
+            has_child = gone.has_child;
+            called = told_now x (λ d. Known documents) (λ d. MayHave (then pool' servers' before.world gone.now))
+                (λ d k. asked_later (then pool' servers' before.world gone.now) before.world refl k (tried_so k _ (somehow_had path (reduce_sources design.views) mapped _ gone.holds)) (inl refl)) known;
+            refused = λ r is. absurd (never r is);
+          }
+
+      -- a fault was met as they were tried
+      met_left : (f : UpdateFault) (g : PoolFault) → f ≡ by_pool g → (rows : List (List Row)) → FailsChecking s between servers' pool_between pool' design rows g → IfTold x (λ d. Known documents)
+          → IfTold x (λ d. (k : Known documents) → g ≡ fault.Compile → IsRightly s.functions s.honest languages k.plan.document path before.world) → IsLeft pool' servers' f
+      met_left f g same rows fails known right =
+          let gone = met_there s between servers' pool_between pool' mapped mapped_child design.language path path_still (reduce_sources design.views) g fails.fails before.world in
+          let now : Moment = then pool' servers' before.world gone.now in
+          record {
+            now = gone.now;
+            has_child = gone.has_child;
+            called = told_now x (λ d. Known documents) (λ d. MayHave now)
+                (λ d k. asked_later now before.world refl k (tried_so k now (somehow_met s between servers' pool_between pool' mapped mapped_child design.language path path_still (reduce_sources design.views) g now gone.holds)) (inl refl)) known;
+            refused = λ r is. told_now x (λ d. Known documents × ((k : Known documents) → g ≡ fault.Compile → IsRightly s.functions s.honest languages k.plan.document path before.world)) (λ d. MayRefuse r now)
+                (λ d both.
+                let k = both.0 in
+                let all = all_are s.functions s.honest languages before name id design place path within documents k in
+                inl (inl (does_later k now (refusal_text r) (inl (record {
+                  same = refl;
+                  called = subst (λ (l : List (List ℕ)). CalledReducing path l mapped now (IsRefusedReducing s.functions s.honest name path l (IsRightly s.functions s.honest languages k.plan.document path before.world) mapped now (refusal_text r))) all
+                      (refused_reducing s between servers' pool_between pool' mapped mapped_child design.language path path_still (reduce_sources design.views) name id k.plan.id_is before.world g r (sym (ap (met_by id) same ∙ by_pool_met id g) ∙ is) fails.fails.twice
+                      (IsRightly s.functions s.honest languages k.plan.document path before.world) (both.1 k) gone.now gone.holds);
+                })))))
+                (told_pair x (λ d. Known documents) (λ d. (k : Known documents) → g ≡ fault.Compile → IsRightly s.functions s.honest languages k.plan.document path before.world) _ (λ d k is. (k, is)) known right);
+          }
+
+  -- ---- however the update was refused
+
+  -- a complaint is right
+  rightly : (documents : List (List (List ℕ × Json))) (k : Known documents) → ComplainsRightly s design servers pool before.world.history (picture_for design before.world.pictures)
+      → IsRightly s.functions s.honest languages k.plan.document path before.world
+  rightly documents k right = λ is_honest sound fit.
+      spoiled_there s.functions s.honest languages before name id design place path within documents k is_honest sound fit (right path before.calls child.follows path_is child.child is_honest)
+
+  module _ (pool' : Pool) (servers' : C) where
+    -- they were asked for
+    asked_left : (f : UpdateFault) → IsUpdateFault f → (documents : List (List (List ℕ × Json))) → IfTold x (λ d. Known documents)
+        → (f ≡ update.Pool fault.Compile → IfTold x (λ d. ComplainsRightly s design servers pool before.world.history (picture_for design before.world.pictures)))
+        → HasAskedFor s servers servers' pool pool' design {T = ℕ} documents (Err f) → IsLeft pool' servers' f
+    asked_left f kind documents known right asked = by_mapped asked.mapped asked.maps asked.twice asked.checks
+      where
+        by_checked : (lists : DocRowLists) → (documents ≡ [] → (asked.between ≡ servers) × (asked.pool_between ≡ pool)) → MapsAll s servers asked.between pool design documents asked.pool_between (Ok lists)
+            → (rows : List (List Row)) (checked : Result (Unit {0}) PoolFault) → Checks s asked.between servers' asked.pool_between pool' design rows checked → IsMetBy {T = ℕ} checked (Err f) → IsLeft pool' servers' f
+        by_checked lists idle maps rows (Ok done) checks met =
+            had_left asked.between asked.pool_between asked.keeps asked.later documents lists idle maps pool' servers' f rows known checks (λ r is. had_stops f id r kind met is)
+        by_checked lists idle maps rows (Err g) checks met =
+            let same : f ≡ by_pool g = cc in
+            met_left asked.between asked.pool_between asked.keeps asked.later documents lists idle maps pool' servers' f g same rows checks known
+            (told_now x (λ d. g ≡ fault.Compile → ComplainsRightly s design servers pool before.world.history (picture_for design before.world.pictures)) _ (λ d told k is. rightly documents k (told is)) (told_if _ x (λ is. right (same ∙ ap by_pool is))))
+
+        by_maps : HasMappedSome s servers asked.between pool asked.pool_between design documents {T = Unit {0}} (Ok tt) → IsThenChecked s servers servers' pool pool' design {T = ℕ} asked.between asked.pool_between (Ok tt) (Err f) → IsLeft pool' servers' f
+        by_maps (inl all) checks = by_end all.mapped all.met all.idle all.maps
+          where
+            by_end : (end : Result DocRowLists PoolFault) → IsMetAs {T = Unit {0}} end (Ok tt) → IfOk end (λ lists. documents ≡ [] → (asked.between ≡ servers) × (asked.pool_between ≡ pool)) → MapsAll s servers asked.between pool design documents asked.pool_between end → IsLeft pool' servers' f
+            by_end (Ok lists) met idle maps = by_checked lists idle maps checks.0 checks.1 checks.2 checks.3
+            by_end (Err g) met idle maps = let clash : ⊥ = cc in absurd clash
+        by_maps (inr broken) checks = absurd broken.cause
+
+        by_mapped : (mapped : Result (Unit {0}) UpdateFault) → HasMappedSome s servers asked.between pool asked.pool_between design documents mapped → (mapped ≡ Err (update.Pool fault.ServerFault) → RoseBy 2 (s.faults servers) (s.faults asked.between))
+            → IsThenChecked s servers servers' pool pool' design {T = ℕ} asked.between asked.pool_between mapped (Err f) → IsLeft pool' servers' f
+        by_mapped (Ok done) maps twice checks = by_maps maps checks
+        by_mapped (Err g) maps twice checks =
+            let same : f ≡ g = cc in
+            subst (λ (p : Pool). IsLeft p servers' f) (sym checks.2)
+            (subst (λ (c : C). IsLeft asked.pool_between c f) (sym checks.1)
+            (subst (IsLeft asked.pool_between asked.between) (sym same)
+            (unmapped_left asked.between asked.pool_between asked.keeps asked.later g (λ is. twice (ap Err is)) documents known maps (λ lists met r is. mapped_stops g id r lists (subst IsUpdateFault same kind) met is))))
+
+    pub left_there : (f : UpdateFault) → IsUpdateFault f
+        → ((documents : List (List (List ℕ × Json))) → IfTold x (λ d. documents ≡ documents_since seq before.world.history) → IfTold x (λ d. Known documents))
+        → (f ≡ update.Pool fault.Compile → IfTold x (λ d. ComplainsRightly s design servers pool before.world.history (picture_for design before.world.pictures)))
+        → ((servers' ≡ servers) × (pool' ≡ pool)) × IsIdleEnd {T = ℕ} (Err f) ⊎ ((documents : List (List (List ℕ × Json))) × HasAskedFor s servers servers' pool pool' design {T = ℕ} documents (Err f) × IfTold x (λ d. documents ≡ documents_since seq before.world.history))
+        → IsLeft pool' servers' f
+    left_there f kind knows right (inl idle) = idle_left pool' servers' f idle.0.0 idle.0.1 (λ r is. idle_stops f id r kind idle.1 is)
+    left_there f kind knows right (inr some) = asked_left f kind some.0 (knows some.0 some.2) right some.1
+
+    -- ---- the index was brought up to date
+
+    -- all documents were mapped, and the reduces tried
+    pub record AreMapped : Type 0 where
+      pub documents : List (List (List ℕ × Json))
+      pub lists : DocRowLists
+      pub since : IfTold x (λ d. documents ≡ documents_since seq before.world.history)
+      pub between : C
+      pub pool_between : Pool
+      pub keeps : StaysAsMade pool pool_between
+      pub later : s.faults servers ≤ s.faults between
+      pub idle : documents ≡ [] → (between ≡ servers) × (pool_between ≡ pool)
+      pub maps : MapsAll s servers between pool design documents pool_between (Ok lists)
+      pub tried : Reduces s between servers' pool_between pool' design.language (reduce_sources design.views)
+
+    pub all_mapped : (slot : ℕ) → ((servers' ≡ servers) × (pool' ≡ pool)) × IfTold x (λ d. seq ≡ length before.world.history) ⊎ ((documents : List (List (List ℕ × Json))) × HasAskedFor s servers servers' pool pool' design {T = ℕ} documents (Ok slot) × IfTold x (λ d. documents ≡ documents_since seq before.world.history))
+        → AreMapped
+    all_mapped slot (inl idle) = record {
+      documents = [];
+      lists = [];
+      since = told_now x (λ d. seq ≡ length before.world.history) (λ d. [] ≡ documents_since seq before.world.history) (λ d same. sym (none_since seq before.world.history same)) idle.1;
+      between = servers;
+      pool_between = pool;
+      keeps = record { languages = refl; width = refl };
+      later = omega arith;
+      idle = λ none. (refl, refl);
+      maps = first_whole s design servers servers pool pool [] [] (nothing_first s design servers pool);
+      tried = subst (λ (c : C). Reduces s servers c pool pool' design.language (reduce_sources design.views)) (sym idle.0.0) (subst (λ (p : Pool). Reduces s servers servers pool p design.language (reduce_sources design.views)) (sym idle.0.1) (nothing_reduced s servers pool design.language (reduce_sources design.views)));
+    }
+    all_mapped slot (inr (documents, asked, since)) = by_mapped asked.mapped asked.maps asked.checks
+      where
+        by_checked : (lists : DocRowLists) → (documents ≡ [] → (asked.between ≡ servers) × (asked.pool_between ≡ pool)) → MapsAll s servers asked.between pool design documents asked.pool_between (Ok lists)
+            → (rows : List (List Row)) (checked : Result (Unit {0}) PoolFault) → Checks s asked.between servers' asked.pool_between pool' design rows checked → IsMetBy {T = ℕ} checked (Ok slot) → AreMapped
+        by_checked lists idle maps rows (Ok done) checks met = record {
+          documents = documents;
+          lists = lists;
+          since = since;
+          between = asked.between;
+          pool_between = asked.pool_between;
+          keeps = asked.keeps;
+          later = asked.later;
+          idle = idle;
+          maps = maps;
+          tried = checks.reduces;
+        }
+        by_checked lists idle maps rows (Err g) checks met = let clash : ⊥ = cc in absurd clash
+
+        by_maps : HasMappedSome s servers asked.between pool asked.pool_between design documents {T = Unit {0}} (Ok tt) → IsThenChecked s servers servers' pool pool' design {T = ℕ} asked.between asked.pool_between (Ok tt) (Ok slot) → AreMapped
+        by_maps (inl all) checks = by_end all.mapped all.met all.idle all.maps
+          where
+            by_end : (end : Result DocRowLists PoolFault) → IsMetAs {T = Unit {0}} end (Ok tt) → IfOk end (λ lists. documents ≡ [] → (asked.between ≡ servers) × (asked.pool_between ≡ pool)) → MapsAll s servers asked.between pool design documents asked.pool_between end → AreMapped
+            by_end (Ok lists) met idle maps = by_checked lists idle maps checks.0 checks.1 checks.2 checks.3
+            by_end (Err g) met idle maps = let clash : ⊥ = cc in absurd clash
+        by_maps (inr broken) checks = absurd broken.cause
+
+        by_mapped : (mapped : Result (Unit {0}) UpdateFault) → HasMappedSome s servers asked.between pool asked.pool_between design documents mapped
+            → IsThenChecked s servers servers' pool pool' design {T = ℕ} asked.between asked.pool_between mapped (Ok slot) → AreMapped
+        by_mapped (Ok done) maps checks = by_maps maps checks
+        by_mapped (Err g) maps checks = let clash : ⊥ = cc in absurd clash

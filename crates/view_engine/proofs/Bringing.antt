@@ -22,7 +22,9 @@ use Rattle.view_index.specs.Held.{or_empty, IsFileOf, Stands as IndexStands}
 use Rattle.view_index.specs.Index.{picture_of}
 use Rattle.view_model.specs.Picture.{Picture}
 use Rattle.view_updater.specs.declared.fault.UpdateFault.{UpdateFault}
-use Rattle.view_updater.specs.Updates.{documents_since, HasAskedFor, IsIdleEnd, IsOfIndex}
+use Rattle.view_updater.specs.declared.fault.UpdateFault.TheVariants.{Pool as OfPool}
+use Rattle.child_pool.specs.declared.pool_fault.PoolFault.TheVariants.{Compile}
+use Rattle.view_updater.specs.Updates.{documents_since, ComplainsRightly, HasAskedFor, IsIdleEnd, IsOfIndex}
 use Rattle.view_groups.specs.declared.groups.Groups.{Groups}
 use Rattle.view_groups.specs.Brings.{side, Brings, EndsAt, IsIdle, IsNext, MayLeave}
 use Rattle.view_groups.specs.Groups.{IsGroup}
@@ -80,16 +82,20 @@ module _ {F C : Type 0} (f : Folders F) (s : Servers C) (docs : Docs) (pool pool
 
     abbrev Asked : Option (Disk FileName) → Type 0
     Asked y = (IsIdle f s docs design (side mid servers pool groups) (side new servers' pool' groups') × IsIdleEnd result × IfTold y (λ d. OnOk result (seq ≡ length world.history)))
-        ⊎ ((documents : List (List (List ℕ × Json))) × HasAskedFor s servers servers' pool pool' design documents result × IfTold y (λ d. documents ≡ documents_since seq world.history))
+        ⊎ ((documents : List (List (List ℕ × Json))) × HasAskedFor s servers servers' pool pool' design {T = ℕ} documents result × IfTold y (λ d. documents ≡ documents_since seq world.history))
 
     pub asked_there : Asked (f.disk mid)
     asked_there = by_disk (f.disk mid) at.documents (brings.asks world.history world.pictures)
       where
         by_disk : (y : Option (Disk FileName)) → IfTold y (λ d. IsAtWorld engine d.now world)
             → IfTold y (λ d. IsReached docs groups design world.history world.pictures d.now → (IsIdle f s docs design (side mid servers pool groups) (side new servers' pool' groups') × (IsIdleEnd result × OnOk result (seq ≡ length world.history)))
-            ⊎ HasAskedFor s servers servers' pool pool' design (documents_since seq world.history) result) → Asked y
+            ⊎ HasAskedFor s servers servers' pool pool' design {T = ℕ} (documents_since seq world.history) result) → Asked y
         by_disk None here asks = ⊎_elim (λ idle. inl (idle.0, idle.1, tt)) (λ some. inr (some.0, some.1, tt)) brings.asked
         by_disk (Some d) here asks = ⊎_elim (λ idle. inl (idle.0, idle.1.0, idle.1.1)) (λ some. inr (documents_since seq world.history, some, refl)) (asks (reached d here))
+
+    -- a complaint is right
+    pub complains_there : result ≡ Err (OfPool Compile) → IfTold (f.disk mid) (λ d. ComplainsRightly s design servers pool world.history (picture_for design world.pictures))
+    complains_there is = brings.spoils world.history world.pictures (told_now (f.disk mid) (λ d. IsAtWorld engine d.now world) _ (λ d here. reached d here) at.documents) is
 
     -- ---- the next picture
 
@@ -99,7 +105,13 @@ module _ {F C : Type 0} (f : Folders F) (s : Servers C) (docs : Docs) (pool pool
         → IsNextOf s.functions s.honest world design path documents next left
     next_is next left documents is_next same history set =
         let made = is_next path before.calls at.child.follows path_is at.child.child in
-        record { updated = made.updated; compile = λ is_honest some. made.compile is_honest (λ none. some (same ∙ none)); history = history; set = set }
+        record {
+          updated = made.mapped.updated;
+          compile = λ is_honest some. made.mapped.compile is_honest (λ none. some (same ∙ none));
+          reduces = made.reduces;
+          history = history;
+          set = set;
+        }
 
     -- how the files of the index move
     abbrev MovesBy : Result ℕ UpdateFault → Disk FileName → Disk FileName → Type 0
@@ -148,7 +160,7 @@ module _ {F C : Type 0} (f : Folders F) (s : Servers C) (docs : Docs) (pool pool
             let shows : shown ≡ or_empty (views_in design) ended.next = ap picture_of (sym same) ∙ ended.shows in
             let is_next : IsNext f s docs design (side mid servers pool groups) (side new servers' pool' groups') world.history world.pictures shown =
             subst (IsNext f s docs design (side mid servers pool groups) (side new servers' pool' groups') world.history world.pictures) (sym shows) ended.made in
-            let number : shown.seq ≡ length world.history = (is_next path before.calls at.child.follows path_is at.child.child).updated.seq in
+            let number : shown.seq ≡ length world.history = (is_next path before.calls at.child.follows path_is at.child.child).mapped.updated.seq in
             let there : ended.next ≡ Some shown = next_there ended.next shows number some in (
               weaker (Framed (IsFileOf (View own)) a.now (IndexStandsAround design world.pictures (MayLeave f s docs design (side mid servers pool groups) (side new servers' pool' groups') world.history world.pictures (Ok slot)))) (StandsEither world left) a b
                   (λ image framed. ⊎_elim (λ old. stands_first world left image (old_stands engine design a.now world here _ image framed old.0 old.1))
@@ -189,5 +201,5 @@ module _ {F C : Type 0} (f : Folders F) (s : Servers C) (docs : Docs) (pool pool
               is_brought s.functions s.honest (languages_of pool) before name id design place path within (documents_since seq world.history) next.0 after known (next_is next.0 after (documents_since seq world.history) is_next refl refl (λ sig. refl)),
               plan.updates,
             ),
-            next_stands engine design a.now world here _ image framed (views_in design) next.0 after next.2 (is_next path before.calls at.child.follows path_is at.child.child).updated.seq refl (λ sig. refl),
+            next_stands engine design a.now world here _ image framed (views_in design) next.0 after next.2 (is_next path before.calls at.child.follows path_is at.child.child).mapped.updated.seq refl (λ sig. refl),
           )) framed.inside) moves.moments

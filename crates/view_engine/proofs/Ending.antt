@@ -1,7 +1,6 @@
 -- A view, performed: refused before any server is asked, refused by the update of its index, or answered.
-use Rattle.std.specs.Prelude.{◌≡◌, ◌≢◌, ◌<◌, ◌≤◌, ℕ, List, [], length, Option, Some, Result, Ok, Err, IfErr, OnErr, OnOk, slice_get, slice_index_or}
-use Rattle.std.specs.List.{AllByRecursion}
-use Rattle.std.proofs.Common.{true, refl, sym, ap, ◌∙◌, subst, inl, arith}
+use Rattle.std.specs.Prelude.{◌≡◌, ◌≢◌, ◌<◌, ◌≤◌, ℕ, List, length, Option, Some, Result, Ok, Err, slice_get}
+use Rattle.std.proofs.Common.{true, refl, sym, ap, ◌∙◌, subst, inl, ⊎_elim, arith}
 use Rattle.std.proofs.lemmas.List.{length-map}
 use Rattle.json_terms.specs.declared.term.Row.{Row}
 use Rattle.json_terms.specs.Json.{Json}
@@ -13,7 +12,7 @@ use Rattle.view_ports.specs.declared.folder.Folder.{Ghosts as Folders}
 use Rattle.view_ports.specs.declared.servers.Servers.{Ghosts as Servers}
 use Rattle.view_ports.proofs.DiskRuns.{none_same}
 use Rattle.view_ports.proofs.Moments.{weaker}
-use Rattle.view_ports.proofs.Told.{told_after, told_all, told_given}
+use Rattle.view_ports.proofs.Told.{told_after, told_all, told_given, told_now}
 use Rattle.child_pool.specs.declared.pool.Pool.{Pool}
 use Rattle.child_pool.specs.Languages.{path_in}
 use Rattle.child_pool.specs.Pools.{languages_of}
@@ -22,7 +21,6 @@ use Rattle.doc_file.specs.Docs.{IsAt as AreAt}
 use Rattle.doc_file.specs.History.{Write}
 use Rattle.view_index.specs.declared.index.Index.{Index}
 use Rattle.view_index.specs.Index.{both_in, picture_of}
-use Rattle.view_index.specs.Parts.{HasParts}
 use Rattle.view_updater.specs.declared.fault.UpdateFault.{UpdateFault}
 use Rattle.view_updater.specs.declared.fault.UpdateFault.TheVariants as update
 use Rattle.view_updater.specs.Updates.{IsOfIndex}
@@ -36,29 +34,30 @@ use Rattle.view_engine.specs.declared.halt.Halt.{Halt}
 use Rattle.view_engine.specs.declared.halt.Halt.TheVariants.{Refused, Stopped}
 use Rattle.view_engine.specs.declared.halt.StepFault.TheVariants.{Full, NoMemory}
 use Rattle.view_engine.specs.declared.refusal.Refusal.TheVariants.{ServerFault}
-use Rattle.view_model.specs.Answer.{IsAnswer}
-use Rattle.design_docs.specs.declared.design.Builtin.{Builtin}
+use Rattle.child_pool.specs.declared.pool_fault.PoolFault.{PoolFault}
+use Rattle.child_pool.specs.PoolCalls.{StaysAsMade}
 use Rattle.query_args.specs.declared.query.Query.{Query}
-use Rattle.view_engine.specs.Calls.{scene, LeavesMoment, Performed, Scene, StandsAt}
-use Rattle.view_engine.specs.Disks.{IfStopped, IsAskedFor, IsReadReason, LiesOpen, Reads}
+use Rattle.view_engine.specs.Calls.{scene, LeavesMoment, Performed, Scene, StandsAt, Stays}
+use Rattle.view_engine.specs.Disks.{IfStopped, IsAskedFor, IsReadReason, IsReasonOf, LiesOpen, MovesIndexOf, Reads}
 use Rattle.view_engine.specs.Halts.{GoesOn}
 use Rattle.view_engine.specs.Moments.{Moment}
 use Rattle.view_engine.specs.Steps.{MayHaveCalled}
-use Rattle.view_engine.specs.ViewPlan.{met_by, IsPlan, IsUpdateFault}
+use Rattle.view_engine.specs.ViewPlan.{met_by, met_by_pool, IsPlan, IsUpdateFault}
 use Rattle.view_engine.specs.Worlds.{IsAtWorld, IsOpen, StandsAround, StandsEither}
 use Rattle.view_engine.proofs.Filling.{filled_then}
 use Rattle.view_engine.proofs.OnDisk.{documents_reason, read_halted}
 use Rattle.view_engine.proofs.Performing.{none_called}
-use Rattle.view_engine.proofs.Planned.{refused_leaves, shown_leaves, spent_leaves, stopped_leaves}
+use Rattle.view_engine.proofs.Planned.{halted_leaves, refused_leaves, shown_leaves, stopped_leaves}
+use Rattle.view_engine.proofs.Reduced.{memory_alone, never_refused, stops_for_memory}
+use Rattle.view_updater.proofs.Exchanging.{rose_since}
 use Rattle.view_engine.proofs.Reasons.{view_moves, view_open, view_why}
-use Rattle.view_engine.proofs.ServerFaults.{met_server_fault, unlike_answer}
+use Rattle.view_engine.proofs.ServerFaults.{met_server_fault, pool_server_fault}
 use Rattle.view_engine.proofs.Viewing.{does_halted, viewed, Halts}
 use Rattle.view_engine.proofs.Whole.{leaves_none, view_moves_none}
 use Rattle.view_engine.proofs.Between.{stands_same}
 use Rattle.query_args.specs.Query.{is_updated}
-use Rattle.view_engine.specs.Answering.{AppendsAnswer}
-use Rattle.view_engine.specs.View.{IsAnswerOf}
-use Rattle.view_engine.specs.ViewQuery.{ViewQuery, IsValueOf, builtin_named, parameters_of, query_for, view_request}
+use Rattle.view_engine.specs.Answering.{AppendsAnswer, HasAll, HasMet, ShowsView}
+use Rattle.view_engine.specs.ViewQuery.{ViewQuery, parameters_of, query_for, view_request}
 
 -- what is open stays so where no file changes
 pub open_still : (engine : Engine) (x y : Option (Disk FileName)) → Tells x y MovesNone → IfTold x (λ d. IsOpen engine d.now) → IfTold y (λ d. IsOpen engine d.now)
@@ -129,52 +128,65 @@ module _ {F C : Type 0} (f : Folders F) (s : Servers C) (docs : Docs) (pool : Po
           (view_why f s docs pool pool' groups groups' old mid new servers servers' name id design place path true updates read earlier plans is_open asked refl met brings)
           (record { languages = brings.keeps.languages; width = brings.keeps.width; disk_faults = omega (arith, earlier, brings.later.0); server_faults = brings.later.1 })
 
-    -- the rows of the view are printed, or memory runs out
+    -- the view is answered from the index, through the pool and the servers then
     module _ (slot : ℕ) (brings : Brings f s docs design (side mid servers pool groups) (side new servers' pool' groups') (Ok slot)) (index : Index) (there : slice_get (open_of groups') slot ≡ Some index)
-        (printed : List Row) (rows : printed ≡ slice_index_or (picture_of index).rows place []) (parts : AllByRecursion HasParts printed)
-        (reduce : Option Builtin) (reduce_is : reduce ≡ builtin_named name.view design.views) (query : Query) (query_is : query ≡ query_for design.views name) (seq : ℕ) (seq_is : seq ≡ (picture_of index).seq) where
+        (query : Query) (query_is : query ≡ query_for design.views name) (pool'' : Pool) (servers'' : C) where
+      abbrev engine'' : Engine
+      engine'' = record { docs = docs; pool = pool''; groups = groups' }
+
+      abbrev last : Scene F C
+      last = scene engine'' new servers''
+
       same_index : index ≡ brings.place.0
       same_index = let same : Some index ≡ Some brings.place.0 = sym there ∙ (brings.place.1).there in cc
-
-      abbrev shown : List Row
-      shown = slice_index_or (picture_of brings.place.0).rows place []
-
-      same_rows : printed ≡ shown
-      same_rows = rows ∙ ap (λ (i : Index). slice_index_or (picture_of i).rows place []) same_index
-
-      same_seq : seq ≡ (picture_of brings.place.0).seq
-      same_seq = seq_is ∙ ap (λ (i : Index). (picture_of i).seq) same_index
-
-      same_answer : (reply : List ℕ) → IsAnswer (IsValueOf reduce) query seq printed reply → IsAnswerOf design.views name (picture_of brings.place.0).seq shown reply
-      same_answer reply is =
-          subst (λ (kind : Option Builtin). IsAnswer (IsValueOf kind) (query_for design.views name) (picture_of brings.place.0).seq shown reply) reduce_is
-          (subst (λ (q : Query). IsAnswer (IsValueOf reduce) q (picture_of brings.place.0).seq shown reply) query_is
-          (subst (λ (n : ℕ). IsAnswer (IsValueOf reduce) query n shown reply) same_seq
-          (subst (λ (shown_rows : List Row). IsAnswer (IsValueOf reduce) query seq shown_rows reply) same_rows is)))
 
       each : length (picture_of brings.place.0).rows ≡ length design.views
       each = length-map (both_in brings.place.0) (λ (both : List Row × List Row). both.0) ∙ (brings.place.1).number
 
-      pub shown_then : {out' : List ℕ} (result : Result (Unit {0}) Halt) → OnOk result (AppendsAnswer reduce query seq printed out out') → OnErr result (out' ≡ out) → IfErr result (λ halt. halt ≡ Stopped NoMemory)
-          → Performed f s now later (Ok (view_request name)) out out' result
-      shown_then {out'} (Ok done) answers silent memory =
-          viewed f s now later name
-          (λ before at. shown_leaves f s docs pool pool' groups groups' old mid new servers servers' name id design place path within path_is read plans slot brings before at (subst (AllByRecursion HasParts) same_rows parts) each out out'
-          answers.reply (same_answer answers.reply answers.is) answers.appended)
-          (record { reply = answers.reply; line = answers.line; appended = answers.appended; unlike = λ other. unlike_answer (IsValueOf reduce) query seq printed answers.reply answers.is }) tt (λ is. let clash : ⊥ = cc in absurd clash)
-          (view_moves f s docs pool pool' groups groups' old mid new servers servers' name id design place path true updates read earlier plans is_open asked (Ok slot) refl brings)
-          (λ goes. view_open f s docs pool pool' groups groups' old mid new servers servers' name id design place path true updates read earlier plans is_open asked (Ok slot) refl brings (λ lost. lost))
-          (λ before at file limit is. absurd cc)
-          tt
-          (record { languages = brings.keeps.languages; width = brings.keeps.width; disk_faults = omega (arith, earlier, brings.later.0); server_faults = brings.later.1 })
-      shown_then {out'} (Err halt) answers silent memory = subst (λ (h : Halt). Performed f s now later (Ok (view_request name)) out out' (Err h)) (sym memory)
-          (viewed f s now later name
-          (λ before at. let left = spent_leaves f s docs pool pool' groups groups' old mid new servers servers' name id design place path within path_is read plans slot brings before at in
-          does_halted f s now later name out out' (Stopped NoMemory) (λ goes before at. spent_leaves f s docs pool pool' groups groups' old mid new servers servers' name id design place path within path_is read plans slot brings before at)
-          (λ step is other before at. absurd (other (let same : step ≡ NoMemory = cc in same))) before at)
-          tt silent (λ is. let clash : ⊥ = cc in absurd clash)
-          (view_moves f s docs pool pool' groups groups' old mid new servers servers' name id design place path true updates read earlier plans is_open asked (Ok slot) refl brings)
-          (λ goes. view_open f s docs pool pool' groups groups' old mid new servers servers' name id design place path true updates read earlier plans is_open asked (Ok slot) refl brings (λ lost. lost))
-          (λ before at file limit is. absurd cc)
-          (inl tt)
-          (record { languages = brings.keeps.languages; width = brings.keeps.width; disk_faults = omega (arith, earlier, brings.later.0); server_faults = brings.later.1 }))
+      moves : Tells (f.disk old) (f.disk new) (MovesIndexOf engine name)
+      moves = view_moves f s docs pool pool' groups groups' old mid new servers servers' name id design place path true updates read earlier plans is_open asked (Ok slot) refl brings
+
+      opens : LiesOpen f engine'' new
+      opens = told_now (f.disk new) (λ d. IsOpen engine' d.now) (λ d. IsOpen engine'' d.now) (λ d one. record { documents = one.documents; indexes = one.indexes })
+          (view_open f s docs pool pool' groups groups' old mid new servers servers' name id design place path true updates read earlier plans is_open asked (Ok slot) refl brings (λ lost. lost))
+
+      stays : StaysAsMade pool' pool'' → s.faults servers' ≤ s.faults servers'' → Stays f s now last
+      stays made later_still = record {
+        languages = made.languages ∙ brings.keeps.languages;
+        width = made.width ∙ brings.keeps.width;
+        disk_faults = omega (arith, earlier, brings.later.0);
+        server_faults = omega (arith, brings.later.1, later_still);
+      }
+
+      -- the values were had
+      answered_then : {out' : List ℕ} → AppendsAnswer s servers' servers'' pool' pool'' design place query (picture_of brings.place.0) out out' × HasAll s servers' servers'' pool' pool'' design place query (picture_of brings.place.0)
+          → Performed f s now last (Ok (view_request name)) out out' (Ok tt)
+      answered_then {out'} (answers, all) =
+          viewed f s now last name
+          (λ before at. shown_leaves f s docs pool pool' groups groups' old mid new servers servers' name id design place path within path_is read plans slot brings before at pool'' servers'' query query_is each answers.parts out out' (answers, all))
+          (record { reply = answers.reply; line = answers.line; appended = answers.appended; unlike = λ other. answers.unlike }) tt (λ is. let clash : ⊥ = cc in absurd clash)
+          moves (λ goes. opens) (λ before at file limit is. absurd cc) tt (stays all.keeps all.later)
+
+      -- or they were not
+      met_then : {out' : List ℕ} (fault : PoolFault) → HasMet s servers' servers'' pool' pool'' design place query (picture_of brings.place.0) fault → out' ≡ out → Performed f s now last (Ok (view_request name)) out out' (Err (met_by_pool id fault))
+      met_then {out'} fault met silent =
+          let made : StaysAsMade pool' pool'' × (s.faults servers' ≤ s.faults servers'') = ⊎_elim (λ fails. (fails.0.keeps, fails.0.later)) (λ spent. (spent.1.keeps, spent.1.later)) met in
+          viewed f s now last name
+          (does_halted f s now last name out out' (met_by_pool id fault)
+          (λ goes before at. halted_leaves f s docs pool pool' groups groups' old mid new servers servers' name id design place path within path_is read plans slot brings before at pool'' servers'' query query_is each fault met)
+          (λ step is other before at. absurd (other (stops_for_memory id fault step is))))
+          tt silent
+          (λ is. ⊎_elim (λ fails. rose_since _ _ _ brings.later.1 (fails.0.twice (pool_server_fault id fault (let same : met_by_pool id fault ≡ Refused ServerFault = cc in same))))
+          (λ spent. absurd (never_refused id fault ServerFault spent.0 (let same : met_by_pool id fault ≡ Refused ServerFault = cc in same))) met)
+          moves (λ goes. opens)
+          (λ before at file limit is. absurd (let full : met_by_pool id fault ≡ Stopped (Full file limit) = cc in let spent : Full file limit ≡ NoMemory = stops_for_memory id fault (Full file limit) full in cc))
+          (memory_alone (IsReasonOf f engine old new (Ok (view_request name))) (inl tt) id fault)
+          (stays made.0 made.1)
+
+      pub shown_then : {out' : List ℕ} (result : Result (Unit {0}) Halt) → ShowsView s servers' servers'' pool' pool'' design place query (picture_of index) id out out' result → Performed f s now last (Ok (view_request name)) out out' result
+      shown_then {out'} result shows = by_result result (subst (λ (i : Index). ShowsView s servers' servers'' pool' pool'' design place query (picture_of i) id out out' result) same_index shows)
+        where
+          by_result : (result : Result (Unit {0}) Halt) → ShowsView s servers' servers'' pool' pool'' design place query (picture_of brings.place.0) id out out' result → Performed f s now last (Ok (view_request name)) out out' result
+          by_result (Ok done) shows = answered_then shows.ok
+          by_result (Err halt) shows =
+              subst (λ (h : Halt). Performed f s now last (Ok (view_request name)) out out' (Err h)) (sym (shows.err).1) (met_then (shows.err).0 (shows.err).2 shows.silent)

@@ -35,8 +35,7 @@ put_clash state document fault (inl unfit) accepted = unfit_not document fault u
 put_clash state document fault (inr refused) accepted = let clash : Some fault ≡ None = sym refused.1 ∙ accepted.accepted in cc
 
 not_both_put : (world : World) (document : Json) (refusal : Refusal) (reply : List ℕ) (new : World) → IsPutRefused world document refusal → DoesPut world document reply new → ⊥
-not_both_put world document refusal reply new (inl unbuilt) does = absurd (let clash : _ ≡ _ = sym unbuilt.0 ∙ does.built in cc)
-not_both_put world document refusal reply new (inr refused) does = put_clash _ document (refused.1).0 (refused.1).1 does.accepted
+not_both_put world document refusal reply new refused does = put_clash _ document refused.0 refused.1 does.accepted
 
 delete_clash : (state : State) (given : Option (List ℕ)) (fault : DocFault) → IsRefusedDelete state given fault → IsAcceptedDelete state given → ⊥
 delete_clash state given fault (inl unformed) accepted = unformed.1 accepted.formed
@@ -105,11 +104,7 @@ delete_once state given first second (inr a) (inl b) = absurd (b.1 a.0)
 delete_once state given first second (inr a) (inr b) = let same : Some first ≡ Some second = sym a.1 ∙ b.1 in cc
 
 put_refused_once : (world : World) (document : Json) (first second : Refusal) → IsPutRefused world document first → IsPutRefused world document second → first ≡ second
-put_refused_once world document first second (inl a) (inl b) = a.1 ∙ sym b.1
-put_refused_once world document first second (inl a) (inr b) = absurd (let clash : _ ≡ _ = sym a.0 ∙ b.0 in cc)
-put_refused_once world document first second (inr a) (inl b) = absurd (let clash : _ ≡ _ = sym b.0 ∙ a.0 in cc)
-put_refused_once world document first second (inr a) (inr b) =
-    (a.1).2 ∙ ap refused_as (put_once _ document (a.1).0 (b.1).0 (a.1).1 (b.1).1) ∙ sym (b.1).2
+put_refused_once world document first second a b = a.2 ∙ ap refused_as (put_once _ document a.0 b.0 a.1 b.1) ∙ sym b.2
 
 -- a document that is live isn't refused to a reader
 live_not_refused : (found : Option Write) (document : Json) (refusal : Refusal) → option_and_then (λ (write : Write). write.document) found ≡ Some document → not_live found ≡ Some refusal → ⊥

@@ -1,7 +1,7 @@
 -- A view whose index is read as it stands: it is opened where it isn't open, and nothing else is done.
-use Rattle.std.specs.Prelude.{◌≡◌, ◌≢◌, ◌<◌, ◌≤◌, ◌++◌, ℕ, List, [], false, length, Option, Some, Result, Ok, Err, IfErr, OnErr, OnOk, All, slice_get, slice_index_or}
+use Rattle.std.specs.Prelude.{◌≡◌, ◌≢◌, ◌<◌, ◌≤◌, ℕ, List, [], Bool, true, false, length, Some, Result, Ok, Err, All, slice_get, slice_index_or}
 use Rattle.std.specs.List.{AllByRecursion}
-use Rattle.std.proofs.Common.{refl, sym, ap, ◌∙◌, subst, inl, inr, arith}
+use Rattle.std.proofs.Common.{refl, sym, ap, ◌∙◌, subst, inl, inr, ⊎_elim, arith}
 use Rattle.std.proofs.lemmas.List.{length-map}
 use Rattle.std.proofs.lemmas.List.Elements.{All-get_or}
 use Rattle.std.proofs.lemmas.Option.{get_or_from_slice_get, slice_get_within}
@@ -27,10 +27,16 @@ use Rattle.child_pool.specs.Pools.{languages_of}
 use Rattle.doc_file.specs.declared.docs.Docs.{Docs}
 use Rattle.doc_file.specs.Docs.{seq_of as update_seq, IsAt as AreAt}
 use Rattle.doc_file.specs.History.{Write}
-use Rattle.view_model.specs.Answer.{IsAnswer}
-use Rattle.design_docs.specs.declared.design.Builtin.{Builtin}
-use Rattle.view_model.specs.Picture.{Picture}
-use Rattle.view_model.specs.Rows.{view_rows}
+use Rattle.design_docs.specs.declared.design.Reduce.{Reduce}
+use Rattle.child_pool.specs.declared.pool_fault.PoolFault.{PoolFault}
+use Rattle.child_pool.specs.Honesty.{SomeReduceFails}
+use Rattle.child_pool.specs.Jobs.{reduce_job}
+use Rattle.child_pool.specs.Outcomes.{IsCaused}
+use Rattle.child_pool.specs.PoolCalls.{StaysAsMade}
+use Rattle.child_pool.specs.ReduceTalk.{reduce_in, reduce_source}
+use Rattle.view_ports.specs.Calls.{Call}
+use Rattle.view_model.specs.Picture.{Picture, IsTrueOf}
+use Rattle.view_model.specs.Rows.{rows_of, some_reduce_fails, view_rows}
 use Rattle.view_model.specs.Since.{first}
 use Rattle.view_index.specs.declared.fault.IndexFault.{IndexFault}
 use Rattle.view_index.specs.declared.fault.IndexFault.TheVariants as index
@@ -50,21 +56,25 @@ use Rattle.view_groups.proofs.Bringing.{fit_of, within_of}
 use Rattle.view_groups.proofs.Opening.{damaged_of}
 use Rattle.view_engine.specs.declared.engine.Engine.{Engine}
 use Rattle.view_engine.specs.declared.halt.Halt.{Halt}
-use Rattle.view_engine.specs.declared.halt.Halt.TheVariants.{Stopped}
-use Rattle.view_engine.specs.declared.halt.StepFault.TheVariants.{DiskFault, Damaged, NoMemory}
+use Rattle.view_engine.specs.declared.halt.Halt.TheVariants.{Refused, Stopped}
+use Rattle.view_engine.specs.declared.halt.StepFault.TheVariants.{DiskFault, Damaged, Full, NoMemory}
 use Rattle.view_engine.specs.declared.halt.StepFault.{StepFault}
-use Rattle.view_engine.specs.Answering.{AppendsAnswer}
+use Rattle.view_engine.specs.Answering.{Answers, AppendsAnswer, HasAll, HasMet, ShowsView}
+use Rattle.view_engine.specs.Engine.{HasChild}
+use Rattle.view_engine.specs.Refusals.{refusal_text}
 use Rattle.view_engine.specs.Calls.{scene, AppendsText, LeavesMoment, Performed, Scene, StandsAt, Stays}
 use Rattle.view_engine.specs.Disks.{IsAskedFor, IsReasonOf, LiesOpen, MovesIndexOf}
-use Rattle.view_engine.specs.Moments.{Moment}
-use Rattle.view_engine.specs.Steps.{DoesRequestText, MayHaveCalled}
-use Rattle.view_engine.specs.Updating.{picture_in}
-use Rattle.view_engine.specs.View.{design_id, rows_in, DoesKeptView, IsAnswerOf, PrintsRows}
-use Rattle.view_engine.specs.ViewPlan.{met_by, source_at, IsPlan}
+use Rattle.view_engine.specs.declared.refusal.Refusal.TheVariants.{ServerFault}
+use Rattle.view_engine.specs.Moments.{CalledReducing, Moment}
+use Rattle.view_engine.specs.Reducing.{Reduced, ReducedSomehow}
+use Rattle.view_engine.specs.Steps.{AskedBy, DoesRequest, DoesRequestText, MayHaveCalled}
+use Rattle.view_engine.specs.Updating.{picture_in, AreFit, IsSound}
+use Rattle.view_engine.specs.View.{design_id, own_reduces, rows_in, IsAnswered, IsAnswerOf, IsNever, IsRefusedReducing, PrintsRows}
+use Rattle.view_engine.specs.ViewPlan.{met_by, met_by_pool, source_at, IsPlan}
 use Rattle.query_args.specs.Query.{is_updated}
-use Rattle.view_engine.specs.ViewQuery.{ViewQuery, IsValueOf, builtin_named, parameters_of, query_for, view_request}
+use Rattle.view_engine.specs.ViewQuery.{ViewQuery, parameters_of, query_for, reduce_named, view_request}
 use Rattle.view_engine.specs.World.{World}
-use Rattle.view_engine.specs.Worlds.{IsAtWorld, StandsAround, StandsEither}
+use Rattle.view_engine.specs.Worlds.{IsAtWorld, IsOpen, StandsAround, StandsEither}
 use Rattle.view_engine.proofs.Apart.{documents_beside, old_stands}
 use Rattle.view_engine.proofs.Between.{stands_first, stands_same}
 use Rattle.view_engine.proofs.Bringing.{within_there}
@@ -72,8 +82,9 @@ use Rattle.view_engine.proofs.Ending.{open_still, refused_first}
 use Rattle.view_engine.proofs.Unasked.{unasked}
 use Rattle.view_engine.proofs.Performing.{none_called}
 use Rattle.view_engine.proofs.Reasons.{damaged_there, index_moves, index_open, never_there}
-use Rattle.view_engine.proofs.ServerFaults.{unlike_answer}
-use Rattle.view_engine.proofs.Updated.{rows_at_place, true_before}
+use Rattle.view_engine.proofs.Reduced.{all_had, complains_of_reduce, memory_alone, met_there, never_refused, refused_reducing, somehow_had, somehow_met, stops_for_memory, then}
+use Rattle.view_engine.proofs.ServerFaults.{pool_server_fault}
+use Rattle.view_engine.proofs.Updated.{fails_of_own, rows_at_place, spoiled_by_reduce, true_before}
 use Rattle.view_engine.proofs.Viewed.{planned_picture}
 use Rattle.view_engine.proofs.Viewing.{does_halted, viewed, Halts, LeavesStopped}
 use Rattle.view_engine.proofs.Whole.{leaves_none, world_none}
@@ -226,42 +237,71 @@ module _ {F C : Type 0} (f : Folders F) (s : Servers C) (docs : Docs) (pool : Po
       (subst (λ (g : Groups). Performed f s now (scene (record { docs = docs; pool = pool; groups = g }) new servers) (Ok (view_request name)) out out (Err (Stopped NoMemory))) (sym same_groups)
       (subst (λ (n : F). Performed f s now (scene engine n servers) (Ok (view_request name)) out out (Err (Stopped NoMemory))) (sym same_folder) at_once))
 
-  -- ---- it is open
-  module _ (slot : ℕ) (opens : Opens (Ok slot)) (found : Index) (there : slice_get (open_of groups') slot ≡ Some found)
-      (printed : List Row) (rows : printed ≡ slice_index_or (picture_of found).rows place []) (parts : AllByRecursion HasParts printed)
-      (reduce : Option Builtin) (reduce_is : reduce ≡ builtin_named name.view design.views) (query : Query) (query_is : query ≡ query_for design.views name) (seq : ℕ) (seq_is : seq ≡ (picture_of found).seq) where
+  -- ---- it is open, and the view is answered from it, through the pool and the servers then
+  module _ (slot : ℕ) (opens : Opens (Ok slot)) (found : Index) (there : slice_get (open_of groups') slot ≡ Some found) (query : Query) (query_is : query ≡ query_for design.views name) (pool'' : Pool) (servers'' : C) where
+    abbrev engine'' : Engine
+    engine'' = record { docs = docs; pool = pool''; groups = groups' }
+
+    abbrev last : Scene F C
+    last = scene engine'' new servers''
+
+    abbrev own : List (List ℕ)
+    own = reduce_source (reduce_in design.views place)
+
     group : IsGroup groups' slot (sig_of design) (views_in design) found
     group = subst (IsGroup groups' slot (sig_of design) (views_in design)) (let same : Some opens.place.0 ≡ Some found = sym opens.place.1.there ∙ there in cc) opens.place.1
 
     each : length (picture_of found).rows ≡ length design.views
     each = length-map (both_in found) (λ (both : List Row × List Row). both.0) ∙ group.number
 
+    abbrev printed : List Row
+    printed = slice_index_or (picture_of found).rows place []
+
     module _ (before : Moment) (at : StandsAt f s now before) where
       abbrev here_world : World
       here_world = before.world
 
       -- the index shows the picture of the design
-      abbrev Shows : Type 0
-      Shows = picture_of found ≡ picture_for design here_world.pictures
+      abbrev IsShown : Type 0
+      IsShown = picture_of found ≡ picture_for design here_world.pictures
 
-      shows_at : (files : FileName → File) → AreIndexesAt groups' files here_world.pictures → Shows
+      shows_at : (files : FileName → File) → AreIndexesAt groups' files here_world.pictures → IsShown
       shows_at files indexes =
           let is_at : IsAt found files (here_world.pictures (sig_of design)) = in_place (λ (i : Index). (sig : List ℕ) → stem_of i ≡ View sig → IsAt i files (here_world.pictures sig)) (open_of groups') slot found indexes.each there (sig_of design) group.named in
           is_at.last ∙ ap (λ (n : ℕ). or_empty n (here_world.pictures (sig_of design))) group.number
 
-      shown : Tells (f.disk mid) (f.disk new) (λ a b. Shows)
-      shown = told_map (f.disk mid) (f.disk new) (IsOpened (Ok slot) opens before at) (λ a b. Shows) (λ a b moves. shows_at b.now moves.ended) (opened (Ok slot) opens before at)
+      shown : Tells (f.disk mid) (f.disk new) (λ a b. IsShown)
+      shown = told_map (f.disk mid) (f.disk new) (IsOpened (Ok slot) opens before at) (λ a b. IsShown) (λ a b moves. shows_at b.now moves.ended) (opened (Ok slot) opens before at)
 
-      shows : IfTold (f.disk old) (λ d. Shows)
-      shows = told_back (f.disk old) (f.disk mid) (λ d. Shows) (λ d. Shows) MovesNone (λ a b none is. is) read
-          (told_back (f.disk mid) (f.disk new) (λ d. Shows) (λ d. Shows) (λ a b. Shows) (λ a b both is. is) shown
-          (told_after (f.disk mid) (f.disk new) (λ d. IsAtWorld engine d.now here_world) (λ d. Shows) (λ a b. Shows) (λ a b here is. is) (at_mid (Ok slot) opens before at) shown))
+      shows : IfTold (f.disk old) (λ d. IsShown)
+      shows = told_back (f.disk old) (f.disk mid) (λ d. IsShown) (λ d. IsShown) MovesNone (λ a b none is. is) read
+          (told_back (f.disk mid) (f.disk new) (λ d. IsShown) (λ d. IsShown) (λ a b. IsShown) (λ a b both is. is) shown
+          (told_after (f.disk mid) (f.disk new) (λ d. IsAtWorld engine d.now here_world) (λ d. IsShown) (λ a b. IsShown) (λ a b here is. is) (at_mid (Ok slot) opens before at) shown))
 
-      planned : IfTold (f.disk old) (λ d. IsPlan false (languages_of pool) here_world.history name id design place path × Shows)
-      planned = told_pair (f.disk old) (λ d. IsPlan false (languages_of pool) here_world.history name id design place path) (λ d. Shows) _ (λ d plan is. (plan, is))
+      abbrev IsPlanned : Type 0
+      IsPlanned = IsPlan false (languages_of pool) here_world.history name id design place path × IsShown
+
+      planned : IfTold (f.disk old) (λ d. IsPlanned)
+      planned = told_pair (f.disk old) (λ d. IsPlan false (languages_of pool) here_world.history name id design place path) (λ d. IsShown) _ (λ d plan is. (plan, is))
           (told_pair (f.disk old) (λ d. IsAtWorld engine d.now here_world) (λ d. AreAt docs d.now here_world.history → IsPlan false (languages_of pool) here_world.history name id design place path) _ (λ d here is. is here.documents) at.documents (plans here_world.history)) shows
 
-      module _ (plan : IsPlan false (languages_of pool) here_world.history name id design place path) (is : Shows) where
+      -- the moment after these calls
+      abbrev last_it : List Call → Moment
+      last_it calls = then s servers servers'' pool pool'' before at.child design.language path path_is own here_world calls
+
+      left_it : (calls : List Call) → HasChild (s.may_follow servers'') (s.faults servers'') pool'' (last_it calls) → (Allows : Moment → Type 0) → IfTold (f.disk old) (λ d. Allows (last_it calls)) → LeavesMoment f s now last before Allows
+      left_it calls child Allows allowed = record {
+        after = last_it calls;
+        is_at = record {
+          documents = told_now (f.disk new) (λ d. IsAtWorld engine' d.now here_world) (λ d. IsAtWorld engine'' d.now here_world) (λ d one. record { documents = one.documents; indexes = one.indexes; within = one.within })
+              (at_new (Ok slot) opens before at (λ d ends. ends));
+          child = child;
+        };
+        moments = crashes (Ok slot) opens before at;
+        allowed = allowed;
+      }
+
+      module _ (plan : IsPlan false (languages_of pool) here_world.history name id design place path) (is : IsShown) where
         abbrev document : Json
         document = plan.document
 
@@ -271,37 +311,41 @@ module _ {F C : Type 0} (f : Folders F) (s : Servers C) (docs : Docs) (pool : Po
         abbrev Asked : List Write
         Asked = first (picture_in here_world document).seq here_world.history
 
-        same_seq : seq ≡ (picture_in here_world document).seq
-        same_seq = seq_is ∙ ap (λ (p : Picture). p.seq) same
+        own_is : own ≡ own_reduces name document
+        own_is = ap reduce_source (plan.reduced ∙ ap (reduce_named name.view) plan.views)
 
-        same_answer : (reply : List ℕ) → IsAnswer (IsValueOf reduce) query seq printed reply → IsAnswerOf (views_of document) name (picture_in here_world document).seq printed reply
+        -- the picture of an honest path is true, where the pictures stand
+        was : s.honest path → IsSound s.functions s.honest (languages_of pool) here_world → AreFit here_world.history → IsTrueOf (s.functions path) (views_of document) here_world.history (picture_in here_world document)
+        was is_honest sound fit = true_before s.functions s.honest (languages_of pool) here_world (design_id name.design) document path refl plan.live plan.path_is is_honest sound fit
+
+        same_answer : (reply : List ℕ) → Answers (s.functions path) (s.honest path) (reduce_in design.views place) query (picture_of found).seq printed reply
+            → IsAnswerOf (s.functions path) (s.honest path) (views_of document) name (picture_in here_world document).seq printed reply
         same_answer reply answers =
-            subst (λ (views : List DesignView). IsAnswerOf views name (picture_in here_world document).seq printed reply) plan.views
-            (subst (λ (kind : Option Builtin). IsAnswer (IsValueOf kind) (query_for design.views name) (picture_in here_world document).seq printed reply) reduce_is
-            (subst (λ (q : Query). IsAnswer (IsValueOf reduce) q (picture_in here_world document).seq printed reply) query_is
-            (subst (λ (n : ℕ). IsAnswer (IsValueOf reduce) query n printed reply) same_seq answers)))
+            subst (λ (views : List DesignView). IsAnswerOf (s.functions path) (s.honest path) views name (picture_in here_world document).seq printed reply) plan.views
+            (subst (λ (r : Reduce). Answers (s.functions path) (s.honest path) r (query_for design.views name) (picture_in here_world document).seq printed reply) plan.reduced
+            (subst (λ (q : Query). Answers (s.functions path) (s.honest path) (reduce_in design.views place) q (picture_in here_world document).seq printed reply) query_is
+            (subst (λ (n : ℕ). Answers (s.functions path) (s.honest path) (reduce_in design.views place) query n printed reply) (ap (λ (p : Picture). p.seq) same) answers)))
 
-        prints : (reply : List ℕ) → IsAnswer (IsValueOf reduce) query seq printed reply → PrintsRows s.functions s.honest (languages_of pool) name document path (source_at design.views place) here_world here_world reply
-        prints reply answers = record {
+        prints : AllByRecursion HasParts printed → (reply : List ℕ) → Answers (s.functions path) (s.honest path) (reduce_in design.views place) query (picture_of found).seq printed reply
+            → PrintsRows s.functions s.honest (languages_of pool) name document path (source_at design.views place) here_world here_world reply
+        prints parts reply answers = record {
           rows = printed;
           shown =
               ap (λ (p : Picture). rows_in (views_of document) p.rows name.view) (sym same)
               ∙ ap (λ (views : List DesignView). rows_in views (picture_of found).rows name.view) (sym plan.views)
-              ∙ plan.shown (picture_of found).rows each
-              ∙ ap (λ (r : List Row). Some r) (sym rows);
+              ∙ plan.shown (picture_of found).rows each;
           parts = parts;
           afresh = λ is_honest sound fit.
-              let was = true_before s.functions s.honest (languages_of pool) here_world (design_id name.design) document path refl plan.live plan.path_is is_honest sound fit in
-              rows
-              ∙ ap (λ (p : Picture). slice_index_or p.rows place []) same
-              ∙ ap (λ (r : List (List Row)). slice_index_or r place []) was.rows
+              ap (λ (p : Picture). slice_index_or p.rows place []) same
+              ∙ ap (λ (r : List (List Row)). slice_index_or r place []) (was is_honest sound fit).rows
               ∙ rows_at_place (s.functions path) (views_of document) Asked place (subst (λ (views : List DesignView). place < length views) plan.views within)
               ∙ ap (λ (views : List DesignView). view_rows (s.functions path) (source_at views place) Asked) (sym plan.views);
           prints = same_answer reply answers;
         }
 
-        does : (reply : List ℕ) → IsAnswer (IsValueOf reduce) query seq printed reply → DoesKeptView s.functions s.honest (languages_of pool) before name reply before
-        does reply answers = record {
+        does : (calls : List Call) (reply : List ℕ) → IsAnswered s.functions s.honest (languages_of pool) name document path (source_at design.views place) here_world before (last_it calls) reply
+            → DoesRequest s.functions s.honest (languages_of pool) before (Ok (view_request name)) reply (last_it calls)
+        does calls reply answered = inl (inr (record {
           keeps = plan.updates;
           accepted = plan.accepted;
           design = document;
@@ -310,36 +354,106 @@ module _ {F C : Type 0} (f : Folders F) (s : Servers C) (docs : Docs) (pool : Po
           live = plan.live;
           source_is = plan.source_is;
           path_is = plan.path_is;
-          rows = prints reply answers;
           same = refl;
-        }
+          answered = answered;
+        }))
 
-      shown_leaves : (out' reply : List ℕ) → IsAnswer (IsValueOf reduce) query seq printed reply → out' ≡ out ++ ended reply → AppendsText f s now later before (DoesRequestText s.functions s.honest (languages_of pool) before (Ok (view_request name))) out out'
-      shown_leaves out' reply answers appended = record {
-        text = ended reply;
-        leaves = left_before (Ok slot) opens before at (DoesRequestText s.functions s.honest (languages_of pool) before (Ok (view_request name)) (ended reply)) (λ d ends. ends)
-            (told_now (f.disk old) _ _ (λ d both. (reply, inl (inr (does both.0 both.1 reply answers)), refl)) planned);
-        appended = appended;
-      }
+        asked_it : (calls : List Call) → ReducedSomehow path own before (last_it calls) → MayHaveCalled s.functions s.honest (languages_of pool) before (Ok (view_request name)) (last_it calls)
+        asked_it calls somehow = inr (
+          plan.accepted,
+          subst (λ (updating : Bool). AskedBy s.functions s.honest (languages_of pool) updating before name (last_it calls)) (sym plan.updates) (record {
+            design = document;
+            path = path;
+            live = plan.live;
+            path_is = plan.path_is;
+            called = subst (λ (r : List (List ℕ)). ReducedSomehow path r before (last_it calls)) own_is somehow;
+            same = refl;
+          }),
+        )
 
-    kept_open : LiesOpen f engine' new
-    kept_open = index_open f s docs pool pool groups groups' old mid new servers servers name id design place path false keeps read earlier plans is_open asked opens.others
-        (opens.is_open (told_now (f.disk mid) _ _ (λ d here. here.indexes) (open_still engine (f.disk old) (f.disk mid) read is_open)))
+        -- a complaint of an honest path there is none over pictures that stand
+        never_it : printed ≢ [] → SomeReduceFails (s.functions path) own → IsNever s.functions s.honest (languages_of pool) path here_world
+        never_it some fails = λ is_honest sound fit.
+            let true_there = was is_honest sound fit in
+            let fails_there : some_reduce_fails (s.functions path) (views_of document) (rows_of (s.functions path) (views_of document) Asked) ≡ true =
+            subst (λ (r : List (List Row)). some_reduce_fails (s.functions path) (views_of document) r ≡ true) (ap (λ (p : Picture). p.rows) same ∙ true_there.rows)
+            (subst (λ (views : List DesignView). some_reduce_fails (s.functions path) views (picture_of found).rows ≡ true) plan.views (fails_of_own (s.functions path) design.views (picture_of found).rows place each some fails)) in
+            let clash : true ≡ false = sym (spoiled_by_reduce (s.functions path) (views_of document) Asked fails_there) ∙ true_there.sound in
+            cc
 
-    kept_stays : Stays f s now later
-    kept_stays = record { languages = refl; width = refl; disk_faults = (let late = opens.cause.later in omega (arith, earlier, late)); server_faults = omega arith }
+      -- ---- how it ends
 
-    pub kept_then : {out' : List ℕ} (result : Result (Unit {0}) Halt) → OnOk result (AppendsAnswer reduce query seq printed out out') → OnErr result (out' ≡ out) → IfErr result (λ halt. halt ≡ Stopped NoMemory)
-        → Performed f s now later (Ok (view_request name)) out out' result
-    kept_then {out'} (Ok done) answers silent memory =
-        viewed f s now later name
-        (λ before at. shown_leaves before at out' answers.reply answers.is answers.appended)
-        (record { reply = answers.reply; line = answers.line; appended = answers.appended; unlike = λ other. unlike_answer (IsValueOf reduce) query seq printed answers.reply answers.is }) tt (λ is. let clash : ⊥ = cc in absurd clash)
-        (moves_of opens) (λ goes. kept_open) (λ before at file limit is. absurd (let clash : ⊥ = cc in clash)) tt kept_stays
-    kept_then {out'} (Err halt) answers silent memory = subst (λ (h : Halt). Performed f s now later (Ok (view_request name)) out out' (Err h)) (sym memory)
-        (viewed f s now later name
-        (does_halted f s now later name out out' (Stopped NoMemory)
-        (λ goes before at. left_before (Ok slot) opens before at (Halts f s now later name before (Stopped NoMemory)) (λ d ends. ends)
-        (told_all (f.disk old) _ (λ d. (λ r same. absurd (let clash : ⊥ = cc in clash), none_called s.functions s.honest (languages_of pool) before (Ok (view_request name))))))
-        (λ step is other. absurd (other (let same : step ≡ NoMemory = cc in same))))
-        tt silent (λ is. let clash : ⊥ = cc in absurd clash) (moves_of opens) (λ goes. kept_open) (λ before at file limit is. absurd (let clash : ⊥ = cc in clash)) (inl tt) kept_stays)
+      pub shown_leaves : (out' : List ℕ) → AppendsAnswer s servers servers'' pool pool'' design place query (picture_of found) out out' × HasAll s servers servers'' pool pool'' design place query (picture_of found)
+          → AppendsText f s now last before (DoesRequestText s.functions s.honest (languages_of pool) before (Ok (view_request name))) out out'
+      shown_leaves out' (answers, all) =
+          let had = all_had s servers servers'' pool pool'' before at.child design.language path path_is own all here_world in
+          record {
+            text = ended answers.reply;
+            leaves = left_it had.now had.has_child (DoesRequestText s.functions s.honest (languages_of pool) before (Ok (view_request name)) (ended answers.reply))
+                (told_now (f.disk old) (λ d. IsPlanned) _ (λ d both. (
+                  answers.reply,
+                  does both.0 both.1 had.now answers.reply (inl (
+                    subst (λ (r : List (List ℕ)). Reduced path r before (last_it had.now)) (own_is both.0 both.1) had.holds,
+                    prints both.0 both.1 answers.parts answers.reply (answers.is path before.calls at.child.follows path_is at.child.child),
+                  )),
+                  refl,
+                )) planned);
+            appended = answers.appended;
+          }
+
+      pub halted_leaves : (fault : PoolFault) → HasMet s servers servers'' pool pool'' design place query (picture_of found) fault → LeavesMoment f s now last before (Halts f s now last name before (met_by_pool id fault))
+      halted_leaves fault (inl (fails, wanted)) =
+          let met = met_there s servers servers'' pool pool'' before at.child design.language path path_is own fault fails here_world in
+          left_it met.now met.has_child (Halts f s now last name before (met_by_pool id fault))
+          (told_now (f.disk old) (λ d. IsPlanned) _ (λ d both. (
+            λ r is. does both.0 both.1 met.now (refusal_text r) (inr (
+                subst (λ (l : List (List ℕ)). CalledReducing path l before (last_it met.now) (IsRefusedReducing s.functions s.honest name path l (IsNever s.functions s.honest (languages_of pool) path here_world) before (last_it met.now) (refusal_text r))) (own_is both.0 both.1)
+                (refused_reducing s servers servers'' pool pool'' before at.child design.language path path_is own name id both.0.id_is here_world fault r is fails.twice (IsNever s.functions s.honest (languages_of pool) path here_world)
+                (λ complains is_honest sound fit.
+                never_it both.0 both.1 (wanted complains)
+                (complains_of_reduce s.functions s.honest path own met.holds.added before.calls is_honest (subst (IsCaused s.functions s.honest (reduce_job path own) met.holds.added before.calls) complains met.holds.holds.caused))
+                is_honest sound fit)
+                met.now met.holds))),
+            asked_it both.0 both.1 met.now (somehow_met s servers servers'' pool pool'' before at.child design.language path path_is own fault (last_it met.now) met.holds),
+          )) planned)
+      halted_leaves fault (inr (spent, all)) =
+          let had = all_had s servers servers'' pool pool'' before at.child design.language path path_is own all here_world in
+          left_it had.now had.has_child (Halts f s now last name before (met_by_pool id fault))
+          (told_now (f.disk old) (λ d. IsPlanned) _ (λ d both. (
+            λ r is. absurd (never_refused id fault r spent is),
+            asked_it both.0 both.1 had.now (somehow_had path own before (last_it had.now) had.holds),
+          )) planned)
+
+    kept_open : LiesOpen f engine'' new
+    kept_open = told_now (f.disk new) (λ d. IsOpen engine' d.now) (λ d. IsOpen engine'' d.now) (λ d one. record { documents = one.documents; indexes = one.indexes })
+        (index_open f s docs pool pool groups groups' old mid new servers servers name id design place path false keeps read earlier plans is_open asked opens.others
+        (opens.is_open (told_now (f.disk mid) _ _ (λ d here. here.indexes) (open_still engine (f.disk old) (f.disk mid) read is_open))))
+
+    kept_stays : StaysAsMade pool pool'' → s.faults servers ≤ s.faults servers'' → Stays f s now last
+    kept_stays made later_still = record { languages = made.languages; width = made.width; disk_faults = (let late = opens.cause.later in omega (arith, earlier, late)); server_faults = later_still }
+
+    answered_then : {out' : List ℕ} → AppendsAnswer s servers servers'' pool pool'' design place query (picture_of found) out out' × HasAll s servers servers'' pool pool'' design place query (picture_of found) → Performed f s now last (Ok (view_request name)) out out' (Ok tt)
+    answered_then {out'} (answers, all) =
+        viewed f s now last name
+        (λ before at. shown_leaves before at out' (answers, all))
+        (record { reply = answers.reply; line = answers.line; appended = answers.appended; unlike = λ other. answers.unlike }) tt (λ is. let clash : ⊥ = cc in absurd clash)
+        (moves_of opens) (λ goes. kept_open) (λ before at file limit is. absurd (let clash : ⊥ = cc in clash)) tt (kept_stays all.keeps all.later)
+
+    met_then : {out' : List ℕ} (fault : PoolFault) → HasMet s servers servers'' pool pool'' design place query (picture_of found) fault → out' ≡ out → Performed f s now last (Ok (view_request name)) out out' (Err (met_by_pool id fault))
+    met_then {out'} fault met silent =
+        let made : StaysAsMade pool pool'' × (s.faults servers ≤ s.faults servers'') = ⊎_elim (λ fails. (fails.0.keeps, fails.0.later)) (λ spent. (spent.1.keeps, spent.1.later)) met in
+        viewed f s now last name
+        (does_halted f s now last name out out' (met_by_pool id fault)
+        (λ goes before at. halted_leaves before at fault met)
+        (λ step is other before at. absurd (other (stops_for_memory id fault step is))))
+        tt silent
+        (λ is. ⊎_elim (λ fails. fails.0.twice (pool_server_fault id fault (let same : met_by_pool id fault ≡ Refused ServerFault = cc in same)))
+        (λ spent. absurd (never_refused id fault ServerFault spent.0 (let same : met_by_pool id fault ≡ Refused ServerFault = cc in same))) met)
+        (moves_of opens) (λ goes. kept_open)
+        (λ before at file limit is. absurd (let full : met_by_pool id fault ≡ Stopped (Full file limit) = cc in let spent : Full file limit ≡ NoMemory = stops_for_memory id fault (Full file limit) full in cc))
+        (memory_alone (IsReasonOf f engine old new (Ok (view_request name))) (inl tt) id fault)
+        (kept_stays made.0 made.1)
+
+    pub kept_then : {out' : List ℕ} (result : Result (Unit {0}) Halt) → ShowsView s servers servers'' pool pool'' design place query (picture_of found) id out out' result → Performed f s now last (Ok (view_request name)) out out' result
+    kept_then {out'} (Ok done) shows = answered_then shows.ok
+    kept_then {out'} (Err halt) shows = subst (λ (h : Halt). Performed f s now last (Ok (view_request name)) out out' (Err h)) (sym (shows.err).1) (met_then (shows.err).0 (shows.err).2 shows.silent)

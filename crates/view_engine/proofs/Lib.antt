@@ -33,10 +33,12 @@ pub mod ServerFaults
 pub mod Rooms
 pub mod ReplyLines
 pub mod Answering
+pub mod Appending
 pub mod Whole
 pub mod Updated
 pub mod Apart
 pub mod Bringing
+pub mod Reduced
 pub mod Asking
 pub mod Planned
 pub mod Beside

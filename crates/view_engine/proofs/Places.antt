@@ -5,8 +5,9 @@ use Rattle.std.specs.Map.{lookup}
 use Rattle.design_docs.specs.declared.design.View.{View}
 use Rattle.design_docs.specs.Laws.{entry_of}
 use Rattle.json_terms.specs.declared.term.Row.{Row}
+use Rattle.child_pool.specs.ReduceTalk.{reduce_in}
 use Rattle.view_engine.specs.View.{rows_in}
-use Rattle.view_engine.specs.ViewQuery.{builtin_in, builtin_named}
+use Rattle.view_engine.specs.ViewQuery.{reduce_named}
 use Rattle.view_engine.specs.ViewPlan.{source_at}
 
 -- the view in a place is the first of those from there on
@@ -53,19 +54,19 @@ passed_by name views rows i next view then within long is other = ap (λ n. rows
     from_here (v ∷ views) (own ∷ rows) (suc i) within long is = from_here views rows i (omega arith) (omega (arith, long)) is
 
 -- and so is its reduce
-pub reduced_at : (name : List ℕ) (views : List View) (i : ℕ) (view other : View) → i < length views → view ≡ get_or views i view → bytes_eq view.name name ≡ true
-    → builtin_in (slice_index_or views i other).reduce ≡ builtin_named name (drop i views)
-reduced_at name [] i view other within is same = absurd (omega arith)
-reduced_at name (v ∷ views) zero view other within is same =
+pub reduced_at : (name : List ℕ) (views : List View) (i : ℕ) (view : View) → i < length views → view ≡ get_or views i view → bytes_eq view.name name ≡ true
+    → reduce_in views i ≡ reduce_named name (drop i views)
+reduced_at name [] i view within is same = absurd (omega arith)
+reduced_at name (v ∷ views) zero view within is same =
     let here : bytes_eq v.name name ≡ true = ap (λ (w : View). bytes_eq w.name name) (sym is) ∙ same in
     rw here refl
-reduced_at name (v ∷ views) (suc i) view other within is same = reduced_at name views i view other (omega arith) is same
+reduced_at name (v ∷ views) (suc i) view within is same = reduced_at name views i view (omega arith) is same
 
 pub passed_on : (name : List ℕ) (views : List View) (i next : ℕ) (view : View) → next ≡ suc i → i < length views → view ≡ get_or views i view → bytes_eq view.name name ≡ false
-    → builtin_named name (drop next views) ≡ builtin_named name (drop i views)
-passed_on name views i next view then within is other = ap (λ n. builtin_named name (drop n views)) then ∙ from_here views i within is
+    → reduce_named name (drop next views) ≡ reduce_named name (drop i views)
+passed_on name views i next view then within is other = ap (λ n. reduce_named name (drop n views)) then ∙ from_here views i within is
   where
-    from_here : (views : List View) (i : ℕ) → i < length views → view ≡ get_or views i view → builtin_named name (drop (suc i) views) ≡ builtin_named name (drop i views)
+    from_here : (views : List View) (i : ℕ) → i < length views → view ≡ get_or views i view → reduce_named name (drop (suc i) views) ≡ reduce_named name (drop i views)
     from_here [] i within is = absurd (omega arith)
     from_here (v ∷ views) zero within is =
         let here : bytes_eq v.name name ≡ false = ap (λ (w : View). bytes_eq w.name name) (sym is) ∙ other in

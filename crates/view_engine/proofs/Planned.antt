@@ -1,7 +1,7 @@
 -- A view that is planned, over what bringing the index of its design up to date left.
-use Rattle.std.specs.Prelude.{◌≡◌, ◌≢◌, ◌<◌, ◌++◌, ℕ, List, [], ◌∷◌, length, Option, Some, None, Ok, Err, slice_index_or}
+use Rattle.std.specs.Prelude.{◌≡◌, ◌≢◌, ◌<◌, ℕ, List, [], ◌∷◌, length, Option, Some, None, Ok, Err, slice_index_or}
 use Rattle.std.specs.List.{AllByRecursion}
-use Rattle.std.proofs.Common.{true, refl, ap, inl, inr, ⊎_elim}
+use Rattle.std.proofs.Common.{true, false, refl, sym, ap, ◌∙◌, subst, inl, inr, ⊎_elim}
 use Rattle.json_terms.specs.Json.{Json}
 use Rattle.json_terms.specs.Seen.{json}
 use Rattle.json_terms.specs.declared.term.Row.{Row}
@@ -14,7 +14,18 @@ use Rattle.view_ports.specs.declared.servers.Servers.{Ghosts as Servers}
 use Rattle.view_ports.proofs.Moments.{joined, weaker}
 use Rattle.view_ports.proofs.Told.{told_after, told_back, told_given, told_map, told_now, told_pair, told_then}
 use Rattle.child_pool.specs.declared.pool.Pool.{Pool}
+use Rattle.view_ports.specs.Calls.{Call}
+use Rattle.query_args.specs.declared.query.Query.{Query}
+use Rattle.design_docs.specs.declared.design.Reduce.{Reduce}
+use Rattle.design_docs.specs.declared.design.View.{View}
+use Rattle.design_docs.specs.Design.{views_of}
+use Rattle.view_model.specs.Rows.{rows_of, some_reduce_fails}
+use Rattle.child_pool.specs.declared.pool_fault.PoolFault.{PoolFault}
+use Rattle.child_pool.specs.Honesty.{SomeReduceFails}
+use Rattle.child_pool.specs.Jobs.{reduce_job}
 use Rattle.child_pool.specs.Languages.{path_in}
+use Rattle.child_pool.specs.Outcomes.{IsCaused}
+use Rattle.child_pool.specs.ReduceTalk.{reduce_in, reduce_source, reduce_sources}
 use Rattle.child_pool.specs.Mapping.{IsPart}
 use Rattle.child_pool.specs.Pools.{languages_of}
 use Rattle.doc_file.specs.declared.docs.Docs.{Docs}
@@ -30,24 +41,29 @@ use Rattle.view_groups.specs.Groups.{IsGroup}
 use Rattle.view_groups.specs.Reached.{picture_for, sig_of, views_in}
 use Rattle.view_engine.specs.declared.engine.Engine.{Engine}
 use Rattle.view_engine.specs.declared.halt.Halt.{Halt}
-use Rattle.view_engine.specs.declared.halt.Halt.TheVariants.{Refused, Stopped}
-use Rattle.view_engine.specs.declared.halt.StepFault.TheVariants.{NoMemory}
+use Rattle.view_engine.specs.declared.halt.Halt.TheVariants.{Refused}
 use Rattle.view_engine.specs.declared.refusal.Refusal.{Refusal}
 use Rattle.view_engine.specs.Calls.{scene, AppendsText, LeavesMoment, Scene, StandsAt}
-use Rattle.view_engine.specs.Moments.{Moment}
+use Rattle.view_engine.specs.Answering.{Answers, AppendsAnswer, HasAll, HasMet}
+use Rattle.view_engine.specs.Engine.{HasChild}
+use Rattle.view_engine.specs.Moments.{CalledReducing, Moment}
+use Rattle.view_engine.specs.Reducing.{Reduced, ReducedSomehow}
+use Rattle.view_engine.specs.Updating.{IsBrought}
 use Rattle.view_engine.specs.Refusals.{refusal_text}
 use Rattle.view_engine.specs.Steps.{DoesRequest, DoesRequestText, MayHaveCalled}
-use Rattle.view_engine.specs.ViewPlan.{met_by, IsPlan, IsUpdateFault}
+use Rattle.view_engine.specs.ViewPlan.{met_by, met_by_pool, source_at, IsPlan, IsUpdateFault}
 use Rattle.view_engine.specs.World.{World}
 use Rattle.view_engine.specs.Worlds.{IsAtWorld, StandsAround, StandsEither}
 use Rattle.view_engine.proofs.Between.{stands_first, stands_same}
-use Rattle.view_engine.proofs.Asking.{all_mapped, has_child, left_there, then, AreMapped, IsLeft}
-use Rattle.view_engine.proofs.Bringing.{asked_there, brought_at, failed_at, moved, next_is, refused_at, with_picture}
-use Rattle.view_engine.proofs.Viewed.{answered, asked_all, at_moment, IsKnown, IsNextOf, Updates}
+use Rattle.view_engine.proofs.Asking.{all_mapped, asked_later, does_later, left_there, mapped as mapped_moment, mapped_child, path_still, then, tried_there, AreMapped, IsLeft}
+use Rattle.view_engine.proofs.Bringing.{asked_there, brought_at, complains_there, failed_at, moved, next_is, refused_at, with_picture}
+use Rattle.view_engine.proofs.Reduced.{HasGone, all_had, complains_of_reduce, met_there, never_refused, refused_reducing, somehow_had, somehow_met}
+use Rattle.view_engine.proofs.Updated.{fails_of_own, rows_are_afresh, spoiled_by_reduce}
+use Rattle.view_engine.proofs.Viewed.{all_are, is_brought, own_are, prints, updated_with, IsKnown, IsNextOf}
 use Rattle.view_engine.proofs.Viewing.{Halts, LeavesStopped}
 use Rattle.view_engine.proofs.Whole.{leaves_none, world_none}
-use Rattle.view_engine.specs.View.{IsAnswerOf}
-use Rattle.view_engine.specs.ViewQuery.{ViewQuery, view_request}
+use Rattle.view_engine.specs.View.{all_reduces, design_id, own_reduces, IsAnswered, IsNever, IsRefusedReducing}
+use Rattle.view_engine.specs.ViewQuery.{ViewQuery, query_for, view_request}
 
 -- a history that a document is live in isn't empty
 written_some : (history : List Write) (id : List ℕ) (document : Json) → live_document history id ≡ Some document → history ≢ []
@@ -99,10 +115,10 @@ module _ {F C : Type 0} (f : Folders F) (s : Servers C) (docs : Docs) (pool pool
     abbrev halt : Halt
     halt = met_by id fault
 
-    left : (before : Moment) (at : StandsAt f s now before) → IsLeft s before name id design place path within pool pool' servers servers' path_is at.child brings.keeps brings.later.1 (f.disk old) fault
+    left : (before : Moment) (at : StandsAt f s now before) → IsLeft s before name id design place path within pool servers path_is at.child (f.disk old) pool' servers' fault
     left before at =
-        left_there s before name id design place path within pool pool' servers servers' path_is at.child brings.keeps brings.later.1 (f.disk old) fault kind
-        (λ is. brings.blames (ap Err is)) (known before at)
+        left_there s before name id design place path within pool servers path_is at.child (f.disk old) pool' servers' fault kind (known before at)
+        (λ is. told_first before at _ (complains_there f s docs pool pool' groups groups' mid new servers servers' name id design place path within path_is (Err fault) brings before (at_mid before at) (ap Err is)))
         (⊎_elim (λ idle. inl ((idle.0.0, idle.0.1), idle.1)) (λ some. inr (some.0, some.1, told_first before at _ some.2))
         (asked_there f s docs pool pool' groups groups' mid new servers servers' name id design place path within path_is (Err fault) brings before (at_mid before at)))
 
@@ -114,13 +130,13 @@ module _ {F C : Type 0} (f : Folders F) (s : Servers C) (docs : Docs) (pool pool
         (λ a b there moves. refused_at f s docs pool pool' groups groups' mid new servers servers' name id design place path within path_is (Err fault) brings before here a b there fault other moves) here.documents
         (moved f s docs pool pool' groups groups' mid new servers servers' name id design place path within path_is (Err fault) brings before here) in
         record {
-          after = then s before name id design place path within pool pool' servers servers' path_is at.child brings.keeps brings.later.1 (f.disk old) before.world is_left.now;
+          after = then s before name id design place path within pool servers path_is at.child (f.disk old) pool' servers' before.world is_left.now;
           is_at = record {
             documents = told_after (f.disk mid) (f.disk new) (λ d. IsAtWorld engine d.now before.world) (λ d. IsAtWorld engine' d.now before.world) _ (λ a b there went. went.1) here.documents went;
             child = is_left.has_child;
           };
           moments = crashes before at (StandsEither before.world before.world) (λ d image stands. stands) (told_map (f.disk mid) (f.disk new) _ (LeavesOnly (StandsEither before.world before.world)) (λ a b both. both.0) went);
-          allowed = told_halts (then s before name id design place path within pool pool' servers servers' path_is at.child brings.keeps brings.later.1 (f.disk old) before.world is_left.now) (f.disk old) is_left.called is_left.refused;
+          allowed = told_halts (then s before name id design place path within pool servers path_is at.child (f.disk old) pool' servers' before.world is_left.now) (f.disk old) is_left.called is_left.refused;
         }
       where
         told_halts : (now_calls : Moment) (x : Option (Disk FileName)) → IfTold x (λ d. MayHaveCalled s.functions s.honest (languages_of pool) before (Ok (view_request name)) now_calls)
@@ -138,7 +154,7 @@ module _ {F C : Type 0} (f : Folders F) (s : Servers C) (docs : Docs) (pool pool
               (told_pair (f.disk mid) (λ d. IsAtWorld engine d.now before.world) _ _ (λ d one plan. (one, plan)) here.documents (told_after (f.disk old) (f.disk mid) _ _ MovesNone (λ a b plan none. plan) (planned before at) read))
               (moved f s docs pool pool' groups groups' mid new servers servers' name id design place path within path_is (Err fault) brings before here)),
           record {
-            after = then s before name id design place path within pool pool' servers servers' path_is at.child brings.keeps brings.later.1 (f.disk old) before.world is_left.now;
+            after = then s before name id design place path within pool servers path_is at.child (f.disk old) pool' servers' before.world is_left.now;
             child = is_left.has_child;
             allowed = is_left.called;
           },
@@ -160,16 +176,32 @@ module _ {F C : Type 0} (f : Folders F) (s : Servers C) (docs : Docs) (pool pool
       abbrev after_world : World
       after_world = with_picture before.world design (picture_of index)
 
-      mapped : AreMapped s before name id design place path within pool pool' servers servers' path_is at.child brings.keeps brings.later.1 (f.disk old)
+      mapped : AreMapped s before name id design place path within pool servers path_is at.child (f.disk old) pool' servers'
       mapped =
-          all_mapped s before name id design place path within pool pool' servers servers' path_is at.child brings.keeps brings.later.1 (f.disk old) slot
+          all_mapped s before name id design place path within pool servers path_is at.child (f.disk old) pool' servers' slot
           (⊎_elim (λ idle. inl ((idle.0.0, idle.0.1), told_first before at _ idle.2)) (λ some. inr (some.0, some.1, told_first before at _ some.2))
           (asked_there f s docs pool pool' groups groups' mid new servers servers' name id design place path within path_is (Ok slot) brings before (at_mid before at)))
 
-      -- what the pool did, in the words of the moment
-      went : Updates s.functions s.honest (languages_of pool) before name id design place path within mapped.documents (s.may_follow servers') (s.faults servers) (s.faults servers') pool' at.child.counts brings.later.1 pool at.child.width at.child.started at.child.reducer before.width (Ok mapped.lists)
-      went = at_moment s.functions s.honest (languages_of pool) before name id design place path within mapped.documents (s.may_follow servers') (s.faults servers) (s.faults servers') pool' at.child.counts brings.later.1 pool at.child.width at.child.started at.child.reducer (Ok mapped.lists)
-          (mapped.maps path before.calls at.child.follows path_is at.child.child)
+      abbrev IsKnownThere : Type 0
+      IsKnownThere = IsKnown (languages_of pool) before name id design place path mapped.documents
+
+      -- the moment when all were mapped
+      abbrev mapped_it : Moment
+      mapped_it = mapped_moment s before name id design place path within pool servers path_is at.child (f.disk old) mapped.between mapped.pool_between mapped.keeps mapped.later mapped.documents mapped.lists mapped.idle mapped.maps pool' servers'
+
+      -- and that when the reduces were tried
+      gone : HasGone s mapped.between servers' mapped.pool_between pool' mapped_it
+          (mapped_child s before name id design place path within pool servers path_is at.child (f.disk old) mapped.between mapped.pool_between mapped.keeps mapped.later mapped.documents mapped.lists mapped.idle mapped.maps pool' servers')
+          design.language path
+          (path_still s before name id design place path within pool servers path_is at.child (f.disk old) mapped.between mapped.pool_between mapped.keeps mapped.later mapped.documents mapped.lists mapped.idle mapped.maps pool' servers')
+          (reduce_sources design.views) (λ after. Reduced path (reduce_sources design.views) mapped_it after) after_world
+      gone = tried_there s before name id design place path within pool servers path_is at.child (f.disk old) mapped.between mapped.pool_between mapped.keeps mapped.later mapped.documents mapped.lists mapped.idle mapped.maps pool' servers' mapped.tried after_world
+
+      abbrev between_it : Moment
+      between_it = then s before name id design place path within pool servers path_is at.child (f.disk old) pool' servers' after_world gone.now
+
+      child_it : HasChild (s.may_follow servers') (s.faults servers') pool' between_it
+      child_it = gone.has_child
 
       abbrev IsMadeThere : Type 0
       IsMadeThere = IsNext f s docs design (side mid servers pool groups) (side new servers' pool' groups') before.world.history before.world.pictures (picture_of index)
@@ -184,47 +216,139 @@ module _ {F C : Type 0} (f : Folders F) (s : Servers C) (docs : Docs) (pool pool
           (moved f s docs pool pool' groups groups' mid new servers servers' name id design place path within path_is (Ok slot) brings before here)
 
       -- told of the disk before
-      known_made : IfTold (f.disk old) (λ d. (k : IsKnown (languages_of pool) before name id design place path mapped.documents) × IsNextOf s.functions s.honest before.world design path mapped.documents (picture_of index) after_world)
+      abbrev IsKnownMade : Type 0
+      IsKnownMade = (k : IsKnownThere) × IsNextOf s.functions s.honest before.world design path mapped.documents (picture_of index) after_world
+
+      known_made : IfTold (f.disk old) (λ d. IsKnownMade)
       known_made =
-          told_pair (f.disk old) (λ d. IsKnown (languages_of pool) before name id design place path mapped.documents) (λ d. IsMadeThere) _
+          told_pair (f.disk old) (λ d. IsKnownThere) (λ d. IsMadeThere) _
           (λ d k made. (k, next_is f s docs pool pool' groups groups' mid new servers servers' name id design place path within path_is (Ok slot) brings before (at_mid before at) (picture_of index) after_world mapped.documents made k.documents_are refl (λ sig. refl)))
           (known before at mapped.documents mapped.since)
           (told_first before at IsMadeThere (told_back (f.disk mid) (f.disk new) (λ d. IsMadeThere) (λ d. IsMadeThere) _ (λ a b both is. is) brought
           (told_after (f.disk mid) (f.disk new) (λ d. IsAtWorld engine d.now before.world) (λ d. IsMadeThere) _ (λ a b there both. both.1.1) (at_mid before at).documents brought)))
 
-      -- the moment after it
-      abbrev after_it : Moment
-      after_it = then s before name id design place path within pool pool' servers servers' path_is at.child brings.keeps brings.later.1 (f.disk old) after_world went.now
+      -- ---- the view is answered, through the pool and the servers then
+      module _ (pool'' : Pool) (servers'' : C) where
+        abbrev engine'' : Engine
+        engine'' = record { docs = docs; pool = pool''; groups = groups' }
 
-      left_it : (Allows : Moment → Type 0) → IfTold (f.disk old) (λ d. Allows after_it) → LeavesMoment f s now later before Allows
-      left_it Allows allowed = record {
-        after = after_it;
-        is_at = record {
-          documents = told_after (f.disk mid) (f.disk new) (λ d. IsAtWorld engine d.now before.world) (λ d. IsAtWorld engine' d.now after_world) _ (λ a b there both. both.1.0) (at_mid before at).documents brought;
-          child = has_child s before name id design place path within pool pool' servers servers' path_is at.child brings.keeps brings.later.1 (f.disk old) after_world went.now went.follows went.holds.1.0;
-        };
-        moments = crashes before at (StandsEither before.world after_world) (λ d image stands. stands_first before.world after_world image (stands_same before.world image stands)) (told_map (f.disk mid) (f.disk new) _ (LeavesOnly (StandsEither before.world after_world)) (λ a b both. both.0) brought);
-        allowed = allowed;
-      }
+        abbrev last : Scene F C
+        last = scene engine'' new servers''
 
-      pub shown_leaves : (parts : AllByRecursion (λ (row : Row). IsPart (json row.key) × IsPart (json row.value)) rows) → length (picture_of index).rows ≡ length design.views → (out out' reply : List ℕ) → IsAnswerOf design.views name (picture_of index).seq rows reply → out' ≡ out ++ ended reply
-          → AppendsText f s now later before (DoesRequestText s.functions s.honest (languages_of pool) before (Ok (view_request name))) out out'
-      shown_leaves parts each out out' reply answers appended = record {
-        text = ended reply;
-        leaves = left_it (DoesRequestText s.functions s.honest (languages_of pool) before (Ok (view_request name)) (ended reply))
-            (told_now (f.disk old) _ _ (λ d both. (
-              reply,
-              inl (inl (answered s.functions s.honest (languages_of pool) before name id design place path within mapped.documents (s.may_follow servers') (s.faults servers) (s.faults servers') pool' at.child.counts brings.later.1 pool at.child.width at.child.started at.child.reducer mapped.lists mapped.idle went
-                  (picture_of index) after_world both.0 both.1 each parts reply answers)),
-              refl,
-            )) known_made);
-        appended = appended;
-      }
+        abbrev own : List (List ℕ)
+        own = reduce_source (reduce_in design.views place)
 
-      pub spent_leaves : LeavesMoment f s now later before (Halts f s now later name before (Stopped NoMemory))
-      spent_leaves = left_it (Halts f s now later name before (Stopped NoMemory))
-          (told_now (f.disk old) _ _ (λ d both. (
-            λ r is. absurd (let clash : ⊥ = cc in clash),
-            asked_all s.functions s.honest (languages_of pool) before name id design place path within mapped.documents (s.may_follow servers') (s.faults servers) (s.faults servers') pool' at.child.counts brings.later.1 pool at.child.width at.child.started at.child.reducer mapped.lists mapped.idle went
-                (picture_of index) after_world both.0 both.1,
-          )) known_made)
+        path_there : path_in (languages_of pool') design.language ≡ Some path
+        path_there = ap (λ (l : List (List ℕ × List ℕ)). path_in l design.language) brings.keeps.languages ∙ path_is
+
+        abbrev last_it : List Call → Moment
+        last_it calls = then s before name id design place path within pool servers path_is at.child (f.disk old) pool'' servers'' after_world calls
+
+        left_it : (calls : List Call) → HasChild (s.may_follow servers'') (s.faults servers'') pool'' (last_it calls) → (Allows : Moment → Type 0) → IfTold (f.disk old) (λ d. Allows (last_it calls)) → LeavesMoment f s now last before Allows
+        left_it calls child Allows allowed = record {
+          after = last_it calls;
+          is_at = record {
+            documents = told_after (f.disk mid) (f.disk new) (λ d. IsAtWorld engine d.now before.world) (λ d. IsAtWorld engine'' d.now after_world) _
+                (λ a b there both. record { documents = both.1.0.documents; indexes = both.1.0.indexes; within = both.1.0.within }) (at_mid before at).documents brought;
+            child = child;
+          };
+          moments = crashes before at (StandsEither before.world after_world) (λ d image stands. stands_first before.world after_world image (stands_same before.world image stands)) (told_map (f.disk mid) (f.disk new) _ (LeavesOnly (StandsEither before.world after_world)) (λ a b both. both.0) brought);
+          allowed = allowed;
+        }
+
+        -- in the words of the design document
+        module _ (k : IsKnownThere) (made : IsNextOf s.functions s.honest before.world design path mapped.documents (picture_of index) after_world) where
+          abbrev document : Json
+          document = k.plan.document
+
+          own_is : own ≡ own_reduces name document
+          own_is = own_are s.functions s.honest (languages_of pool) before name id design place path within mapped.documents k
+
+          tried_it : Reduced path (all_reduces document) mapped_it between_it
+          tried_it = subst (λ (r : List (List ℕ)). Reduced path r mapped_it between_it) (all_are s.functions s.honest (languages_of pool) before name id design place path within mapped.documents k) gone.holds
+
+          brought_it : IsBrought s.functions s.honest (languages_of pool) document path before.world after_world
+          brought_it = is_brought s.functions s.honest (languages_of pool) before name id design place path within mapped.documents (picture_of index) after_world k made
+
+          -- so it is asked for
+          asked_it : (calls : List Call) → ReducedSomehow path own between_it (last_it calls) → MayHaveCalled s.functions s.honest (languages_of pool) before (Ok (view_request name)) (last_it calls)
+          asked_it calls somehow =
+              asked_later s before name id design place path within pool servers path_is at.child (f.disk old) mapped.between mapped.pool_between mapped.keeps mapped.later mapped.documents mapped.lists mapped.idle mapped.maps pool' servers'
+              (last_it calls) after_world refl k
+              (record {
+                between = between_it;
+                tried = somehow_had path (all_reduces document) mapped_it between_it tried_it;
+                reduced = subst (λ (r : List (List ℕ)). ReducedSomehow path r between_it (last_it calls)) own_is somehow;
+              }) (inr brought_it)
+
+          -- so it is answered
+          does_it : (calls : List Call) (reply : List ℕ) → IsAnswered s.functions s.honest (languages_of pool) name document path (source_at design.views place) before.world between_it (last_it calls) reply
+              → DoesRequest s.functions s.honest (languages_of pool) before (Ok (view_request name)) reply (last_it calls)
+          does_it calls reply answered = inl (inl (does_later s before name id design place path within pool servers path_is at.child (f.disk old) mapped.between mapped.pool_between mapped.keeps mapped.later mapped.documents mapped.lists mapped.idle mapped.maps pool' servers' k (last_it calls) reply
+              (inr (record { between = between_it; tried = tried_it; brought = brought_it; answered = answered }))))
+
+          -- all values were had
+          had_it : (query : Query) → query ≡ query_for design.views name → length (picture_of index).rows ≡ length design.views → AllByRecursion (λ (row : Row). IsPart (json row.key) × IsPart (json row.value)) rows
+              → (reply : List ℕ) → Answers (s.functions path) (s.honest path) (reduce_in design.views place) query (picture_of index).seq rows reply → (calls : List Call) → Reduced path own between_it (last_it calls)
+              → DoesRequest s.functions s.honest (languages_of pool) before (Ok (view_request name)) reply (last_it calls)
+          had_it query query_is each parts reply answers calls all =
+              does_it calls reply (inl (
+                subst (λ (r : List (List ℕ)). Reduced path r between_it (last_it calls)) own_is all,
+                prints s.functions s.honest (languages_of pool) before name id design place path within mapped.documents (picture_of index) after_world k made each parts reply
+                    (subst (λ (r : Reduce). Answers (s.functions path) (s.honest path) r (query_for design.views name) (picture_of index).seq rows reply) k.plan.reduced
+                    (subst (λ (q : Query). Answers (s.functions path) (s.honest path) (reduce_in design.views place) q (picture_of index).seq rows reply) query_is answers)),
+              ))
+
+          -- a complaint of an honest path there is none, where the pictures stood
+          never_it : length (picture_of index).rows ≡ length design.views → rows ≢ [] → SomeReduceFails (s.functions path) own → IsNever s.functions s.honest (languages_of pool) path before.world
+          never_it each some fails = λ is_honest sound fit.
+              let afresh = rows_are_afresh s.functions s.honest (languages_of pool) before.world (design_id name.design) document path refl k.plan.live k.plan.path_is is_honest sound fit (picture_of index)
+              (updated_with s.functions s.honest (languages_of pool) before name id design place path within mapped.documents k (picture_of index) made.updated) in
+              let fails_there : some_reduce_fails (s.functions path) (views_of document) (rows_of (s.functions path) (views_of document) before.world.history) ≡ true =
+              subst (λ (r : List (List Row)). some_reduce_fails (s.functions path) (views_of document) r ≡ true) afresh
+              (subst (λ (views : List View). some_reduce_fails (s.functions path) views (picture_of index).rows ≡ true) k.plan.views (fails_of_own (s.functions path) design.views (picture_of index).rows place each some fails)) in
+              let clash : true ≡ false = sym (spoiled_by_reduce (s.functions path) (views_of document) before.world.history fails_there) ∙ brought_it.answerable is_honest sound fit in
+              cc
+
+        -- ---- how it ends
+        module _ (query : Query) (query_is : query ≡ query_for design.views name) (each : length (picture_of index).rows ≡ length design.views) where
+          pub shown_leaves : (parts : AllByRecursion (λ (row : Row). IsPart (json row.key) × IsPart (json row.value)) rows) (out out' : List ℕ)
+              → AppendsAnswer s servers' servers'' pool' pool'' design place query (picture_of index) out out' × HasAll s servers' servers'' pool' pool'' design place query (picture_of index)
+              → AppendsText f s now last before (DoesRequestText s.functions s.honest (languages_of pool) before (Ok (view_request name))) out out'
+          shown_leaves parts out out' (answers, all) =
+              let had = all_had s servers' servers'' pool' pool'' between_it child_it design.language path path_there own all after_world in
+              record {
+                text = ended answers.reply;
+                leaves = left_it had.now had.has_child (DoesRequestText s.functions s.honest (languages_of pool) before (Ok (view_request name)) (ended answers.reply))
+                    (told_now (f.disk old) (λ d. IsKnownMade) _ (λ d both. (
+                      answers.reply,
+                      had_it both.0 both.1 query query_is each parts answers.reply (answers.is path gone.now child_it.follows path_there child_it.child) had.now had.holds,
+                      refl,
+                    )) known_made);
+                appended = answers.appended;
+              }
+
+          pub halted_leaves : (fault : PoolFault) → HasMet s servers' servers'' pool' pool'' design place query (picture_of index) fault → LeavesMoment f s now last before (Halts f s now last name before (met_by_pool id fault))
+          halted_leaves fault (inl (fails, wanted)) =
+              let met = met_there s servers' servers'' pool' pool'' between_it child_it design.language path path_there own fault fails after_world in
+              left_it met.now met.has_child (Halts f s now last name before (met_by_pool id fault))
+              (told_now (f.disk old) (λ d. IsKnownMade) _ (λ d both.
+              let k = both.0 in
+              let made = both.1 in (
+                λ r is. does_it k made met.now (refusal_text r) (inr (
+                    subst (λ (l : List (List ℕ)). CalledReducing path l between_it (last_it met.now) (IsRefusedReducing s.functions s.honest name path l (IsNever s.functions s.honest (languages_of pool) path before.world) between_it (last_it met.now) (refusal_text r))) (own_is k made)
+                    (refused_reducing s servers' servers'' pool' pool'' between_it child_it design.language path path_there own name id k.plan.id_is after_world fault r is fails.twice (IsNever s.functions s.honest (languages_of pool) path before.world)
+                    (λ complains is_honest sound fit.
+                    never_it k made each (wanted complains)
+                    (complains_of_reduce s.functions s.honest path own met.holds.added between_it.calls is_honest (subst (IsCaused s.functions s.honest (reduce_job path own) met.holds.added between_it.calls) complains met.holds.holds.caused))
+                    is_honest sound fit)
+                    met.now met.holds))),
+                asked_it k made met.now (somehow_met s servers' servers'' pool' pool'' between_it child_it design.language path path_there own fault (last_it met.now) met.holds),
+              )) known_made)
+          halted_leaves fault (inr (spent, all)) =
+              let had = all_had s servers' servers'' pool' pool'' between_it child_it design.language path path_there own all after_world in
+              left_it had.now had.has_child (Halts f s now last name before (met_by_pool id fault))
+              (told_now (f.disk old) (λ d. IsKnownMade) _ (λ d both. (
+                λ r is. absurd (never_refused id fault r spent is),
+                asked_it both.0 both.1 had.now (somehow_had path own between_it (last_it had.now) had.holds),
+              )) known_made)

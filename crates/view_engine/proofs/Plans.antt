@@ -1,8 +1,10 @@
 -- A view request before any server is asked.
-use Rattle.std.specs.Prelude.{◌≡◌, ◌≤◌, ℕ, List, [], ◌∷◌, true, Bool, Option, Some, None, option_and_then, option_map, bytes_eq, length, map, slice_index_or}
+use Rattle.std.specs.Prelude.{◌≡◌, ◌<◌, ◌≤◌, ℕ, codes, not, zero, suc, List, [], ◌∷◌, true, Bool, Option, Some, None, option_and_then, option_map, bytes_eq, length, map, slice_index_or}
 use Rattle.std.specs.Map.{lookup}
-use Rattle.std.proofs.Common.{◌⊎◌, inl, inr, refl, sym, ap, ◌∙◌, subst}
+use Rattle.std.proofs.Common.{◌⊎◌, inl, inr, refl, sym, ap, ◌∙◌, subst, arith}
+use Rattle.std.proofs.lemmas.Bool.{and_parts}
 use Rattle.json_terms.specs.Json.{Json}
+use Rattle.json_terms.specs.Find.{member_of}
 use Rattle.design_docs.specs.declared.design.Design.{Design}
 use Rattle.design_docs.specs.declared.design.View.{View}
 use Rattle.design_docs.specs.Design.{IsDesignOf, language_of, source_of, views_of}
@@ -12,6 +14,7 @@ use Rattle.design_docs.specs.Faults.{HasDesign}
 use Rattle.design_docs.proofs.ViewNames.{has_views_of_names}
 use Rattle.design_docs.proofs.ViewOrder.{views_are_few}
 use Rattle.child_pool.specs.Languages.{path_in}
+use Rattle.child_pool.specs.ReduceTalk.{reduce_in}
 use Rattle.doc_file.specs.Held.{IsBodyOf}
 use Rattle.doc_file.specs.History.{Write, last_write, live_document}
 use Rattle.view_engine.specs.declared.refusal.Refusal.{Refusal}
@@ -23,12 +26,12 @@ use Rattle.query_args.specs.declared.fault.QueryFault.{QueryFault}
 use Rattle.query_args.specs.declared.fault.QueryFault.TheVariants as query
 use Rattle.view_engine.specs.declared.halt.Halt.TheVariants.{Refused, Stopped}
 use Rattle.view_engine.specs.declared.halt.StepFault.TheVariants.{NoMemory}
-use Rattle.query_args.specs.Faults.{query_fault}
+use Rattle.query_args.specs.declared.query.Query.{Query}
+use Rattle.query_args.specs.Faults.{is_false_given, is_reduced, query_fault}
 use Rattle.query_args.specs.Query.{is_updated}
 use Rattle.view_engine.specs.View.{bad_query, design_id, no_language, no_path, no_view, view_refusal}
-use Rattle.design_docs.specs.declared.design.Builtin.{Builtin}
 use Rattle.view_engine.specs.ViewPlan.{HasReduce, IsPlan, ShowsRows, met_by_query, source_at}
-use Rattle.view_engine.specs.ViewQuery.{ViewQuery, builtin_in, builtin_named, parameters_of, target_for}
+use Rattle.view_engine.specs.ViewQuery.{ViewQuery, has_reduce, parameters_of, query_for, reduce_named, target_for}
 
 is_design : (name : List ℕ) → is_design_id (design_id name) ≡ true
 is_design name = refl
@@ -87,9 +90,9 @@ module _ (languages : List (List ℕ × List ℕ)) (history : List Write) (name 
         ∙ ap (λ (l : List ℕ). first_of (no_path l (path_in languages l) ∷ [])) (sym of.0)
         ∙ ap (λ (p : Option (List ℕ)). first_of (no_path design.language p ∷ [])) (sym none)
 
-    pub planned : {updating : Bool} → is_updated (parameters_of name) ≡ updating → query_fault (target_for design.views name) (parameters_of name) ≡ None → ShowsRows design.views name.view place → (path : List ℕ) → path_in languages design.language ≡ Some path
+    pub planned : {updating : Bool} → is_updated (parameters_of name) ≡ updating → query_fault (target_for design.views name) (parameters_of name) ≡ None → ShowsRows design.views name.view place → HasReduce design.views name.view place → (path : List ℕ) → path_in languages design.language ≡ Some path
         → IsPlan updating languages history name id design place path
-    planned updates fits shown path known =
+    planned updates fits shown reduced path known =
         let there_is : path_in languages (language_of document) ≡ Some path = ap (path_in languages) (sym of.0) ∙ known in
         record {
           document = document;
@@ -101,6 +104,7 @@ module _ (languages : List (List ℕ × List ℕ)) (history : List Write) (name 
           term = of.2;
           shown = shown;
           few = subst (λ (views : List View). length views ≤ 32) (sym of.1) (views_are_few document has);
+          reduced = reduced;
           id_is = is;
           updates = updates;
           accepted = served fits ∙ ap (λ (p : Option (List ℕ)). first_of (no_path (language_of document) p ∷ [])) there_is;
@@ -125,11 +129,26 @@ met_query other refusal stands is (inr memory) = absurd (let clash : ⊥ = memor
     memory_is_no_fault : (found : QueryFault) (refusal : Refusal) → found ≡ query.NoMemory → met_by_query found ≡ Refused refusal → ⊥
     memory_is_no_fault found refusal memory is = let met : Stopped NoMemory ≡ Refused refusal = sym (ap met_by_query memory) ∙ is in cc
 
+-- the reduce in a place is that of the view there
+reduce_at_place : (views : List View) (place : ℕ) (view : View) → place < length views → (slice_index_or views place view).reduce ≡ reduce_in views place
+reduce_at_place [] place view within = absurd (omega arith)
+reduce_at_place (first ∷ views) zero view within = refl
+reduce_at_place (first ∷ views) (suc place) view within = reduce_at_place views place view (omega arith)
+
 -- the reduce of the view in the place that was found is that of the view with the name
-pub reduced_there : (views one two : List View) (name text : List ℕ) (place : ℕ) (view : View) (found : Option Builtin) → one ≡ views → two ≡ views → text ≡ name
-    → found ≡ builtin_in (slice_index_or two place view).reduce → HasReduce one text place → builtin_named name views ≡ found
-reduced_there views one two name text place view found one_is two_is text_is is has =
+pub has_there : (views one : List View) (name text : List ℕ) (place : ℕ) → one ≡ views → text ≡ name → HasReduce one text place → HasReduce views name place
+has_there views one name text place one_is text_is has =
+    subst (λ (vs : List View). HasReduce vs name place) one_is (subst (λ (t : List ℕ). HasReduce one t place) text_is has)
+
+pub reduced_there : (views one two : List View) (name text : List ℕ) (place : ℕ) (view : View) (found : Bool) → one ≡ views → two ≡ views → text ≡ name → place < length one
+    → found ≡ has_reduce (slice_index_or two place view).reduce → HasReduce one text place → has_reduce (reduce_named name views) ≡ found
+reduced_there views one two name text place view found one_is two_is text_is within is has =
     sym (is
-    ∙ ap (λ (vs : List View). builtin_in (slice_index_or vs place view).reduce) (two_is ∙ sym one_is)
-    ∙ has view
-    ∙ (λ i. builtin_named (text_is i) (one_is i)))
+    ∙ ap (λ (vs : List View). has_reduce (slice_index_or vs place view).reduce) two_is
+    ∙ ap has_reduce (reduce_at_place views place view (subst (λ (vs : List View). place < length vs) one_is within) ∙ has_there views one name text place one_is text_is has))
+
+-- a query that is reduced is of a view with a reduce
+pub reduced_has : (views : List View) (name : ViewQuery) (place : ℕ) (query : Query) → query ≡ query_for views name → HasReduce views name.view place → query.reduced ≡ true → has_reduce (reduce_in views place) ≡ true
+reduced_has views name place query is has reduced =
+    let there : is_reduced (target_for views name) (parameters_of name) ≡ true = ap (λ (q : Query). q.reduced) (sym is) ∙ reduced in
+    ap has_reduce has ∙ (and_parts (has_reduce (reduce_named name.view views)) (not (is_false_given (member_of (codes "reduce") (parameters_of name)))) there).0

@@ -1,5 +1,5 @@
 -- The pictures of a world stay true over what requests make of it.
-use Rattle.std.proofs.Common.{◌≡◌, ℕ, List, [], ◌∷◌, Some, Result, Ok, Err, inl, inr, refl, sym, subst}
+use Rattle.std.proofs.Common.{◌≡◌, ℕ, List, [], ◌∷◌, Bool, true, false, Some, Result, Ok, Err, inl, inr, refl, sym, subst}
 use Rattle.std.proofs.lemmas.List.Elements.{Contains-append_right}
 use Rattle.json_terms.specs.Json.{Json, members_of, object}
 use Rattle.design_docs.specs.Design.{language_of, views_of}
@@ -18,14 +18,15 @@ use Rattle.view_engine.specs.Delete.{delete_write}
 use Rattle.view_engine.specs.Moments.{Moment}
 use Rattle.view_engine.specs.Put.{put_write}
 use Rattle.view_engine.specs.Refusals.{request_of}
-use Rattle.view_engine.specs.Steps.{Answers, Does, DoesRequest, Makes, MayHaveCalled, Performs}
+use Rattle.view_engine.specs.Steps.{Answers, AskedBy, Does, DoesRequest, Makes, MayHaveCalled, Performs}
 use Rattle.view_engine.specs.Updating.{AreFit, AreShaped, IsBrought, IsSound}
 use Rattle.view_engine.specs.View.{design_id, DoesView}
 use Rattle.view_engine.specs.World.{World, written}
 use Rattle.view_engine.specs.Worlds.{IsBetween}
 use Rattle.view_engine.proofs.Updated.{live_is_design}
 use Rattle.view_engine.proofs.Between.{between_fewer, cleaned_fewer, partly_fewer, AreOfThem}
-use Rattle.view_engine.specs.ViewQuery.{ViewQuery, view_query}
+use Rattle.view_engine.specs.ViewQuery.{ViewQuery, parameters_in, view_query}
+use Rattle.query_args.specs.Query.{is_updated}
 
 -- ---- designs
 
@@ -36,7 +37,6 @@ still_stored write history document is = record { id = is.id; design = is.design
 pub fit_before : (write : Write) (history : List Write) → AreFit (write ∷ history) → AreFit history
 fit_before write history fit = record {
   apart = λ one other is also. fit.apart one other (still_stored write history one is) (still_stored write history other also);
-  unserved = λ document is. fit.unserved document (still_stored write history document is);
 }
 
 -- designs that are fit are the same to views where their signatures are
@@ -98,10 +98,13 @@ module _ (functions : List ℕ → Functions) (honest : List ℕ → Type 0) (la
   same_sound before after same = subst (λ (m : Moment). Sound m.world) (sym same)
 
   view_sound : (before : Moment) (name : ViewQuery) (reply : List ℕ) (after : Moment) → DoesView functions honest languages before name reply after → Sound before.world → Sound after.world
-  view_sound before name reply after (inr kept) sound = same_sound before after kept.same sound
-  view_sound before name reply after (inl does) sound = elim does.called.holds [
-    | inl answered ↦ brought_sound does.design does.job.path before.world after.world (named_is_design (before.world).history name.design does.design does.is_job.live) does.is_job.path_is answered.brought sound
-    | inr refused ↦ subst Sound (sym refused.same) sound
+  view_sound before name reply after (inr kept) sound = subst Sound (sym kept.same) sound
+  view_sound before name reply after (inl does) sound = elim does.ends [
+    | inl refused ↦ subst Sound (sym refused.holds.same) sound
+    | inr mapped ↦ elim mapped.ends [
+      | inl refused ↦ subst Sound (sym refused.same) sound
+      | inr brought ↦ brought_sound does.design does.job.path before.world after.world (named_is_design (before.world).history name.design does.design does.is_job.live) does.is_job.path_is brought.brought sound
+    ]
   ]
 
   performs_sound : (before : Moment) (request : Request) (reply : List ℕ) (after : Moment) → Performs functions honest languages before request reply after → Sound before.world → Sound after.world
@@ -125,12 +128,16 @@ module _ (functions : List ℕ → Functions) (honest : List ℕ → Type 0) (la
   does_sound before [] text after does sound = same_sound before after does.1 sound
   does_sound before (byte ∷ bytes) text after does sound = request_sound before (request_of (byte ∷ bytes)) does.0 after does.1 sound
 
+  asked_sound : (updating : Bool) (before : Moment) (name : ViewQuery) (after : Moment) → AskedBy functions honest languages updating before name after → Sound before.world → Sound after.world
+  asked_sound false before name after asked sound = subst Sound (sym asked.same) sound
+  asked_sound true before name after asked sound = elim asked.world [
+    | inl same ↦ subst Sound (sym same) sound
+    | inr brought ↦ brought_sound asked.design asked.job.path before.world after.world (named_is_design (before.world).history name.design asked.design asked.is_job.live) asked.is_job.path_is brought sound
+  ]
+
   called_sound : (before : Moment) (request : Result Request Refusal) (after : Moment) → MayHaveCalled functions honest languages before request after → Sound before.world → Sound after.world
   called_sound before (Ok (View view query)) after (inl same) sound = same_sound before after same sound
-  called_sound before (Ok (View view query)) after (inr asked) sound = elim (asked.1).world [
-    | inl same ↦ subst Sound (sym same) sound
-    | inr brought ↦ brought_sound (asked.1).design (asked.1).job.path before.world after.world (named_is_design (before.world).history view.design (asked.1).design (asked.1).is_job.live) (asked.1).is_job.path_is brought sound
-  ]
+  called_sound before (Ok (View view query)) after (inr asked) sound = asked_sound (is_updated (parameters_in query)) before (view_query view query) after asked.1 sound
   called_sound before other after same sound = same_sound before after same sound
 
   -- and so is the world after a step of a run

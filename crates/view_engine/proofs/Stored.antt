@@ -2,7 +2,7 @@
 use Rattle.std.specs.Prelude.{OnOk}
 use Rattle.std.specs.Result.{IsErrAnd}
 use Rattle.std.proofs.lemmas.Result.{err_from_is_err_and}
-use Rattle.std.proofs.Common.{◌≡◌, ◌≢◌, ◌⊎◌, ◌++◌, ℕ, List, ◌∷◌, inl, inr, Result, Ok, Err, Option, Some, None, refl, sym, ap, ◌∙◌, subst, arith}
+use Rattle.std.proofs.Common.{◌≡◌, ◌⊎◌, ◌++◌, ℕ, List, ◌∷◌, inl, inr, Result, Ok, Err, Option, Some, None, refl, sym, ap, ◌∙◌, subst, arith}
 use Rattle.json_terms.specs.Json.{Json}
 use Rattle.view_ports.specs.Disk.{IfTold}
 use Rattle.view_ports.specs.File.{File}
@@ -26,7 +26,6 @@ use Rattle.view_engine.specs.declared.halt.Halt.{Halt}
 use Rattle.view_engine.specs.declared.halt.Halt.TheVariants.{Refused, Stopped}
 use Rattle.view_engine.specs.declared.halt.StepFault.TheVariants.{DiskFault, Damaged, Full, NoMemory}
 use Rattle.view_engine.specs.declared.refusal.Refusal.{Refusal}
-use Rattle.view_engine.specs.declared.refusal.Refusal.TheVariants.{ServerFault}
 use Rattle.view_engine.specs.declared.request.Request.{Request}
 use Rattle.view_engine.specs.Calls.{ActsHere, DoesHere, DoesHereBy, IsRefusedHere, IsReplyLine, IsUnlikeFault, LeavesWorld}
 use Rattle.view_engine.specs.Disks.{AreOpen, IfStopped, IsReason, KeepsDocuments, OverWorld}
@@ -54,23 +53,6 @@ spent_here {f = f} {docs = docs} {old = old} {request = request} {out = out} {ou
       why = tt;
       later = omega arith;
     })
-
-module _ {F : Type 0} {f : Folders F} {docs : Docs} {old : F} {request : Request} {out : List ℕ} where
-  -- it is refused before anything was called
-  pub refused_here_at_once : {refusal : Refusal} → refusal ≢ ServerFault → AreOpen f docs old → ((world : World) → IsRefusedHere world request refusal) → ActsHere f docs docs old old request out out (Err (Refused refusal))
-  refused_here_at_once {refusal} other is_open is = record {
-    does = λ world at. record {
-      after = world;
-      is_at = at;
-      allowed = told_all (f.disk old) (λ d. (world ≡ world) × IsRefusedHere world request refusal) (λ d. (refl, is world));
-    };
-    silent = refl;
-    unblamed = err_unblamed (Refused refusal) (λ same. other (let is_fault : refusal ≡ ServerFault = cc in is_fault));
-    fits = tt;
-    disk = documents_still is_open;
-    why = tt;
-    later = omega arith;
-  }
 
 module _ {F : Type 0} (f : Folders F) (docs docs' : Docs) (old new : F) (request : Request) (out out' : List ℕ) where
   -- what a halt is answered by

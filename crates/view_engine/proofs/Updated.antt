@@ -1,32 +1,54 @@
 -- What an update of a design's picture is to a world whose pictures stand.
-use Rattle.std.specs.Prelude.{◌≡◌, ◌≢◌, ◌<◌, ◌&&◌, ◌||◌, ℕ, zero, suc, List, [], ◌∷◌, Bool, true, false, if◌then◌else◌, Option, Some, None, option_and_then, bytes_eq, length, slice_index_or, Contains}
+use Rattle.std.specs.Prelude.{◌≡◌, ◌≢◌, ◌⊎◌, ◌<◌, ◌&&◌, ◌||◌, ℕ, zero, suc, List, [], ◌∷◌, Bool, true, false, not, if◌then◌else◌, Option, Some, None, option_and_then, bytes_eq, length, slice_index_or, nat_lt, Contains}
 use Rattle.std.proofs.Common.{refl, sym, ap, ◌∙◌, subst, inl, inr, arith}
+use Rattle.std.specs.List.{flat_map}
 use Rattle.std.proofs.lemmas.List.Elements.{Contains-append_right}
 use Rattle.std.proofs.lemmas.Slice.Eq.{bytes_eq-Decides}
+use Rattle.std.proofs.lemmas.Bool.Decides.{nat_tests}
 use Rattle.json_terms.specs.Json.{Json}
 use Rattle.json_terms.specs.declared.term.Row.{Row}
 use Rattle.view_ports.specs.Functions.{Functions}
 use Rattle.design_docs.specs.declared.design.Reduce.{Reduce}
-use Rattle.design_docs.specs.declared.design.Reduce.TheVariants.{Absent, Source}
+use Rattle.design_docs.specs.declared.design.Reduce.TheVariants.{Absent, Builtin, Source}
 use Rattle.design_docs.specs.declared.design.View.{View}
 use Rattle.design_docs.specs.Design.{language_of, map_sources, views_of}
 use Rattle.design_docs.specs.Documents.{is_design_id}
 use Rattle.child_pool.specs.Jobs.{IsAmong}
-use Rattle.child_pool.specs.Honesty.{SomeSourceFails}
+use Rattle.child_pool.specs.Honesty.{SomeReduceFails, SomeSourceFails}
 use Rattle.child_pool.specs.Languages.{path_in}
+use Rattle.child_pool.specs.ReduceTalk.{reduce_in, reduce_source}
+use Rattle.raw_collation.specs.Sorting.{sorted_rows}
 use Rattle.child_pool.specs.Sessions.{AllCompile}
-use Rattle.doc_file.specs.History.{Write, last_write, live_document, mapped_after}
+use Rattle.doc_file.specs.History.{Write, last_write, live_document, mapped, mapped_after}
 use Rattle.view_model.specs.Picture.{Picture, IsTrueOf, picture_or_none}
-use Rattle.view_model.specs.Rows.{has_some, maps_compile, reduce_fails, rows_of, some_reduce_fails, spoiled, view_rows}
+use Rattle.view_model.specs.Rows.{document_rows, has_some, maps_compile, reduce_fails, rows_of, some_reduce_fails, spoiled, view_rows}
+use Rattle.view_model.specs.Since.{first}
 use Rattle.view_model.specs.Standing.{IsDesignIn}
 use Rattle.view_model.specs.Update.{IsUpdated}
 use Rattle.view_model.proofs.Pictures.{is_spoiled_as_met, is_spoiled_by_mapped, no_picture_is_true}
 use Rattle.view_model.proofs.Updates.{updates_are_afresh}
 use Rattle.view_signature.specs.Signature.{signature_of}
-use Rattle.view_engine.specs.Put.{has_served_reduce, is_served}
 use Rattle.view_engine.specs.Updating.{picture_in, AreFit, IsSound}
 use Rattle.view_engine.specs.ViewPlan.{source_at}
 use Rattle.view_engine.specs.World.{World}
+
+-- all writes are the first so many
+pub all_first : (history : List Write) → first (length history) history ≡ history
+all_first [] = refl
+all_first (write ∷ older) = ap (λ (b : Bool). if b then first (length (write ∷ older)) older else write ∷ older) (not_less (length (write ∷ older)))
+  where
+    not_less : (n : ℕ) → nat_lt n n ≡ false
+    not_less n = grind (arith, nat_tests)
+
+-- numbers are equal, or they are not
+equal_or_not : (a b : ℕ) → (a ≡ b) ⊎ (a ≢ b)
+equal_or_not zero zero = inl refl
+equal_or_not zero (suc b) = inr (λ same. omega (arith, same))
+equal_or_not (suc a) zero = inr (λ same. omega (arith, same))
+equal_or_not (suc a) (suc b) = elim (equal_or_not a b) [
+  | inl same ↦ inl (ap (λ n. suc n) same)
+  | inr other ↦ inr (λ same. other (omega (arith, same)))
+]
 
 -- ---- a live design document was stored
 
@@ -68,21 +90,67 @@ some_fails functions [] source among fails = absurd among
 some_fails functions (view ∷ views) source (inl this) fails = ap (λ (b : Bool). b && maps_compile functions views) (ap functions.compiles (sym this) ∙ fails)
 some_fails functions (view ∷ views) source (inr later) fails = and_false (functions.compiles view.map) (maps_compile functions views) (some_fails functions views source later fails)
 
-or_none : (a b : Bool) → (a || b) ≡ false → (a ≡ false) × (b ≡ false)
-or_none true b none = let clash : ⊥ = cc in absurd clash
-or_none false b none = (refl, none)
+-- ---- reduces that are wanted
 
-no_reduce_fails : (functions : Functions) (reduce : Reduce) (rows : List Row) → is_served reduce ≡ false → reduce_fails functions reduce rows ≡ false
-no_reduce_fails functions Absent rows none = refl
-no_reduce_fails functions (Source source) rows none = let clash : ⊥ = cc in absurd clash
-no_reduce_fails functions other rows none = refl
+-- no rows want none
+no_rows_want : (functions : Functions) (reduce : Reduce) → reduce_fails functions reduce [] ≡ false
+no_rows_want functions Absent = refl
+no_rows_want functions (Builtin kind) = refl
+no_rows_want functions (Source source) = refl
 
-none_fails : (functions : Functions) (views : List View) (rows : List (List Row)) → has_served_reduce views ≡ false → some_reduce_fails functions views rows ≡ false
-none_fails functions [] rows none = refl
-none_fails functions (view ∷ views) [] none = refl
-none_fails functions (view ∷ views) (own ∷ rows) none =
-    let both = or_none (is_served view.reduce) (has_served_reduce views) none in
-    ap (λ (b : Bool). b || some_reduce_fails functions views rows) (no_reduce_fails functions view.reduce own both.0) ∙ none_fails functions views rows both.1
+unmapped_want_none : (functions : Functions) (views : List View) (history : List Write) → mapped history ≡ [] → some_reduce_fails functions views (rows_of functions views history) ≡ false
+unmapped_want_none functions [] history none = refl
+unmapped_want_none functions (view ∷ views) history none =
+    let own : view_rows functions view.map history ≡ [] = ap (λ (documents : List (List ℕ × Json)). sorted_rows (flat_map (document_rows functions view.map) documents)) none ∙ sorted_none in
+    ap (λ (rows : List Row). reduce_fails functions view.reduce rows || some_reduce_fails functions views (rows_of functions views history)) own
+    ∙ ap (λ (b : Bool). b || some_reduce_fails functions views (rows_of functions views history)) (no_rows_want functions view.reduce)
+    ∙ unmapped_want_none functions views history none
+  where
+    sorted_none : sorted_rows [] ≡ []
+    sorted_none = refl
+
+-- where one is wanted whose source doesn't compile, the views can't be answered
+pub spoiled_by_reduce : (functions : Functions) (views : List View) (history : List Write) → some_reduce_fails functions views (rows_of functions views history) ≡ true → spoiled functions views history ≡ true
+spoiled_by_reduce functions views history fails =
+    elim (maps_compile functions views) as (λ b. (if b then some_reduce_fails functions views (rows_of functions views history) else has_some (mapped history)) ≡ true) [
+      | true ↦ fails
+      | false ↦ by_documents (mapped history) refl
+    ]
+  where
+    by_documents : (documents : List (List ℕ × Json)) → mapped history ≡ documents → has_some documents ≡ true
+    by_documents [] none = let clash : true ≡ false = sym fails ∙ unmapped_want_none functions views history none in absurd cc
+    by_documents (first ∷ others) some = refl
+
+-- the reduce of a view in a place fails, which has rows
+pub fails_in_place : (functions : Functions) (views : List View) (rows : List (List Row)) (place : ℕ) (source : List ℕ) → length rows ≡ length views → reduce_in views place ≡ Source source → slice_index_or rows place [] ≢ []
+    → functions.reduce_compiles source ≡ false → some_reduce_fails functions views rows ≡ true
+fails_in_place functions [] rows place source long is some fails = let clash : Absent ≡ Source source = is in absurd cc
+fails_in_place functions (view ∷ views) [] place source long is some fails = absurd (some refl)
+fails_in_place functions (view ∷ views) (own ∷ rows) zero source long is some fails =
+    ap (λ (r : Reduce). reduce_fails functions r own || some_reduce_fails functions views rows) is
+    ∙ ap (λ (b : Bool). (has_some own && not b) || some_reduce_fails functions views rows) fails
+    ∙ by_rows own some
+  where
+    by_rows : (given : List Row) → given ≢ [] → ((has_some given && not false) || some_reduce_fails functions views rows) ≡ true
+    by_rows [] any = absurd (any refl)
+    by_rows (row ∷ more) any = refl
+fails_in_place functions (view ∷ views) (own ∷ rows) (suc place) source long is some fails =
+    or_later (reduce_fails functions view.reduce own) (some_reduce_fails functions views rows) (fails_in_place functions views rows place source (omega (arith, long)) is some fails)
+  where
+    or_later : (a b : Bool) → b ≡ true → (a || b) ≡ true
+    or_later true b later = refl
+    or_later false b later = later
+
+-- the same where the sources of the view's own reduce are told
+pub fails_of_own : (functions : Functions) (views : List View) (rows : List (List Row)) (place : ℕ) → length rows ≡ length views → slice_index_or rows place [] ≢ []
+    → SomeReduceFails functions (reduce_source (reduce_in views place)) → some_reduce_fails functions views rows ≡ true
+fails_of_own functions views rows place each some own = by_reduce (reduce_in views place) refl own.source own.among own.fails
+  where
+    by_reduce : (reduce : Reduce) → reduce_in views place ≡ reduce → (source : List ℕ) → IsAmong (reduce_source reduce) source → functions.reduce_compiles source ≡ false → some_reduce_fails functions views rows ≡ true
+    by_reduce Absent is source among fails = absurd among
+    by_reduce (Builtin kind) is source among fails = absurd among
+    by_reduce (Source given) is source (inl same) fails = fails_in_place functions views rows place given each is some (ap functions.reduce_compiles (sym same) ∙ fails)
+    by_reduce (Source given) is source (inr later) fails = absurd later
 
 -- ---- the rows of a view in its place
 
@@ -122,19 +190,30 @@ module _ (functions : List ℕ → Functions) (honest : List ℕ → Type 0) (la
     pub rows_are_afresh : next.rows ≡ rows_of own views world.history
     rows_are_afresh = updates_are_afresh own (honest path) views world.history (picture_in world document) next true_before is_honest updated
 
-    -- and they can be answered, where all sources compile once a document is mapped
-    pub can_be_answered : (mapped_now ≢ [] → AllCompile own (map_sources views)) → spoiled own views world.history ≡ false
-    can_be_answered compile = is_spoiled_as_met own (honest path) views world.history (picture_in world document) next true_before is_honest updated ∙ by_documents mapped_now refl
+    compiles_all : (mapped_now ≢ [] → AllCompile own (map_sources views)) → some_reduce_fails own views next.rows ≡ false → spoiled own views world.history ≡ false
+    compiles_all compile wanted = is_spoiled_as_met own (honest path) views world.history (picture_in world document) next true_before is_honest updated ∙ by_documents mapped_now refl
       where
         by_documents : (documents : List (List ℕ × Json)) → mapped_now ≡ documents → (if maps_compile own views then some_reduce_fails own views next.rows else has_some documents) ≡ false
         by_documents [] none =
             elim (maps_compile own views) as (λ b. (if b then some_reduce_fails own views next.rows else false) ≡ false) [
-              | true ↦ none_fails own views next.rows (fit.unserved document stored)
+              | true ↦ wanted
               | false ↦ refl
             ]
         by_documents (first ∷ others) some =
             let all = all_compile own views (compile (λ none. let clash : first ∷ others ≡ [] = sym some ∙ none in let no : ⊥ = cc in no)) in
-            ap (λ (b : Bool). if b then some_reduce_fails own views next.rows else true) all ∙ none_fails own views next.rows (fit.unserved document stored)
+            ap (λ (b : Bool). if b then some_reduce_fails own views next.rows else true) all ∙ wanted
+
+    -- and they can be answered, where all sources compile once a document is mapped, and all those of reduces that are wanted where
+    -- something was written since
+    pub can_be_answered : (mapped_now ≢ [] → AllCompile own (map_sources views)) → ((picture_in world document).seq ≢ length world.history → some_reduce_fails own views next.rows ≡ false) → spoiled own views world.history ≡ false
+    can_be_answered compile wanted = elim (equal_or_not (picture_in world document).seq (length world.history)) [
+      | inl same ↦ ap (spoiled own views) (sym (all_first world.history) ∙ ap (λ count. first count world.history) (sym same)) ∙ true_before.sound
+      | inr later ↦ compiles_all compile (wanted later)
+    ]
+
+    -- where a reduce is wanted whose source doesn't compile, they can't be
+    pub are_spoiled_by_reduce : some_reduce_fails own views next.rows ≡ true → spoiled own views world.history ≡ true
+    are_spoiled_by_reduce fails = spoiled_by_reduce own views world.history (ap (some_reduce_fails own views) (sym rows_are_afresh) ∙ fails)
 
   -- where a source fails that is met, they can't be
   pub are_spoiled : SomeSourceFails own (map_sources views) → mapped_now ≢ [] → spoiled own views world.history ≡ true

@@ -1,6 +1,6 @@
 -- A view, as its servers answered it.
-use Rattle.std.specs.Prelude.{slice_index_or, nat_lt}
-use Rattle.std.proofs.Common.{◌≡◌, ◌≢◌, ◌⊎◌, ◌<◌, ◌≤◌, ◌∙◌, ◌++◌, ℕ, max, min, List, [], ◌∷◌, Bool, true, false, arith, length, map, Option, None, Some, Result, Ok, Err, refl, sym, ap, subst, inl, inr}
+use Rattle.std.specs.Prelude.{slice_index_or}
+use Rattle.std.proofs.Common.{◌≡◌, ◌≢◌, ◌⊎◌, ◌<◌, ◌≤◌, ◌∙◌, ◌++◌, ℕ, max, min, List, [], ◌∷◌, Bool, true, false, length, map, Option, None, Some, Result, Ok, Err, refl, sym, ap, subst, inl, inr}
 use Rattle.std.specs.Prelude.{if◌then◌else◌}
 use Rattle.std.specs.List.{AllByRecursion}
 use Rattle.std.proofs.lemmas.List.{length-map}
@@ -27,6 +27,7 @@ use Rattle.child_pool.specs.Jobs.{Job, job_of}
 use Rattle.child_pool.specs.Mapping.{IsPart}
 use Rattle.child_pool.specs.Pools.{IsKeptOf, kept_of}
 use Rattle.child_pool.specs.Prompts.{update_prompts}
+use Rattle.child_pool.specs.ReduceTalk.{reduce_in, reduce_source, reduce_sources}
 use Rattle.child_pool.specs.Honesty.{SomeSourceFails}
 use Rattle.child_pool.specs.Sessions.{AllCompile}
 use Rattle.child_pool.specs.Talk.{AreCutShortIn, AreTurns, talk_of}
@@ -35,38 +36,30 @@ use Rattle.child_pool.specs.Tries.{AllAnswered, Prompt, StopsAt}
 use Rattle.child_pool.specs.Updates.{AfterTries, AfterUpdate}
 use Rattle.child_pool.proofs.Remembered.{kept_is}
 use Rattle.child_pool.proofs.Honesty.{maps_complain_rightly, no_bad_reply}
-use Rattle.doc_file.specs.History.{IsStoredAs, AreStored, Write, mapped_after}
+use Rattle.doc_file.specs.History.{IsStoredAs, AreStored, mapped_after}
 use Rattle.doc_file.proofs.CanBeStored.{mapped_are_stored}
 use Rattle.view_index.specs.Held.{empty_views, or_empty}
 use Rattle.view_model.specs.Picture.{Picture, picture_or_none}
-use Rattle.view_model.specs.Rows.{spoiled, view_rows}
+use Rattle.view_model.specs.Rows.{some_reduce_fails, spoiled, view_rows}
 use Rattle.view_model.specs.Since.{first}
-use Rattle.std.proofs.lemmas.Bool.Decides.{nat_tests}
 use Rattle.view_model.specs.Standing.{AreSetAt}
 use Rattle.view_model.specs.Update.{IsUpdated}
 use Rattle.view_groups.specs.Reached.{picture_for, sig_of}
 use Rattle.view_signature.specs.Signature.{digest_of, signature_of}
-use Rattle.view_updater.specs.Updates.{documents_since}
+use Rattle.view_updater.specs.Updates.{documents_since, IsSpoiled}
 use Rattle.view_engine.specs.declared.refusal.Refusal.{Refusal}
 use Rattle.view_engine.specs.declared.refusal.Refusal.TheVariants as refusal
 use Rattle.view_engine.specs.declared.halt.Halt.TheVariants.{Refused}
-use Rattle.view_engine.specs.Moments.{Moment}
+use Rattle.view_engine.specs.Moments.{Called, Moment}
+use Rattle.view_engine.specs.Reducing.{TriedAndReduced}
 use Rattle.view_engine.specs.Refusals.{refusal_text}
-use Rattle.view_engine.specs.Steps.{EndsUpdate, MayHaveCalled}
+use Rattle.view_engine.specs.Steps.{AskedBy, MapsThenReduces, MayHaveCalled, StopsMapping}
 use Rattle.view_engine.specs.Updating.{picture_in, AreFit, IsBrought, IsSound}
-use Rattle.view_engine.specs.View.{design_id, rows_in, DoesUpdatedView, IsAnswerOf, IsBrokenOff, IsGivenUp, IsJobOf, IsMet, IsServed, PrintsRows, fault_of, prompts_of}
+use Rattle.view_engine.specs.View.{all_reduces, design_id, own_reduces, rows_in, DoesUpdatedView, IsAnswerOf, IsBroughtUp, IsBrokenOff, IsGivenUp, IsJobOf, IsMet, IsRefusedTrying, IsServed, PrintsRows, fault_of, prompts_of}
 use Rattle.view_engine.specs.ViewPlan.{IsPlan, met_by_pool, source_at}
 use Rattle.view_engine.specs.World.{World}
-use Rattle.view_engine.proofs.Updated.{are_spoiled, can_be_answered, rows_are_afresh, rows_at_place}
-use Rattle.view_engine.specs.ViewQuery.{ViewQuery, view_request}
-
--- all writes are the first so many
-pub all_first : (history : List Write) → first (length history) history ≡ history
-all_first [] = refl
-all_first (write ∷ older) = ap (λ (b : Bool). if b then first (length (write ∷ older)) older else write ∷ older) (not_less (length (write ∷ older)))
-  where
-    not_less : (n : ℕ) → nat_lt n n ≡ false
-    not_less n = grind (arith, nat_tests)
+use Rattle.view_engine.proofs.Updated.{all_first, are_spoiled, are_spoiled_by_reduce, can_be_answered, rows_are_afresh, rows_at_place}
+use Rattle.view_engine.specs.ViewQuery.{ViewQuery, reduce_named, view_request}
 
 -- ---- documents that can be stored are those that functions are asked about
 
@@ -86,6 +79,15 @@ all_mappable (entry ∷ entries) all = (mappable entry.1 all.0.stored, all_mappa
 no_documents : (entries : List (List ℕ × Json)) → map (λ entry. document_of entry.1) entries ≡ [] → entries ≡ []
 no_documents [] none = refl
 no_documents (entry ∷ entries) none = let clash : ⊥ = cc in absurd clash
+
+-- ---- the fault that a refusal tells
+
+pub told_by : (id : List ℕ) (f : PoolFault) (r : Refusal) → met_by_pool id f ≡ Refused r → f ≡ fault_of r
+told_by id fault.ServerFault r is = let same : refusal.ServerFault ≡ r = cc in ap fault_of same
+told_by id (fault.BadReply line) r is = let same : refusal.ServerReply line ≡ r = cc in ap fault_of same
+told_by id fault.Compile r is = let same : refusal.CompilationError id ≡ r = cc in ap fault_of same
+told_by id fault.NoMemory r is = absurd (let clash : ⊥ = cc in clash)
+told_by id fault.UnknownLanguage r is = absurd (let clash : ⊥ = cc in clash)
 
 -- ---- the picture of a design, in the words of the indexes and in those of the world
 
@@ -151,6 +153,7 @@ module _ (languages : List (List ℕ × List ℕ)) (before : Moment) (name : Vie
 pub record IsNextOf (functions : List ℕ → Functions) (honest : List ℕ → Type 0) (before : World) (design : Design) (path : List ℕ) (documents : List (List (List ℕ × Json))) (next : Picture) (after : World) : Type 0 where
   pub updated : IsUpdated (functions path) (honest path × (length design.views ≤ source_limit)) design.views before.history (picture_for design before.pictures) next
   pub compile : honest path → documents ≢ [] → AllCompile (functions path) (map_sources design.views)
+  pub reduces : honest path → (picture_for design before.pictures).seq ≢ length before.history → some_reduce_fails (functions path) design.views next.rows ≡ false
   pub history : after.history ≡ before.history
   pub set : AreSetAt (sig_of design) (Some next) before.pictures after.pictures
 
@@ -182,19 +185,46 @@ module _ (functions : List ℕ → Functions) (honest : List ℕ → Type 0) (la
     path_is = known.plan.path_is;
     sources = ap map_sources known.plan.views;
     documents = known.documents_are ∙ ap (λ (p : Picture). documents_since p.seq before.world.history) (same_picture languages before name id design place path documents known);
+    reduces = refl;
   }
+
+  -- the sources of reduces, in the words of the pool
+  pub all_are : (known : Known) → reduce_sources design.views ≡ all_reduces known.plan.document
+  all_are known = ap reduce_sources known.plan.views
+
+  pub own_are : (known : Known) → reduce_source (reduce_in design.views place) ≡ own_reduces name known.plan.document
+  own_are known = ap reduce_source (known.plan.reduced ∙ ap (reduce_named name.view) known.plan.views)
+
+  -- the design was asked for
+  asked_to : (known : Known) (now : Moment) → Called job before now (StopsMapping job before now) ⊎ MapsThenReduces job (all_reduces known.plan.document) (own_reduces name known.plan.document) before now
+      → (now.world ≡ before.world) ⊎ IsBrought functions honest languages known.plan.document path before.world now.world → MayHaveCalled functions honest languages before (Ok (view_request name)) now
+  asked_to known now called world = inr (
+    known.plan.accepted,
+    subst (λ (updating : Bool). AskedBy functions honest languages updating before name now) (sym known.plan.updates) (record {
+      design = known.plan.document;
+      job = job;
+      source = source;
+      is_job = is_job known;
+      called = called;
+      world = world;
+    }),
+  )
 
   few : Known → length (map_sources design.views) ≤ 32
   few known = subst (λ (n : ℕ). n ≤ 32) (sym (length-map design.views (λ (v : View). v.map))) known.plan.few
 
   -- ---- the next picture
 
+  pub updated_with : (known : Known) (next : Picture) → IsUpdated (functions path) (honest path × (length design.views ≤ source_limit)) design.views before.world.history (picture_for design before.world.pictures) next
+      → IsUpdated (functions path) (honest path) (views_of known.plan.document) before.world.history (picture_in before.world known.plan.document) next
+  updated_with known next updated =
+      subst (λ p. IsUpdated (functions path) (honest path) (views_of known.plan.document) before.world.history p next) (same_picture languages before name id design place path documents known)
+      (subst (λ views. IsUpdated (functions path) (honest path) views before.world.history (picture_for design before.world.pictures) next) known.plan.views
+      (narrower (λ is. (is, known.plan.few)) updated))
+
   module _ (next : Picture) (left : World) (known : Known) (made : IsNextOf functions honest before.world design path documents next left) where
     updated_there : IsUpdated (functions path) (honest path) (views_of known.plan.document) before.world.history (picture_in before.world known.plan.document) next
-    updated_there =
-        subst (λ p. IsUpdated (functions path) (honest path) (views_of known.plan.document) before.world.history p next) (same_picture languages before name id design place path documents known)
-        (subst (λ views. IsUpdated (functions path) (honest path) views before.world.history (picture_for design before.world.pictures) next) known.plan.views
-        (narrower (λ is. (is, known.plan.few)) made.updated))
+    updated_there = updated_with known next made.updated
 
     signed : AreSetAt (signature_of known.plan.document) (Some next) before.world.pictures left.pictures
     signed = subst (λ sig. AreSetAt sig (Some next) before.world.pictures left.pictures) (same_signature languages before name id design place path documents known) made.set
@@ -207,14 +237,16 @@ module _ (functions : List ℕ → Functions) (honest : List ℕ → Type 0) (la
       set = signed;
       answerable = λ is_honest sound fit.
           can_be_answered functions honest languages before.world (design_id name.design) known.plan.document path refl known.plan.live known.plan.path_is is_honest sound fit next updated_there
-          (λ some. subst (λ views. AllCompile (functions path) (map_sources views)) known.plan.views (made.compile is_honest (none_mapped languages before name id design place path documents known some)));
+          (λ some. subst (λ views. AllCompile (functions path) (map_sources views)) known.plan.views (made.compile is_honest (none_mapped languages before name id design place path documents known some)))
+          (λ later. subst (λ views. some_reduce_fails (functions path) views next.rows ≡ false) known.plan.views
+          (made.reduces is_honest (λ same. later (ap (λ (p : Picture). p.seq) (sym (same_picture languages before name id design place path documents known)) ∙ same))));
     }
 
     abbrev rows_there : List Row
     rows_there = slice_index_or next.rows place []
 
     pub prints : length next.rows ≡ length design.views → AllByRecursion (λ (row : Row). IsPart (json row.key) × IsPart (json row.value)) rows_there
-        → (reply : List ℕ) → IsAnswerOf design.views name next.seq rows_there reply → PrintsRows functions honest languages name known.plan.document path source before.world left reply
+        → (reply : List ℕ) → IsAnswerOf (functions path) (honest path) design.views name next.seq rows_there reply → PrintsRows functions honest languages name known.plan.document path source before.world left reply
     prints each parts reply answers = record {
       rows = rows_there;
       shown =
@@ -231,10 +263,23 @@ module _ (functions : List ℕ → Functions) (honest : List ℕ → Type 0) (la
           ∙ ap (λ picture. view_rows (functions path) source (first (picture_or_none (views_of known.plan.document) picture).seq before.world.history))
           (sym (set_there (signature_of known.plan.document) next before.world.pictures left.pictures signed));
       prints =
-          subst (λ picture. IsAnswerOf (views_of known.plan.document) name (picture_or_none (views_of known.plan.document) picture).seq rows_there reply)
+          subst (λ picture. IsAnswerOf (functions path) (honest path) (views_of known.plan.document) name (picture_or_none (views_of known.plan.document) picture).seq rows_there reply)
           (sym (set_there (signature_of known.plan.document) next before.world.pictures left.pictures signed))
-          (subst (λ views. IsAnswerOf views name next.seq rows_there reply) known.plan.views answers);
+          (subst (λ views. IsAnswerOf (functions path) (honest path) views name next.seq rows_there reply) known.plan.views answers);
     }
+
+  -- ---- a complaint
+
+  pub spoiled_there : (known : Known) → honest path → IsSound functions honest languages before.world → AreFit before.world.history → IsSpoiled functions honest design path before.world.history (picture_for design before.world.pictures)
+      → spoiled (functions path) (views_of known.plan.document) before.world.history ≡ true
+  spoiled_there known is_honest sound fit (inl fails) =
+      are_spoiled functions honest languages before.world (design_id name.design) known.plan.document path refl known.plan.live known.plan.path_is is_honest sound fit
+      (subst (λ views. SomeSourceFails (functions path) (map_sources views)) known.plan.views fails.1)
+      (some_mapped languages before name id design place path documents known (λ none. fails.0 (sym known.documents_are ∙ none)))
+  spoiled_there known is_honest sound fit (inr made) =
+      are_spoiled_by_reduce functions honest languages before.world (design_id name.design) known.plan.document path refl known.plan.live known.plan.path_is is_honest sound fit made.0
+      (updated_with known made.0 made.1.updated)
+      (subst (λ views. some_reduce_fails (functions path) views made.0.rows ≡ true) known.plan.views made.2)
 
   -- ---- the calls
 
@@ -314,73 +359,48 @@ module _ (functions : List ℕ → Functions) (honest : List ℕ → Type 0) (la
           kept = tried.2.remembers ∙ ap (λ (n : ℕ). Some (record { path = path; count = n })) (ap (λ (n : ℕ). max (min n (length documents)) kept) was ∙ ap (max (min before.width (length documents))) (kept_was kept tried.1));
         }
 
-    asked : (P : List Call → List Call → Type 0) (left : World) (w : WentIn may_follow job before.width before.calls P) → EndsUpdate job before (after left w.now) w.added
-        → (known : Known) → (left ≡ before.world) ⊎ IsBrought functions honest languages known.plan.document path before.world left
-        → MayHaveCalled functions honest languages before (Ok (view_request name)) (after left w.now)
-    asked P left w ends known world = inr (
-      known.plan.accepted,
-      record {
-        design = known.plan.document;
-        job = job;
-        source = source;
-        is_job = is_job known;
-        called = record { added = w.added; is = w.is_now; width = refl; lawful = w.lawful; later = later_there; holds = ends };
-        world = world;
-      },
-      known.plan.updates,
-    )
-
     -- ---- how it may end
 
-    -- the documents were mapped, and the next picture is there
+    -- the mapping stopped
+    stopped_so : (P : List Call → List Call → Type 0) (w : WentIn may_follow job before.width before.calls P) → StopsMapping job before (after before.world w.now) w.added
+        → Known → MayHaveCalled functions honest languages before (Ok (view_request name)) (after before.world w.now)
+    stopped_so P w ends known = asked_to known (after before.world w.now) (inl (record { added = w.added; is = w.is_now; width = refl; lawful = w.lawful; later = later_there; holds = ends })) (inl refl)
+
+    -- the documents were mapped
     module _ (lists : DocRowLists) (idle : documents ≡ [] → pool.started ≡ old_pool.started) (w : Updates before.width (Ok lists)) where
-      pub answered : (next : Picture) (left : World) (known : Known) → IsNextOf functions honest before.world design path documents next left → length next.rows ≡ length design.views
-          → AllByRecursion (λ (row : Row). IsPart (json row.key) × IsPart (json row.value)) (slice_index_or next.rows place [])
-          → (reply : List ℕ) → IsAnswerOf design.views name next.seq (slice_index_or next.rows place []) reply → DoesUpdatedView functions honest languages before name reply (after left w.now)
-      answered next left known made each parts reply answers = record {
+      -- the moment then
+      abbrev pub mapped : Moment
+      mapped = after before.world w.now
+
+      pub served_there : Called job before mapped (IsServed job before mapped)
+      served_there = record { added = w.added; is = w.is_now; width = refl; lawful = w.lawful; later = later_there; holds = served before.world lists w idle }
+
+      pub asked_then : (known : Known) (now : Moment) → TriedAndReduced path (all_reduces known.plan.document) (own_reduces name known.plan.document) mapped now
+          → (now.world ≡ before.world) ⊎ IsBrought functions honest languages known.plan.document path before.world now.world → MayHaveCalled functions honest languages before (Ok (view_request name)) now
+      asked_then known now reduced world = asked_to known now (inr (record { mapped = mapped; served = served_there; reduced = reduced })) world
+
+      pub mapped_then : (known : Known) (now : Moment) (reply : List ℕ)
+          → IsRefusedTrying functions honest languages name known.plan.document path before.world mapped now reply ⊎ IsBroughtUp functions honest languages name known.plan.document path source before.world mapped now reply
+          → DoesUpdatedView functions honest languages before name reply now
+      mapped_then known now reply ends = record {
         updates = known.plan.updates;
         accepted = known.plan.accepted;
         design = known.plan.document;
         job = job;
         source = source;
         is_job = is_job known;
-        called = record {
-          added = w.added;
-          is = w.is_now;
-          width = refl;
-          lawful = w.lawful;
-          later = later_there;
-          holds = inl (record {
-            brought = is_brought next left known made;
-            rows = prints next left known made each parts reply answers;
-            served = served left lists w idle;
-          });
-        };
+        ends = inr (record { mapped = mapped; served = served_there; ends = ends });
       }
-
-      pub asked_all : (next : Picture) (left : World) (known : Known) → IsNextOf functions honest before.world design path documents next left → MayHaveCalled functions honest languages before (Ok (view_request name)) (after left w.now)
-      asked_all next left known made = asked _ left w (inl (served left lists w idle)) known (inr (is_brought next left known made))
-
-      pub asked_in_vain : Known → MayHaveCalled functions honest languages before (Ok (view_request name)) (after before.world w.now)
-      asked_in_vain known = asked _ before.world w (inl (served before.world lists w idle)) known (inl refl)
 
     -- the first of them were
     pub asked_some : (done rest : List (List (List ℕ × Json))) (lists : DocRowLists) → documents ≡ done ++ rest → done ≢ [] → (w : Breaks before.width done lists) → Known
         → MayHaveCalled functions honest languages before (Ok (view_request name)) (after before.world w.now)
-    asked_some done rest lists all some w known = asked _ before.world w (inr (inr (broken_off done rest lists all some w))) known (inl refl)
+    asked_some done rest lists all some w known = stopped_so _ w (inr (broken_off done rest lists all some w)) known
 
     -- the servers gave up
     module _ (f : PoolFault) (some : documents ≢ []) (twice : f ≡ fault.ServerFault → RoseBy 2 old new) (w : Updates before.width (Err f)) where
       pub asked_up : Known → MayHaveCalled functions honest languages before (Ok (view_request name)) (after before.world w.now)
-      asked_up known = asked _ before.world w (inr (inl (f, given_up f w some))) known (inl refl)
-
-    -- the fault that a refusal tells
-    told_by : (f : PoolFault) (r : Refusal) → met_by_pool id f ≡ Refused r → f ≡ fault_of r
-    told_by fault.ServerFault r is = let same : refusal.ServerFault ≡ r = cc in ap fault_of same
-    told_by (fault.BadReply line) r is = let same : refusal.ServerReply line ≡ r = cc in ap fault_of same
-    told_by fault.Compile r is = let same : refusal.CompilationError id ≡ r = cc in ap fault_of same
-    told_by fault.NoMemory r is = absurd (let clash : ⊥ = cc in clash)
-    told_by fault.UnknownLanguage r is = absurd (let clash : ⊥ = cc in clash)
+      asked_up known = stopped_so _ w (inl (f, given_up f w some)) known
 
     met : (f : PoolFault) (added now : List Call) (r : Refusal) → Known → IsCaused functions honest job added before.calls f → (f ≡ fault.ServerFault → RoseBy 2 old new) → met_by_pool id f ≡ Refused r
         → IsMet functions honest name job before (after before.world now) added r
@@ -393,7 +413,7 @@ module _ (functions : List ℕ → Functions) (honest : List ℕ → Type 0) (la
         (caused, λ h. no_bad_reply functions honest job added before.calls line (record { path = h; few = few known; stored = are_mappable languages before name id design place path documents known }) caused)
     met fault.Compile added now r known caused twice is =
         let same : refusal.CompilationError id ≡ r = cc in
-        subst (IsMet functions honest name job before (after before.world now) added) same (known.plan.id_is, caused, λ h. maps_complain_rightly functions honest path (map_sources design.views) documents added before.calls h caused)
+        subst (IsMet functions honest name job before (after before.world now) added) same (known.plan.id_is, caused, λ h. inl (maps_complain_rightly functions honest path (map_sources design.views) documents added before.calls h caused))
     met fault.NoMemory added now r known caused twice is = absurd (let clash : ⊥ = cc in clash)
     met fault.UnknownLanguage added now r known caused twice is = absurd caused
 
@@ -419,19 +439,19 @@ module _ (functions : List ℕ → Functions) (honest : List ℕ → Type 0) (la
       job = job;
       source = source;
       is_job = is_job known;
-      called = record {
+      ends = inl (record {
         added = w.added;
         is = w.is_now;
         width = refl;
         lawful = w.lawful;
         later = later_there;
-        holds = inr (record {
+        holds = record {
           same = refl;
           refusal = r;
           met = met f w.added w.now r known w.holds.1.refused.caused twice is;
           prints = refl;
-          given_up = subst (λ (fault : PoolFault). IsGivenUp job before (after before.world w.now) fault w.added) (told_by f r is) (given_up f w some);
+          given_up = subst (λ (fault : PoolFault). IsGivenUp job before (after before.world w.now) fault w.added) (told_by id f r is) (given_up f w some);
           spoils = λ other complaint. complains f w r other known some is complaint;
-        });
-      };
+        };
+      });
     }

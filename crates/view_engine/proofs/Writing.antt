@@ -1,5 +1,5 @@
 -- Writes that are accepted or refused, as the documents answer them.
-use Rattle.std.proofs.Common.{◌≡◌, ◌⊎◌, ℕ, List, false, Option, None, Some, Ok, inl, inr, refl, sym, ap, ◌∙◌, subst}
+use Rattle.std.proofs.Common.{◌≡◌, ◌⊎◌, ℕ, List, Option, None, Some, Ok, inl, inr, refl, sym, ap, ◌∙◌, subst}
 use Rattle.json_terms.specs.Json.{Json, members_of, object}
 use Rattle.view_ports.specs.File.{File}
 use Rattle.view_ports.specs.declared.file_name.FileName.{FileName}
@@ -20,7 +20,7 @@ use Rattle.view_engine.specs.declared.refusal.Refusal.{Refusal}
 use Rattle.view_engine.specs.Answer.{write_text}
 use Rattle.view_engine.specs.Delete.{delete_write, DoesDelete, IsDeleteRefused}
 use Rattle.view_engine.specs.Halts.{halted_as}
-use Rattle.view_engine.specs.Put.{is_unbuilt, put_write, DoesPut, IsPutRefused}
+use Rattle.view_engine.specs.Put.{put_write, DoesPut, IsPutRefused}
 use Rattle.view_engine.specs.Refusals.{refused_as}
 use Rattle.view_engine.specs.Replies.{accepted_reply}
 use Rattle.view_engine.specs.Steps.{IsWrite}
@@ -63,19 +63,18 @@ module _ (docs : Docs) (files : FileName → File) (world : World) (at : IsAt do
   put_accepted document accepted = subst (λ (s : State). IsAcceptedPut s document) (state_kept world.history (bytes_in docs files) (entries_of docs) at.each (id_of document)) accepted
 
   -- an accepted put
-  pub put_does : (document : Json) → is_unbuilt document ≡ false → IsAcceptedPut (state_in (last_of docs (id_of document))) document
+  pub put_does : (document : Json) → IsAcceptedPut (state_in (last_of docs (id_of document))) document
       → accepted_reply docs (id_of document) ≡ write_text (id_of document) (next_revision world.history (id_of document))
       → DoesPut world document (accepted_reply docs (id_of document)) (written world (put_write world document))
-  put_does document built accepted reply = record { built = built; accepted = put_accepted document accepted; prints = reply; wrote = refl }
+  put_does document accepted reply = record { accepted = put_accepted document accepted; prints = reply; wrote = refl }
 
   -- it is the request's write
-  pub put_is_write : (members : List (List ℕ × Json)) → is_unbuilt (object (members_of members)) ≡ false
-      → IsAcceptedPut (state_in (last_of docs (id_of (object (members_of members))))) (object (members_of members))
+  pub put_is_write : (members : List (List ℕ × Json)) → IsAcceptedPut (state_in (last_of docs (id_of (object (members_of members))))) (object (members_of members))
       → accepted_reply docs (id_of (object (members_of members))) ≡ write_text (id_of (object (members_of members))) (next_revision world.history (id_of (object (members_of members))))
       → IsWrite world (Ok (Put members)) (put_write world (object (members_of members)))
-  put_is_write members built accepted reply =
+  put_is_write members accepted reply =
       let document : Json = object (members_of members) in
-      (accepted_reply docs (id_of document), (written world (put_write world document), put_does document built accepted reply, refl))
+      (accepted_reply docs (id_of document), (written world (put_write world document), put_does document accepted reply, refl))
 
   -- a reply to the write of an id
   pub reply_to : (i j : List ℕ) → i ≡ j → accepted_reply docs i ≡ write_text i (next_revision world.history i) → accepted_reply docs j ≡ write_text j (next_revision world.history j)
@@ -97,15 +96,11 @@ module _ (docs : Docs) (files : FileName → File) (world : World) (at : IsAt do
   delete_is_write id given accepted reply =
       (accepted_reply docs id, (written world (delete_write world id), delete_does id given accepted reply, refl))
 
-  pub put_refused : (file : GateFile) (document : Json) (fault : DocFault) (refusal : Refusal) → is_unbuilt document ≡ false
-      → IsRefusedPut (state_in (last_of docs (id_of document))) document fault ⊎ IsFileFault file fault ⊎ (fault ≡ doc.NoMemory) → halted_as fault ≡ Refused refusal
+  pub put_refused : (file : GateFile) (document : Json) (fault : DocFault) (refusal : Refusal) → IsRefusedPut (state_in (last_of docs (id_of document))) document fault ⊎ IsFileFault file fault ⊎ (fault ≡ doc.NoMemory) → halted_as fault ≡ Refused refusal
       → IsPutRefused world document refusal
-  put_refused file document fault refusal built is same =
-      inr (
-        built,
-        subst (λ (s : State). (f : DocFault) × IsRefusedPut s document f × (refusal ≡ refused_as f)) (state_kept world.history (bytes_in docs files) (entries_of docs) at.each (id_of document))
-            (met file fault refusal (IsRefusedPut (state_in (last_of docs (id_of document))) document) is same),
-      )
+  put_refused file document fault refusal is same =
+      subst (λ (s : State). (f : DocFault) × IsRefusedPut s document f × (refusal ≡ refused_as f)) (state_kept world.history (bytes_in docs files) (entries_of docs) at.each (id_of document))
+      (met file fault refusal (IsRefusedPut (state_in (last_of docs (id_of document))) document) is same)
 
   pub delete_refused : (file : GateFile) (id : List ℕ) (given : Option (List ℕ)) (fault : DocFault) (refusal : Refusal)
       → IsRefusedDelete (state_in (last_of docs id)) given fault ⊎ IsFileFault file fault ⊎ (fault ≡ doc.NoMemory) → halted_as fault ≡ Refused refusal

@@ -1,16 +1,74 @@
--- The reply line that answers the query of a view.
-use Rattle.std.specs.Prelude.{◌≡◌, ℕ, List, ◌++◌, Option}
+-- The reply line that answers the query of a view, and what is asked for it.
+use Rattle.std.specs.Prelude.{◌≡◌, ◌≢◌, ◌⊎◌, ◌++◌, ℕ, List, [], Some, Result, IfErr, OnErr, OnOk, slice_index_or}
+use Rattle.std.specs.List.{AllByRecursion}
 use Rattle.json_terms.specs.declared.term.Row.{Row}
-use Rattle.design_docs.specs.declared.design.Builtin.{Builtin}
-use Rattle.query_args.specs.declared.query.Query.{Query}
-use Rattle.view_model.specs.Answer.{IsAnswer}
+use Rattle.design_docs.specs.declared.design.Design.{Design}
+use Rattle.design_docs.specs.declared.design.Reduce.{Reduce}
+use Rattle.view_ports.specs.declared.servers.Servers.{Ghosts as Servers}
+use Rattle.view_ports.specs.Calls.{Call}
+use Rattle.view_ports.specs.Functions.{Functions}
 use Rattle.view_ports.specs.Lines.{ended}
+use Rattle.query_args.specs.declared.query.Query.{Query}
+use Rattle.child_pool.specs.declared.pool.Pool.{Pool}
+use Rattle.child_pool.specs.declared.pool_fault.PoolFault.{PoolFault}
+use Rattle.child_pool.specs.declared.pool_fault.PoolFault.TheVariants.{Compile, NoMemory}
+use Rattle.child_pool.specs.Languages.{path_in}
+use Rattle.child_pool.specs.Pools.{HasItsChildren, languages_of}
+use Rattle.child_pool.specs.ReduceTalk.{reduce_in, reduce_source}
+use Rattle.child_pool.specs.Reductions.{FailsReducing, Reduces}
+use Rattle.view_model.specs.declared.group_values.AnswerFault.{AnswerFault}
+use Rattle.view_model.specs.declared.group_values.AnswerFault.TheVariants as answer
+use Rattle.view_model.specs.Answer.{IsAnswer}
+use Rattle.view_model.specs.Picture.{Picture}
+use Rattle.view_index.specs.Parts.{HasParts}
+use Rattle.view_model.specs.Values.{IsValueText}
+use Rattle.view_engine.specs.declared.halt.Halt.{Halt}
+use Rattle.view_engine.specs.declared.refusal.Refusal.TheVariants.{ServerFault}
 use Rattle.view_engine.specs.Calls.{IsReplyLine}
-use Rattle.view_engine.specs.ViewQuery.{IsValueOf}
+use Rattle.view_engine.specs.Refusals.{refusal_text}
+use Rattle.view_engine.specs.ViewPlan.{met_by_pool}
 
--- it was appended, and answers the query from rows with values by this reduce, of an index at this sequence
-pub record AppendsAnswer (reduce : Option Builtin) (query : Query) (seq : ℕ) (rows : List Row) (out out' : List ℕ) : Type 0 where
-  pub reply : List ℕ
-  pub is : IsAnswer (IsValueOf reduce) query seq rows reply
-  pub line : IsReplyLine reply
-  pub appended : out' ≡ out ++ ended reply
+-- want of memory has one name
+abbrev pub fault_of_answer : AnswerFault PoolFault → PoolFault
+fault_of_answer (answer.Values fault) = fault
+fault_of_answer answer.NoMemory = NoMemory
+
+-- the text answers a query, with values by this reduce
+abbrev pub Answers : Functions → Type 0 → Reduce → Query → ℕ → List Row → List ℕ → Type 0
+Answers functions honest reduce = IsAnswer (IsValueText functions honest reduce)
+
+module _ {C : Type 0} (s : Servers C) (old new : C) (pool pool' : Pool) (design : Design) (place : ℕ) (query : Query) (picture : Picture) where
+  abbrev pub shown_rows : List Row
+  shown_rows = slice_index_or picture.rows place []
+
+  -- a line was appended that answers the query from the rows of the view in this place, by whatever path of its language
+  pub record AppendsAnswer (out out' : List ℕ) : Type 0 where
+    pub reply : List ℕ
+    pub is : (path : List ℕ) (calls : List Call) → s.may_follow old calls → path_in (languages_of pool) design.language ≡ Some path → HasItsChildren pool calls
+        → Answers (s.functions path) (s.honest path) (reduce_in design.views place) query picture.seq shown_rows reply
+    pub parts : AllByRecursion HasParts shown_rows
+    pub line : IsReplyLine reply
+    pub unlike : reply ≢ refusal_text ServerFault
+    pub appended : out' ≡ out ++ ended reply
+
+  -- all values were had
+  abbrev pub HasAll : Type 0
+  HasAll = Reduces s old new pool pool' design.language (reduce_source (reduce_in design.views place))
+
+  -- they were given up, or memory ran out; a complaint comes only where there are rows
+  abbrev pub HasMet : PoolFault → Type 0
+  HasMet f =
+      (FailsReducing s old new pool pool' design.language (reduce_source (reduce_in design.views place)) f × (f ≡ Compile → shown_rows ≢ []))
+      ⊎ ((f ≡ NoMemory) × HasAll)
+
+  -- so a view is answered
+  pub record Shows (out out' : List ℕ) (result : Result (Unit {0}) PoolFault) : Type 0 where
+    pub ok : OnOk result (AppendsAnswer out out' × HasAll)
+    pub err : IfErr result HasMet
+    pub silent : OnErr result (out' ≡ out)
+
+  -- the same, as the request meets it
+  pub record ShowsView (id out out' : List ℕ) (result : Result (Unit {0}) Halt) : Type 0 where
+    pub ok : OnOk result (AppendsAnswer out out' × HasAll)
+    pub err : IfErr result (λ halt. (f : PoolFault) × (halt ≡ met_by_pool id f) × HasMet f)
+    pub silent : OnErr result (out' ≡ out)

@@ -9,6 +9,7 @@ pub mod Moments
 pub mod Put
 pub mod Delete
 pub mod Get
+pub mod Reducing
 pub mod View
 pub mod Cleanup
 pub mod ViewPlan

@@ -1,5 +1,5 @@
 -- What a request line does, and what is answered.
-use Rattle.std.specs.Prelude.{◌≡◌, ◌≢◌, ◌⊎◌, ℕ, List, [], ◌∷◌, true, Some, None, Result, Ok, Err}
+use Rattle.std.specs.Prelude.{◌≡◌, ◌≢◌, ◌⊎◌, ℕ, List, [], ◌∷◌, Bool, true, false, Some, None, Result, Ok, Err}
 use Rattle.json_terms.specs.Json.{Json, object, members_of}
 use Rattle.design_docs.specs.Design.{language_of}
 use Rattle.child_pool.specs.Languages.{path_in}
@@ -22,7 +22,8 @@ use Rattle.view_engine.specs.Put.{DoesPut, IsPutRefused, put_write}
 use Rattle.view_engine.specs.Delete.{DoesDelete, IsDeleteRefused, delete_write}
 use Rattle.view_engine.specs.Get.{DoesGet, DoesInfo, get_refusal}
 use Rattle.view_engine.specs.Cleanup.{DoesCleanup, IsPartlyCleaned}
-use Rattle.view_engine.specs.View.{design_id, view_refusal, DoesView, IsBrokenOff, IsGivenUp, IsJobOf, IsServed}
+use Rattle.view_engine.specs.Reducing.{ReducedSomehow, TriedAndReduced}
+use Rattle.view_engine.specs.View.{all_reduces, design_id, own_reduces, view_refusal, DoesView, IsBrokenOff, IsGivenUp, IsJobOf, IsServed}
 use Rattle.view_engine.specs.ViewQuery.{ViewQuery, parameters_in, view_query}
 use Rattle.query_args.specs.Query.{is_updated}
 
@@ -46,9 +47,15 @@ IsWrite world (Ok (Put document)) write =
 IsWrite world (Ok (Delete id given)) write = (reply : List ℕ) × ((new : World) × DoesDelete world id given reply new × (write ≡ delete_write world id))
 IsWrite world other write = ⊥
 
--- how the update of a design ended: it was done, given up, or broken off
-abbrev pub EndsUpdate : Job → Moment → Moment → List Call → Type 0
-EndsUpdate job before after added = IsServed job before after added ⊎ (((f : PoolFault) × IsGivenUp job before after f added) ⊎ IsBrokenOff job before after added)
+-- how the mapping of documents ended that was not done: it was given up, or broken off
+abbrev pub StopsMapping : Job → Moment → Moment → List Call → Type 0
+StopsMapping job before after added = ((f : PoolFault) × IsGivenUp job before after f added) ⊎ IsBrokenOff job before after added
+
+-- all documents were mapped, and then reduces were tried, and values asked for
+pub record MapsThenReduces (job : Job) (all own : List (List ℕ)) (before after : Moment) : Type 0 where
+  pub mapped : Moment
+  pub served : Called job before mapped (IsServed job before mapped)
+  pub reduced : TriedAndReduced job.path all own mapped after
 
 module _ (functions : List ℕ → Functions) (honest : List ℕ → Type 0) (languages : List (List ℕ × List ℕ)) where
   -- the design of a view was asked for, with lawful calls; the world may have its next picture already, wholly
@@ -57,13 +64,27 @@ module _ (functions : List ℕ → Functions) (honest : List ℕ → Type 0) (la
     pub job : Job
     pub source : List ℕ
     pub is_job : IsJobOf languages before.world name design job source
-    pub called : Called job before after (EndsUpdate job before after)
+    pub called : Called job before after (StopsMapping job before after) ⊎ MapsThenReduces job (all_reduces design) (own_reduces name design) before after
     pub world : (after.world ≡ before.world) ⊎ IsBrought functions honest languages design job.path before.world after.world
 
-  -- what may have been done of a request that isn't answered, or for which memory ran out: only a view calls servers, and only where it isn't refused before and brings its index up to date
+  -- values of a view were asked for, with lawful calls, from its index as it stands
+  pub record AskedForValues (before : Moment) (name : ViewQuery) (after : Moment) : Type 0 where
+    pub design : Json
+    pub path : List ℕ
+    pub live : live_document before.world.history (design_id name.design) ≡ Some design
+    pub path_is : path_in languages (language_of design) ≡ Some path
+    pub called : ReducedSomehow path (own_reduces name design) before after
+    pub same : after.world ≡ before.world
+
+  -- by whether the query brings the index up to date
+  abbrev pub AskedBy : Bool → Moment → ViewQuery → Moment → Type 0
+  AskedBy true before name after = AskedFor before name after
+  AskedBy false before name after = AskedForValues before name after
+
+  -- what may have been done of a request that isn't answered, or for which memory ran out: only a view calls servers, and only where it isn't refused before
   abbrev pub MayHaveCalled : Moment → Result Request Refusal → Moment → Type 0
   MayHaveCalled before (Ok (View view query)) after =
-      (after ≡ before) ⊎ ((view_refusal languages before.world (view_query view query) ≡ None) × AskedFor before (view_query view query) after × (is_updated (parameters_in query) ≡ true))
+      (after ≡ before) ⊎ ((view_refusal languages before.world (view_query view query) ≡ None) × AskedBy (is_updated (parameters_in query)) before (view_query view query) after)
   MayHaveCalled before other after = after ≡ before
 
   -- the world that a request makes where it takes effect: one with its write, or with the next picture of its design, or without some

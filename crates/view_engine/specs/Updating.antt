@@ -10,18 +10,15 @@ use Rattle.view_model.specs.Rows.{spoiled}
 use Rattle.view_model.specs.Standing.{AreSetAt, IsDesignIn, PicturesStand}
 use Rattle.view_model.specs.Update.{IsUpdated}
 use Rattle.view_signature.specs.Signature.{signature_of}
-use Rattle.view_engine.specs.Put.{has_served_reduce}
 use Rattle.view_engine.specs.World.{World}
 
 -- the picture of a design, where none counts as one of no write, without rows
 abbrev pub picture_in : World → Json → Picture
 picture_in world design = picture_or_none (views_of design) (world.pictures (signature_of design))
 
--- what is supposed of the designs of a history: those that differ in their language or their views have different signatures, and
--- none has a reduce for a query server
+-- what is supposed of the designs of a history: those that differ in their language or their views have different signatures
 pub record AreFit (history : List Write) : Type 0 where
   pub apart : (one other : Json) → IsDesignIn history one → IsDesignIn history other → signature_of one ≡ signature_of other → design_term one ≡ design_term other
-  pub unserved : (document : Json) → IsDesignIn history document → has_served_reduce (views_of document) ≡ false
 
 -- the picture of each design has the rows of as many views
 abbrev pub AreShaped : World → Type 0

@@ -11,13 +11,14 @@ use Rattle.child_pool.specs.declared.pool_fault.PoolFault.{PoolFault}
 use Rattle.child_pool.specs.declared.pool_fault.PoolFault.TheVariants as fault
 use Rattle.child_pool.specs.Firsts.{first_prompts}
 use Rattle.child_pool.specs.Histories.{AllStops, talk}
-use Rattle.child_pool.specs.Honesty.{SomeSourceFails}
-use Rattle.child_pool.specs.Jobs.{Job}
+use Rattle.child_pool.specs.Honesty.{SomeReduceFails, SomeSourceFails}
+use Rattle.child_pool.specs.Jobs.{Job, reduce_job}
 use Rattle.child_pool.specs.Languages.{path_in}
 use Rattle.child_pool.specs.Mapping.{IsPart}
 use Rattle.child_pool.specs.Outcomes.{IsCaused}
 use Rattle.child_pool.specs.Pools.{NoneIsLeft, kept_of}
 use Rattle.child_pool.specs.Prompts.{update_prompts}
+use Rattle.child_pool.specs.ReduceTalk.{reduce_source, reduce_sources}
 use Rattle.child_pool.specs.Talk.{AreCutShortIn, AreTurns, talk_of}
 use Rattle.child_pool.specs.Tries.{AllAnswered, Prompt, StopsAt}
 use Rattle.view_engine.specs.declared.refusal.Refusal.{Refusal}
@@ -26,16 +27,18 @@ use Rattle.doc_file.specs.History.{live_document, mapped_after}
 use Rattle.view_engine.specs.World.{World}
 use Rattle.view_engine.specs.Updating.{picture_in, AreFit, IsBrought, IsSound}
 use Rattle.view_engine.specs.Get.{get_refusal}
-use Rattle.view_engine.specs.Moments.{Called, Moment}
+use Rattle.view_engine.specs.Moments.{Called, CalledReducing, Moment}
+use Rattle.view_engine.specs.Reducing.{AreGivenUp, Reduced}
 use Rattle.view_model.specs.Rows.{spoiled, view_rows}
 use Rattle.view_model.specs.Since.{first}
 use Rattle.json_terms.specs.Seen.{json}
 use Rattle.json_terms.specs.declared.term.Row.{Row}
 use Rattle.design_docs.specs.declared.design.View.{View}
 use Rattle.view_model.specs.Answer.{IsAnswer}
+use Rattle.view_model.specs.Values.{IsValueText}
 use Rattle.query_args.specs.Faults.{query_fault}
 use Rattle.query_args.specs.Query.{is_updated}
-use Rattle.view_engine.specs.ViewQuery.{ViewQuery, IsValueOf, builtin_named, parameters_of, query_for, target_for}
+use Rattle.view_engine.specs.ViewQuery.{ViewQuery, parameters_of, query_for, reduce_named, target_for}
 use Rattle.view_engine.specs.Refusals.{first_of, refusal_text}
 
 -- the id of the design document with this name
@@ -68,9 +71,9 @@ view_refusal languages world name =
     first_of
     (get_refusal world (design_id name.design) ∷ no_view (option_and_then (source_of name.view) design) ∷ bad_query name design ∷ no_language languages design ∷ [])
 
--- the text answers the query of a view, from its rows at a sequence
-abbrev pub IsAnswerOf : List View → ViewQuery → ℕ → List Row → List ℕ → Type 0
-IsAnswerOf views name = IsAnswer (IsValueOf (builtin_named name.view views)) (query_for views name)
+-- the text answers the query of a view, from its rows at a sequence: the values of its groups are by its own reduce
+abbrev pub IsAnswerOf : Functions → Type 0 → List View → ViewQuery → ℕ → List Row → List ℕ → Type 0
+IsAnswerOf functions honest views name = IsAnswer (IsValueText functions honest (reduce_named name.view views)) (query_for views name)
 
 -- the rows of the view with this name, in the order of the views
 abbrev pub rows_in : List View → List (List Row) → List ℕ → Option (List Row)
@@ -81,13 +84,21 @@ rows_in (view ∷ views) (rows ∷ others) name = if bytes_eq view.name name the
 -- ---- what the query servers are asked for
 
 -- the job of a view's design: its path, the sources of all its views, and the documents that were written since its picture and are
--- mapped; and the view's own source
+-- mapped; it reduces by no source. And the view's own source
 pub record IsJobOf (languages : List (List ℕ × List ℕ)) (world : World) (name : ViewQuery) (design : Json) (job : Job) (source : List ℕ) : Type 0 where
   pub live : live_document world.history (design_id name.design) ≡ Some design
   pub source_is : source_of name.view design ≡ Some source
   pub path_is : path_in languages (language_of design) ≡ Some job.path
   pub sources : job.sources ≡ map_sources (views_of design)
   pub documents : job.documents ≡ map (λ entry. document_of entry.1) (mapped_after (picture_in world design).seq world.history)
+  pub reduces : job.reduces ≡ []
+
+-- the sources by which a query server reduces: those of all views of a design, and that of the view, where it has one
+abbrev pub all_reduces : Json → List (List ℕ)
+all_reduces design = reduce_sources (views_of design)
+
+abbrev pub own_reduces : ViewQuery → Json → List (List ℕ)
+own_reduces name design = reduce_source (reduce_named name.view (views_of design))
 
 -- the prompts of an update, in the order in which they are asked: a child of the job's path that is kept isn't started again
 abbrev pub prompts_of : Job → Moment → List Prompt
@@ -145,32 +156,66 @@ module _ (functions : List ℕ → Functions) (honest : List ℕ → Type 0) whe
     pub shown : rows_in (views_of design) (picture_in after design).rows name.view ≡ Some rows
     pub parts : AllByRecursion (λ row. IsPart (json row.key) × IsPart (json row.value)) rows
     pub afresh : honest path → IsSound functions honest languages before → AreFit before.history → rows ≡ view_rows (functions path) source (first (picture_in after design).seq before.history)
-    pub prints : IsAnswerOf (views_of design) name (picture_in after design).seq rows reply
+    pub prints : IsAnswerOf (functions path) (honest path) (views_of design) name (picture_in after design).seq rows reply
 
-  -- a refusal that is met while documents are mapped, and its cause: on an honest path a source that doesn't compile, and
+  -- a refusal that is met while the servers are asked for a job, and its cause: on an honest path a source that doesn't compile, and
   -- elsewhere a complaint; two failed attempts; or a bad reply, which is none on an honest path
   abbrev pub IsMet : ViewQuery → Job → Moment → Moment → List Call → Refusal → Type 0
   IsMet name job before after added (CompilationError id) =
-      (id ≡ design_id name.design) × IsCaused functions honest job added before.calls fault.Compile × (honest job.path → SomeSourceFails (functions job.path) job.sources)
+      (id ≡ design_id name.design) × IsCaused functions honest job added before.calls fault.Compile
+      × (honest job.path → SomeSourceFails (functions job.path) job.sources ⊎ SomeReduceFails (functions job.path) job.reduces)
   IsMet name job before after added ServerFault = RoseBy 2 before.faults after.faults
   IsMet name job before after added (ServerReply line) = IsCaused functions honest job added before.calls (fault.BadReply line) × (honest job.path → ⊥)
   IsMet name job before after added other = ⊥
 
-  -- A refusal that was met left the world as it was. A complaint of an honest path is right, where the pictures stood.
+  -- a complaint of an honest path is right, where the pictures stood
+  abbrev pub IsRightly : List (List ℕ × List ℕ) → Json → List ℕ → World → Type 0
+  IsRightly languages design path world = honest path → IsSound functions honest languages world → AreFit world.history → spoiled (functions path) (views_of design) world.history ≡ true
+
+  -- and there is none over a picture that stood
+  abbrev pub IsNever : List (List ℕ × List ℕ) → List ℕ → World → Type 0
+  IsNever languages path world = honest path → IsSound functions honest languages world → AreFit world.history → ⊥
+
+  -- A refusal that was met as documents were mapped left the world as it was.
   pub record IsRefused (languages : List (List ℕ × List ℕ)) (name : ViewQuery) (design : Json) (job : Job) (before after : Moment) (reply : List ℕ) (added : List Call) : Type 0 where
     pub same : after.world ≡ before.world
     pub refusal : Refusal
     pub met : IsMet name job before after added refusal
     pub prints : reply ≡ refusal_text refusal
     pub given_up : IsGivenUp job before after (fault_of refusal) added
-    pub spoils : (id : List ℕ) → refusal ≡ CompilationError id → honest job.path → IsSound functions honest languages before.world → AreFit before.world.history
-        → spoiled (functions job.path) (views_of design) before.world.history ≡ true
+    pub spoils : (id : List ℕ) → refusal ≡ CompilationError id → IsRightly languages design job.path before.world
 
-  -- the index of the design was brought up to date, and the rows of the view are printed
-  pub record IsAnswered (languages : List (List ℕ × List ℕ)) (name : ViewQuery) (design : Json) (job : Job) (source : List ℕ) (before after : Moment) (reply : List ℕ) (added : List Call) : Type 0 where
-    pub brought : IsBrought functions honest languages design job.path before.world after.world
-    pub rows : PrintsRows languages name design job.path source before.world after.world reply
-    pub served : IsServed job before after added
+  -- A refusal that was met as values were asked for by sources of a path. A complaint is what `Complaint` says.
+  pub record IsRefusedReducing (name : ViewQuery) (path : List ℕ) (reduces : List (List ℕ)) (Complaint : Type 0) (before after : Moment) (reply : List ℕ) (added now : List Call) : Type 0 where
+    pub refusal : Refusal
+    pub met : IsMet name (reduce_job path reduces) before after added refusal
+    pub prints : reply ≡ refusal_text refusal
+    pub given_up : AreGivenUp path reduces before after (fault_of refusal) added now
+    pub complaint : (id : List ℕ) → refusal ≡ CompilationError id → Complaint
+
+  -- the rows of the view are printed, with values by its own reduce; or a refusal was met as these were asked for
+  abbrev pub IsAnswered : List (List ℕ × List ℕ) → ViewQuery → Json → List ℕ → List ℕ → World → Moment → Moment → List ℕ → Type 0
+  IsAnswered languages name design path source world before after reply =
+      (Reduced path (own_reduces name design) before after × PrintsRows languages name design path source world after.world reply)
+      ⊎ CalledReducing path (own_reduces name design) before after (IsRefusedReducing name path (own_reduces name design) (IsNever languages path world) before after reply)
+
+  -- the sources of the design's reduces were tried, and the update is refused: the world is as it was
+  pub record IsRefusedTrying (languages : List (List ℕ × List ℕ)) (name : ViewQuery) (design : Json) (path : List ℕ) (world : World) (before after : Moment) (reply : List ℕ) : Type 0 where
+    pub same : after.world ≡ world
+    pub called : CalledReducing path (all_reduces design) before after (IsRefusedReducing name path (all_reduces design) (IsRightly languages design path world) before after reply)
+
+  -- they were tried, and the index of the design is up to date; then the view is answered
+  pub record IsBroughtUp (languages : List (List ℕ × List ℕ)) (name : ViewQuery) (design : Json) (path source : List ℕ) (world : World) (before after : Moment) (reply : List ℕ) : Type 0 where
+    pub between : Moment
+    pub tried : Reduced path (all_reduces design) before between
+    pub brought : IsBrought functions honest languages design path world after.world
+    pub answered : IsAnswered languages name design path source world between after reply
+
+  -- all documents were mapped
+  pub record IsMappedThen (languages : List (List ℕ × List ℕ)) (name : ViewQuery) (design : Json) (job : Job) (source : List ℕ) (before after : Moment) (reply : List ℕ) : Type 0 where
+    pub mapped : Moment
+    pub served : Called job before mapped (IsServed job before mapped)
+    pub ends : IsRefusedTrying languages name design job.path before.world mapped after reply ⊎ IsBroughtUp languages name design job.path source before.world mapped after reply
 
   -- a view that isn't refused before any server is asked, and whose index is brought up to date
   pub record DoesUpdatedView (languages : List (List ℕ × List ℕ)) (before : Moment) (name : ViewQuery) (reply : List ℕ) (after : Moment) : Type 0 where
@@ -180,9 +225,9 @@ module _ (functions : List ℕ → Functions) (honest : List ℕ → Type 0) whe
     pub job : Job
     pub source : List ℕ
     pub is_job : IsJobOf languages before.world name design job source
-    pub called : Called job before after (λ added. IsAnswered languages name design job source before after reply added ⊎ IsRefused languages name design job before after reply added)
+    pub ends : Called job before after (IsRefused languages name design job before after reply) ⊎ IsMappedThen languages name design job source before after reply
 
-  -- a view whose index is read as it stands: no server is asked, and nothing changes
+  -- a view whose index is read as it stands: nothing is mapped, and the world is as it was
   pub record DoesKeptView (languages : List (List ℕ × List ℕ)) (before : Moment) (name : ViewQuery) (reply : List ℕ) (after : Moment) : Type 0 where
     pub keeps : is_updated (parameters_of name) ≡ false
     pub accepted : view_refusal languages before.world name ≡ None
@@ -192,8 +237,8 @@ module _ (functions : List ℕ → Functions) (honest : List ℕ → Type 0) whe
     pub live : live_document (before.world).history (design_id name.design) ≡ Some design
     pub source_is : source_of name.view design ≡ Some source
     pub path_is : path_in languages (language_of design) ≡ Some path
-    pub rows : PrintsRows languages name design path source before.world before.world reply
-    pub same : after ≡ before
+    pub same : after.world ≡ before.world
+    pub answered : IsAnswered languages name design path source before.world before after reply
 
   abbrev pub DoesView : List (List ℕ × List ℕ) → Moment → ViewQuery → List ℕ → Moment → Type 0
   DoesView languages before name reply after = DoesUpdatedView languages before name reply after ⊎ DoesKeptView languages before name reply after

@@ -10,6 +10,7 @@ use Rattle.view_ports.specs.Functions.{source_limit}
 use Rattle.child_pool.specs.declared.pool_fault.PoolFault.{PoolFault}
 use Rattle.child_pool.specs.declared.pool_fault.PoolFault.TheVariants as fault
 use Rattle.child_pool.specs.Languages.{path_in}
+use Rattle.child_pool.specs.ReduceTalk.{reduce_in}
 use Rattle.query_args.specs.declared.fault.QueryFault.{QueryFault}
 use Rattle.query_args.specs.declared.fault.QueryFault.TheVariants as query
 use Rattle.view_engine.specs.declared.halt.Halt.{Halt}
@@ -25,7 +26,7 @@ use Rattle.view_groups.specs.Brings.{IsGroupFault}
 use Rattle.view_engine.specs.Halts.{halted_as}
 use Rattle.view_engine.specs.World.{of_history}
 use Rattle.view_engine.specs.View.{design_id, rows_in, view_refusal}
-use Rattle.view_engine.specs.ViewQuery.{ViewQuery, builtin_in, builtin_named, parameters_of}
+use Rattle.view_engine.specs.ViewQuery.{ViewQuery, parameters_of, reduce_named}
 use Rattle.query_args.specs.Query.{is_updated}
 
 -- the source of the view in a place
@@ -38,7 +39,7 @@ ShowsRows views name place = (rows : List (List Row)) → length rows ≡ length
 
 -- the view in this place has the reduce of the view with this name
 abbrev pub HasReduce : List View → List ℕ → ℕ → Type 0
-HasReduce views name place = (view : View) → builtin_in (slice_index_or views place view).reduce ≡ builtin_named name views
+HasReduce views name place = reduce_in views place ≡ reduce_named name views
 
 -- the request isn't refused yet: the design document is live, the view has this place in its design, the language has a path, and the
 -- index is to be brought up to date first or not
@@ -52,6 +53,7 @@ pub record IsPlan (updating : Bool) (languages : List (List ℕ × List ℕ)) (h
   pub term : json design.term ≡ design_term document
   pub shown : ShowsRows design.views name.view place
   pub few : length design.views ≤ source_limit
+  pub reduced : HasReduce design.views name.view place
   pub id_is : id ≡ design_id name.design
   pub updates : is_updated (parameters_of name) ≡ updating
   pub accepted : view_refusal languages (of_history history) name ≡ None

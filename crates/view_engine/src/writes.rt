@@ -1,25 +1,21 @@
 //! The requests that write a document: `put` and `delete`. The reply is written first, so that want of memory stores nothing.
 
-ghost use Rattle.std.specs.Prelude.{◌≡◌, ◌++◌, IfErr, IfOk, OnErr, OnOk, option_map};
+ghost use Rattle.std.specs.Prelude.{◌≡◌, ◌++◌, IfErr, OnErr, OnOk, option_map};
 ghost use Rattle.json_terms.specs.Json.{object, members_of};
-ghost use Rattle.json_terms.specs.Seen.{json};
 ghost use Rattle.design_docs.specs.Documents.{id_of as id_in};
 ghost use Rattle.view_ports.specs.Lines.{ended};
 ghost use Rattle.doc_file.specs.Docs.{IsSame};
-ghost use Rattle.doc_file.specs.Incoming.{deletes as deletes_json};
 ghost use Rattle.view_engine.specs.Calls.{ActsHere, IsReplyLine};
 ghost use Rattle.view_engine.specs.Disks.{AreOpen};
 ghost use Rattle.view_engine.specs.Halts.{GoesOn};
-ghost use Rattle.view_engine.specs.Put as spec;
 ghost use Rattle.view_engine.specs.Replies.{accepted_reply, SaysRevision};
 
 use crate::answer::write_accepted;
 use crate::halt::Halt;
-use crate::refusal::Refusal;
 use crate::request::Request;
-use design_docs::{DESIGN_PREFIX, DesignFault, Reduce, View, id_of, is_design_id, read_design};
-use doc_file::{DocFault, Docs};
-use json_terms::{Chars, DOCUMENT_DEPTH, Members, NoMemory, Term, depth_within, member};
+use design_docs::id_of;
+use doc_file::Docs;
+use json_terms::{Chars, Members, NoMemory, Term};
 use std::alloc::Global;
 use view_model::Reply;
 use view_ports::Folder;
@@ -41,9 +37,6 @@ pub(crate) fn put<F: Folder>(
         × (folder.new ≡ folder.old)) }
 {
     let document = Term::Object(document);
-    if is_unbuilt(alloc, &document)? {
-        return Err(Halt::Refused(Refusal::NotBuiltYet));
-    }
     let start = out.len();
     append_accepted(alloc, docs, id_of(&document), out)?;
     match docs.put(alloc, folder, document) {
@@ -105,56 +98,4 @@ fn append_accepted(alloc: Global, docs: &Docs, id: &str, out: &mut Vec<u8>) -> R
     let mut reply = Reply::behind(alloc, out);
     let written = write_accepted(alloc, id, rev.as_str(), &mut reply);
     reply.end(written, out)
-}
-
-/// Whether a document is put as a design document of which a view has a reduce.
-fn is_unbuilt(alloc: Global, document: &Term) -> Result<bool, NoMemory>
-    ensures { IfOk result (λ unbuilt. unbuilt ≡ spec.is_unbuilt (json document.now)) }
-{
-    let id = id_of(document);
-    if !is_design_id(id) || id.len() <= DESIGN_PREFIX.len() {
-        return Ok(false);
-    }
-    if deletes(document) {
-        return Ok(false);
-    }
-    if !depth_within(document, DOCUMENT_DEPTH) {
-        return Ok(false);
-    }
-    reduces(alloc, document)
-}
-
-/// Whether a document has a design of which a view has a reduce for a query server.
-fn reduces(alloc: Global, document: &Term) -> Result<bool, NoMemory>
-    ensures { IfOk result (λ found. found ≡ spec.reduces (json document.now)) }
-{
-    match read_design(alloc, document) {
-        Ok(design) => Ok(has_served_reduce(design.views.as_slice())),
-        Err(DesignFault::NoMemory) => Err(NoMemory),
-        Err(_fault) => Ok(false),
-    }
-}
-
-fn has_served_reduce(views: &[View]) -> bool
-    ensures { result ≡ spec.has_served_reduce views.now }
-{
-    for view in views {
-        if is_served(&view.reduce) {
-            return true;
-        }
-    }
-    false
-}
-
-fn is_served(reduce: &Reduce) -> bool
-    ensures { result ≡ spec.is_served reduce.now }
-{
-    matches!(reduce, Reduce::Source(_))
-}
-
-/// Whether a put of the document is a deletion.
-fn deletes(document: &Term) -> bool
-    ensures { result ≡ deletes_json (json document.now) }
-{
-    matches!(member(document, "_deleted"), Some(Term::True))
 }

@@ -14,7 +14,7 @@ use Rattle.view_ports.specs.declared.file_name.Stem.TheVariants.{Docs as DocsSte
 use Rattle.view_ports.specs.declared.folder.Folder.{Ghosts as Folders}
 use Rattle.view_ports.specs.declared.servers.Servers.{Ghosts as Servers}
 use Rattle.view_ports.proofs.DiskRuns.{moves_none, moves_then, moves_wider}
-use Rattle.view_ports.proofs.Told.{told_after, told_all, told_back, told_given, told_map, told_now, told_still, told_then}
+use Rattle.view_ports.proofs.Told.{told_after, told_all, told_back, told_given, told_map, told_now, told_pair, told_still, told_then}
 use Rattle.gate_file.specs.declared.fault.GateFault.TheVariants.{DiskFault, Damaged, Full, NoMemory as OutOfMemory}
 use Rattle.gate_file.specs.GateFile.{commits_of, name_of, root_of}
 use Rattle.gate_file.proofs.Beside.{open_beside}
@@ -29,10 +29,9 @@ use Rattle.child_pool.specs.PoolCalls.{path_for}
 use Rattle.child_pool.specs.Pools.{HasItsChildren}
 use Rattle.json_terms.specs.Json.{Json}
 use Rattle.view_ports.specs.Calls.{Call}
-use Rattle.child_pool.specs.declared.doc_rows.DocRowLists.{DocRowLists}
 use Rattle.child_pool.specs.declared.pool.Pool.{Pool}
 use Rattle.child_pool.specs.declared.pool_fault.PoolFault.{PoolFault}
-use Rattle.child_pool.specs.declared.pool_fault.PoolFault.TheVariants.{ServerFault, UnknownLanguage}
+use Rattle.child_pool.specs.declared.pool_fault.PoolFault.TheVariants.{Compile, ServerFault, UnknownLanguage}
 use Rattle.view_model.specs.Picture.{Picture}
 use Rattle.view_index.specs.declared.fault.IndexFault.{IndexFault}
 use Rattle.view_index.specs.declared.fault.IndexFault.TheVariants as fault_of
@@ -44,7 +43,7 @@ use Rattle.view_index.specs.Opens.{FindsDamage, IsOpenFault}
 use Rattle.view_updater.specs.declared.fault.UpdateFault.{UpdateFault}
 use Rattle.view_updater.specs.declared.fault.UpdateFault.TheVariants.{Docs as OfDocuments, Index as OfIndex, NoMemory, Pool as OfPool}
 use Rattle.view_updater.specs.Faults.{by_index, by_pool}
-use Rattle.view_updater.specs.Updates.{documents_since, side as side_of_index, Side as IndexSide, EndsAt as EndsIndex, HasAskedFor, IsBodyDamaged, IsBreak, IsFileFault, IsFullWith, IsIdleEnd, IsLost, IsMade, IsMadeBy as IsMadeOf, IsMetAs, IsOfIndex}
+use Rattle.view_updater.specs.Updates.{documents_since, side as side_of_index, Side as IndexSide, ComplainsRightly, EndsAt as EndsIndex, HasAskedFor, IsBodyDamaged, IsFileFault, IsFullWith, IsIdleEnd, IsLost, IsMade, IsMadeBy as IsMadeOf, IsMetBy, IsOfIndex, IsThenChecked}
 use Rattle.view_updater.proofs.Ends.{index_of_no_documents, index_of_no_pool, index_stored}
 use Rattle.view_groups.specs.declared.groups.Groups.{Groups}
 use Rattle.view_groups.specs.Brings.{side, Brings, EndsAt, HasAsked, IsGroupFault, IsIdle, IsMadeBy, IsNext, MayLeave, Side}
@@ -112,13 +111,6 @@ ok_placed : (place : ℕ) (result : Result (Unit {0}) UpdateFault) (P : Type 0) 
 ok_placed place (Ok done) P is = is
 ok_placed place (Err e) P is = tt
 
-break_placed : (place : ℕ) (result : Result (Unit {0}) UpdateFault) → IsBreak result → IsBreak (placed place result)
-break_placed place (Ok done) broken = broken
-break_placed place (Err NoMemory) broken = broken
-break_placed place (Err (OfDocuments fault)) broken = broken
-break_placed place (Err (OfIndex fault)) broken = broken
-break_placed place (Err (OfPool fault)) broken = broken
-
 idle_placed : (place : ℕ) (result : Result (Unit {0}) UpdateFault) → IsIdleEnd result → IsIdleEnd (placed place result)
 idle_placed place (Ok done) idle = idle
 idle_placed place (Err NoMemory) idle = idle
@@ -126,21 +118,32 @@ idle_placed place (Err (OfDocuments fault)) idle = idle
 idle_placed place (Err (OfIndex fault)) idle = idle
 idle_placed place (Err (OfPool fault)) idle = idle
 
-met_placed : (place : ℕ) (mapped : Result DocRowLists PoolFault) (result : Result (Unit {0}) UpdateFault) → IsMetAs mapped result → IsMetAs mapped (placed place result)
-met_placed place (Ok lists) (Ok done) met = λ fault is. let no : ⊥ = cc in absurd no
-met_placed place (Ok lists) (Err e) met = λ fault is.
+met_placed : (place : ℕ) (checked : Result (Unit {0}) PoolFault) (result : Result (Unit {0}) UpdateFault) → IsMetBy checked result → IsMetBy checked (placed place result)
+met_placed place (Ok done) (Ok well) met = λ fault is. let no : ⊥ = cc in absurd no
+met_placed place (Ok done) (Err e) met = λ fault is.
     let same : e ≡ by_pool fault = cc in
     let want = met fault (ap (λ x. Err x) same) in
     let is_want : e ≡ NoMemory = cc in
     ap (λ x. Err x) is_want
-met_placed place (Err fault) (Ok done) met = let no : ⊥ = cc in absurd no
-met_placed place (Err fault) (Err e) met = let same : e ≡ by_pool fault = cc in ap (λ x. Err x) same
+met_placed place (Err fault) result met = ap (placed place) met
 
-asked_placed : {C : Type 0} (s : Servers C) (servers servers' : C) (pool pool' : Pool) (design : Design) (documents : List (List (List ℕ × Json))) (place : ℕ) (result : Result (Unit {0}) UpdateFault)
-    → HasAskedFor s servers servers' pool pool' design documents result → HasAskedFor s servers servers' pool pool' design documents (placed place result)
-asked_placed s servers servers' pool pool' design documents place result (inl asked) = inl (record { mapped = asked.mapped; met = met_placed place asked.mapped result asked.met; maps = asked.maps; idle = asked.idle; some = asked.some })
-asked_placed s servers servers' pool pool' design documents place result (inr broken) =
-    inr (record { done = broken.done; left = broken.left; all = broken.all; lists = broken.lists; mapped = broken.mapped; cause = break_placed place result broken.cause })
+module _ {C : Type 0} (s : Servers C) (servers servers' : C) (pool pool' : Pool) (design : Design) (place : ℕ) (result : Result (Unit {0}) UpdateFault) where
+  checked_placed : (between : C) (pool_between : Pool) (mapped : Result (Unit {0}) UpdateFault) → IsThenChecked s servers servers' pool pool' design between pool_between mapped result
+      → IsThenChecked s servers servers' pool pool' design between pool_between mapped (placed place result)
+  checked_placed between pool_between (Err fault) is = (ap (placed place) is.0, is.1, is.2)
+  checked_placed between pool_between (Ok done) is = (is.0, is.1, is.2, met_placed place is.1 result is.3)
+
+  asked_placed : (documents : List (List (List ℕ × Json))) → HasAskedFor s servers servers' pool pool' design documents result → HasAskedFor s servers servers' pool pool' design documents (placed place result)
+  asked_placed documents asked = record {
+    between = asked.between;
+    pool_between = asked.pool_between;
+    mapped = asked.mapped;
+    maps = asked.maps;
+    keeps = asked.keeps;
+    later = asked.later;
+    twice = asked.twice;
+    checks = checked_placed asked.between asked.pool_between asked.mapped asked.checks;
+  }
 
 -- faults of files are the same for the update of an open index, which is never damaged
 file_kept : (fault : UpdateFault) → IsFileFault fault → IsGroupFault fault
@@ -214,6 +217,7 @@ module _ {F C : Type 0} (f : Folders F) (s : Servers C) (docs : Docs) (design : 
         (λ d k. moves_none (IsFileOf (View (sig_of design))) (StandsAround design pictures (MayLeave f s docs design given given history pictures (Err NoMemory))) (EndsAt f s docs design given given history pictures (Err NoMemory)) d
         (λ image is. inl (now_stands history pictures d.now image k (λ n of_pair. is n))) (λ kept. k.indexes)) reached;
     asks = λ history pictures. told_all (f.disk folder) _ (λ d k. inl ((refl, refl), (tt, tt)));
+    spoils = λ history pictures reached is. let no : ⊥ = cc in absurd no;
     asked = inl ((refl, refl), tt);
     idle = λ place index group last. (inr refl, refl);
     sound = λ history pictures. told_all (f.disk folder) _ (λ d k shaped name at. (λ is. cc, λ is. cc));
@@ -252,6 +256,7 @@ module _ {F C : Type 0} (f : Folders F) (s : Servers C) (docs : Docs) (design : 
             (λ others ended. ends_refused history pictures b.now fault ended) moved)
             (opens.stands pictures (told_now (f.disk folder) _ _ (λ d k. within_of newest newest_is history pictures d.now k) reached));
         asks = λ history pictures. told_all (f.disk folder) _ (λ d k. inl ((refl, refl), (open_idle fault, tt)));
+        spoils = λ history pictures reached is. absurd (index_of_no_pool fault Compile (let same : by_index fault ≡ OfPool Compile = cc in same));
         asked = inl ((refl, refl), open_idle fault);
         idle = λ place index group last. absurd (let no : unopened fault ≡ Ok place = (opens.found place index group).0 in cc);
         sound = λ history pictures. told_now (f.disk folder) _ _ (λ d never k shaped name at. (
@@ -367,7 +372,7 @@ module _ {F C : Type 0} (f : Folders F) (s : Servers C) (docs : Docs) (design : 
 
       abbrev Next : ℕ → List Write → Pictures → Picture → Type 0
       Next n history pictures next = (path : List ℕ) (calls : List Call) → s.may_follow servers calls → path_for pool design ≡ Some path → HasItsChildren pool calls
-          → IsMade s design path history (or_empty n (pictures (sig_of design))) next
+          → IsMade s.functions s.honest design path history (or_empty n (pictures (sig_of design))) next
 
       abbrev Ends : ℕ → List Write → Pictures → Result (Unit {0}) UpdateFault → (FileName → File) → Type 0
       Ends n history pictures (Ok done) files = (next : Option Picture) × IsAt at.after files next × Next n history pictures (or_empty n next)
@@ -473,14 +478,14 @@ module _ {F C : Type 0} (f : Folders F) (s : Servers C) (docs : Docs) (design : 
               ok_placed place result ((picture_for design pictures).seq ≡ length history) (subst (λ (n : ℕ). OnOk result (n ≡ length history)) seq_is idle.1.1),
             ),
           ))
-          (λ some. inr (asked_placed s servers servers' pool pool' design (documents_since (picture_for design pictures).seq history) place result
+          (λ some. inr (asked_placed s servers servers' pool pool' design place result (documents_since (picture_for design pictures).seq history)
           (subst (λ (n : ℕ). HasAskedFor s servers servers' pool pool' design (documents_since n history) result) seq_is some)))
           either
 
       asked_some : (((servers' ≡ servers) × (pool' ≡ pool)) × IsIdleEnd result) ⊎ ((documents : List (List (List ℕ × Json))) × HasAskedFor s servers servers' pool pool' design documents result)
           → (IsIdle f s docs design given left × IsIdleEnd (placed place result)) ⊎ ((documents : List (List (List ℕ × Json))) × HasAsked f s docs design given left documents (placed place result))
       asked_some (inl idle) = inl (idle.0, idle_placed place result idle.1)
-      asked_some (inr some) = inr (some.0, asked_placed s servers servers' pool pool' design some.0 place result some.1)
+      asked_some (inr some) = inr (some.0, asked_placed s servers servers' pool pool' design place result some.0 some.1)
 
       -- where it was open, and nothing was written since, nothing is done
       idle_there : (p : ℕ) (index : Index) → IsGroup groups p (sig_of design) (views_in design) index → seq_of index ≡ documents_seq docs → ((placed place result ≡ Ok p) ⊎ (placed place result ≡ Err NoMemory)) × (left ≡ given)
@@ -500,6 +505,18 @@ module _ {F C : Type 0} (f : Folders F) (s : Servers C) (docs : Docs) (design : 
       known_before history pictures N after = told_never {X = Unit {0}} (f.disk folder) (f.disk mid) (λ d. IsReached docs groups design history pictures d.now) (λ u a b. IsBegun history pictures a b) (λ u d. IsThere history pictures d) N
           (λ a b u first. first.1.ended) (λ u. after)
           (λ reached. told_map (f.disk folder) (f.disk mid) (IsBegun history pictures) (λ a b. (u : Unit {0}) × IsBegun history pictures a b) (λ a b first. (tt, first)) (begun history pictures reached))
+
+      -- a complaint is right
+      spoils : (history : List Write) (pictures : Pictures) → IfTold (f.disk folder) (λ d. IsReached docs groups design history pictures d.now) → placed place result ≡ Err (OfPool Compile)
+          → IfTold (f.disk folder) (λ d. ComplainsRightly s design servers pool history (picture_for design pictures))
+      spoils history pictures reached is =
+          let Complains : ℕ → Type 0 = λ n. ComplainsRightly s design servers pool history (or_empty n (pictures (sig_of design))) in
+          told_pair (f.disk folder) (λ d. IsReached docs groups design history pictures d.now) (λ d. IsReached docs groups design history pictures d.now → Complains (views_in design)) (λ d. Complains (views_in design))
+          (λ d here known. known here) reached
+          (known_before history pictures (Complains (views_in design))
+          (told_now (f.disk mid) (λ d. Complains (views_of at.before)) (λ d. IsThere history pictures d → Complains (views_in design)) (λ d right known. subst Complains at.there.number right)
+          (at.updates.spoils history (pictures (sig_of design)) (told_now (f.disk mid) (IsThere history pictures) _ (λ d k. record { documents = k.0; at = before_at d.now pictures k.1 }) (there history pictures reached))
+          (unplaced place result (OfPool Compile) is))))
 
       -- the documents' files stay as it is opened
       documents_kept : Tells (f.disk folder) (f.disk mid) (λ a b. (n : FileName) → n.stem ≡ DocsStem → b.now n ≡ a.now n)
@@ -545,6 +562,7 @@ module _ {F C : Type 0} (f : Folders F) (s : Servers C) (docs : Docs) (design : 
       brought = record {
         stands = stands;
         asks = λ history pictures. known_before history pictures _ (told_now (f.disk mid) _ _ (λ d asks known. asked history pictures d.now known.1 (asks known.0)) (at.updates.asks history));
+        spoils = spoils;
         asked = asked_some at.updates.asked;
         idle = idle_there;
         sound = λ history pictures. told_now (f.disk folder) _ _ (λ d never reached shaped name k. (λ is. never reached name k (unplaced place result (OfDocuments (Damaged name k)) is), λ is. at.updates.whole name k (unplaced place result (OfIndex (fault_of.Store (Damaged name k))) is)))

@@ -16,7 +16,7 @@ use Rattle.doc_file.specs.declared.docs.Docs.{Docs}
 use Rattle.doc_file.specs.Docs.{file_of, seq_of as written, IsAt as AreDocumentsAt, IsDocsFile, IsLoaded as AreLoaded}
 use Rattle.doc_file.specs.History.{Write}
 use Rattle.child_pool.specs.declared.pool.Pool.{Pool}
-use Rattle.child_pool.specs.declared.pool_fault.PoolFault.TheVariants.{ServerFault, UnknownLanguage}
+use Rattle.child_pool.specs.declared.pool_fault.PoolFault.TheVariants.{Compile, ServerFault, UnknownLanguage}
 use Rattle.child_pool.specs.PoolCalls.{path_for, StaysAsMade}
 use Rattle.child_pool.specs.Pools.{HasItsChildren}
 use Rattle.view_model.specs.Picture.{Picture}
@@ -27,7 +27,7 @@ use Rattle.view_index.specs.Held.{or_empty, IsDamagedAt, IsFileOf}
 use Rattle.view_index.specs.Index.{picture_of, seq_of}
 use Rattle.view_updater.specs.declared.fault.UpdateFault.{UpdateFault}
 use Rattle.view_updater.specs.declared.fault.UpdateFault.TheVariants.{Docs as OfDocuments, Index as OfIndex, NoMemory as OutOfMemory, Pool as OfPool}
-use Rattle.view_updater.specs.Updates.{documents_since, HasAskedFor, IsBodyDamaged, IsFileFault, IsFullWith, IsIdleEnd, IsLost, IsMade, IsOfIndex}
+use Rattle.view_updater.specs.Updates.{documents_since, ComplainsRightly, HasAskedFor, IsBodyDamaged, IsFileFault, IsFullWith, IsIdleEnd, IsLost, IsMade, IsOfIndex}
 use Rattle.view_groups.specs.declared.groups.Groups.{Groups}
 use Rattle.view_groups.specs.Groups.{AreAt, AreOpen, IsGroup}
 use Rattle.view_groups.specs.Pictures.{Pictures}
@@ -55,7 +55,7 @@ module _ {F C : Type 0} (f : Folders F) (s : Servers C) (docs : Docs) (design : 
   -- a picture that the update makes: over each list of calls that may have been made, of the path of the design's language
   abbrev pub IsNext : List Write → Pictures → Picture → Type 0
   IsNext history pictures next = (path : List ℕ) (calls : List Call) → s.may_follow old.servers calls → path_for old.pool design ≡ Some path → HasItsChildren old.pool calls
-      → IsMade s design path history (picture_for design pictures) next
+      → IsMade s.functions s.honest design path history (picture_for design pictures) next
 
   -- the picture that is made is that of the index after Ok, and may be one of no index only where a fault of the index came
   abbrev pub IsMadeBy : Result ℕ UpdateFault → Picture → Type 0
@@ -97,6 +97,9 @@ module _ {F C : Type 0} (f : Folders F) (s : Servers C) (docs : Docs) (design : 
     -- the documents that were written since the picture are asked for, and no others; where there are none that were written, nothing is
     pub asks : (history : List Write) (pictures : Pictures) → IfTold (f.disk old.folder) (λ d. IsReached docs old.groups design history pictures d.now
         → (IsIdle × (IsIdleEnd result × OnOk result ((picture_for design pictures).seq ≡ length history))) ⊎ HasAsked (documents_since (picture_for design pictures).seq history) result)
+    -- it is refused for a source that doesn't compile only where one is wanted that doesn't
+    pub spoils : (history : List Write) (pictures : Pictures) → IfTold (f.disk old.folder) (λ d. IsReached docs old.groups design history pictures d.now)
+        → result ≡ Err (OfPool Compile) → IfTold (f.disk old.folder) (λ d. ComplainsRightly s design old.servers old.pool history (picture_for design pictures))
     -- whatever is told, some documents were asked for, all or the first ones, or nothing was
     pub asked : (IsIdle × IsIdleEnd result) ⊎ ((documents : List (List (List ℕ × Json))) × HasAsked documents result)
     -- where the index of the design is open and nothing was written since, nothing is done

@@ -30,11 +30,11 @@ pub struct Index {
 }
 
 impl Index {
-    ghost use Rattle.std.specs.Prelude.{◌≡◌, [], slice_index_or, IsSorted};
+    ghost use Rattle.std.specs.Prelude.{◌≡◌, [], slice_index_or, Contains, IfSome, IsSorted, None};
     ghost use Rattle.std.specs.List.{AllByRecursion};
     ghost use Rattle.gate_file.specs.GateFile.{name_of};
     ghost use Rattle.raw_collation.specs.Collation.{rows_cmp};
-    ghost use Rattle.view_index.specs.Index.{file_of, picture_of, seq_of, views_of};
+    ghost use Rattle.view_index.specs.Index.{file_of, next_in, picture_of, seq_of, views_of};
     ghost use Rattle.view_index.specs.Parts.{HasParts};
 
     /// The update sequence of the last commit, 0 where there was none. It takes no memory.
@@ -52,6 +52,15 @@ impl Index {
         ensures parts { AllByRecursion HasParts result.now }
     {
         self.views.as_slice()[view as usize].rows()
+    }
+
+    /// A row of those that a view has after the next commit; none where it has none then. It takes no memory.
+    pub fn some_next_row(&self, view: u32) -> Option<&Row>
+        requires { view < views_of self.now }
+        ensures some { IfSome result (λ row. Contains (slice_index_or (next_in self.now) view []) row.now) }
+        ensures none { result ≡ None → slice_index_or (next_in self.now) view [] ≡ [] }
+    {
+        self.views.as_slice()[view as usize].some_next(&self.touched)
     }
 
     /// How many views it has. It takes no memory.

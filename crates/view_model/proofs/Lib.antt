@@ -21,6 +21,7 @@ mod Printed
 mod RunParts
 mod GroupTexts
 pub mod GroupAnswers
+pub mod NoGroups
 pub mod OneAnswer
 mod PlainAnswers
 pub mod Pieces

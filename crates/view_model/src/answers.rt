@@ -1,6 +1,6 @@
 //! The answer of a query. Where memory runs out, part of it may be written.
 
-ghost use Rattle.std.specs.Prelude.{◌≡◌, ◌+◌, min, true, false, filter, length, map, All, IsSorted, IfErr, OnOk};
+ghost use Rattle.std.specs.Prelude.{◌≡◌, ◌+◌, [], min, true, false, filter, length, map, All, IsSorted, IfErr, OnOk};
 ghost use Rattle.std.specs.List.{flat_map};
 ghost use Rattle.json_terms.specs.Seen.{json};
 ghost use Rattle.raw_collation.specs.Collation.{rows_cmp};
@@ -22,7 +22,7 @@ use query_args::Query;
 use std::alloc::Global;
 
 /// Prints the answer to a query of a view that has these rows and whose index is at this sequence. Only where the query is reduced are
-/// values asked for.
+/// values asked for, and of no rows none is.
 pub fn answer<V: GroupValues>(
     alloc: Global,
     rows: &[Row],
@@ -36,9 +36,10 @@ pub fn answer<V: GroupValues>(
     ensures ok { OnOk result
         (AddsAnswer (V.is_value values.old) query.now seq rows.now reply.old reply.new) }
     ensures before { KeepsBefore reply.old reply.new }
-    ensures goes { V.goes values.old values.new }
-    ensures cause { IfErr result (IsCaused (V.fails values.old values.new)) }
+    ensures goes { OnOk result (V.goes values.old values.new) }
+    ensures cause { IfErr result (IsCaused (V.goes values.old values.new) (V.fails values.old values.new)) }
     ensures unasked { query.now.reduced ≡ false → values.new ≡ values.old }
+    ensures idle { rows.now ≡ [] → values.new ≡ values.old }
 {
     if query.reduced {
         groups_answer(alloc, rows, values, seq, query, reply)
@@ -84,8 +85,9 @@ fn groups_answer<V: GroupValues>(
     ensures ok { OnOk result (AddsSome
         (print.IsGroupsAnswer (V.is_value values.old) query.now seq rows.now) reply.old reply.new) }
     ensures before { KeepsBefore reply.old reply.new }
-    ensures goes { V.goes values.old values.new }
-    ensures cause { IfErr result (IsCaused (V.fails values.old values.new)) }
+    ensures goes { OnOk result (V.goes values.old values.new) }
+    ensures cause { IfErr result (IsCaused (V.goes values.old values.new) (V.fails values.old values.new)) }
+    ensures idle { rows.now ≡ [] → values.new ≡ values.old }
 {
     reply.put(b"{")?;
     print_seq(seq, query, reply)?;

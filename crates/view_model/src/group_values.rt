@@ -27,8 +27,9 @@ impl<F: Drop> From<NoMemory> for AnswerFault<F> {
 
 /// How the values of groups of rows are had.
 ///
-/// `is_value` says which text may be the value of which rows, and `takes` which rows may stand in a group. No call changes these.
-/// `goes` says what a call may do besides, as with a child that is asked, and `fails` why one of them answered a fault.
+/// `is_value` says which text may be the value of which rows, and `takes` which rows may stand in a group. `goes` says what a call
+/// that gives a value may do besides, as with a child that is asked: it changes neither of these. `fails` says why a call answered a
+/// fault, and what it did.
 pub trait GroupValues {
     ghost use Rattle.json_terms.specs.declared.term.Row.{Row};
     ghost use Rattle.view_model.specs.Adding.{AddsSome};
@@ -56,8 +57,8 @@ pub trait GroupValues {
         requires kept { All (takes self.old) group.now }
         ensures ok { OnOk result (AddsSome (is_value self.old group.now) reply.old reply.new) }
         ensures before { KeepsBefore reply.old reply.new }
-        ensures goes { goes self.old self.new }
-        ensures cause { IfErr result (IsCaused (fails self.old self.new)) };
+        ensures goes { OnOk result (goes self.old self.new) }
+        ensures cause { IfErr result (IsCaused (goes self.old self.new) (fails self.old self.new)) };
 
     ghost are_steps: { AreSteps goes };
 

@@ -19,7 +19,7 @@ use query_args::Query;
 use raw_collation::{Level, group_key, same_group};
 use std::alloc::Global;
 
-/// Prints the groups that a query picks.
+/// Prints the groups that a query picks. Of no rows there is none, and no value is asked for.
 pub(crate) fn print_groups<V: GroupValues>(
     alloc: Global,
     rows: &[Row],
@@ -32,9 +32,13 @@ pub(crate) fn print_groups<V: GroupValues>(
     ensures ok { OnOk result (AddsGroups (V.is_value values.old) query.now.level false
         (picked_groups query.now rows.now) reply.old reply.new) }
     ensures before { KeepsBefore reply.old reply.new }
-    ensures goes { V.goes values.old values.new }
-    ensures cause { IfErr result (IsCaused (V.fails values.old values.new)) }
+    ensures goes { OnOk result (V.goes values.old values.new) }
+    ensures cause { IfErr result (IsCaused (V.goes values.old values.new) (V.fails values.old values.new)) }
+    ensures idle { rows.now ≡ [] → values.new ≡ values.old }
 {
+    if rows.is_empty() {
+        return Ok(());
+    }
     match &query.keys {
         Some(keys) => print_listed(alloc, rows, keys.as_slice(), values, query, reply),
         None => print_runs(alloc, ranged(rows, query), values, query, reply),
@@ -55,8 +59,8 @@ fn print_listed<V: GroupValues>(
     ensures ok { OnOk result (AddsGroups (V.is_value values.old) query.now.level false
         (due (start_of query.now) (groups_of_keys rows.now (map json keys.now))) reply.old reply.new) }
     ensures before { KeepsBefore reply.old reply.new }
-    ensures goes { V.goes values.old values.new }
-    ensures cause { IfErr result (IsCaused (V.fails values.old values.new)) }
+    ensures goes { OnOk result (V.goes values.old values.new) }
+    ensures cause { IfErr result (IsCaused (V.goes values.old values.new) (V.fails values.old values.new)) }
 {
     let mut progress = Progress::start(query);
     for key in keys {
@@ -82,8 +86,8 @@ fn print_runs<V: GroupValues>(
         (due (start_of query.now) (walked query.now.descending (runs query.now.level rows.now)))
         reply.old reply.new) }
     ensures before { KeepsBefore reply.old reply.new }
-    ensures goes { V.goes values.old values.new }
-    ensures cause { IfErr result (IsCaused (V.fails values.old values.new)) }
+    ensures goes { OnOk result (V.goes values.old values.new) }
+    ensures cause { IfErr result (IsCaused (V.goes values.old values.new) (V.fails values.old values.new)) }
 {
     let mut progress = Progress::start(query);
     let mut left = rows;
@@ -162,8 +166,8 @@ fn print_group<V: GroupValues>(
         (due progress (one_group group.now)) reply.old reply.new) }
     ensures before { KeepsBefore reply.old reply.new }
     ensures progress { IfOk result (λ next. next ≡ past progress (one_group group.now)) }
-    ensures goes { V.goes values.old values.new }
-    ensures cause { IfErr result (IsCaused (V.fails values.old values.new)) }
+    ensures goes { OnOk result (V.goes values.old values.new) }
+    ensures cause { IfErr result (IsCaused (V.goes values.old values.new) (V.fails values.old values.new)) }
 {
     if group.is_empty() {
         return Ok(progress);
@@ -198,8 +202,8 @@ fn print_next<V: GroupValues>(
     ensures ok { OnOk result (AddsGroups (V.is_value values.old) level later
         (group.now ∷ []) reply.old reply.new) }
     ensures before { KeepsBefore reply.old reply.new }
-    ensures goes { V.goes values.old values.new }
-    ensures cause { IfErr result (IsCaused (V.fails values.old values.new)) }
+    ensures goes { OnOk result (V.goes values.old values.new) }
+    ensures cause { IfErr result (IsCaused (V.goes values.old values.new) (V.fails values.old values.new)) }
 {
     if later {
         reply.put(b",")?;
@@ -220,8 +224,8 @@ fn print_whole<V: GroupValues>(
     ensures ok { OnOk result (AddsGroups (V.is_value values.old) level false
         (group.now ∷ []) reply.old reply.new) }
     ensures before { KeepsBefore reply.old reply.new }
-    ensures goes { V.goes values.old values.new }
-    ensures cause { IfErr result (IsCaused (V.fails values.old values.new)) }
+    ensures goes { OnOk result (V.goes values.old values.new) }
+    ensures cause { IfErr result (IsCaused (V.goes values.old values.new) (V.fails values.old values.new)) }
 {
     let key = group_key(alloc, level, &group[0].key)?;
     text_is_line(&key);

@@ -1,5 +1,5 @@
 -- How an update ends: what the folder and the index are at, and what was asked.
-use Rattle.std.specs.Prelude.{◌≡◌, ◌⊎◌, ◌≤◌, ℕ, List, map, length, Result, Ok, Err, IfOk, OnOk, Option, Some, None}
+use Rattle.std.specs.Prelude.{◌≡◌, ◌⊎◌, ◌≤◌, ℕ, List, map, length, Bool, false, Result, Ok, Err, IfOk, OnOk, Option, Some, None}
 use Rattle.std.proofs.Common.{refl, sym, ap, ◌∙◌, subst, inl, inr}
 use Rattle.json_terms.specs.Json.{Json}
 use Rattle.raw_collation.specs.Sorting.{sorted_rows}
@@ -18,11 +18,14 @@ use Rattle.doc_file.specs.declared.docs.Docs.{Docs}
 use Rattle.doc_file.specs.Docs.{IsAt as AreAt}
 use Rattle.doc_file.specs.History.{AreStored, Write, changes_after}
 use Rattle.child_pool.specs.declared.doc_rows.DocRowLists.{DocRowLists}
+use Rattle.child_pool.specs.declared.pool.Pool.{Pool}
 use Rattle.child_pool.specs.declared.pool_fault.PoolFault.{PoolFault}
 use Rattle.child_pool.specs.declared.pool_fault.PoolFault.TheVariants as pool
-use Rattle.child_pool.specs.PoolCalls.{path_for, MapsAll}
+use Rattle.child_pool.specs.Languages.{path_in}
+use Rattle.child_pool.specs.PoolCalls.{path_for, MapsAll, StaysAsMade}
 use Rattle.child_pool.specs.Pools.{HasItsChildren}
 use Rattle.view_model.specs.Picture.{Picture}
+use Rattle.view_model.specs.Rows.{some_reduce_fails}
 use Rattle.gate_file.specs.declared.fault.GateFault.{GateFault}
 use Rattle.gate_file.specs.declared.fault.GateFault.TheVariants.{DiskFault, Full}
 use Rattle.gate_file.specs.Calls.{too_long, used_up}
@@ -40,9 +43,10 @@ use Rattle.view_index.specs.Replaced.{replaced_views}
 use Rattle.view_index.proofs.Committing.{last_sorted}
 use Rattle.view_updater.specs.declared.fault.UpdateFault.{UpdateFault}
 use Rattle.view_updater.specs.declared.fault.UpdateFault.TheVariants.{Docs as OfDocuments, Index as OfIndex, NoMemory, Pool as OfPool}
-use Rattle.view_updater.specs.Exchanges.{AsksSome, BreaksOff, HasExchanged, TakesIn}
+use Rattle.view_updater.specs.Checking.{FailsThere}
+use Rattle.view_updater.specs.Exchanges.{BreaksOff, Exchanges, HasExchanged, TakesIn}
 use Rattle.view_updater.specs.Faults.{by_index, by_pool}
-use Rattle.view_updater.specs.Updates.{documents_since, side, EndsAt, HasAsked, IsBreak, IsFullWith, IsIdle, IsIdleEnd, IsLost, IsMade, IsMadeBy, IsMetAs, IsNext, IsReached, Side, StandsAround}
+use Rattle.view_updater.specs.Updates.{documents_since, side, EndsAt, HasAsked, HasMapped, HasMappedSome, IsFullWith, IsIdle, IsIdleEnd, IsLost, IsMade, IsMadeBy, IsMapped, IsMetAs, IsNext, IsReached, IsThenChecked, Side, StandsAround}
 use Rattle.view_updater.proofs.Carrying.{at_still, open_still, same_stem, same_views, stands_now, views_by_picture}
 use Rattle.view_updater.proofs.Nexts.{no_documents_since, nothing_updated, rows_updated}
 
@@ -55,9 +59,12 @@ module _ {F C : Type 0} (f : Folders F) (s : Servers C) (docs : Docs) (design : 
 
     pub idle_next : (new : Side F C) → seq_of old.index ≡ length history → IsNext f s docs design old new history picture (or_empty (views_of old.index) picture)
     idle_next new newest path calls follows known has =
-        subst (λ (p : Picture). IsMade s design path history p p) at.last (record {
-          updated = nothing_updated (s.functions path) (s.honest path × (length design.views ≤ source_limit)) design.views history (picture_of old.index) shaped newest (last_sorted old.index files picture at);
-          compile = λ honest some. absurd (some (no_documents_since (seq_of old.index) history newest));
+        subst (λ (p : Picture). IsMade s.functions s.honest design path history p p) at.last (record {
+          mapped = record {
+            updated = nothing_updated (s.functions path) (s.honest path × (length design.views ≤ source_limit)) design.views history (picture_of old.index) shaped newest (last_sorted old.index files picture at);
+            compile = λ honest some. absurd (some (no_documents_since (seq_of old.index) history newest));
+          };
+          reduces = λ honest differs. absurd (differs newest);
         })
 
   -- the files and the index are as they were
@@ -131,9 +138,8 @@ unlike (fault_of.Summer fault) pool.Compile is = cc
 unlike (fault_of.Summer fault) pool.UnknownLanguage is = cc
 
 -- a refused commit is met by no fault of the pool
-pub commit_met : (fault : IndexFault) (mapped : Result DocRowLists PoolFault) → IsMetAs mapped well → IsMetAs mapped (refused (by_index fault))
-commit_met fault (Err pool_fault) met = absurd (well_met pool_fault met)
-commit_met fault (Ok lists) met = λ pool_fault is. unlike fault pool_fault (let same : by_index fault ≡ by_pool pool_fault = cc in same)
+pub commit_met : (fault : IndexFault) (pool_fault : PoolFault) → refused (by_index fault) ≡ Err (by_pool pool_fault) → refused (by_index fault) ≡ Err NoMemory
+commit_met fault pool_fault is = unlike fault pool_fault (let same : by_index fault ≡ by_pool pool_fault = cc in same)
 
 -- how a commit is refused
 abbrev pub IsOfCommit : Index → IndexFault → Type 0
@@ -177,39 +183,56 @@ pub record IsBack (index rolled : Index) : Type 0 where
   pub next : next_in rolled ≡ map sorted_rows (picture_of rolled).rows
   pub pending : ArePending rolled
 
-module _ {F C : Type 0} (f : Folders F) (s : Servers C) (docs : Docs) (design : Design) (old mid : Side F C) (number : views_of old.index ≡ length design.views) (rolled : Index) (back : IsBack old.index rolled) where
+module _ {F C : Type 0} (f : Folders F) (s : Servers C) (docs : Docs) (design : Design) (old mid : Side F C) (servers : C) (pool : Pool) (number : views_of old.index ≡ length design.views) (rolled : Index) (back : IsBack old.index rolled) where
   abbrev from : Side F C
   from = side old.folder old.servers old.pool rolled
 
   seq_back : seq_of rolled ≡ seq_of old.index
   seq_back = ap (λ (p : Picture). p.seq) back.rows
 
-  -- what was asked
+  -- what was asked: the documents, and then the values by which reduces were tried
   module _ (folder : F) (index : Index) where
     abbrev left : Side F C
-    left = side folder mid.servers mid.pool index
-
-    abbrev Exchanged : Result (Unit {0}) UpdateFault → List Write → Type 0
-    Exchanged result history = HasExchanged f s docs design from mid history result ⊎ BreaksOff f s docs design from mid history result
+    left = side folder servers pool index
 
     abbrev Asked : Result (Unit {0}) UpdateFault → List Write → Type 0
     Asked result history =
         (IsIdle f s docs design old left × (IsIdleEnd result × OnOk result (seq_of old.index ≡ length history))) ⊎ HasAsked f s docs design old left (documents_since (seq_of old.index) history) result
 
-    -- the same of another result, as is that of the commit
-    module _ (before result : Result (Unit {0}) UpdateFault) (met : (mapped : Result DocRowLists PoolFault) → IsMetAs mapped before → IsMetAs mapped result) (breaks : IsBreak before → IsBreak result) where
-      asked_as : (documents : List (List (List ℕ × Json))) → HasAsked f s docs design old left documents before → HasAsked f s docs design old left documents result
-      asked_as documents (inl has) = inl (record { mapped = has.mapped; met = met has.mapped has.met; maps = has.maps; idle = has.idle; some = has.some })
-      asked_as documents (inr has) = inr (record { done = has.done; left = has.left; all = has.all; lists = has.lists; mapped = has.mapped; cause = breaks has.cause })
+    module _ (before result : Result (Unit {0}) UpdateFault) (ex : Exchanges f s docs design from mid before) (checks : IsThenChecked s old.servers servers old.pool pool design mid.servers mid.pool before result) where
+      asked_as : (documents : List (List (List ℕ × Json))) → HasMappedSome s old.servers mid.servers old.pool mid.pool design documents before → HasAsked f s docs design old left documents result
+      asked_as documents maps = record {
+        between = mid.servers;
+        pool_between = mid.pool;
+        mapped = before;
+        maps = maps;
+        keeps = ex.keeps;
+        later = ex.later;
+        twice = ex.blames;
+        checks = checks;
+      }
 
-      pub asked_over : (history : List Write) → IfTold (f.disk old.folder) (λ d. AreAt docs d.now history → Exchanged before history) → IfTold (f.disk old.folder) (λ d. AreAt docs d.now history → Asked result history)
+      pub asked_over : (history : List Write) → IfTold (f.disk old.folder) (λ d. AreAt docs d.now history → Asked result history)
       asked_over history =
-          told_now (f.disk old.folder) (λ d. AreAt docs d.now history → Exchanged before history) (λ d. AreAt docs d.now history → Asked result history)
+          told_now (f.disk old.folder) (λ d. AreAt docs d.now history → HasExchanged f s docs design from mid history before ⊎ BreaksOff f s docs design from mid history before) (λ d. AreAt docs d.now history → Asked result history)
           (λ d asks here. inr (subst (λ (n : ℕ). HasAsked f s docs design old left (documents_since n history) result) seq_back
-          (asked_as (documents_since (seq_of rolled) history) (elim (asks here) [ inl has ↦ inl has.asked | inr has ↦ inr has ]))))
+          (asked_as (documents_since (seq_of rolled) history) (elim (asks here) [ inl has ↦ inl has.asked | inr has ↦ inr has ])))) (ex.asks history)
 
-      pub asked_some : AsksSome f s docs design from mid before → (IsIdle f s docs design old left × IsIdleEnd result) ⊎ ((documents : List (List (List ℕ × Json))) × HasAsked f s docs design old left documents result)
-      asked_some some = inr (some.0, asked_as some.0 some.1)
+      pub asked_some : (IsIdle f s docs design old left × IsIdleEnd result) ⊎ ((documents : List (List (List ℕ × Json))) × HasAsked f s docs design old left documents result)
+      asked_some = inr (ex.asked.0, asked_as ex.asked.0 ex.asked.1)
+
+  -- what is found of reduces after the mapping was so before it
+  pub fails_by : (fails : Bool) → StaysAsMade old.pool mid.pool → FailsThere s mid.servers servers mid.pool pool design (next_in mid.index) fails
+      → (documents : List (List (List ℕ × Json))) → HasMapped s old.servers mid.servers old.pool mid.pool design documents well
+      → (path : List ℕ) (calls : List Call) → s.may_follow old.servers calls → path_for old.pool design ≡ Some path → HasItsChildren old.pool calls → s.honest path
+      → some_reduce_fails (s.functions path) design.views (next_in mid.index) ≡ fails
+  fails_by fails keeps there documents has path calls follows known children honest = by_mapped has.mapped has.met has.maps
+    where
+      by_mapped : (mapped : Result DocRowLists PoolFault) → IsMetAs mapped well → MapsAll s old.servers mid.servers old.pool design documents mid.pool mapped → some_reduce_fails (s.functions path) design.views (next_in mid.index) ≡ fails
+      by_mapped (Err fault) met maps = absurd (well_met fault met)
+      by_mapped (Ok lists) met maps =
+          let w = maps path calls follows known children in
+          there path w.now w.follows (ap (λ languages. path_in languages design.language) keeps.languages ∙ known) w.holds.1.0 honest
 
   -- ---- the picture that is committed
 
@@ -224,10 +247,10 @@ module _ {F C : Type 0} (f : Folders F) (s : Servers C) (docs : Docs) (design : 
     rows_back = back.next ∙ last_sorted rolled files picture rolled_at
 
     module _ (path : List ℕ) (calls : List Call) (follows : s.may_follow old.servers calls) (known : path_for old.pool design ≡ Some path) (has : HasItsChildren old.pool calls) where
-      next_by : (mapped : Result DocRowLists PoolFault) → IsMetAs mapped well → MapsAll s old.servers mid.servers old.pool design (documents_since (seq_of rolled) history) mid.pool mapped
-          → OnOk well (IfOk mapped (TakesIn f s docs design from mid (changes_after (seq_of rolled) history))) → IsMade s design path history (picture_of rolled) (next_picture newest mid.index)
-      next_by (Err fault) met maps takes = absurd (well_met fault met)
-      next_by (Ok lists) met maps takes =
+      mapped_by : (mapped : Result DocRowLists PoolFault) → IsMetAs mapped well → MapsAll s old.servers mid.servers old.pool design (documents_since (seq_of rolled) history) mid.pool mapped
+          → OnOk well (IfOk mapped (TakesIn f s docs design from mid (changes_after (seq_of rolled) history))) → IsMapped s.functions s.honest design path history (picture_of rolled) (next_picture newest mid.index)
+      mapped_by (Err fault) met maps takes = absurd (well_met fault met)
+      mapped_by (Ok lists) met maps takes =
           let updated = (maps path calls follows known has).holds.1.1 in
           record {
             updated = rows_updated s.functions s.honest path design.views history (picture_of rolled) (next_picture newest mid.index) lists (views_by_picture rolled ∙ number_back) stored updated.rows newest_is
@@ -235,10 +258,18 @@ module _ {F C : Type 0} (f : Folders F) (s : Servers C) (docs : Docs) (design : 
             compile = updated.compile;
           }
 
-    next_is : (new : Side F C) → HasExchanged f s docs design from mid history well → IsNext f s docs design old new history picture (next_picture newest mid.index)
-    next_is new has path calls follows known children =
-        subst (λ (p : Picture). IsMade s design path history p (next_picture newest mid.index)) (back.rows ∙ at.last)
-        (next_by path calls follows known children has.asked.mapped has.asked.met has.asked.maps has.takes)
+    module _ (has : HasExchanged f s docs design from mid history well) where
+      pub mapped_is : (path : List ℕ) (calls : List Call) → s.may_follow old.servers calls → path_for old.pool design ≡ Some path → HasItsChildren old.pool calls
+          → IsMapped s.functions s.honest design path history (or_empty (views_of old.index) picture) (next_picture newest mid.index)
+      mapped_is path calls follows known children =
+          subst (λ (p : Picture). IsMapped s.functions s.honest design path history p (next_picture newest mid.index)) (back.rows ∙ at.last)
+          (mapped_by path calls follows known children has.asked.mapped has.asked.met has.asked.maps has.takes)
+
+      next_is : (new : Side F C) → StaysAsMade old.pool mid.pool → FailsThere s mid.servers servers mid.pool pool design (next_in mid.index) false → IsNext f s docs design old new history picture (next_picture newest mid.index)
+      next_is new keeps compile path calls follows known children = record {
+        mapped = mapped_is path calls follows known children;
+        reduces = λ honest differs. fails_by false keeps compile (documents_since (seq_of rolled) history) has.asked path calls follows known children honest;
+      }
 
   pending_now : (history : List Write) → HasExchanged f s docs design from mid history well → ArePending mid.index
   pending_now history has = by_mapped has.asked.mapped has.asked.met has.takes
@@ -284,7 +315,8 @@ module _ {F C : Type 0} (f : Folders F) (s : Servers C) (docs : Docs) (design : 
       others_refused now file_now is_open (fault_of.Summer fault) is = others_then now (refused (by_index (fault_of.Summer fault))) (λ files ended. inl tt)
 
       module _ (newest_is : newest ≡ docs.seq) (asks : (history : List Write) → IfTold (f.disk old.folder) (λ d. AreAt docs d.now history
-          → HasExchanged f s docs design from mid history well ⊎ BreaksOff f s docs design from mid history well)) where
+          → HasExchanged f s docs design from mid history well ⊎ BreaksOff f s docs design from mid history well))
+          (keeps : StaysAsMade old.pool mid.pool) (compile : FailsThere s mid.servers servers mid.pool pool design (next_in mid.index) false) where
         module _ (history : List Write) (picture : Option Picture) where
           abbrev Known : (FileName → File) → Type 0
           Known files = IsReached docs old.index history picture files × HasExchanged f s docs design from mid history well
@@ -306,7 +338,7 @@ module _ {F C : Type 0} (f : Folders F) (s : Servers C) (docs : Docs) (design : 
               (λ d is told. (is, chosen (told is.documents))) reached (asks history)
 
           pub known_next : (new : Side F C) (files : FileName → File) → Known files → IsNext f s docs design old new history picture next
-          known_next new files known = next_is history picture files known.0.at known.0.documents.stored newest (newest_is ∙ known.0.documents.count) new known.1
+          known_next new files known = next_is history picture files known.0.at known.0.documents.stored newest (newest_is ∙ known.0.documents.count) known.1 new keeps compile
 
           mid_at : IfTold (f.disk old.folder) (λ d. Known d.now) → IfTold (f.disk mid.folder) (λ d. IsAt mid.index d.now picture)
           mid_at known =

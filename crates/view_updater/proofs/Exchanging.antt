@@ -179,13 +179,13 @@ nothing_yet f s docs design old progress first idle settled = record {
 -- ---- the end of the pool
 
 -- a break is no fault of the pool
-no_pool : (fault : UpdateFault) (of_pool : PoolFault) → IsBreak (refusal fault) → refusal fault ≡ Err (OfPool of_pool) → ⊥
+pub no_pool : (fault : UpdateFault) (of_pool : PoolFault) → IsBreak (refusal fault) → refusal fault ≡ Err (OfPool of_pool) → ⊥
 no_pool NoMemory of_pool broken is = cc
 no_pool (OfDocuments fault) of_pool broken is = cc
 no_pool (OfPool fault) of_pool broken is = broken
 no_pool (OfIndex fault) of_pool broken is = broken
 
-by_pool_of : (fault of_pool : PoolFault) → refusal (by_pool fault) ≡ Err (OfPool of_pool) → fault ≡ of_pool
+pub by_pool_of : (fault of_pool : PoolFault) → refusal (by_pool fault) ≡ Err (OfPool of_pool) → fault ≡ of_pool
 by_pool_of fault_of.NoMemory of_pool is = cc
 by_pool_of fault_of.ServerFault of_pool is = cc
 by_pool_of (fault_of.BadReply line) of_pool is = cc
@@ -218,11 +218,11 @@ pub as_made : (pool : Pool) → StaysAsMade pool pool
 as_made pool = record { languages = refl; width = refl }
 
 -- what rose later rose since an earlier count
-rose_since : (before mid now : ℕ) → before ≤ mid → RoseBy 2 mid now → RoseBy 2 before now
+pub rose_since : (before mid now : ℕ) → before ≤ mid → RoseBy 2 mid now → RoseBy 2 before now
 rose_since before mid now early rose = omega (arith, early, rose)
 
 -- a language that has no path now had none
-path_before : (pool pool' : Pool) (design : Design) → StaysAsMade pool pool' → path_for pool' design ≡ None → path_for pool design ≡ None
+pub path_before : (pool pool' : Pool) (design : Design) → StaysAsMade pool pool' → path_for pool' design ≡ None → path_for pool design ≡ None
 path_before pool pool' design keeps is = ap (λ languages. path_in languages design.language) (sym keeps.languages) ∙ is
 
 -- ---- one page more

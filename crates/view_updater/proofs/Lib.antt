@@ -7,3 +7,7 @@ pub mod Exchanging
 pub mod Carrying
 pub mod Nexts
 pub mod Ends
+pub mod Tried
+pub mod Spoils
+pub mod Refusing
+pub mod OneTried

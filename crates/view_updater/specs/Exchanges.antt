@@ -26,7 +26,7 @@ use Rattle.view_index.specs.Replaced.{replaced_views}
 use Rattle.view_updater.specs.declared.fault.UpdateFault.{UpdateFault}
 use Rattle.view_updater.specs.declared.fault.UpdateFault.TheVariants.{Docs as OfDocuments, Pool as OfPool}
 use Rattle.view_updater.specs.declared.updating.Progress.{Progress}
-use Rattle.view_updater.specs.Updates.{documents_since, HasAskedFor, HasBrokenOff, HasMapped, IsBodyDamaged, IsBreak, IsFileFault, IsOfIndex, Side}
+use Rattle.view_updater.specs.Updates.{documents_since, HasMappedSome, HasBrokenOff, HasMapped, IsBodyDamaged, IsBreak, IsFileFault, IsOfIndex, Side}
 
 -- the documents' files are only read, and what may fail there
 module _ {F : Type 0} (f : Folders F) (docs : Docs) (old new : F) where
@@ -69,7 +69,7 @@ module _ {F C : Type 0} (f : Folders F) (s : Servers C) (docs : Docs) (design : 
 
   -- some documents were asked for, all or the first ones
   abbrev pub AsksSome : Result (Unit {0}) UpdateFault → Type 0
-  AsksSome result = (documents : List (List (List ℕ × Json))) × HasAskedFor s old.servers new.servers old.pool new.pool design documents result
+  AsksSome result = (documents : List (List (List ℕ × Json))) × HasMappedSome s old.servers new.servers old.pool new.pool design documents result
 
   pub record Exchanges (result : Result (Unit {0}) UpdateFault) : Type 0 where
     pub asks : (history : List Write) → IfTold (f.disk old.folder) (λ d. AreAt docs d.now history

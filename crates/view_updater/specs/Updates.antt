@@ -1,10 +1,10 @@
 -- Bringing an index up to date.
-use Rattle.std.specs.Prelude.{◌≡◌, ◌≢◌, ◌⊎◌, ◌≤◌, ◌++◌, ℕ, List, [], map, length, Result, Ok, Err, IfErr, IfOk, OnErr, OnOk, Option, Some, None}
+use Rattle.std.specs.Prelude.{◌≡◌, ◌≢◌, ◌⊎◌, ◌≤◌, ◌++◌, ℕ, List, [], map, length, true, false, Result, Ok, Err, IfErr, IfOk, OnErr, OnOk, Option, Some, None}
 use Rattle.json_terms.specs.Json.{Json}
 use Rattle.view_ports.specs.Calls.{Call}
 use Rattle.view_ports.specs.Disk.{IfTold, Moves, Tells}
 use Rattle.view_ports.specs.Faults.{Rose, RoseBy}
-use Rattle.view_ports.specs.Functions.{source_limit}
+use Rattle.view_ports.specs.Functions.{Functions, source_limit}
 use Rattle.view_ports.specs.File.{File}
 use Rattle.view_ports.specs.declared.file_name.FileName.{FileName}
 use Rattle.view_ports.specs.declared.folder.Folder.{Ghosts as Folders}
@@ -23,12 +23,15 @@ use Rattle.doc_file.specs.History.{Write, mapped_after}
 use Rattle.child_pool.specs.declared.doc_rows.DocRowLists.{DocRowLists}
 use Rattle.child_pool.specs.declared.pool.Pool.{Pool}
 use Rattle.child_pool.specs.declared.pool_fault.PoolFault.{PoolFault}
-use Rattle.child_pool.specs.declared.pool_fault.PoolFault.TheVariants.{ServerFault, UnknownLanguage}
+use Rattle.child_pool.specs.declared.pool_fault.PoolFault.TheVariants.{Compile, ServerFault, UnknownLanguage}
 use Rattle.child_pool.specs.Firsts.{FirstAreMapped}
 use Rattle.child_pool.specs.PoolCalls.{path_for, MapsAll, StaysAsMade}
+use Rattle.child_pool.specs.Honesty.{SomeSourceFails}
 use Rattle.child_pool.specs.Pools.{HasItsChildren}
 use Rattle.child_pool.specs.Sessions.{AllCompile}
+use Rattle.json_terms.specs.declared.term.Row.{Row}
 use Rattle.view_model.specs.Picture.{Picture}
+use Rattle.view_model.specs.Rows.{some_reduce_fails}
 use Rattle.view_model.specs.Update.{IsUpdated}
 use Rattle.view_index.specs.declared.fault.IndexFault.TheVariants.{Store}
 use Rattle.view_index.specs.declared.index.Index.{Index}
@@ -37,6 +40,7 @@ use Rattle.view_index.specs.Held.{or_empty, IsFileOf, Stands}
 use Rattle.view_index.specs.Index.{file_of as index_file, picture_of, seq_of, views_of}
 use Rattle.view_updater.specs.declared.fault.UpdateFault.{UpdateFault}
 use Rattle.view_updater.specs.declared.fault.UpdateFault.TheVariants.{Docs as OfDocuments, Index as OfIndex, NoMemory, Pool as OfPool}
+use Rattle.view_updater.specs.Checking.{Checks}
 use Rattle.view_updater.specs.Faults.{by_pool}
 
 -- what an update is given and leaves
@@ -127,22 +131,62 @@ module _ {C : Type 0} (s : Servers C) (servers servers' : C) (pool pool' : Pool)
     pub mapped : FirstAreMapped s servers servers' pool pool' design done lists
     pub cause : IsBreak result
 
-  -- the documents were asked for, all or the first ones
-  abbrev pub HasAskedFor : {T : Type 0} → Result T UpdateFault → Type 0
-  HasAskedFor result = HasMapped result ⊎ HasBrokenOff result
+  -- the documents were mapped, all or the first ones
+  abbrev pub HasMappedSome : {T : Type 0} → Result T UpdateFault → Type 0
+  HasMappedSome result = HasMapped result ⊎ HasBrokenOff result
 
-module _ {C : Type 0} (s : Servers C) (design : Design) where
+-- the pool refused a reduce, with a fault that is told, or gave all values, and then it told none
+abbrev pub IsMetBy : {T : Type 0} → Result (Unit {0}) PoolFault → Result T UpdateFault → Type 0
+IsMetBy (Ok done) result = (fault : PoolFault) → result ≡ Err (by_pool fault) → result ≡ Err NoMemory
+IsMetBy (Err fault) result = result ≡ Err (by_pool fault)
+
+module _ {C : Type 0} (s : Servers C) (servers servers' : C) (pool pool' : Pool) (design : Design) where
+  -- where the documents were mapped, the sources of reduces were tried
+  abbrev pub IsThenChecked : {T : Type 0} → C → Pool → Result (Unit {0}) UpdateFault → Result T UpdateFault → Type 0
+  IsThenChecked between pool_between (Err fault) result = (result ≡ Err fault) × (servers' ≡ between) × (pool' ≡ pool_between)
+  IsThenChecked between pool_between (Ok done) result =
+      (rows : List (List Row)) × (checked : Result (Unit {0}) PoolFault) × Checks s between servers' pool_between pool' design rows checked × IsMetBy checked result
+
+  -- the documents were asked for, all or the first ones, and then, where all were mapped, the reduces that are wanted
+  pub record HasAskedFor {T : Type 0} (documents : List (List (List ℕ × Json))) (result : Result T UpdateFault) : Type 0 where
+    pub between : C
+    pub pool_between : Pool
+    pub mapped : Result (Unit {0}) UpdateFault
+    pub maps : HasMappedSome s servers between pool pool_between design documents mapped
+    pub keeps : StaysAsMade pool pool_between
+    pub later : s.faults servers ≤ s.faults between
+    pub twice : mapped ≡ Err (OfPool ServerFault) → RoseBy 2 (s.faults servers) (s.faults between)
+    pub checks : IsThenChecked between pool_between mapped result
+
+module _ (functions : List ℕ → Functions) (honest : List ℕ → Type 0) (design : Design) where
   -- a picture that the servers of a path made of another one: its rows are those of an honest path where there are no more views than a
   -- design document may have; and on an honest path all sources compile, where a document was mapped
+  pub record IsMapped (path : List ℕ) (history : List Write) (picture next : Picture) : Type 0 where
+    pub updated : IsUpdated (functions path) (honest path × (length design.views ≤ source_limit)) design.views history picture next
+    pub compile : honest path → documents_since picture.seq history ≢ [] → AllCompile (functions path) (map_sources design.views)
+
+  -- and where something was written since the old one, and it has rows, the sources of reduces compile too
   pub record IsMade (path : List ℕ) (history : List Write) (picture next : Picture) : Type 0 where
-    pub updated : IsUpdated (s.functions path) (s.honest path × (length design.views ≤ source_limit)) design.views history picture next
-    pub compile : s.honest path → documents_since picture.seq history ≢ [] → AllCompile (s.functions path) (map_sources design.views)
+    pub mapped : IsMapped path history picture next
+    pub reduces : honest path → picture.seq ≢ length history → some_reduce_fails (functions path) design.views next.rows ≡ false
+
+  -- a map source was met that doesn't compile, or the picture that was made has rows whose reduce's source doesn't
+  abbrev pub IsSpoiled : List ℕ → List Write → Picture → Type 0
+  IsSpoiled path history picture =
+      ((documents_since picture.seq history ≢ []) × SomeSourceFails (functions path) (map_sources design.views))
+      ⊎ ((next : Picture) × IsMapped path history picture next × (some_reduce_fails (functions path) design.views next.rows ≡ true))
+
+-- a complaint of an honest path is right
+abbrev pub ComplainsRightly : {C : Type 0} → Servers C → Design → C → Pool → List Write → Picture → Type 0
+ComplainsRightly s design servers pool history picture =
+    (path : List ℕ) (calls : List Call) → s.may_follow servers calls → path_for pool design ≡ Some path → HasItsChildren pool calls → s.honest path
+    → IsSpoiled s.functions s.honest design path history picture
 
 module _ {F C : Type 0} (f : Folders F) (s : Servers C) (docs : Docs) (design : Design) (old new : Side F C) where
   -- a picture that the update makes: over each list of calls that may have been made, of the path of the design's language
   abbrev pub IsNext : List Write → Option Picture → Picture → Type 0
   IsNext history picture next = (path : List ℕ) (calls : List Call) → s.may_follow old.servers calls → path_for old.pool design ≡ Some path → HasItsChildren old.pool calls
-      → IsMade s design path history (or_empty (views_of old.index) picture) next
+      → IsMade s.functions s.honest design path history (or_empty (views_of old.index) picture) next
 
   -- the picture that the update makes is that of the index after Ok, and may be one of no index only where a fault of the index came
   abbrev pub IsMadeBy : Result (Unit {0}) UpdateFault → Picture → Type 0
@@ -175,6 +219,9 @@ module _ {F C : Type 0} (f : Folders F) (s : Servers C) (docs : Docs) (design : 
     -- the documents that were written since are asked for, and no others; where there are none that were written, nothing is
     pub asks : (history : List Write) → IfTold (f.disk old.folder) (λ d. AreAt docs d.now history
         → (IsIdle × (IsIdleEnd result × OnOk result (seq_of old.index ≡ length history))) ⊎ HasAsked (documents_since (seq_of old.index) history) result)
+    -- it is refused for a source that doesn't compile only where one is wanted that doesn't
+    pub spoils : (history : List Write) (picture : Option Picture) → IfTold (f.disk old.folder) (λ d. IsReached docs old.index history picture d.now)
+        → result ≡ Err (OfPool Compile) → IfTold (f.disk old.folder) (λ d. ComplainsRightly s design old.servers old.pool history (or_empty (views_of old.index) picture))
     -- whatever is told, some documents were asked for, all or the first ones, or nothing was
     pub asked : (IsIdle × IsIdleEnd result) ⊎ ((documents : List (List (List ℕ × Json))) × HasAsked documents result)
     -- where nothing was written since, nothing is done

@@ -1,7 +1,9 @@
-//! Bringing an index up to date: the documents that were written since its sequence are mapped, and their rows exchanged.
+//! Bringing an index up to date: the documents that were written since its sequence are mapped, the reduces tried, and their rows
+//! exchanged.
 #![tactic(auto)]
 
 mod changed;
+mod checking;
 mod fault;
 mod updating;
 

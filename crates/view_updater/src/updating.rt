@@ -8,6 +8,7 @@ ghost use Rattle.view_updater.specs.Exchanges.{Exchanges, ExchangesPage, ReadsPa
 ghost use Rattle.view_updater.specs.Updates.{side, Updates};
 
 use crate::changed::{changed_of, changed_rows};
+use crate::checking::check_reduces;
 use crate::fault::UpdateFault;
 use child_pool::Pool;
 use design_docs::Design;
@@ -29,7 +30,9 @@ struct Progress {
 }
 
 /// Brings the index of a design up to date: the documents whose last write came after its sequence are mapped, and no others, and
-/// their rows are exchanged by one commit. Where nothing was written since, nothing is asked and nothing is written.
+/// their rows are exchanged by one commit. Where nothing was written since, nothing is asked and nothing is written. Before the commit
+/// each reduce is tried that a query server runs and whose view will have rows, so that one whose source doesn't compile refuses the
+/// update.
 ///
 /// The writes are taken in batches of 128, so that no more documents than these, and the index's rows, are held at once.
 ///
@@ -58,6 +61,10 @@ pub fn update<F: Folder, C: Servers>(
     if let Err(fault) = exchange(alloc, folder, servers, pool, docs, design, index) {
         index.roll_back();
         return Err(fault);
+    }
+    if let Err(fault) = check_reduces(alloc, servers, pool, design, index) {
+        index.roll_back();
+        return Err(UpdateFault::from(fault));
     }
     if let Err(fault) = index.commit(alloc, folder, newest) {
         index.roll_back();

@@ -1,18 +1,20 @@
 //! The request `view`.
 
-ghost use Rattle.std.specs.Prelude.{◌≡◌, ◌≢◌, ◌++◌, ◌<◌, is_some, true, ◌≤◌, bytes_eq, IfErr, IfOk, OnErr, OnOk, Ok, IfSome, IsSorted, option_map, map, length};
+ghost use Rattle.std.specs.Prelude.{◌≡◌, ◌≢◌, ◌<◌, true, ◌≤◌, bytes_eq, IfErr, IfOk, Ok, IfSome, None, option_map, map, length};
 ghost use Rattle.std.specs.Map.{lookup};
-ghost use Rattle.view_ports.specs.Lines.{ended};
 ghost use Rattle.design_docs.specs.Laws.{entry_of as named};
 ghost use Rattle.json_terms.specs.Seen.{json};
-ghost use Rattle.raw_collation.specs.Collation.{rows_cmp};
-ghost use Rattle.view_engine.specs.Answering.{AppendsAnswer};
+ghost use Rattle.child_pool.specs.Languages.{path_in};
+ghost use Rattle.child_pool.specs.Pools.{languages_of};
+ghost use Rattle.child_pool.specs.ReduceTalk.{reduce_in};
+ghost use Rattle.view_index.specs.Index.{picture_of, views_of};
+ghost use Rattle.view_engine.specs.Answering.{Shows, ShowsView, fault_of_answer};
 ghost use Rattle.view_engine.specs.Calls.{scene, Performed};
 ghost use Rattle.view_engine.specs.Disks.{LiesOpen, Reads};
 ghost use Rattle.view_engine.specs.View as spec;
 ghost use Rattle.view_engine.specs.Planning.{HasPath, PlansView, ReadsDesign, RefusesView};
 ghost use Rattle.view_engine.specs.ViewQuery as query;
-ghost use Rattle.view_engine.specs.ViewQuery.{builtin_named, parameters_in, query_for, view_query};
+ghost use Rattle.view_engine.specs.ViewQuery.{parameters_in, query_for, view_query};
 ghost use Rattle.view_engine.specs.ViewPlan.{met_by, met_by_pool, met_by_query, source_at, HasReduce, IsUpdateFault, ShowsRows};
 
 use crate::design::design_of;
@@ -20,26 +22,24 @@ use crate::engine::Engine;
 use crate::halt::{Halt, StepFault};
 use crate::refusal::Refusal;
 use crate::request::{Request, ViewName};
-use builtin_reduces::BuiltinSummer;
-use child_pool::PoolFault;
-use design_docs::{Builtin, DESIGN_PREFIX, Design, Reduce, View};
+use child_pool::{Pool, PoolFault, ReduceSlot, Summers};
+use design_docs::{DESIGN_PREFIX, Design, Reduce, View};
 use doc_file::DocFault;
-use json_terms::{Chars, Members, NoMemory, Row, Term};
+use json_terms::{Chars, Members, NoMemory, Term};
 use query_args::{Query, QueryFault, Target, read_query};
 use range_query::{AnswerFault, answer};
 use std::alloc::Global;
-use view_index::IndexFault;
+use view_index::{Index, IndexFault};
 use view_model::Reply;
 use view_ports::{Folder, Servers};
 use view_updater::UpdateFault;
 
-/// What a view request is about: the id of the design document, its design, the place of the view, its reduce, and the query.
+/// What a view request is about: the id of the design document, its design, the place of the view, and the query.
 #[derive(Drop)]
 struct Plan {
     id: Chars,
     design: Design,
     place: usize,
-    reduce: Option<Builtin>,
     query: Query,
 }
 
@@ -65,13 +65,12 @@ impl Engine {
             Err(halt) => return Err(halt),
         };
         if !plan.query.update {
-            let place = match self.groups.open(alloc, folder, &self.docs, &plan.design) {
-                Ok(place) => place,
+            let slot = match self.groups.open(alloc, folder, &self.docs, &plan.design) {
+                Ok(slot) => slot,
                 Err(fault) => return Err(halt_of(UpdateFault::from(fault), plan.id)),
             };
-            let kept = self.groups.index(place);
-            let shown = kept.rows(plan.place as u32);
-            return append_answer(alloc, shown, plan.reduce, kept.seq(), &plan.query, out);
+            let kept = self.groups.index(slot);
+            return show(alloc, servers, &mut self.pool, plan, kept, out);
         }
         match self.groups.update(
             alloc,
@@ -81,10 +80,9 @@ impl Engine {
             &self.docs,
             &plan.design,
         ) {
-            Ok(place) => {
-                let index = self.groups.index(place);
-                let rows = index.rows(plan.place as u32);
-                append_answer(alloc, rows, plan.reduce, index.seq(), &plan.query, out)
+            Ok(slot) => {
+                let index = self.groups.index(slot);
+                show(alloc, servers, &mut self.pool, plan, index, out)
             }
             Err(fault) => Err(halt_of(fault, plan.id)),
         }
@@ -100,7 +98,7 @@ impl Engine {
     ) -> Result<Plan, Halt>
         ensures plan { PlansView F.Folder self.now folder.old (view_query name.now query) result }
         ensures read { ReadsDesign F.Folder self.now folder.old (view_query name.now query) result }
-        ensures reduce { IfOk result (λ plan. plan.reduce ≡ builtin_named name.now.view plan.design.views) }
+        ensures reduce { IfOk result (λ plan. HasReduce plan.design.views name.now.view plan.place) }
         ensures query { IfOk result (λ plan. plan.query ≡ query_for plan.design.views
             (view_query name.now query)) }
         ensures few { IfOk result (λ plan. length plan.design.views ≤ 32) }
@@ -120,8 +118,7 @@ impl Engine {
         let Some(place) = place_of(design.views.as_slice(), name.view.as_str()) else {
             return Err(Halt::Refused(Refusal::MissingNamedView));
         };
-        let reduce = builtin_in(&design.views.as_slice()[place].reduce);
-        let target = Target::View(reduce.is_some());
+        let target = Target::View(has_reduce(&design.views.as_slice()[place].reduce));
         let query = match read_query(alloc, &parameters, target) {
             Ok(query) => query,
             Err(fault) => return Err(halt_of_query(fault)),
@@ -131,7 +128,6 @@ impl Engine {
                 id,
                 design,
                 place,
-                reduce,
                 query,
             }),
             None => Err(Halt::Refused(Refusal::UnknownLanguage(design.language))),
@@ -155,14 +151,10 @@ fn place_of(views: &[View], name: &str) -> Option<usize>
     None
 }
 
-/// The reduce of a view, where it needs no query server.
-fn builtin_in(reduce: &Reduce) -> Option<Builtin>
-    ensures { result ≡ query.builtin_in reduce.now }
+fn has_reduce(reduce: &Reduce) -> bool
+    ensures { result ≡ query.has_reduce reduce.now }
 {
-    match reduce {
-        Reduce::Builtin(kind) => Some(*kind),
-        Reduce::Absent | Reduce::Source(_) => None,
-    }
+    !matches!(reduce, Reduce::Absent)
 }
 
 /// Why a view is halted whose index could not be brought up to date.
@@ -214,30 +206,80 @@ fn parameters_of(alloc: Global, query: Option<Members>) -> Term
     }
 }
 
-/// Appends the reply line that answers a query from the rows of a view with this reduce, of an index at this sequence.
-fn append_answer(
+/// Answers a planned view from an index, or tells why its values can't be had.
+fn show<C: Servers>(
     alloc: Global,
-    rows: &[Row],
-    reduce: Option<Builtin>,
-    seq: u64,
-    query: &Query,
+    servers: &mut C,
+    pool: &mut Pool,
+    plan: Plan,
+    index: &Index,
     out: &mut Vec<u8>,
 ) -> Result<(), Halt>
-    requires sorted { IsSorted rows_cmp rows.now }
-    requires reduced { query.now.reduced ≡ true → is_some reduce ≡ true }
-    ensures ok { OnOk result (AppendsAnswer reduce query.now seq rows.now out.old.items out.new.items) }
-    ensures silent { OnErr result (out.new.items ≡ out.old.items) }
-    ensures memory { IfErr result (λ halt. halt ≡ Halt.Stopped StepFault.NoMemory) }
+    requires within { plan.place < views_of index.now }
+    requires views { views_of index.now ≤ 32 }
+    requires reduced { plan.query.reduced ≡ true → query.has_reduce (reduce_in plan.design.views plan.place) ≡ true }
+    requires known { path_in (languages_of pool.old) plan.design.language ≢ None }
+    ensures { ShowsView C.Servers servers.old servers.new pool.old pool.new
+        plan.design plan.place plan.query (picture_of index.now)
+        plan.id out.old.items out.new.items result }
 {
-    // A query that isn't reduced asks for no value.
-    let mut summer = BuiltinSummer::new(reduce.unwrap_or(Builtin::Count));
-    let mut reply = Reply::behind(alloc, out);
-    let written = match answer(alloc, rows, &mut summer, seq, query, &mut reply) {
+    match append_answer(alloc, servers, pool, &plan, index, out) {
         Ok(()) => Ok(()),
-        Err(AnswerFault::Values(NoMemory) | AnswerFault::NoMemory) => Err(NoMemory),
+        Err(fault) => Err(halt_of_pool(fault, plan.id)),
+    }
+}
+
+/// Appends the reply line that answers a planned view from an index. The values of its groups are had by the view's reduce, through
+/// the children of the pool where a query server runs it.
+fn append_answer<C: Servers>(
+    alloc: Global,
+    servers: &mut C,
+    pool: &mut Pool,
+    plan: &Plan,
+    index: &Index,
+    out: &mut Vec<u8>,
+) -> Result<(), PoolFault>
+    requires within { plan.now.place < views_of index.now }
+    requires views { views_of index.now ≤ 32 }
+    requires reduced { plan.now.query.reduced ≡ true → query.has_reduce (reduce_in plan.now.design.views plan.now.place) ≡ true }
+    ensures { Shows C.Servers servers.old servers.new pool.old pool.new
+        plan.now.design plan.now.place plan.now.query (picture_of index.now)
+        out.old.items out.new.items result }
+{
+    let view = plan.place as u32;
+    let mut summers = Summers {
+        slot: ReduceSlot::over(pool, servers),
+        design: &plan.design,
+        view,
     };
-    reply.end(written, out)?;
-    Ok(())
+    let mut reply = Reply::behind(alloc, out);
+    match answer(
+        alloc,
+        index.rows(view),
+        &mut summers,
+        index.seq(),
+        &plan.query,
+        &mut reply,
+    ) {
+        Ok(()) => match reply.end(Ok(()), out) {
+            Ok(()) => Ok(()),
+            Err(NoMemory) => Err(PoolFault::NoMemory),
+        },
+        Err(fault) => {
+            let _taken = reply.close(Err(NoMemory), out);
+            Err(fault_in(fault))
+        }
+    }
+}
+
+/// Why the values weren't had, or want of memory.
+fn fault_in(fault: AnswerFault<PoolFault>) -> PoolFault
+    ensures { result ≡ fault_of_answer fault }
+{
+    match fault {
+        AnswerFault::Values(fault) => fault,
+        AnswerFault::NoMemory => PoolFault::NoMemory,
+    }
 }
 
 /// The id of the design document with this name.

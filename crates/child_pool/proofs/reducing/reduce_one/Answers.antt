@@ -54,7 +54,7 @@ returns-in-Ok-false-clause-went g c = λ reduces source asked calls follows is b
     let counted : rose = omega (arith, failed, c.stop.ensures.cause, c.start_over.ensures.ends.later) in
     let w = subst (λ (r : Result (Option Term) PoolFault). Went (g.C.Servers.may_follow c.ask_value.new.servers) job slot calls (AfterValue functions honest job slot source asked (asks slot asked 0) r calls)) (c.in-Ok-None.is ∙ ap Ok c.in-Ok-None.field-0-is) (c.ask_value.ensures.went path reduces source asked calls follows is by among told) in
     let s : Went (g.C.Servers.may_follow c.stop.new.self) job slot calls (λ added now. IsTriedAgain (reduce_prompt slot asked) (λ second. second ≡ []) added) = stopped_after job (reduce_prompt slot asked) w c.stop.ensures.told refl w.holds in
-    let v = reset_wider path reduces functions honest (anew slot [] 1) c.start_over.result (c.start_over.ensures.went [] s.now s.follows) in
+    let v = reset_wider path [] reduces (λ source none. absurd none) functions honest (anew slot [] 1) c.start_over.result (c.start_over.ensures.went [] s.now s.follows) in
     failed_reset functions honest path reduces source asked rose counted s c.start_over.result (Err ServerFault) (ap failed_value (c.in-Ok-false.is ∙ ap Ok c.in-Ok-false.field-0-test)) (λ e. let never = not_ready (c.in-Ok-false.is ∙ ap Ok c.in-Ok-false.field-0-test) e in cc) c.start_over.ensures.ends.no_fault v
 
 pub returns-in-Err-start_over-clause-went : goal.returns-in-Err-start_over-clause-went
@@ -70,7 +70,7 @@ returns-in-Err-start_over-clause-went g c = λ reduces source asked calls follow
     let counted : rose = omega (arith, failed, c.stop.ensures.cause, c.start_over.ensures.ends.later) in
     let w = subst (λ (r : Result (Option Term) PoolFault). Went (g.C.Servers.may_follow c.ask_value.new.servers) job slot calls (AfterValue functions honest job slot source asked (asks slot asked 0) r calls)) (c.in-Ok-None.is ∙ ap Ok c.in-Ok-None.field-0-is) (c.ask_value.ensures.went path reduces source asked calls follows is by among told) in
     let s : Went (g.C.Servers.may_follow c.stop.new.self) job slot calls (λ added now. IsTriedAgain (reduce_prompt slot asked) (λ second. second ≡ []) added) = stopped_after job (reduce_prompt slot asked) w c.stop.ensures.told refl w.holds in
-    let v = reset_wider path reduces functions honest (anew slot [] 1) c.start_over.result (c.start_over.ensures.went [] s.now s.follows) in
+    let v = reset_wider path [] reduces (λ source none. absurd none) functions honest (anew slot [] 1) c.start_over.result (c.start_over.ensures.went [] s.now s.follows) in
     failed_reset functions honest path reduces source asked rose counted s c.start_over.result (Err c.in-Err-start_over.fault) (ap failed_value c.in-Err-start_over.is) (λ e. let never = not_ready c.in-Err-start_over.is e in cc) c.start_over.ensures.ends.no_fault v
 
 pub returns-in-Ok-Some-ask_value-clause-went : goal.returns-in-Ok-Some-ask_value-clause-went
@@ -86,7 +86,7 @@ returns-in-Ok-Some-ask_value-clause-went g c = λ reduces source asked calls fol
     let rose : Rose before now = omega (arith, failed, c.stop.ensures.cause, c.start_over.ensures.ends.later, c.ask_value-2.ensures.ends.later) in
     let w = subst (λ (r : Result (Option Term) PoolFault). Went (g.C.Servers.may_follow c.ask_value.new.servers) job slot calls (AfterValue functions honest job slot source asked (asks slot asked 0) r calls)) (c.in-Ok-None.is ∙ ap Ok c.in-Ok-None.field-0-is) (c.ask_value.ensures.went path reduces source asked calls follows is by among told) in
     let s : Went (g.C.Servers.may_follow c.stop.new.self) job slot calls (λ added now. IsTriedAgain (reduce_prompt slot asked) (λ second. second ≡ []) added) = stopped_after job (reduce_prompt slot asked) w c.stop.ensures.told refl w.holds in
-    let v = reset_wider path reduces functions honest (anew slot [] 1) c.start_over.result (c.start_over.ensures.went [] s.now s.follows) in
+    let v = reset_wider path [] reduces (λ source none. absurd none) functions honest (anew slot [] 1) c.start_over.result (c.start_over.ensures.went [] s.now s.follows) in
     let ready = was_reset functions honest path reduces source asked (Rose before now) rose s c.start_over.result (c.in-Ok-true.is ∙ ap Ok c.in-Ok-true.field-0-test) v in
     let again = c.ask_value-2.ensures.went path reduces source asked ready.now ready.follows is by among ready.holds.0 in
     value_again functions honest path reduces source asked (Rose before now) rose s ready c.ask_value-2.result (Ok c.in-Ok-Some-ask_value.value) (ap last_value (c.in-Ok-Some-ask_value.is ∙ ap Ok c.in-Ok-Some-ask_value.field-0-is)) c.ask_value-2.ensures.ends.no_fault again
@@ -104,7 +104,7 @@ returns-in-Ok-None-ask_value-clause-went g c = λ reduces source asked calls fol
     let rose : Rose before now = omega (arith, failed, c.stop.ensures.cause, c.start_over.ensures.ends.later, c.ask_value-2.ensures.ends.later) in
     let w = subst (λ (r : Result (Option Term) PoolFault). Went (g.C.Servers.may_follow c.ask_value.new.servers) job slot calls (AfterValue functions honest job slot source asked (asks slot asked 0) r calls)) (c.in-Ok-None.is ∙ ap Ok c.in-Ok-None.field-0-is) (c.ask_value.ensures.went path reduces source asked calls follows is by among told) in
     let s : Went (g.C.Servers.may_follow c.stop.new.self) job slot calls (λ added now. IsTriedAgain (reduce_prompt slot asked) (λ second. second ≡ []) added) = stopped_after job (reduce_prompt slot asked) w c.stop.ensures.told refl w.holds in
-    let v = reset_wider path reduces functions honest (anew slot [] 1) c.start_over.result (c.start_over.ensures.went [] s.now s.follows) in
+    let v = reset_wider path [] reduces (λ source none. absurd none) functions honest (anew slot [] 1) c.start_over.result (c.start_over.ensures.went [] s.now s.follows) in
     let ready = was_reset functions honest path reduces source asked (Rose before now) rose s c.start_over.result (c.in-Ok-true.is ∙ ap Ok c.in-Ok-true.field-0-test) v in
     let again = c.ask_value-2.ensures.went path reduces source asked ready.now ready.follows is by among ready.holds.0 in
     value_again functions honest path reduces source asked (Rose before now) rose s ready c.ask_value-2.result (Err ServerFault) (ap last_value (c.in-Ok-None-ask_value.is ∙ ap Ok c.in-Ok-None-ask_value.field-0-is)) c.ask_value-2.ensures.ends.no_fault again
@@ -122,7 +122,7 @@ returns-in-Err-ask_value-clause-went g c = λ reduces source asked calls follows
     let rose : Rose before now = omega (arith, failed, c.stop.ensures.cause, c.start_over.ensures.ends.later, c.ask_value-2.ensures.ends.later) in
     let w = subst (λ (r : Result (Option Term) PoolFault). Went (g.C.Servers.may_follow c.ask_value.new.servers) job slot calls (AfterValue functions honest job slot source asked (asks slot asked 0) r calls)) (c.in-Ok-None.is ∙ ap Ok c.in-Ok-None.field-0-is) (c.ask_value.ensures.went path reduces source asked calls follows is by among told) in
     let s : Went (g.C.Servers.may_follow c.stop.new.self) job slot calls (λ added now. IsTriedAgain (reduce_prompt slot asked) (λ second. second ≡ []) added) = stopped_after job (reduce_prompt slot asked) w c.stop.ensures.told refl w.holds in
-    let v = reset_wider path reduces functions honest (anew slot [] 1) c.start_over.result (c.start_over.ensures.went [] s.now s.follows) in
+    let v = reset_wider path [] reduces (λ source none. absurd none) functions honest (anew slot [] 1) c.start_over.result (c.start_over.ensures.went [] s.now s.follows) in
     let ready = was_reset functions honest path reduces source asked (Rose before now) rose s c.start_over.result (c.in-Ok-true.is ∙ ap Ok c.in-Ok-true.field-0-test) v in
     let again = c.ask_value-2.ensures.went path reduces source asked ready.now ready.follows is by among ready.holds.0 in
     value_again functions honest path reduces source asked (Rose before now) rose s ready c.ask_value-2.result (Err c.in-Err-ask_value.fault) (ap last_value c.in-Err-ask_value.is) c.ask_value-2.ensures.ends.no_fault again

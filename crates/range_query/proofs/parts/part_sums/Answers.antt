@@ -1,7 +1,7 @@
-use Rattle.std.proofs.Common.{◌≡◌, ◌∙◌, ◌<◌, [], ◌∷◌, ◌++◌, ap, append_assoc, length, refl, rules}
+use Rattle.std.proofs.Common.{◌≡◌, ◌∙◌, ◌<◌, [], ◌∷◌, ◌++◌, All, ap, append_assoc, length, refl, rules, subst, sym}
 use Rattle.std.proofs.lemmas.List.Elements.{All-append, All-nil}
 use Rattle.builtin_reduces.specs.Kept.{IsKept}
-use Rattle.range_query.proofs.PartSums.{all_kept, all_sums, both_parts, more_sums, no_rows, no_sums, sum_before}
+use Rattle.range_query.proofs.PartSums.{all_kept, all_sums, both_parts, more_fit, more_sums, no_rows, no_sums, sum_before}
 use Rattle.range_query.proofs.parts.part_sums.Goals as goal
 
 pub loop-left-init : goal.loop-left-init
@@ -9,6 +9,7 @@ loop-left-init g c = record {
   done = [];
   both = refl;
   sums = no_sums (g.M.Summer.lawful c.args.summer.now) (g.M.Summer.meaning c.args.summer.now) c.new-sums.result.items c.new-sums.ensures.items;
+  fits = subst (All (g.M.Summer.fits c.args.summer.now)) (sym c.new-sums.ensures.items) (All-nil (g.M.Summer.fits c.args.summer.now));
   kept = All-nil IsKept;
   goes = g.met.M.Summer.are_steps.none c.args.summer.now;
 }
@@ -28,6 +29,7 @@ loop-left-preserved g c =
       both = append_assoc before.done part rest ∙ ap (λ rows. before.done ++ rows) all ∙ before.both;
       sums = more_sums (g.M.Summer.lawful first) (g.M.Summer.meaning first) before.done part c.loop-left.sums.items c.push.new.self.items c.in_ok-sum.sum before.sums some
           (sum_before g.met.M.Summer.keeps first c.loop-left.summer before.goes part c.in_ok-sum.sum c.in_ok-sum.ensures.value) pushed;
+      fits = more_fit g.met.M.Summer.keeps first c.loop-left.summer before.goes c.loop-left.sums.items c.push.new.self.items c.in_ok-sum.sum before.fits c.in_ok-sum.ensures.fits pushed;
       kept = All-append IsKept before.done part before.kept c.in_ok-sum.ensures.kept;
       goes = g.met.M.Summer.are_steps.both first c.loop-left.summer c.part_sum.new.summer before.goes c.in_ok-sum.ensures.goes;
     }

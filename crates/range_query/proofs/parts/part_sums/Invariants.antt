@@ -10,6 +10,7 @@ invariant-loop-left g l = record {
   done : List Row;
   both : done ++ l.left ≡ l.group;
   sums : ArePartSums (g.M.Summer.lawful l.initial.summer) (g.M.Summer.meaning l.initial.summer) done l.sums.items;
+  fits : All (g.M.Summer.fits l.initial.summer) l.sums.items;
   kept : All IsKept done;
   goes : g.M.Summer.goes l.initial.summer l.summer;
 }

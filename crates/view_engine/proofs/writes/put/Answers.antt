@@ -1,5 +1,5 @@
 -- A put is what the documents make of it.
-use Rattle.std.proofs.Common.{◌≡◌, ◌∙◌, ◌++◌, ℕ, List, subst, inl, refl, sym, arith, rules}
+use Rattle.std.proofs.Common.{◌≡◌, ◌++◌, ℕ, List, subst, arith, rules}
 use Rattle.json_terms.specs.Json.{Json, object, members_of}
 use Rattle.std.proofs.lemmas.Grind.{common_steps}
 use Rattle.view_ports.specs.Lines.{ended}
@@ -10,35 +10,27 @@ use Rattle.view_engine.specs.Calls.{IsReplyLine}
 use Rattle.view_engine.specs.Replies.{accepted_reply}
 use Rattle.doc_file.proofs.NotOfFile.{put_not_of_file}
 use Rattle.view_engine.proofs.ServerFaults.{unlike_accepted}
-use Rattle.view_engine.proofs.Stored.{refused_here_at_once, spent_here, unwritten_here, wrote_here}
+use Rattle.view_engine.proofs.Stored.{spent_here, unwritten_here, wrote_here}
 use Rattle.view_engine.proofs.Writing.{put_does, put_is_write, put_refused, reply_to}
 use Rattle.view_engine.proofs.writes.put.Goals as goal
 
-pub returns-in_err-is_unbuilt-clause-acts : goal.returns-in_err-is_unbuilt-clause-acts
-returns-in_err-is_unbuilt-clause-acts g c = spent_here c.requires.open refl c.from_residual.ensures.1
-
-pub returns-then-branch-clause-acts : goal.returns-then-branch-clause-acts
-returns-then-branch-clause-acts g c = refused_here_at_once (λ is. cc) c.requires.open (λ world. inl (sym c.in_ok-is_unbuilt.ensures ∙ c.if-branch.true, refl))
-
 pub returns-in_err-append_accepted-clause-acts : goal.returns-in_err-append_accepted-clause-acts
-returns-in_err-append_accepted-clause-acts g c = spent_here c.requires.open c.in_err-append_accepted.ensures.silent c.from_residual-in_err-append_accepted.ensures.1
+returns-in_err-append_accepted-clause-acts g c = spent_here c.requires.open c.in_err-append_accepted.ensures.silent c.from_residual.ensures.1
 
 pub returns-in-Ok-clause-acts : goal.returns-in-Ok-clause-acts
 returns-in-Ok-clause-acts g c =
     let docs = c.args.docs.now in
     let json : Json = object (members_of c.args.document) in
-    let built = sym c.in_ok-is_unbuilt.ensures ∙ c.if-branch.false in
     let appended : c.append_accepted.new.out.items ≡ c.args.out.now.items ++ ended (accepted_reply docs (id_of json)) = search rules in
-    wrote_here (accepted_reply docs (id_of json)) (λ files world at accepted. put_does docs files world at json built accepted (reply_to docs files world at c.id_of.result.now (id_of json) c.id_of.ensures (c.in_ok-append_accepted.ensures.history files world.history at)))
-    (λ files world at accepted. put_is_write docs files world at c.args.document built accepted (reply_to docs files world at c.id_of.result.now (id_of json) c.id_of.ensures (c.in_ok-append_accepted.ensures.history files world.history at))) tt (λ fits. fits) (subst (λ (i : List ℕ). IsReplyLine (accepted_reply docs i)) c.id_of.ensures c.in_ok-append_accepted.ensures.line) (λ other. unlike_accepted docs (id_of json)) appended c.in-Ok.ensures
+    wrote_here (accepted_reply docs (id_of json)) (λ files world at accepted. put_does docs files world at json accepted (reply_to docs files world at c.id_of.result.now (id_of json) c.id_of.ensures (c.in_ok-append_accepted.ensures.history files world.history at)))
+    (λ files world at accepted. put_is_write docs files world at c.args.document accepted (reply_to docs files world at c.id_of.result.now (id_of json) c.id_of.ensures (c.in_ok-append_accepted.ensures.history files world.history at))) tt (λ fits. fits) (subst (λ (i : List ℕ). IsReplyLine (accepted_reply docs i)) c.id_of.ensures c.in_ok-append_accepted.ensures.line) (λ other. unlike_accepted docs (id_of json)) appended c.in-Ok.ensures
 
 pub returns-in-Err-clause-acts : goal.returns-in-Err-clause-acts
 returns-in-Err-clause-acts g c =
     let docs = c.args.docs.now in
     let json : Json = object (members_of c.args.document) in
-    let built = sym c.in_ok-is_unbuilt.ensures ∙ c.if-branch.false in
     let silent : c.truncate.new.self.items ≡ c.args.out.now.items = grind (arith, common_steps) in
-    rw c.from.ensures (unwritten_here (accepted_reply docs (id_of json)) (λ files world at accepted. put_does docs files world at json built accepted (reply_to docs files world at c.id_of.result.now (id_of json) c.id_of.ensures (c.in_ok-append_accepted.ensures.history files world.history at)))
-    (λ files world at accepted. put_is_write docs files world at c.args.document built accepted (reply_to docs files world at c.id_of.result.now (id_of json) c.id_of.ensures (c.in_ok-append_accepted.ensures.history files world.history at))) tt
+    rw c.from.ensures (unwritten_here (accepted_reply docs (id_of json)) (λ files world at accepted. put_does docs files world at json accepted (reply_to docs files world at c.id_of.result.now (id_of json) c.id_of.ensures (c.in_ok-append_accepted.ensures.history files world.history at)))
+    (λ files world at accepted. put_is_write docs files world at c.args.document accepted (reply_to docs files world at c.id_of.result.now (id_of json) c.id_of.ensures (c.in_ok-append_accepted.ensures.history files world.history at))) tt
     (put_not_of_file (state_in (last_of docs (id_of json))) json)
-    (λ files world at fault is refusal met. put_refused docs files world at docs.file json fault refusal built is met) (λ name length full. full) (λ fits. fits) silent c.requires.open c.in-Err.ensures)
+    (λ files world at fault is refusal met. put_refused docs files world at docs.file json fault refusal is met) (λ name length full. full) (λ fits. fits) silent c.requires.open c.in-Err.ensures)

@@ -5,7 +5,11 @@ use Rattle.json_terms.specs.Seen.{json}
 use Rattle.json_terms.specs.declared.term.Row.{Row}
 use Rattle.view_model.specs.Adding.{AddsGroups}
 use Rattle.view_model.specs.Selection.{is_in_range}
+use Rattle.view_model.specs.Groups.{picked_groups}
+use Rattle.view_model.proofs.GroupAnswers.{no_groups}
 use Rattle.view_model.proofs.GroupTexts.{filtered, picked_listed, picked_ranged}
+use Rattle.view_model.proofs.NoGroups.{none_picked}
+use Rattle.view_model.proofs.RunParts.{no_rows}
 use Rattle.view_model.proofs.groups.print_groups.Goals as goal
 
 pub print_runs-requires : goal.print_runs-requires
@@ -27,3 +31,8 @@ returns-in-None-clause-ok g c =
     on_ok_weaker c.print_runs.result
     (λ added. subst (λ (groups : List (List Row)). AddsGroups (g.V.GroupValues.is_value c.args.values.now) query.level false groups c.args.reply.now c.print_runs.new.reply) same added)
     c.print_runs.ensures.ok
+
+pub returns-then-is_empty-clause-ok : goal.returns-then-is_empty-clause-ok
+returns-then-is_empty-clause-ok g c =
+    no_groups (g.V.GroupValues.is_value c.args.values.now) c.args.query.now.level false (picked_groups c.args.query.now c.args.rows.now) c.args.reply.now
+    (none_picked c.args.query.now c.args.rows.now (no_rows c.args.rows.now c.is_empty.result c.is_empty.ensures c.if-is_empty.true))

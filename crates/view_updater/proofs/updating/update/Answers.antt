@@ -1,4 +1,4 @@
--- The exchange, and the commit over it.
+-- The exchange, the reduces that are tried, and the commit over both.
 use Rattle.std.specs.Prelude.{◌≡◌, ◌≢◌, ◌⊎◌, ◌≤◌, ℕ, length, Option, Result, Ok, Err, Some}
 use Rattle.std.proofs.Common.{refl, sym, ap, ◌∙◌, subst, inl, inr, arith}
 use Rattle.std.proofs.lemmas.List.{length-map}
@@ -7,7 +7,7 @@ use Rattle.view_ports.proofs.DiskRuns.{moves_none}
 use Rattle.view_ports.proofs.Told.{told_all, told_still}
 use Rattle.view_ports.specs.declared.file_name.FileName.{FileName}
 use Rattle.gate_file.specs.declared.fault.GateFault.TheVariants.{DiskFault, Damaged, Full}
-use Rattle.child_pool.specs.declared.pool_fault.PoolFault.TheVariants.{ServerFault, UnknownLanguage}
+use Rattle.child_pool.specs.declared.pool_fault.PoolFault.TheVariants.{Compile, ServerFault, UnknownLanguage}
 use Rattle.doc_file.specs.declared.docs.Docs.{Docs}
 use Rattle.doc_file.specs.Docs.{info_of, seq_of as documents_seq, IsAt as AreAt}
 use Rattle.doc_file.specs.declared.docs.Info.{Info}
@@ -18,16 +18,18 @@ use Rattle.view_index.specs.declared.fault.IndexFault.{IndexFault}
 use Rattle.view_index.specs.declared.fault.IndexFault.TheVariants.{Store}
 use Rattle.view_index.specs.declared.index.Index.{Index}
 use Rattle.gate_file.specs.GateFile.{name_of}
-use Rattle.view_index.specs.Index.{both_in, file_of, is_touched, seq_of}
+use Rattle.view_index.specs.Index.{both_in, file_of, is_touched, next_in, seq_of}
 use Rattle.view_index.specs.ViewRows.{next_rows}
 use Rattle.view_updater.specs.declared.fault.UpdateFault.{UpdateFault}
 use Rattle.view_updater.specs.declared.fault.UpdateFault.TheVariants.{Docs as OfDocuments, Index as OfIndex, Pool as OfPool}
-use Rattle.view_updater.specs.Faults.{by_index}
-use Rattle.view_updater.specs.Updates.{side, EndsAt, IsFileFault, IsLost, IsOfIndex, Updates}
+use Rattle.view_updater.specs.Faults.{by_index, by_pool}
+use Rattle.view_updater.specs.Updates.{side, EndsAt, IsFileFault, IsLost, Updates}
 use Rattle.view_updater.proofs.Carrying.{same_stem, same_views, views_by_picture}
-use Rattle.view_updater.proofs.Exchanging.{as_made}
-use Rattle.view_updater.proofs.Ends.{asked_over, asked_some, commit_filled, commit_met, commit_refused, committed_stands, idle_stands, index_of_no_documents, index_of_no_pool, index_stored, is_filled, known_next, others_refused, others_then, refused, refused_others, refused_stands, well, IsBack, IsOfCommit}
-use Rattle.view_updater.proofs.OnlyReading.{FindsBodies}
+use Rattle.view_updater.proofs.Exchanging.{as_made, by_pool_of}
+use Rattle.view_updater.proofs.Ends.{asked_over, asked_some, commit_filled, commit_met, commit_refused, committed_stands, idle_stands, index_of_no_documents, index_of_no_pool, index_stored, is_filled, known_next, others_refused, others_then, refused, well, well_met, IsBack, IsOfCommit}
+use Rattle.view_updater.proofs.OnlyReading.{pool_of_no_documents, pool_of_no_index, read_then, FindsBodies}
+use Rattle.view_updater.proofs.Refusing.{pool_refused_later, refuses}
+use Rattle.view_updater.proofs.Spoils.{spoils_checking, spoils_mapping}
 use Rattle.view_updater.proofs.updating.update.Goals as goal
 
 -- the commit went well
@@ -73,6 +75,7 @@ returns-then-seq-newest g c =
     record {
       stands = idle_stands g.F.Folder g.C.Servers docs c.args.design.now old c.requires.number newest;
       asks = λ history. told_all disk (λ d. AreAt docs d.now history → _) (λ d here. inl ((refl, refl), (tt, newest ∙ here.count)));
+      spoils = λ history picture reached is. cc;
       asked = inl ((refl, refl), tt);
       idle = λ same. (refl, refl);
       others = told_still disk (λ d. IsOpen c.args.index.now d.now) _
@@ -99,33 +102,42 @@ returns-in-Err g c =
     let last = c.roll_back-in-Err.new.self in
     let old = side c.args.folder.now c.args.servers.now c.args.pool.now index in
     let mid = side c.exchange.new.folder c.exchange.new.servers c.exchange.new.pool c.exchange.new.index in
-    let new = side c.exchange.new.folder c.exchange.new.servers c.exchange.new.pool last in
     let docs = c.args.docs.now in
     let design = c.args.design.now in
     let fault = c.in-Err.fault in
+    let ex = c.in-Err.ensures in
     let back : IsBack index rolled = record { file = c.roll_back.ensures.same.file; rows = c.roll_back.ensures.picture; next = c.roll_back.ensures.next; pending = c.roll_back.ensures.pending } in
-    let file = c.roll_back-in-Err.ensures.same.file ∙ c.in-Err.ensures.same.file ∙ back.file in
-    let rows = c.roll_back-in-Err.ensures.picture ∙ c.in-Err.ensures.picture ∙ back.rows in
-    record {
-      stands = refused_stands g.F.Folder g.C.Servers docs design old c.requires.number new c.in-Err.ensures.reads.disk fault file rows c.roll_back-in-Err.ensures.pending;
-      asks = λ history. asked_over g.F.Folder g.C.Servers docs design old mid c.requires.number rolled back c.exchange.new.folder last (refused fault) (refused fault) (λ mapped met. met) (λ none. none) history (c.in-Err.ensures.asks history);
-      asked = asked_some g.F.Folder g.C.Servers docs design old mid c.requires.number rolled back c.exchange.new.folder last (refused fault) (refused fault) (λ mapped met. met) (λ none. none) c.in-Err.ensures.asked;
-      idle = λ same. absurd (written_since c.seq.result c.info-newest.result (seq_of index) docs c.seq.ensures c.info-newest.ensures.kept c.if-seq-newest.false same);
-      others = refused_others g.F.Folder g.C.Servers docs design old c.requires.number new c.in-Err.ensures.reads.disk (refused fault) file c.requires.index;
-      same = (same_stem index last file, same_views index last rows);
-      settled = (record { next = c.roll_back-in-Err.ensures.next; pending = c.roll_back-in-Err.ensures.pending }, rows);
-      cause = λ told. elim told [ inl is ↦ c.in-Err.ensures.reads.cause is | inr is ↦ absurd (c.in-Err.ensures.reads.faults (subst IsOfIndex (sym is) tt)) ];
-      sound = c.in-Err.ensures.reads.sound;
-      whole = λ name at is. let same : fault ≡ OfIndex (Store (Damaged name at)) = cc in c.in-Err.ensures.reads.faults (subst IsOfIndex (sym same) tt);
-      file = c.in-Err.ensures.reads.file;
-      full = λ name length is. let same : fault ≡ OfIndex (Store (Full name length)) = cc in absurd (c.in-Err.ensures.reads.faults (subst IsOfIndex (sym same) tt));
-      filled = λ history picture reached name length is. let same : fault ≡ OfIndex (Store (Full name length)) = cc in absurd (c.in-Err.ensures.reads.faults (subst IsOfIndex (sym same) tt));
-      damaged = c.in-Err.ensures.reads.damaged;
-      later = (c.in-Err.ensures.reads.later, c.in-Err.ensures.later);
-      keeps = c.in-Err.ensures.keeps;
-      blames = c.in-Err.ensures.blames;
-      unknown = c.in-Err.ensures.unknown;
-    }
+    refuses g.F.Folder g.C.Servers docs design old mid mid.servers mid.pool c.requires.number rolled back (refused fault) fault last c.requires.index
+    (λ same. written_since c.seq.result c.info-newest.result (seq_of index) docs c.seq.ensures c.info-newest.ensures.kept c.if-seq-newest.false same)
+    ex (refl, refl, refl) ex.reads (record { keeps = ex.keeps; later = ex.later; blames = ex.blames; unknown = ex.unknown })
+    (c.roll_back-in-Err.ensures.same.file ∙ ex.same.file ∙ back.file) (c.roll_back-in-Err.ensures.picture ∙ ex.picture ∙ back.rows)
+    (record { next = c.roll_back-in-Err.ensures.next; pending = c.roll_back-in-Err.ensures.pending })
+    (λ history picture reached is. spoils_mapping g.F.Folder g.C.Servers docs design old mid mid.servers mid.pool c.requires.number rolled back history picture reached fault ex is)
+
+pub returns-in-Err-check_reduces : goal.returns-in-Err-check_reduces
+returns-in-Err-check_reduces g c =
+    let index = c.args.index.now in
+    let rolled = c.roll_back.new.self in
+    let last = c.roll_back-in-Err-check_reduces.new.self in
+    let old = side c.args.folder.now c.args.servers.now c.args.pool.now index in
+    let mid = side c.exchange.new.folder c.exchange.new.servers c.exchange.new.pool c.exchange.new.index in
+    let servers = c.check_reduces.new.servers in
+    let pool = c.check_reduces.new.pool in
+    let docs = c.args.docs.now in
+    let design = c.args.design.now in
+    let fault = c.in-Err-check_reduces.fault in
+    let ex = c.in_default.ensures in
+    let fails = c.in-Err-check_reduces.ensures in
+    let back : IsBack index rolled = record { file = c.roll_back.ensures.same.file; rows = c.roll_back.ensures.picture; next = c.roll_back.ensures.next; pending = c.roll_back.ensures.pending } in
+    subst (λ (e : UpdateFault). Updates g.F.Folder g.C.Servers docs design old (side mid.folder servers pool last) (refused e)) (sym c.from.ensures)
+    (refuses g.F.Folder g.C.Servers docs design old mid servers pool c.requires.number rolled back well (by_pool fault) last c.requires.index
+    (λ same. written_since c.seq.result c.info-newest.result (seq_of index) docs c.seq.ensures c.info-newest.ensures.kept c.if-seq-newest.false same)
+    ex (next_in mid.index, Err fault, fails, refl)
+    (read_then g.F.Folder docs old.folder mid.folder tt (by_pool fault) (refused (by_pool fault)) refl (pool_of_no_index fault) (pool_of_no_documents fault) ex.reads)
+    (pool_refused_later g.C.Servers design old.servers mid.servers servers old.pool mid.pool pool fault ex.keeps ex.later fails.fails)
+    (c.roll_back-in-Err-check_reduces.ensures.same.file ∙ ex.same.file ∙ back.file) (c.roll_back-in-Err-check_reduces.ensures.picture ∙ ex.picture ∙ back.rows)
+    (record { next = c.roll_back-in-Err-check_reduces.ensures.next; pending = c.roll_back-in-Err-check_reduces.ensures.pending })
+    (λ history picture reached is. spoils_checking g.F.Folder g.C.Servers docs design old mid servers pool c.requires.number rolled back history picture reached ex (fails.right (by_pool_of fault Compile is))))
 
 pub returns-in-Err-commit : goal.returns-in-Err-commit
 returns-in-Err-commit g c =
@@ -135,7 +147,9 @@ returns-in-Err-commit g c =
     let last = c.roll_back-in-Err-commit.new.self in
     let old = side c.args.folder.now c.args.servers.now c.args.pool.now index in
     let mid = side c.exchange.new.folder c.exchange.new.servers c.exchange.new.pool c.exchange.new.index in
-    let new = side c.commit.new.folder c.exchange.new.servers c.exchange.new.pool last in
+    let servers = c.check_reduces.new.servers in
+    let pool = c.check_reduces.new.pool in
+    let new = side c.commit.new.folder servers pool last in
     let docs = c.args.docs.now in
     let design = c.args.design.now in
     let fault = c.in-Err-commit.fault in
@@ -143,16 +157,18 @@ returns-in-Err-commit g c =
     let newest_is : newest ≡ documents_seq docs = ap (λ (info : Info). info.update_seq) c.info-newest.ensures.kept in
     let back : IsBack index rolled = record { file = c.roll_back.ensures.same.file; rows = c.roll_back.ensures.picture; next = c.roll_back.ensures.next; pending = c.roll_back.ensures.pending } in
     let ex = c.in_default.ensures in
+    let checked = c.in_default-check_reduces.ensures in
     let commits = c.in-Err-commit.ensures in
     let rows = c.roll_back-in-Err-commit.ensures.picture ∙ commits.kept.0 ∙ ex.picture ∙ back.rows in
     let stem = same_stem committed last c.roll_back-in-Err-commit.ensures.same.file ∙ ap (λ (name : FileName). name.stem) commits.name ∙ same_stem index c.exchange.new.index (ex.same.file ∙ back.file) in
-    subst (λ (e : UpdateFault). Updates g.F.Folder g.C.Servers docs design old new (refused e)) (sym c.from.ensures) (record {
-      stands = commit_refused g.F.Folder g.C.Servers docs design old mid c.requires.number rolled back ex.same.file ex.picture ex.reads.disk committed c.commit.new.folder newest (Err fault) commits newest_is ex.asks
+    subst (λ (e : UpdateFault). Updates g.F.Folder g.C.Servers docs design old new (refused e)) (sym c.from-in-Err-commit.ensures) (record {
+      stands = commit_refused g.F.Folder g.C.Servers docs design old mid servers pool c.requires.number rolled back ex.same.file ex.picture ex.reads.disk committed c.commit.new.folder newest (Err fault) commits newest_is ex.asks ex.keeps checked.compile
           last c.roll_back-in-Err-commit.ensures.same.file rows c.roll_back-in-Err-commit.ensures.pending fault refl;
-      asks = λ history. asked_over g.F.Folder g.C.Servers docs design old mid c.requires.number rolled back c.commit.new.folder last well (refused (by_index fault)) (commit_met fault) (λ none. absurd none) history (ex.asks history);
-      asked = asked_some g.F.Folder g.C.Servers docs design old mid c.requires.number rolled back c.commit.new.folder last well (refused (by_index fault)) (commit_met fault) (λ none. absurd none) ex.asked;
+      asks = asked_over g.F.Folder g.C.Servers docs design old mid servers pool c.requires.number rolled back c.commit.new.folder last well (refused (by_index fault)) ex (next_in mid.index, Ok tt, checked, commit_met fault);
+      spoils = λ history picture reached is. absurd (index_of_no_pool fault Compile (let same : by_index fault ≡ OfPool Compile = cc in same));
+      asked = asked_some g.F.Folder g.C.Servers docs design old mid servers pool c.requires.number rolled back c.commit.new.folder last well (refused (by_index fault)) ex (next_in mid.index, Ok tt, checked, commit_met fault);
       idle = λ same. absurd (written_since c.seq.result c.info-newest.result (seq_of index) docs c.seq.ensures c.info-newest.ensures.kept c.if-seq-newest.false same);
-      others = others_refused g.F.Folder g.C.Servers docs design old mid c.requires.number rolled back ex.same.file ex.picture ex.reads.disk committed c.commit.new.folder newest (Err fault) commits last
+      others = others_refused g.F.Folder g.C.Servers docs design old mid servers pool c.requires.number rolled back ex.same.file ex.picture ex.reads.disk committed c.commit.new.folder newest (Err fault) commits last
           c.roll_back-in-Err-commit.ensures.same.file c.requires.index fault refl;
       same = (stem, same_views index last rows);
       settled = (record { next = c.roll_back-in-Err-commit.ensures.next; pending = c.roll_back-in-Err-commit.ensures.pending }, rows);
@@ -164,14 +180,14 @@ returns-in-Err-commit g c =
       full = λ name length is. let same : by_index fault ≡ OfIndex (Store (Full name length)) = cc in
           commit_full c.exchange.new.index fault commits.faults name length (index_stored fault (Full name length) same) ∙ same_stem index c.exchange.new.index (ex.same.file ∙ back.file);
       filled = λ history picture reached name length is. let same : by_index fault ≡ OfIndex (Store (Full name length)) = cc in
-          commit_filled g.F.Folder g.C.Servers docs design old mid c.requires.number rolled back ex.same.file ex.picture ex.reads.disk committed c.commit.new.folder newest (Err fault) commits newest_is ex.asks
+          commit_filled g.F.Folder g.C.Servers docs design old mid servers pool c.requires.number rolled back ex.same.file ex.picture ex.reads.disk committed c.commit.new.folder newest (Err fault) commits newest_is ex.asks ex.keeps checked.compile
           history picture last rows c.roll_back-in-Err-commit.ensures.pending name length
           (is_filled g.F.Folder c.exchange.new.index committed last c.exchange.new.folder c.commit.new.folder newest fault commits c.roll_back-in-Err-commit.ensures.same.file commits.faults name length (index_stored fault (Full name length) same))
           reached;
       damaged = told_all (g.F.Folder.disk c.args.folder.now) (λ d. FindsBodies docs (refused (by_index fault)) d.now)
           (λ d loaded name at is. absurd (index_of_no_documents fault (Damaged name at) (let same : by_index fault ≡ OfDocuments (Damaged name at) = cc in same)));
-      later = (omega (arith, ex.reads.later, commits.cause.later), ex.later);
-      keeps = ex.keeps;
+      later = (omega (arith, ex.reads.later, commits.cause.later), omega (arith, ex.later, checked.reduces.later));
+      keeps = record { languages = checked.reduces.keeps.languages ∙ ex.keeps.languages; width = checked.reduces.keeps.width ∙ ex.keeps.width };
       blames = λ is. absurd (index_of_no_pool fault ServerFault (let same : by_index fault ≡ OfPool ServerFault = cc in same));
       unknown = λ is. absurd (index_of_no_pool fault UnknownLanguage (let same : by_index fault ≡ OfPool UnknownLanguage = cc in same));
     })
@@ -183,28 +199,32 @@ returns g c =
     let committed = c.commit.new.self in
     let old = side c.args.folder.now c.args.servers.now c.args.pool.now index in
     let mid = side c.exchange.new.folder c.exchange.new.servers c.exchange.new.pool c.exchange.new.index in
-    let new = side c.commit.new.folder c.exchange.new.servers c.exchange.new.pool committed in
+    let servers = c.check_reduces.new.servers in
+    let pool = c.check_reduces.new.pool in
+    let new = side c.commit.new.folder servers pool committed in
     let docs = c.args.docs.now in
     let design = c.args.design.now in
     let newest = c.info-newest.result.update_seq in
     let newest_is : newest ≡ documents_seq docs = ap (λ (info : Info). info.update_seq) c.info-newest.ensures.kept in
     let back : IsBack index rolled = record { file = c.roll_back.ensures.same.file; rows = c.roll_back.ensures.picture; next = c.roll_back.ensures.next; pending = c.roll_back.ensures.pending } in
     let ex = c.in_default.ensures in
+    let checked = c.in_default-check_reduces.ensures in
     let commits = c.in_default-commit.ensures in
     let stem = ap (λ (name : FileName). name.stem) commits.name ∙ same_stem index c.exchange.new.index (ex.same.file ∙ back.file) in
     let views = sym (views_by_picture committed) ∙ ap (λ (p : Picture). length p.rows) commits.picture ∙ length-map (both_in c.exchange.new.index) (next_rows (is_touched c.exchange.new.index)) ∙ same_views index c.exchange.new.index (ex.picture ∙ back.rows) in
     record {
-      stands = λ history picture. committed_stands g.F.Folder g.C.Servers docs design old mid c.requires.number rolled back ex.same.file ex.picture ex.reads.disk committed c.commit.new.folder newest well_index commits newest_is ex.asks
+      stands = λ history picture. committed_stands g.F.Folder g.C.Servers docs design old mid servers pool c.requires.number rolled back ex.same.file ex.picture ex.reads.disk committed c.commit.new.folder newest well_index commits newest_is ex.asks ex.keeps checked.compile
           history picture new well (sym commits.picture) (EndsAt g.F.Folder g.C.Servers docs design old new history picture well)
           (λ was files known ended. (
             Some (next_picture newest c.exchange.new.index),
             ended,
-            known_next g.F.Folder g.C.Servers docs design old mid c.requires.number rolled back ex.same.file ex.picture ex.reads.disk committed c.commit.new.folder newest well_index commits newest_is ex.asks history picture new was known,
+            known_next g.F.Folder g.C.Servers docs design old mid servers pool c.requires.number rolled back ex.same.file ex.picture ex.reads.disk committed c.commit.new.folder newest well_index commits newest_is ex.asks ex.keeps checked.compile history picture new was known,
           ));
-      asks = λ history. asked_over g.F.Folder g.C.Servers docs design old mid c.requires.number rolled back c.commit.new.folder committed well well (λ mapped met. met) (λ none. none) history (ex.asks history);
-      asked = asked_some g.F.Folder g.C.Servers docs design old mid c.requires.number rolled back c.commit.new.folder committed well well (λ mapped met. met) (λ none. none) ex.asked;
+      asks = asked_over g.F.Folder g.C.Servers docs design old mid servers pool c.requires.number rolled back c.commit.new.folder committed well well ex (next_in mid.index, Ok tt, checked, λ fault is. absurd (well_met fault is));
+      spoils = λ history picture reached is. cc;
+      asked = asked_some g.F.Folder g.C.Servers docs design old mid servers pool c.requires.number rolled back c.commit.new.folder committed well well ex (next_in mid.index, Ok tt, checked, λ fault is. absurd (well_met fault is));
       idle = λ same. absurd (written_since c.seq.result c.info-newest.result (seq_of index) docs c.seq.ensures c.info-newest.ensures.kept c.if-seq-newest.false same);
-      others = others_then g.F.Folder g.C.Servers docs design old mid c.requires.number rolled back ex.same.file ex.picture ex.reads.disk committed c.commit.new.folder newest well_index commits committed well (λ files ended. inr ended);
+      others = others_then g.F.Folder g.C.Servers docs design old mid servers pool c.requires.number rolled back ex.same.file ex.picture ex.reads.disk committed c.commit.new.folder newest well_index commits committed well (λ files ended. inr ended);
       same = (stem, views);
       settled = tt;
       cause = tt;
@@ -214,8 +234,8 @@ returns g c =
       full = λ name length is. cc;
       filled = λ history picture reached name length is. cc;
       damaged = told_all (g.F.Folder.disk c.args.folder.now) (λ d. FindsBodies docs well d.now) (λ d loaded name at is. cc);
-      later = (omega (arith, ex.reads.later, commits.cause.later), ex.later);
-      keeps = ex.keeps;
+      later = (omega (arith, ex.reads.later, commits.cause.later), omega (arith, ex.later, checked.reduces.later));
+      keeps = record { languages = checked.reduces.keeps.languages ∙ ex.keeps.languages; width = checked.reduces.keeps.width ∙ ex.keeps.width };
       blames = λ is. cc;
       unknown = λ is. cc;
     }

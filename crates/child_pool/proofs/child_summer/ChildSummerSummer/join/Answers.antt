@@ -8,10 +8,7 @@ pub returns-in-Ok-clause-value : goal.returns-in-Ok-clause-value
 returns-in-Ok-clause-value g c = rw c.of.ensures (join_value g.C.Servers c.args.self.now.language.now c.args.self.now.source.now c.args.self.now.slot c.args.parts.now (json c.in-Ok.value) c.in-Ok.ensures.right)
 
 pub returns-in-Ok-clause-goes : goal.returns-in-Ok-clause-goes
-returns-in-Ok-clause-goes g c = record { language = refl; source = refl; slot = c.rereduce.ensures.talks (c.args.self.now.source.now ∷ []) (inl refl) }
-
-pub returns-in-Err-clause-goes : goal.returns-in-Err-clause-goes
-returns-in-Err-clause-goes g c = record { language = refl; source = refl; slot = c.rereduce.ensures.talks (c.args.self.now.source.now ∷ []) (inl refl) }
+returns-in-Ok-clause-goes g c = record { language = refl; source = refl; slot = c.in-Ok.ensures.talks (c.args.self.now.source.now ∷ []) (inl refl) }
 
 pub returns-in-Err-clause-cause : goal.returns-in-Err-clause-cause
 returns-in-Err-clause-cause g c = record { language = refl; source = refl; slot = c.in-Err.ensures.cause (c.args.self.now.source.now ∷ []) (inl refl) }

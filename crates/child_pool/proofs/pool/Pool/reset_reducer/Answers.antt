@@ -52,4 +52,4 @@ returns-in-Err-prepare_slot-clause-went g c = λ reduces calls follows stands.
     let fresh : not c.match-self.kept ≡ is_fresh path old = ap not same in
     let w = subst (λ (b : Bool). Went (g.C.Servers.may_follow c.prepare_slot.new.servers) (job_of path [] []) old.width calls (AfterPrepare functions honest (job_of path [] []) old.width (reset_prompts old.width b) rose (Err fault) calls)) fresh
     (c.in-Err-prepare_slot.ensures.went [] calls follows (λ is. kept_at old path calls (sym fresh ∙ is) stands)) in
-    prepare_wider path reduces functions honest (reset_prompts old.width (is_fresh path old)) rose (Err fault) w
+    prepare_wider path [] reduces (λ source none. absurd none) functions honest (reset_prompts old.width (is_fresh path old)) rose (Err fault) w

@@ -11,8 +11,8 @@ use Rattle.child_pool.proofs.reduce_slot.ReduceSlot.ask_rows.Goals as goal
 asks : (g : given.Over) (c : goal.After-drop-line g) → Asks g.C.Servers c.args.language.now c.args.source.now (Reduce c.args.source.now (map reduce_row c.args.part.now)) c.args.self.now c.ask.new.self c.ask.result
 asks g c =
     let rows = map reduce_row c.args.part.now in
-    let by = reduces_rows c.args.source.now c.args.part.now c.requires.some c.in-Ok.ensures.kept in
-    c.ask.ensures c.args.source.now (Reduce c.args.source.now rows) (spells_line (Reduce c.args.source.now rows) c.in-Ok.line.items c.as_slice.result.now c.in-Ok.ensures.line by.1 c.as_slice.ensures.value) by
+    let by = reduces_rows c.args.source.now c.args.part.now c.requires.some c.requires.few c.in-Ok.ensures.kept in
+    c.ask.ensures c.args.source.now (Reduce c.args.source.now rows) (spells_line (Reduce c.args.source.now rows) c.in-Ok.line.items c.as_slice.result.now c.in-Ok.ensures.line by.1.0 c.as_slice.ensures.value) by
 
 pub returns-in-Ok-clause-talks : goal.returns-in-Ok-clause-talks
 returns-in-Ok-clause-talks g c = (asks g c).talks

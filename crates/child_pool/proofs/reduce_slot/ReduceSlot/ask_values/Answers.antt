@@ -1,5 +1,5 @@
 -- The line is made, and then it is asked.
-use Rattle.std.proofs.Common.{◌<◌, length, map, arith}
+use Rattle.std.proofs.Common.{◌<◌, ◌≤◌, length, map, arith}
 use Rattle.std.proofs.lemmas.List.{length-map}
 use Rattle.json_terms.specs.Seen.{json}
 use Rattle.view_ports.specs.declared.command.Command.TheVariants.{Rereduce}
@@ -13,8 +13,9 @@ asks : (g : given.Over) (c : goal.After-drop-line g) → Asks g.C.Servers c.args
 asks g c =
     let values = map json c.args.values.now in
     let long : 0 < length values = omega (arith, c.requires.some, length-map c.args.values.now json) in
-    let by = reduces_values c.args.source.now values long c.requires.bounded in
-    c.ask.ensures c.args.source.now (Rereduce c.args.source.now values) (spells_line (Rereduce c.args.source.now values) c.in-Ok.line.items c.as_slice.result.now c.in-Ok.ensures by.1 c.as_slice.ensures.value) by
+    let few : length values ≤ 32 = omega (arith, c.requires.few, length-map c.args.values.now json) in
+    let by = reduces_values c.args.source.now values long few c.requires.bounded in
+    c.ask.ensures c.args.source.now (Rereduce c.args.source.now values) (spells_line (Rereduce c.args.source.now values) c.in-Ok.line.items c.as_slice.result.now c.in-Ok.ensures by.1.0 c.as_slice.ensures.value) by
 
 pub returns-in-Ok-clause-talks : goal.returns-in-Ok-clause-talks
 returns-in-Ok-clause-talks g c = (asks g c).talks

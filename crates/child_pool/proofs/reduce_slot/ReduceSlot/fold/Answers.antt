@@ -29,4 +29,4 @@ returns-in-Ok-keep-clause-folds g c =
     subst (λ (v : List Json). FoldsIn g.C.Servers c.args.language.now c.args.source.now c.args.self.now values (json c.args.value) v) (sym is) (folds_one g.C.Servers c.args.language.now c.args.source.now c.args.self.now values (json c.args.value) (json c.in-Ok.one) made)
 
 pub returns-in-Err-keep-clause-cause : goal.returns-in-Err-keep-clause-cause
-returns-in-Err-keep-clause-cause g c = fails_late g.C.Servers c.args.language.now c.args.source.now c.args.self.now c.ask_values.new.self c.ask_values.ensures.talks
+returns-in-Err-keep-clause-cause g c = fails_late g.C.Servers c.args.language.now c.args.source.now c.args.self.now c.ask_values.new.self c.in-Ok.ensures.talks

@@ -2,7 +2,7 @@
 use Rattle.std.proofs.Common.{◌≡◌, ◌<◌, ◌++◌, List, [], length, map, take-append-drop, ap, sym, subst, arith}
 use Rattle.json_terms.specs.Json.{Json}
 use Rattle.json_terms.specs.Seen.{json}
-use Rattle.child_pool.proofs.Folds.{Folding, fails_before, folded_blames, folding_more, folding_none, talks_both}
+use Rattle.child_pool.proofs.Folds.{Folding, fails_before, folded_blames, folding_more, folding_none, talks_both, talks_on}
 use Rattle.child_pool.proofs.reduce_slot.ReduceSlot.reduce.Goals as goal
 
 pub loop-left-init : goal.loop-left-init
@@ -14,21 +14,13 @@ loop-left-init g c =
           (folding_none g.C.Servers c.args.language.now c.args.source.now c.args.self.now c.args.items.now),
     )
 
-pub returns-in-Err-clause-talks : goal.returns-in-Err-clause-talks
-returns-in-Err-clause-talks g c = talks_both g.C.Servers c.args.language.now c.args.source.now c.args.self.now c.loop-left.self c.ask_rows.new.self c.loop-left.invariant.1.talks c.ask_rows.ensures.talks
-
 pub returns-in-Err-clause-cause : goal.returns-in-Err-clause-cause
 returns-in-Err-clause-cause g c =
     fails_before g.C.Servers c.args.language.now c.args.source.now c.args.self.now c.loop-left.self c.ask_rows.new.self c.in-Err.fault c.loop-left.invariant.1.talks c.in-Err.ensures.cause
 
-pub returns-in-Err-fold-clause-talks : goal.returns-in-Err-fold-clause-talks
-returns-in-Err-fold-clause-talks g c =
-    let asked = talks_both g.C.Servers c.args.language.now c.args.source.now c.args.self.now c.loop-left.self c.ask_rows.new.self c.loop-left.invariant.1.talks c.ask_rows.ensures.talks in
-    talks_both g.C.Servers c.args.language.now c.args.source.now c.args.self.now c.ask_rows.new.self c.fold.new.self asked c.fold.ensures.talks
-
 pub returns-in-Err-fold-clause-cause : goal.returns-in-Err-fold-clause-cause
 returns-in-Err-fold-clause-cause g c =
-    let asked = talks_both g.C.Servers c.args.language.now c.args.source.now c.args.self.now c.loop-left.self c.ask_rows.new.self c.loop-left.invariant.1.talks c.ask_rows.ensures.talks in
+    let asked = talks_both g.C.Servers c.args.language.now c.args.source.now c.args.self.now c.loop-left.self c.ask_rows.new.self c.loop-left.invariant.1.talks c.in-Ok.ensures.talks in
     fails_before g.C.Servers c.args.language.now c.args.source.now c.args.self.now c.ask_rows.new.self c.fold.new.self c.in-Err-fold.fault asked c.in-Err-fold.ensures.cause
 
 pub loop-left-preserved : goal.loop-left-preserved
@@ -40,11 +32,11 @@ loop-left-preserved g c =
     let some : 0 < length part = grind (arith, c.split_at.ensures.front_len, c.loop-left-test.ensures) in (
       c.in-Ok-fold.ensures.short,
       folding_more g.C.Servers c.args.language.now c.args.source.now c.args.self.now c.loop-left.self c.ask_rows.new.self c.fold.new.self c.args.items.now left part rest (map json c.loop-left.values.items) (map json c.fold.new.values.items) (json c.in-Ok.value) cut some
-          c.loop-left.invariant.1 c.ask_rows.ensures.talks c.in-Ok.ensures.compiles c.in-Ok.ensures.right c.fold.ensures.talks c.in-Ok-fold.ensures.bounded c.in-Ok-fold.ensures.folds,
+          c.loop-left.invariant.1 c.in-Ok.ensures.talks c.in-Ok.ensures.compiles c.in-Ok.ensures.right c.in-Ok-fold.ensures.talks c.in-Ok-fold.ensures.bounded c.in-Ok-fold.ensures.folds,
     )
 
 pub returns-clause-talks : goal.returns-clause-talks
-returns-clause-talks g c = talks_both g.C.Servers c.args.language.now c.args.source.now c.args.self.now c.loop-left.self c.whole.new.self c.loop-left.invariant.1.talks c.whole.ensures.talks
+returns-clause-talks g c = talks_on g.C.Servers c.args.language.now c.args.source.now c.args.self.now c.loop-left.self c.whole.new.self c.whole.result c.loop-left.invariant.1.talks c.whole.ensures.talks
 
 pub returns-clause-cause : goal.returns-clause-cause
 returns-clause-cause g c = folded_blames g.C.Servers c.args.language.now c.args.source.now c.args.self.now c.loop-left.self c.whole.new.self c.whole.result c.loop-left.invariant.1.talks c.whole.ensures.cause

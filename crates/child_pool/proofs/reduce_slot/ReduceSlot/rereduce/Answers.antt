@@ -3,7 +3,7 @@ use Rattle.std.proofs.Common.{◌≡◌, ◌<◌, ◌+◌, ◌++◌, ◌∷◌, 
 use Rattle.std.proofs.lemmas.List.{take_all, take_more}
 use Rattle.json_terms.specs.Json.{Json}
 use Rattle.json_terms.specs.Seen.{json}
-use Rattle.child_pool.proofs.Folds.{Refolding, fails_before, fails_late, folded_blames, refolded, refolding_more, refolding_none, talks_both}
+use Rattle.child_pool.proofs.Folds.{Refolding, fails_before, fails_late, folded_blames, refolded, refolding_more, refolding_none, talks_on}
 use Rattle.child_pool.proofs.reduce_slot.ReduceSlot.rereduce.Goals as goal
 
 pub loop-sum-init : goal.loop-sum-init
@@ -16,9 +16,6 @@ loop-sum-init g c =
 
 pub returns-in_default-clause-cause : goal.returns-in_default-clause-cause
 returns-in_default-clause-cause g c = fails_late g.C.Servers c.args.language.now c.args.source.now c.args.self.now c.loop-sum.self c.loop-sum.invariant.1.talks
-
-pub returns-in-Err-clause-talks : goal.returns-in-Err-clause-talks
-returns-in-Err-clause-talks g c = talks_both g.C.Servers c.args.language.now c.args.source.now c.args.self.now c.loop-sum.self c.fold.new.self c.loop-sum.invariant.1.talks c.fold.ensures.talks
 
 pub returns-in-Err-clause-cause : goal.returns-in-Err-clause-cause
 returns-in-Err-clause-cause g c =
@@ -38,11 +35,11 @@ loop-sum-preserved g c =
       c.in-Ok-fold.ensures.short,
       subst (λ (done : List Json). Refolding g.C.Servers c.args.language.now c.args.source.now c.args.self.now c.fold.new.self done (map json c.fold.new.values.items)) (sym more)
           (refolding_more g.C.Servers c.args.language.now c.args.source.now c.args.self.now c.loop-sum.self c.fold.new.self (take i sums) (map json c.loop-sum.values.items) (map json c.fold.new.values.items) value
-          c.loop-sum.invariant.1 c.fold.ensures.talks c.in-Ok-fold.ensures.bounded c.in-Ok-fold.ensures.folds),
+          c.loop-sum.invariant.1 c.in-Ok-fold.ensures.talks c.in-Ok-fold.ensures.bounded c.in-Ok-fold.ensures.folds),
     )
 
 pub returns-clause-talks : goal.returns-clause-talks
-returns-clause-talks g c = talks_both g.C.Servers c.args.language.now c.args.source.now c.args.self.now c.loop-sum.self c.whole.new.self c.loop-sum.invariant.1.talks c.whole.ensures.talks
+returns-clause-talks g c = talks_on g.C.Servers c.args.language.now c.args.source.now c.args.self.now c.loop-sum.self c.whole.new.self c.whole.result c.loop-sum.invariant.1.talks c.whole.ensures.talks
 
 pub returns-clause-right : goal.returns-clause-right
 returns-clause-right g c =

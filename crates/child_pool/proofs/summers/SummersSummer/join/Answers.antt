@@ -20,17 +20,14 @@ returns-in-Ok-rereduce-clause-value g c =
     (ap (map Child) c.as_slice.ensures.value ∙ c.in-Ok.ensures) here)
 
 pub returns-in-Ok-rereduce-clause-goes : goal.returns-in-Ok-rereduce-clause-goes
-returns-in-Ok-rereduce-clause-goes g c = source_goes g.C.Servers c.args.self.now _ c.in-Some-Source.source c.as_str-language.result.now c.as_str.result.now (sym c.in-Some-Source.ensures ∙ c.in-Some-Source.field-0-is) refl refl c.as_str-language.ensures c.as_str.ensures c.rereduce.ensures.talks
-
-pub returns-in-Some-Source-clause-goes : goal.returns-in-Some-Source-clause-goes
-returns-in-Some-Source-clause-goes g c = source_goes g.C.Servers c.args.self.now _ c.in-Some-Source.source c.as_str-language.result.now c.as_str.result.now (sym c.in-Some-Source.ensures ∙ c.in-Some-Source.field-0-is) refl refl c.as_str-language.ensures c.as_str.ensures c.rereduce.ensures.talks
+returns-in-Ok-rereduce-clause-goes g c = source_goes g.C.Servers c.args.self.now _ c.in-Some-Source.source c.as_str-language.result.now c.as_str.result.now (sym c.in-Some-Source.ensures ∙ c.in-Some-Source.field-0-is) refl refl c.as_str-language.ensures c.as_str.ensures c.in-Ok-rereduce.ensures.talks
 
 pub returns-in-Some-Source-clause-cause : goal.returns-in-Some-Source-clause-cause
 returns-in-Some-Source-clause-cause g c = source_fails g.C.Servers c.args.self.now _ c.in-Some-Source.source c.as_str-language.result.now c.as_str.result.now c.in-Err.fault (sym c.in-Some-Source.ensures ∙ c.in-Some-Source.field-0-is) refl refl c.as_str-language.ensures c.as_str.ensures c.in-Err.ensures.cause
 
 pub returns-in-Ok-join_builtins-clause-value : goal.returns-in-Ok-join_builtins-clause-value
 returns-in-Ok-join_builtins-clause-value g c =
-    join_builtin g.C.Servers c.args.self.now.design.now.language c.args.self.now.slot _ c.in-Some-Builtin.kind c.args.parts.now c.in-Ok-join_builtins.sum (sym c.in-Some-Builtin.ensures ∙ c.in-Some-Builtin.field-0-is) c.in-Ok-join_builtins.ensures
+    join_builtin g.C.Servers c.args.self.now.design.now.language c.args.self.now.slot _ c.in-Some-Builtin.kind c.args.parts.now c.in-Ok-join_builtins.sum (sym c.in-Some-Builtin.ensures ∙ c.in-Some-Builtin.field-0-is) c.in-Ok-join_builtins.ensures.value
 
 pub returns-in-Some-Builtin-clause-cause : goal.returns-in-Some-Builtin-clause-cause
 returns-in-Some-Builtin-clause-cause g c = no_memory g.C.Servers c.args.self.now

@@ -4,10 +4,7 @@ use Rattle.child_pool.proofs.ViewJoins.{no_memory, source_fails, source_goes}
 use Rattle.child_pool.proofs.summers.SummersSummer.leaf.Goals as goal
 
 pub returns-in-Ok-clause-goes : goal.returns-in-Ok-clause-goes
-returns-in-Ok-clause-goes g c = source_goes g.C.Servers c.args.self.now _ c.in-Some-Source.source c.as_str-language.result.now c.as_str.result.now (sym c.in-Some-Source.ensures ∙ c.in-Some-Source.field-0-is) refl refl c.as_str-language.ensures c.as_str.ensures c.reduce.ensures.talks
-
-pub returns-in-Err-clause-goes : goal.returns-in-Err-clause-goes
-returns-in-Err-clause-goes g c = source_goes g.C.Servers c.args.self.now _ c.in-Some-Source.source c.as_str-language.result.now c.as_str.result.now (sym c.in-Some-Source.ensures ∙ c.in-Some-Source.field-0-is) refl refl c.as_str-language.ensures c.as_str.ensures c.reduce.ensures.talks
+returns-in-Ok-clause-goes g c = source_goes g.C.Servers c.args.self.now _ c.in-Some-Source.source c.as_str-language.result.now c.as_str.result.now (sym c.in-Some-Source.ensures ∙ c.in-Some-Source.field-0-is) refl refl c.as_str-language.ensures c.as_str.ensures c.in-Ok.ensures.talks
 
 pub returns-in-Err-clause-cause : goal.returns-in-Err-clause-cause
 returns-in-Err-clause-cause g c = source_fails g.C.Servers c.args.self.now _ c.in-Some-Source.source c.as_str-language.result.now c.as_str.result.now c.in-Err.fault (sym c.in-Some-Source.ensures ∙ c.in-Some-Source.field-0-is) refl refl c.as_str-language.ensures c.as_str.ensures c.in-Err.ensures.cause

@@ -1,5 +1,5 @@
 -- The design that is read is that of the live document.
-use Rattle.std.proofs.Common.{◌≡◌, ◌⊎◌, ◌∙◌, ◌≤◌, ℕ, List, length, map, bytes_eq, Option, Some, None, is_some, sym, ap, subst}
+use Rattle.std.proofs.Common.{◌≡◌, ◌⊎◌, ◌∙◌, ◌≤◌, ℕ, List, length, map, bytes_eq, Option, Some, None, sym, ap, subst}
 use Rattle.std.specs.Map.{lookup}
 use Rattle.json_terms.specs.Seen.{json}
 use Rattle.view_ports.proofs.Told.{told_now}
@@ -12,16 +12,16 @@ use Rattle.doc_file.specs.Docs.{bytes_in, last_of, IsAt, IsLive}
 use Rattle.doc_file.specs.History.{live_document}
 use Rattle.view_engine.specs.declared.refusal.Refusal.TheVariants.{MissingNamedView, UnknownLanguage}
 use Rattle.view_engine.specs.View.{design_id, view_refusal}
-use Rattle.view_engine.specs.ViewPlan.{source_at, IsPlan, ShowsRows}
+use Rattle.view_engine.specs.ViewPlan.{source_at, HasReduce, IsPlan, ShowsRows}
 use Rattle.query_args.specs.declared.fault.QueryFault.{QueryFault}
 use Rattle.query_args.specs.declared.fault.QueryFault.TheVariants as query
 use Rattle.query_args.specs.declared.query.Target.TheVariants as target
 use Rattle.query_args.specs.declared.query.Query.{Query}
 use Rattle.query_args.specs.Faults.{query_fault}
-use Rattle.query_args.specs.Query.{is_updated}
-use Rattle.view_engine.specs.ViewQuery.{builtin_named, parameters_of, target_for, view_query}
+use Rattle.query_args.specs.Query.{is_updated, query_of}
+use Rattle.view_engine.specs.ViewQuery.{has_reduce, parameters_of, reduce_named, target_for, view_query}
 use Rattle.view_engine.proofs.Reading.{read_of_get}
-use Rattle.view_engine.proofs.Plans.{met_query, stored_design, planned, refused_language, reduced_there, refused_query, refused_same, refused_view}
+use Rattle.view_engine.proofs.Plans.{has_there, met_query, stored_design, planned, refused_language, reduced_there, refused_query, refused_same, refused_view}
 use Rattle.view_engine.proofs.engine.Engine.plan.Goals as goal
 use Rattle.view_engine.specs.World.{of_history}
 
@@ -58,15 +58,15 @@ returns-in-Some-path_of-clause-plan g c = λ history.
     let place = c.in-Some.place in
     let asked = c.in-Ok-read_query.query in
     let updates : is_updated (parameters_of name) ≡ asked.update = ap is_updated (sym c.parameters_of-parameters.ensures) ∙ sym (ap (λ (q : Query). q.update) c.in-Ok-read_query.ensures.query) in
-    let reduced : builtin_named name.view design.views ≡ c.builtin_in-reduce.result =
-    reduced_there design.views c.as_slice.result.now c.as_slice-2.result.now name.view c.as_str-3.result.now place c.index-as_slice-place.result c.builtin_in-reduce.result c.as_slice.ensures c.as_slice-2.ensures c.as_str-3.ensures c.builtin_in-reduce.ensures c.in-Some.ensures.reduced in
-    let some : is_some (builtin_named name.view design.views) ≡ c.is_some.result = ap is_some reduced ∙ sym c.is_some.ensures in
+    let some : has_reduce (reduce_named name.view design.views) ≡ c.has_reduce.result =
+    reduced_there design.views c.as_slice.result.now c.as_slice-2.result.now name.view c.as_str-3.result.now place c.index-as_slice-place.result c.has_reduce.result c.as_slice.ensures c.as_slice-2.ensures c.as_str-3.ensures c.in-Some.ensures.within c.has_reduce.ensures c.in-Some.ensures.reduced in
     let fits : query_fault (target_for design.views name) (parameters_of name) ≡ None = (λ i. query_fault (target.View (some i)) (sym c.parameters_of-parameters.ensures i)) ∙ c.in-Ok-read_query.ensures.fault in
     let is : id ≡ design_id name.design = c.as_str-2.ensures ∙ c.in_ok-id.ensures ∙ ap design_id c.as_str.ensures in
     let there : Some (source_at design.views place) ≡ lookup (λ key. bytes_eq key name.view) (map named design.views) =
     ap (λ (views : List View). Some (source_at views place)) (sym c.as_slice.ensures)
     ∙ c.in-Some.ensures.named
     ∙ (λ i. lookup (λ key. bytes_eq key (c.as_str-3.ensures i)) (map named (c.as_slice.ensures i))) in
+    let reduced : HasReduce design.views name.view place = has_there design.views c.as_slice.result.now name.view c.as_str-3.result.now place c.as_slice.ensures c.as_str-3.ensures c.in-Some.ensures.reduced in
     let shown : ShowsRows design.views name.view place =
     subst (λ (views : List View). ShowsRows views name.view place) c.as_slice.ensures
     (subst (λ (text : List ℕ). ShowsRows c.as_slice.result.now text place) c.as_str-3.ensures c.in-Some.ensures.shown) in
@@ -74,8 +74,16 @@ returns-in-Some-path_of-clause-plan g c = λ history.
     (λ d. IsAt docs d.now history → live_document history id ≡ Some document)
     (λ d. IsAt docs d.now history → (path : List ℕ) → path_in languages design.language ≡ Some path → IsPlan asked.update languages history name c.in_ok-id.id design place path)
     (λ d live at path known. subst (λ i. IsPlan asked.update languages history name i design place path) c.as_str-2.ensures
-    (planned languages history name id document design is (live at) (stored_design name id document is c.in-Ok.ensures.body) c.in_ok-design.ensures place there updates fits shown path known))
+    (planned languages history name id document design is (live at) (stored_design name id document is c.in-Ok.ensures.body) c.in_ok-design.ensures place there updates fits shown reduced path known))
     (c.in-Ok.ensures.document history)
+
+pub returns-in-Some-path_of-clause-query : goal.returns-in-Some-path_of-clause-query
+returns-in-Some-path_of-clause-query g c =
+    let name = view_query c.args.name.now c.args.query in
+    let design = c.in_ok-design.design in
+    let some : has_reduce (reduce_named name.view design.views) ≡ c.has_reduce.result =
+    reduced_there design.views c.as_slice.result.now c.as_slice-2.result.now name.view c.as_str-3.result.now c.in-Some.place c.index-as_slice-place.result c.has_reduce.result c.as_slice.ensures c.as_slice-2.ensures c.as_str-3.ensures c.in-Some.ensures.within c.has_reduce.ensures c.in-Some.ensures.reduced in
+    c.in-Ok-read_query.ensures.query ∙ (λ i. query_of (target.View (sym some i)) (c.parameters_of-parameters.ensures i))
 
 pub returns-in-Some-path_of-clause-read : goal.returns-in-Some-path_of-clause-read
 returns-in-Some-path_of-clause-read g c =
@@ -96,6 +104,10 @@ returns-in-Some-path_of-clause-few g c =
     let few : length views ≤ 32 = subst (λ (vs : List View). length vs ≤ 32) (sym c.in_ok-design.ensures.1) (views_are_few document has) in
     few
 
+pub returns-in-Some-path_of-clause-reduce : goal.returns-in-Some-path_of-clause-reduce
+returns-in-Some-path_of-clause-reduce g c =
+    has_there c.in_ok-design.design.views c.as_slice.result.now c.args.name.now.view c.as_str-3.result.now c.in-Some.place c.as_slice.ensures c.as_str-3.ensures c.in-Some.ensures.reduced
+
 pub returns-in-Some-path_of-clause-known : goal.returns-in-Some-path_of-clause-known
 returns-in-Some-path_of-clause-known g c = (c.in-Some-path_of._path.now, ap (path_in (languages_of c.args.self.now.pool)) (sym c.as_str-4.ensures) ∙ sym c.in-Some-path_of.ensures)
 
@@ -108,9 +120,8 @@ returns-clause-refused g c = λ refusal is_refusal history.
     let document = json c.in-Ok.document in
     let design = c.in_ok-design.design in
     let place = c.in-Some.place in
-    let reduced : builtin_named name.view design.views ≡ c.builtin_in-reduce.result =
-    reduced_there design.views c.as_slice.result.now c.as_slice-2.result.now name.view c.as_str-3.result.now place c.index-as_slice-place.result c.builtin_in-reduce.result c.as_slice.ensures c.as_slice-2.ensures c.as_str-3.ensures c.builtin_in-reduce.ensures c.in-Some.ensures.reduced in
-    let some : is_some (builtin_named name.view design.views) ≡ c.is_some.result = ap is_some reduced ∙ sym c.is_some.ensures in
+    let some : has_reduce (reduce_named name.view design.views) ≡ c.has_reduce.result =
+    reduced_there design.views c.as_slice.result.now c.as_slice-2.result.now name.view c.as_str-3.result.now place c.index-as_slice-place.result c.has_reduce.result c.as_slice.ensures c.as_slice-2.ensures c.as_str-3.ensures c.in-Some.ensures.within c.has_reduce.ensures c.in-Some.ensures.reduced in
     let fits : query_fault (target_for design.views name) (parameters_of name) ≡ None = (λ i. query_fault (target.View (some i)) (sym c.parameters_of-parameters.ensures i)) ∙ c.in-Ok-read_query.ensures.fault in
     let same : UnknownLanguage design.language ≡ refusal = cc in
     let is : id ≡ design_id name.design = c.as_str-2.ensures ∙ c.in_ok-id.ensures ∙ ap design_id c.as_str.ensures in
@@ -136,9 +147,8 @@ returns-in-Err-read_query-clause-refused g c = λ refusal is_refusal history.
     let design = c.in_ok-design.design in
     let place = c.in-Some.place in
     let found = c.in-Err-read_query.fault in
-    let reduced : builtin_named name.view design.views ≡ c.builtin_in-reduce.result =
-    reduced_there design.views c.as_slice.result.now c.as_slice-2.result.now name.view c.as_str-3.result.now place c.index-as_slice-place.result c.builtin_in-reduce.result c.as_slice.ensures c.as_slice-2.ensures c.as_str-3.ensures c.builtin_in-reduce.ensures c.in-Some.ensures.reduced in
-    let some : is_some (builtin_named name.view design.views) ≡ c.is_some.result = ap is_some reduced ∙ sym c.is_some.ensures in
+    let some : has_reduce (reduce_named name.view design.views) ≡ c.has_reduce.result =
+    reduced_there design.views c.as_slice.result.now c.as_slice-2.result.now name.view c.as_str-3.result.now place c.index-as_slice-place.result c.has_reduce.result c.as_slice.ensures c.as_slice-2.ensures c.as_str-3.ensures c.in-Some.ensures.within c.has_reduce.ensures c.in-Some.ensures.reduced in
     let stands : (query_fault (target_for design.views name) (parameters_of name) ≡ Some found) ⊎ (found ≡ query.NoMemory) =
     subst (λ (f : Option QueryFault). (f ≡ Some found) ⊎ (found ≡ query.NoMemory)) (λ i. query_fault (target.View (sym some i)) (c.parameters_of-parameters.ensures i)) c.in-Err-read_query.ensures.fault in
     let bad = met_query found refusal (query_fault (target_for design.views name) (parameters_of name)) (sym c.halt_of_query.ensures ∙ is_refusal) stands in

@@ -1,6 +1,7 @@
 -- A view is what was planned, over what bringing the index of its design up to date left.
-use Rattle.std.proofs.Common.{◌≡◌, ◌∙◌, Bool, false, List, length, Err, Some, ⊎_elim, arith, sym, ap, subst}
+use Rattle.std.proofs.Common.{◌≡◌, ◌∙◌, ℕ, Bool, false, List, Err, Option, Some, ⊎_elim, arith, sym, ap, subst}
 use Rattle.doc_file.specs.History.{Write}
+use Rattle.view_index.specs.declared.index.Index.{Index}
 use Rattle.view_index.specs.Index.{views_of}
 use Rattle.view_updater.specs.Faults.{by_index}
 use Rattle.view_engine.proofs.Kept.{kept_idle, kept_refused, kept_then}
@@ -17,9 +18,14 @@ use Rattle.query_args.specs.declared.query.Query.{Query}
 use Rattle.view_engine.specs.ViewQuery.{view_query}
 use Rattle.view_engine.specs.Worlds.{IsOpen}
 use Rattle.view_engine.proofs.Ending.{refused_first, refused_then, shown_then}
+use Rattle.view_engine.proofs.Plans.{reduced_has}
 use Rattle.view_engine.proofs.Unasked.{told_refused, unasked}
 use Rattle.view_engine.proofs.Whole.{documents_at}
 use Rattle.view_engine.proofs.engine.Engine.view.Goals as goal
+
+-- the index that was found is the one that is there
+number_of : (found index : Index) {at : Option Index} {count : ℕ} → at ≡ Some found → at ≡ Some index → views_of index ≡ count → views_of found ≡ count
+number_of found index {at} {count} is there number = let same : Some found ≡ Some index = sym is ∙ there in let one : found ≡ index = cc in ap views_of one ∙ number
 
 pub returns-in-Err : goal.returns-in-Err
 returns-in-Err g c =
@@ -42,7 +48,7 @@ returns-in-Ok-update g c =
     shown_then g.F.Folder g.C.Servers args.docs args.pool args.groups c.args.folder.now c.plan.new.folder c.args.servers.now (view_query c.args.name c.args.query) c.args.out.now.items
     c.update.new.pool c.update.new.self c.update.new.folder c.update.new.servers plan.id plan.design plan.place known.0 c.in-Ok.ensures.within known.1 (sym (ap (λ (q : Query). q.update) c.in-Ok.ensures.query) ∙ c.if-not-plan.false)
     c.in-Ok.ensures.reads.disk c.in-Ok.ensures.reads.later (λ history. told_now (g.F.Folder.disk c.args.folder.now) _ _ (λ d is there. subst (λ (updating : Bool). IsPlan updating (languages_of args.pool) history (view_query c.args.name c.args.query) plan.id plan.design plan.place known.0) c.if-not-plan.false (is there known.0 known.1)) (c.in-Ok.ensures.plan history)) c.requires.open c.in-Ok.ensures.read
-    c.in-Ok-update.place c.in-Ok-update.ensures c.index-index.result.now c.index-index.ensures c.rows-rows.result.now c.rows-rows.ensures.rows c.rows-rows.ensures.parts plan.reduce c.in-Ok.ensures.reduce plan.query c.in-Ok.ensures.query c.seq-in-Ok-update.result c.seq-in-Ok-update.ensures c.append_answer-in-Ok-update.result c.append_answer-in-Ok-update.ensures.ok c.append_answer-in-Ok-update.ensures.silent c.append_answer-in-Ok-update.ensures.memory
+    c.in-Ok-update.slot c.in-Ok-update.ensures c.index-index.result.now c.index-index.ensures plan.query c.in-Ok.ensures.query c.show-in-Ok-update.new.pool c.show-in-Ok-update.new.servers c.show-in-Ok-update.result c.show-in-Ok-update.ensures
 
 pub returns : goal.returns
 returns g c =
@@ -61,15 +67,18 @@ returns g c =
 pub index-kept-requires : goal.index-kept-requires
 index-kept-requires g c = ⊎_elim (λ opens. (opens.place.0, opens.place.1.there)) (λ none. absurd (let clash : ⊥ = cc in clash)) c.in-Ok-open.ensures
 
-pub rows-shown-requires : goal.rows-shown-requires
-rows-shown-requires g c =
-    ⊎_elim (λ opens.
-    let there : Some opens.place.0 ≡ Some c.index-kept.result.now = sym opens.place.1.there ∙ c.index-kept.ensures in
-    let same : opens.place.0 ≡ c.index-kept.result.now = cc in
-    let number : views_of c.index-kept.result.now ≡ length c.in-Ok.plan.design.views = ap views_of (sym same) ∙ opens.place.1.number in
-    let below = c.in-Ok.ensures.within in
-    omega (arith, number, below))
+pub show-requires-clause-within : goal.show-requires-clause-within
+show-requires-clause-within g c =
+    ⊎_elim (λ opens. let number = number_of c.index-kept.result.now opens.place.0 c.index-kept.ensures opens.place.1.there opens.place.1.number in let below = c.in-Ok.ensures.within in omega (arith, number, below))
     (λ none. absurd (let clash : ⊥ = cc in clash)) c.in-Ok-open.ensures
+
+pub show-requires-clause-views : goal.show-requires-clause-views
+show-requires-clause-views g c =
+    ⊎_elim (λ opens. let number = number_of c.index-kept.result.now opens.place.0 c.index-kept.ensures opens.place.1.there opens.place.1.number in let few = c.in-Ok.ensures.few in omega (arith, number, few))
+    (λ none. absurd (let clash : ⊥ = cc in clash)) c.in-Ok-open.ensures
+
+pub show-requires-clause-reduced : goal.show-requires-clause-reduced
+show-requires-clause-reduced g c = reduced_has c.in-Ok.plan.design.views (view_query c.args.name c.args.query) c.in-Ok.plan.place c.in-Ok.plan.query c.in-Ok.ensures.query c.in-Ok.ensures.reduce
 
 pub returns-in-Err-open : goal.returns-in-Err-open
 returns-in-Err-open g c =
@@ -98,6 +107,6 @@ returns-then-not-plan g c =
     λ history. told_now (g.F.Folder.disk c.args.folder.now) _ _ (λ d is there. subst (λ (updating : Bool). IsPlan updating (languages_of args.pool) history name plan.id plan.design plan.place known.0) c.if-not-plan.true (is there known.0 known.1)) (c.in-Ok.ensures.plan history) in
     ⊎_elim
     (λ opens. kept_then g.F.Folder g.C.Servers args.docs args.pool args.groups c.open.new.self c.args.folder.now c.plan.new.folder c.open.new.folder c.args.servers.now name c.args.out.now.items plan.id plan.design plan.place known.0
-    c.in-Ok.ensures.within known.1 (sym (ap (λ (q : Query). q.update) c.in-Ok.ensures.query) ∙ c.if-not-plan.true) c.in-Ok.ensures.reads.disk c.in-Ok.ensures.reads.later plans c.requires.open c.in-Ok.ensures.read c.in-Ok-open.place opens c.index-kept.result.now c.index-kept.ensures
-    c.rows-shown.result.now c.rows-shown.ensures.rows c.rows-shown.ensures.parts plan.reduce c.in-Ok.ensures.reduce plan.query c.in-Ok.ensures.query c.seq.result c.seq.ensures c.append_answer.result c.append_answer.ensures.ok c.append_answer.ensures.silent c.append_answer.ensures.memory)
+    c.in-Ok.ensures.within known.1 (sym (ap (λ (q : Query). q.update) c.in-Ok.ensures.query) ∙ c.if-not-plan.true) c.in-Ok.ensures.reads.disk c.in-Ok.ensures.reads.later plans c.requires.open c.in-Ok.ensures.read c.in-Ok-open.slot opens c.index-kept.result.now c.index-kept.ensures
+    plan.query c.in-Ok.ensures.query c.show.new.pool c.show.new.servers c.show.result c.show.ensures)
     (λ none. absurd (let clash : ⊥ = cc in clash)) c.in-Ok-open.ensures

@@ -1,23 +1,29 @@
--- What the summer's answer adds is the reply line, where it was written whole.
-use Rattle.std.proofs.Common.{◌≡◌, ◌++◌, ◌∙◌, ap, sym, List, ℕ, Result, Ok, Err}
+-- What the answer adds is the reply line, where it was written whole; what it asked for is what the view's reduce was asked for.
+use Rattle.std.proofs.Common.{rules, refl, ◌++◌, ◌∙◌, ap, List, ℕ}
 use Rattle.view_ports.specs.Lines.{ended}
 use Rattle.view_model.specs.Written.{written_of}
-use Rattle.view_engine.proofs.Answering.{appends_answer}
+use Rattle.view_index.specs.Index.{picture_of}
+use Rattle.view_engine.proofs.Appending.{shows_err, shows_ok, shows_spent, taken_back}
 use Rattle.view_engine.proofs.engine.view.append_answer.Goals as goal
-use Rattle.view_engine.proofs.engine.view.append_answer.Goals.{in-Ok, in-Err-Values, in-Err-Values-2}
 
-never : {E : Type 0} (written : Result (Unit {0}) E) (fault : E) → written ≡ Err fault → written ≡ Ok tt → ⊥
-never written fault failed whole = let clash : Err fault ≡ Ok tt = sym failed ∙ whole in let no : ⊥ = cc in no
+pub returns-in-Ok-end : goal.returns-in-Ok-end
+returns-in-Ok-end g c =
+    let plan = c.args.plan.now in
+    let adds = c.in-Ok.ensures.ok in
+    shows_ok g.C.Servers c.args.servers.now _ c.args.pool.now _ plan.design plan.place plan.query (picture_of c.args.index.now) _ c.answer.new.summer c.over.ensures.idle c.over.ensures.lent c.over.ensures.served refl refl (search rules) (search rules)
+    c.in-Ok.ensures.goes c.rows.result.now c.rows.ensures.rows c.rows.ensures.parts c.seq.result c.seq.ensures c.requires.reduced adds.text adds.is adds.line c.args.out.now.items c.end.new.out.items
+    (c.in-Ok-end.ensures.ok
+    ∙ ap (λ (front : List ℕ). front ++ ended (written_of c.answer.new.reply)) (c.in-Ok.ensures.before ∙ c.behind-reply.ensures.before)
+    ∙ ap (λ (text : List ℕ). c.args.out.now.items ++ ended text) (adds.adds ∙ ap (λ (front : List ℕ). front ++ adds.text) c.behind-reply.ensures.empty))
 
-pub returns-clause-ok : goal.returns-clause-ok
-returns-clause-ok c =
-    elim c.match-answer.branch [
-      | in-Ok w ↦
-          let adds = w.in-Ok.ensures.ok in
-          appends_answer c.args.query.now c.args.seq c.args.rows.now c.unwrap_or.result _ _ c.new-summer.ensures.meaning c.args.reduce c.unwrap_or.ensures c.requires.reduced adds.text adds.is adds.line c.args.out.now.items c.end.new.out.items
-          (c.in_ok-end.ensures.ok
-          ∙ ap (λ (front : List ℕ). front ++ ended (written_of c.answer.new.reply)) (w.in-Ok.ensures.before ∙ c.behind-reply.ensures.before)
-          ∙ ap (λ (text : List ℕ). c.args.out.now.items ++ ended text) (adds.adds ∙ ap (λ (front : List ℕ). front ++ adds.text) c.behind-reply.ensures.empty))
-      | in-Err-Values w ↦ absurd (never c.match-answer.written _ w.written-is c.in_ok-end.ensures.whole)
-      | in-Err-Values-2 w ↦ absurd (never c.match-answer.written _ w.written-is c.in_ok-end.ensures.whole)
-    ]
+pub returns-in-Err-end : goal.returns-in-Err-end
+returns-in-Err-end g c =
+    let plan = c.args.plan.now in
+    shows_spent g.C.Servers c.args.servers.now _ c.args.pool.now _ plan.design plan.place plan.query (picture_of c.args.index.now) _ c.answer.new.summer c.over.ensures.idle c.over.ensures.lent c.over.ensures.served refl refl (search rules) (search rules)
+    c.in-Ok.ensures.goes c.args.out.now.items c.end.new.out.items (c.in-Err-end.ensures.err ∙ c.in-Ok.ensures.before ∙ c.behind-reply.ensures.before)
+
+pub returns-in-Err : goal.returns-in-Err
+returns-in-Err g c =
+    let plan = c.args.plan.now in
+    rw c.fault_in.ensures (shows_err g.C.Servers c.args.servers.now _ c.args.pool.now _ plan.design plan.place plan.query (picture_of c.args.index.now) _ c.answer.new.summer c.over.ensures.idle c.over.ensures.lent c.over.ensures.served refl refl (search rules) (search rules)
+    c.in-Err.fault c.in-Err.ensures.cause c.rows.result.now c.rows.ensures.rows c.in-Err.ensures.idle c.args.out.now.items c.close-taken.new.out.items (taken_back _ c.close-taken.result _ c.close-taken.ensures.same c.close-taken.ensures.err ∙ c.in-Err.ensures.before ∙ c.behind-reply.ensures.before))

@@ -23,13 +23,13 @@ returns-then-eq-clause-shown c = λ rows long.
     sym (c.loop-place.invariant.1 rows long) ∙ shown_at c.args.name.now views rows i view within long c.index-views-place.is same
 
 pub returns-then-eq-clause-reduced : goal.returns-then-eq-clause-reduced
-returns-then-eq-clause-reduced c = λ other.
+returns-then-eq-clause-reduced c =
     let views = c.args.views.now in
     let i = c.loop-place.place in
     let view : View = c.index-views-place.result in
     let within : i < length views = omega arith in
     let same : bytes_eq view.name c.args.name.now ≡ true = ap (λ name. bytes_eq name c.args.name.now) (sym c.as_str.ensures) ∙ sym c.if-eq.ensures in
-    reduced_at c.args.name.now views i view other within c.index-views-place.is same ∙ c.loop-place.invariant.2
+    reduced_at c.args.name.now views i view within c.index-views-place.is same ∙ c.loop-place.invariant.2
 
 pub loop-place-preserved : goal.loop-place-preserved
 loop-place-preserved c =

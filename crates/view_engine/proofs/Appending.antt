@@ -1,0 +1,123 @@
+-- What a view's reply line asks for, from the reduces of its design that were lent a pool and servers for it.
+use Rattle.std.specs.Prelude.{◌≡◌, ◌≢◌, ◌++◌, ℕ, List, [], true, Some, Result, Ok, Err, OnErr, slice_index_or}
+use Rattle.std.specs.List.{AllByRecursion}
+use Rattle.std.proofs.Common.{refl, sym, ap, ◌∙◌, subst, inl, inr}
+use Rattle.json_terms.specs.declared.term.Row.{Row}
+use Rattle.design_docs.specs.declared.design.Design.{Design}
+use Rattle.design_docs.specs.declared.design.Reduce.{Reduce}
+use Rattle.query_args.specs.declared.query.Query.{Query}
+use Rattle.view_ports.specs.Calls.{Call}
+use Rattle.view_ports.specs.Lines.{ended, IsLine}
+use Rattle.view_ports.specs.declared.servers.Servers.{Ghosts as Servers}
+use Rattle.child_pool.specs.declared.pool.Pool.{Pool}
+use Rattle.child_pool.specs.declared.pool_fault.PoolFault.{PoolFault}
+use Rattle.child_pool.specs.declared.pool_fault.PoolFault.TheVariants.{Compile, NoMemory}
+use Rattle.child_pool.specs.declared.reduce_slot.Stage.TheVariants.{Idle, GivenUp}
+use Rattle.child_pool.specs.declared.summers.Summers.{Summers}
+use Rattle.child_pool.specs.Languages.{path_in}
+use Rattle.child_pool.specs.Pools.{HasItsChildren, languages_of}
+use Rattle.child_pool.specs.ReduceTalk.{reduce_in, reduce_source}
+use Rattle.child_pool.specs.Reductions.{FailsReducing, Reduces}
+use Rattle.child_pool.specs.SummerLaws.{fits, lawful, means}
+use Rattle.child_pool.specs.Summers.{SummersFail, SummersGo, reduce_of}
+use Rattle.child_pool.specs.ViewSums.{view_sum_text}
+use Rattle.child_pool.proofs.Whole.{fails_whole, reduces_whole, stands_idle}
+use Rattle.view_index.specs.Parts.{HasParts}
+use Rattle.view_model.specs.declared.group_values.AnswerFault.{AnswerFault}
+use Rattle.view_model.specs.declared.group_values.AnswerFault.TheVariants as answer
+use Rattle.view_model.specs.Answer.{IsAnswer}
+use Rattle.view_model.specs.GroupValues.{IsCaused}
+use Rattle.view_model.specs.Picture.{Picture}
+use Rattle.range_query.specs.Summed.{IsSummedText}
+use Rattle.view_engine.specs.Answering.{fault_of_answer, Answers, AppendsAnswer, HasAll, Shows}
+use Rattle.view_engine.specs.ViewQuery.{has_reduce}
+use Rattle.view_engine.proofs.Answering.{own_answer}
+use Rattle.view_engine.proofs.ReplyLines.{answer_line}
+use Rattle.view_engine.proofs.ServerFaults.{unlike_answer}
+
+-- what holds of an error holds where there is one
+pub taken_back : {E : Type 0} (P : Type 0) (r : Result (Unit {0}) E) (e : E) → r ≡ Err e → OnErr r P → P
+taken_back P (Ok done) e is holds = absurd (let clash : ⊥ = cc in clash)
+taken_back P (Err met) e is holds = holds
+
+module _ {C : Type 0} (s : Servers C) (old new : C) (pool pool' : Pool) (design : Design) (place : ℕ) (query : Query) (picture : Picture) (a b : Summers C)
+    (idle : a.slot.stage ≡ Idle) (same_pool : a.slot.pool.now ≡ pool) (same_servers : a.slot.servers.now ≡ old) (same_design : a.design.now ≡ design) (at : a.view ≡ place) where
+  reduce_is : reduce_of s a ≡ reduce_in design.views place
+  reduce_is = ap (λ (d : Design). reduce_in d.views a.view) same_design ∙ ap (reduce_in design.views) at
+
+  -- ---- the answer
+
+  -- a text that answers by the values of the summers answers by those of the view, whatever the path
+  answers : (rows : List Row) → rows ≡ slice_index_or picture.rows place [] → (seq : ℕ) → seq ≡ picture.seq
+      → (query.reduced ≡ true → has_reduce (reduce_in design.views place) ≡ true) → (reply : List ℕ) → IsAnswer (IsSummedText view_sum_text (fits s a) (lawful s a) (means s a)) query seq rows reply
+      → (path : List ℕ) (calls : List Call) → s.may_follow old calls → path_in (languages_of pool) design.language ≡ Some path → HasItsChildren pool calls
+      → Answers (s.functions path) (s.honest path) (reduce_in design.views place) query picture.seq (slice_index_or picture.rows place []) reply
+  answers rows rows_are seq seq_is has reply is path calls follows known children =
+      let known_here : path_in (languages_of a.slot.pool.now) a.design.now.language ≡ Some path =
+      subst (λ (d : Design). path_in (languages_of a.slot.pool.now) d.language ≡ Some path) (sym same_design) (subst (λ (p : Pool). path_in (languages_of p) design.language ≡ Some path) (sym same_pool) known) in
+      let stands = stands_idle s a.design.now.language a.slot path calls idle known_here (subst (λ (c : C). s.may_follow c calls) (sym same_servers) follows) (subst (λ (p : Pool). HasItsChildren p calls) (sym same_pool) children) in
+      subst (λ (n : ℕ). Answers (s.functions path) (s.honest path) (reduce_in design.views place) query n (slice_index_or picture.rows place []) reply) seq_is
+      (subst (λ (shown : List Row). Answers (s.functions path) (s.honest path) (reduce_in design.views place) query seq shown reply) rows_are
+      (subst (λ (r : Reduce). Answers (s.functions path) (s.honest path) r query seq rows reply) reduce_is
+      (own_answer s a path calls known_here stands query seq rows reply (λ reduced. subst (λ (r : Reduce). has_reduce r ≡ true) (sym reduce_is) (has reduced)) is)))
+
+  appends : (rows : List Row) → rows ≡ slice_index_or picture.rows place [] → AllByRecursion HasParts rows → (seq : ℕ) → seq ≡ picture.seq
+      → (query.reduced ≡ true → has_reduce (reduce_in design.views place) ≡ true) → (reply : List ℕ) → IsAnswer (IsSummedText view_sum_text (fits s a) (lawful s a) (means s a)) query seq rows reply → IsLine reply
+      → (out out' : List ℕ) → out' ≡ out ++ ended reply → AppendsAnswer s old new pool pool' design place query picture out out'
+  appends rows rows_are parts seq seq_is has reply is plain out out' appended = record {
+    reply = reply;
+    is = answers rows rows_are seq seq_is has reply is;
+    parts = subst (AllByRecursion HasParts) rows_are parts;
+    line = answer_line (IsSummedText view_sum_text (fits s a) (lawful s a) (means s a)) query seq rows reply is plain;
+    unlike = unlike_answer (IsSummedText view_sum_text (fits s a) (lawful s a) (means s a)) query seq rows reply is;
+    appended = appended;
+  }
+
+  -- ---- what was asked
+
+  module _ (last_pool : pool' ≡ b.slot.pool.now) (last_servers : new ≡ b.slot.servers.now) where
+    -- what is said of the talk is said of the pool and the servers
+    said : (Says : C → C → Pool → Pool → List ℕ → List (List ℕ) → Type 0) → Says a.slot.servers.now b.slot.servers.now a.slot.pool.now b.slot.pool.now a.design.now.language (reduce_source (reduce_of s a))
+        → Says old new pool pool' design.language (reduce_source (reduce_in design.views place))
+    said Says is =
+        subst (λ (c : C). Says old c pool pool' design.language (reduce_source (reduce_in design.views place))) (sym last_servers)
+        (subst (λ (p : Pool). Says old b.slot.servers.now pool p design.language (reduce_source (reduce_in design.views place))) (sym last_pool)
+        (subst (λ (c : C). Says c b.slot.servers.now pool b.slot.pool.now design.language (reduce_source (reduce_in design.views place))) same_servers
+        (subst (λ (p : Pool). Says a.slot.servers.now b.slot.servers.now p b.slot.pool.now design.language (reduce_source (reduce_in design.views place))) same_pool
+        (subst (λ (d : Design). Says a.slot.servers.now b.slot.servers.now a.slot.pool.now b.slot.pool.now d.language (reduce_source (reduce_in design.views place))) same_design
+        (subst (λ (r : Reduce). Says a.slot.servers.now b.slot.servers.now a.slot.pool.now b.slot.pool.now a.design.now.language (reduce_source r)) reduce_is is)))))
+
+    all : SummersGo s a b → HasAll s old new pool pool' design place query picture
+    all go = said (Reduces s) (reduces_whole s a.design.now.language (reduce_source (reduce_of s a)) a.slot b.slot idle go.slot)
+
+    -- of no rows nothing was asked, and no fault met
+    wanted : (fault : PoolFault) → SummersFail s a b fault → (rows : List Row) → rows ≡ slice_index_or picture.rows place [] → (rows ≡ [] → b ≡ a) → fault ≡ Compile → slice_index_or picture.rows place [] ≢ []
+    wanted fault fail rows rows_are unasked complains none =
+        let given_up : b.slot.stage ≡ GivenUp = fail.slot.given_up (λ is. let clash : Compile ≡ NoMemory = sym complains ∙ is in cc) in
+        let same : b.slot.stage ≡ a.slot.stage = ap (λ (x : Summers C). x.slot.stage) (unasked (rows_are ∙ none)) in
+        let clash : Idle ≡ GivenUp = sym idle ∙ sym same ∙ given_up in
+        cc
+
+    -- ---- how it ends
+
+    pub shows_ok : SummersGo s a b → (rows : List Row) → rows ≡ slice_index_or picture.rows place [] → AllByRecursion HasParts rows → (seq : ℕ) → seq ≡ picture.seq
+        → (query.reduced ≡ true → has_reduce (reduce_in design.views place) ≡ true) → (reply : List ℕ) → IsAnswer (IsSummedText view_sum_text (fits s a) (lawful s a) (means s a)) query seq rows reply → IsLine reply
+        → (out out' : List ℕ) → out' ≡ out ++ ended reply → Shows s old new pool pool' design place query picture out out' (Ok tt)
+    shows_ok go rows rows_are parts seq seq_is has reply is plain out out' appended =
+        record { ok = (appends rows rows_are parts seq seq_is has reply is plain out out' appended, all go); err = tt; silent = tt }
+
+    pub shows_err : (fault : AnswerFault PoolFault) → IsCaused (SummersGo s a b) (SummersFail s a b) fault → (rows : List Row) → rows ≡ slice_index_or picture.rows place [] → (rows ≡ [] → b ≡ a)
+        → (out out' : List ℕ) → out' ≡ out → Shows s old new pool pool' design place query picture out out' (Err (fault_of_answer fault))
+    shows_err (answer.Values fault) cause rows rows_are unasked out out' silent = record {
+      ok = tt;
+      err = inl (
+        said (λ x y p q l r. FailsReducing s x y p q l r fault) (fails_whole s a.design.now.language (reduce_source (reduce_of s a)) a.slot b.slot fault idle cause.slot),
+        wanted fault cause rows rows_are unasked,
+      );
+      silent = silent;
+    }
+    shows_err answer.NoMemory cause rows rows_are unasked out out' silent = record { ok = tt; err = inr (refl, all cause); silent = silent }
+
+    -- memory ran out behind all values
+    pub shows_spent : SummersGo s a b → (out out' : List ℕ) → out' ≡ out → Shows s old new pool pool' design place query picture out out' (Err NoMemory)
+    shows_spent go out out' silent = record { ok = tt; err = inr (refl, all go); silent = silent }

@@ -1,0 +1,94 @@
+-- The reduce of one view is tried.
+use Rattle.std.specs.Prelude.{◌≡◌, ◌≢◌, ◌<◌, ℕ, zero, suc, List, [], ◌∷◌, true, false, length, Contains, slice_index_or}
+use Rattle.std.proofs.Common.{refl, sym, ap, ◌∙◌, subst, arith}
+use Rattle.json_terms.specs.declared.term.Row.{Row}
+use Rattle.design_docs.specs.declared.design.Reduce.{Reduce}
+use Rattle.design_docs.specs.declared.design.Reduce.TheVariants.{Absent, Builtin, Source}
+use Rattle.design_docs.specs.declared.design.View.{View}
+use Rattle.view_ports.specs.declared.servers.Servers.{Ghosts as Servers}
+use Rattle.child_pool.specs.declared.pool_fault.PoolFault.{PoolFault}
+use Rattle.child_pool.specs.declared.pool_fault.PoolFault.TheVariants.{Compile, NoMemory}
+use Rattle.child_pool.specs.declared.summers.Summers.{Summers}
+use Rattle.child_pool.specs.ReduceTalk.{Fails, reduce_in, reduce_source, reduce_sources}
+use Rattle.child_pool.specs.Summers.{IsUsableFor, SummersFail, SummersGo, reduce_of}
+use Rattle.child_pool.specs.TalkLaws.{fails_none, goes_none}
+use Rattle.child_pool.proofs.WiderTalk.{among_views, fails_wider, goes_wider}
+use Rattle.view_updater.specs.Checking.{FailsOne, HasTried, is_wanted}
+
+-- ---- the reduce of a view
+
+-- the view in a place has the reduce of that place
+pub reduce_at : (list views : List View) (place : ℕ) (found : View) → list ≡ views → place < length views → (slice_index_or list place found).reduce ≡ reduce_in views place
+reduce_at list views place found same within = ap (λ (vs : List View). (slice_index_or vs place found).reduce) same ∙ there views place within
+  where
+    there : (vs : List View) (at : ℕ) → at < length vs → (slice_index_or vs at found).reduce ≡ reduce_in vs at
+    there [] at within = absurd (omega (arith, within))
+    there (view ∷ vs) zero within = refl
+    there (view ∷ vs) (suc at) within = there vs at (omega (arith, within))
+
+wanted_source : (reduce : Reduce) → is_wanted reduce ≡ true → (source : List ℕ) × (reduce ≡ Source source)
+wanted_source Absent wanted = absurd (let never : false ≡ true = wanted in cc)
+wanted_source (Builtin kind) wanted = absurd (let never : false ≡ true = wanted in cc)
+wanted_source (Source source) wanted = (source, refl)
+
+-- a list with a row has some
+pub has_one : (rows : List Row) (row : Row) → Contains rows row → rows ≢ []
+has_one rows row there none = let within = there.1 in let empty = ap length none in omega (arith, within, empty)
+
+module _ {C : Type 0} (s : Servers C) (old : Summers C) (view : ℕ) (rows : List (List Row)) where
+  abbrev language : List ℕ
+  language = old.design.now.language
+
+  abbrev views : List View
+  views = old.design.now.views
+
+  abbrev Own : List Row
+  Own = slice_index_or rows view []
+
+  -- ---- nothing was asked
+
+  untried : ((source : List ℕ) → reduce_in views view ≡ Source source → Own ≢ [] → ⊥) → HasTried s old old view rows
+  untried never = record { design = refl; goes = goes_none s language (reduce_sources views) old.slot; idle = λ none. refl; compile = λ source is some. absurd (never source is some) }
+
+  -- there are no rows
+  pub no_rows : Own ≡ [] → HasTried s old old view rows
+  no_rows none = untried (λ source is some. some none)
+
+  -- no query server runs the reduce
+  pub unserved : (reduce : Reduce) → reduce ≡ reduce_in views view → false ≡ is_wanted reduce → HasTried s old old view rows
+  unserved reduce there unwanted = untried (λ source is some. let wanted : is_wanted reduce ≡ true = ap is_wanted (there ∙ is) in let clash : false ≡ true = unwanted ∙ wanted in cc)
+
+  -- memory ran out before
+  pub no_memory : FailsOne s old old view rows NoMemory
+  no_memory = record { design = refl; fails = fails_none s language (reduce_sources views) old.slot; own = λ is. absurd (let never : NoMemory ≡ Compile = is in cc) }
+
+  -- ---- a value was asked for
+
+  module _ (turned after new : Summers C) (last : new ≡ after) (slot : turned.slot ≡ old.slot) (design : turned.design ≡ old.design) (at : turned.view ≡ view) where
+    abbrev there : Summers C
+    there = record { slot = old.slot; design = old.design; view = view }
+
+    same : turned ≡ there
+    same = λ i. record { slot = slot i; design = design i; view = at i }
+
+    pub had : SummersGo s turned after → IsUsableFor s (reduce_of s turned) turned.design.now.language turned.slot → HasTried s old new view rows
+    had go is_usable =
+        let goes : SummersGo s there new = subst (λ (x : Summers C). SummersGo s x new) same (subst (λ (x : Summers C). SummersGo s turned x) (sym last) go) in
+        let usable : IsUsableFor s (reduce_in views view) language old.slot = subst (λ (x : Summers C). IsUsableFor s (reduce_of s x) x.design.now.language x.slot) same is_usable in
+        record {
+          design = goes.design;
+          goes = goes_wider (reduce_source (reduce_in views view)) (reduce_sources views) (among_views views view) s language old.slot new.slot goes.slot;
+          idle = goes.idle;
+          compile = λ source is some. subst (λ (r : Reduce). IsUsableFor s r language old.slot) is usable;
+        }
+
+    pub refused_one : (fault : PoolFault) → SummersFail s turned after fault → (reduce : Reduce) → reduce ≡ reduce_in views view → true ≡ is_wanted reduce → Own ≢ [] → FailsOne s old new view rows fault
+    refused_one fault fail reduce in_place wanted some =
+        let fails : SummersFail s there new fault = subst (λ (x : Summers C). SummersFail s x new fault) same (subst (λ (x : Summers C). SummersFail s turned x fault) (sym last) fail) in
+        let source = wanted_source reduce (sym wanted) in
+        let is : reduce_in views view ≡ Source source.0 = sym in_place ∙ source.1 in
+        record {
+          design = fails.design;
+          fails = fails_wider (reduce_source (reduce_in views view)) (reduce_sources views) (among_views views view) s language old.slot new.slot fault fails.slot;
+          own = λ complains. (source.0, is, some, subst (λ (r : Reduce). Fails s language (reduce_source r) old.slot new.slot fault) is fails.slot);
+        }
