@@ -289,13 +289,13 @@ def reduces(program):
         program.expect(language + ": descending", {"view": [language, "v"], "query": {"group": True, "descending": True}}, groups(*[(row["key"], row["value"]) for row in totals["rows"][::-1]]))
         program.expect(language + ": all", {"view": [language, "v"]}, groups((None, sum(map(sum, lengths.values())))))
         program.expect(language + ": no rows", {"view": [language, "v"], "query": {"key": "none"}}, groups())
-        program.reducing(language, language, source, count)
-        program.expect(language + ": counts", {"view": [language, "v"], "query": {"group": True}}, counts)
-        program.expect(language + ": as it stands", {"view": [language, "v"], "query": {"update": False, "group": True, "limit": 1}}, {"update_seq": program.seq(), **groups(("few", 5))})
+        program.reducing("counts_" + language, language, source, count)
+        program.expect(language + ": counts", {"view": ["counts_" + language, "v"], "query": {"group": True}}, counts)
+        program.expect(language + ": as it stands", {"view": ["counts_" + language, "v"], "query": {"update": False, "group": True, "limit": 1}}, {"update_seq": program.seq(), **groups(("few", 5))})
         program.reducing("wrong_" + language, language, source, wrong)
         program.expect(language + ": no compilation", {"view": ["wrong_" + language, "v"]}, {"error": "compilation_error", "reason": "_design/wrong_" + language})
         program.expect(language + ": not updated", {"view": ["wrong_" + language, "v"], "query": {"update": False}}, {"update_seq": 0, **groups()})
-        program.expect(language + ": after it", {"view": [language, "v"], "query": {"group": True}}, counts)
+        program.expect(language + ": after it", {"view": ["counts_" + language, "v"], "query": {"group": True}}, counts)
 
 
 def bad_reducers(program, folder, replies):
