@@ -1,5 +1,5 @@
 -- What a view's reply line asks for, from the reduces of its design that were lent a pool and servers for it.
-use Rattle.std.specs.Prelude.{◌≡◌, ◌≢◌, ◌++◌, ℕ, List, [], true, Some, Result, Ok, Err, OnErr, slice_index_or}
+use Rattle.std.specs.Prelude.{◌≡◌, ◌≢◌, ◌⊎◌, ◌++◌, ℕ, List, [], Bool, true, false, if◌then◌else◌, Some, Result, Ok, Err, OnErr, slice_index_or}
 use Rattle.std.specs.List.{AllByRecursion}
 use Rattle.std.proofs.Common.{refl, sym, ap, ◌∙◌, subst, inl, inr}
 use Rattle.json_terms.specs.declared.term.Row.{Row}
@@ -11,14 +11,14 @@ use Rattle.view_ports.specs.Lines.{ended, IsLine}
 use Rattle.view_ports.specs.declared.servers.Servers.{Ghosts as Servers}
 use Rattle.child_pool.specs.declared.pool.Pool.{Pool}
 use Rattle.child_pool.specs.declared.pool_fault.PoolFault.{PoolFault}
-use Rattle.child_pool.specs.declared.pool_fault.PoolFault.TheVariants.{Compile, NoMemory}
+use Rattle.child_pool.specs.declared.pool_fault.PoolFault.TheVariants.{BadReply, Compile, NoMemory, ServerFault, UnknownLanguage}
 use Rattle.child_pool.specs.declared.reduce_slot.Stage.TheVariants.{Idle, GivenUp}
 use Rattle.child_pool.specs.declared.summers.Summers.{Summers}
 use Rattle.child_pool.specs.Languages.{path_in}
 use Rattle.child_pool.specs.Pools.{HasItsChildren, languages_of}
 use Rattle.child_pool.specs.ReduceTalk.{reduce_in, reduce_source}
 use Rattle.child_pool.specs.Reductions.{FailsReducing, Reduces}
-use Rattle.child_pool.specs.SummerLaws.{fits, lawful, means}
+use Rattle.child_pool.specs.SummerLaws.{fits, lawful, means, summers_steps}
 use Rattle.child_pool.specs.Summers.{SummersFail, SummersGo, reduce_of}
 use Rattle.child_pool.specs.ViewSums.{view_sum_text}
 use Rattle.child_pool.proofs.Whole.{fails_whole, reduces_whole, stands_idle}
@@ -32,6 +32,7 @@ use Rattle.range_query.specs.Summed.{IsSummedText}
 use Rattle.view_engine.specs.Answering.{fault_of_answer, Answers, AppendsAnswer, HasAll, Shows}
 use Rattle.view_engine.specs.ViewQuery.{has_reduce}
 use Rattle.view_engine.proofs.Answering.{own_answer}
+use Rattle.view_engine.proofs.Reduced.{nothing_reduced}
 use Rattle.view_engine.proofs.ReplyLines.{answer_line}
 use Rattle.view_engine.proofs.ServerFaults.{unlike_answer}
 
@@ -39,6 +40,14 @@ use Rattle.view_engine.proofs.ServerFaults.{unlike_answer}
 pub taken_back : {E : Type 0} (P : Type 0) (r : Result (Unit {0}) E) (e : E) → r ≡ Err e → OnErr r P → P
 taken_back P (Ok done) e is holds = absurd (let clash : ⊥ = cc in clash)
 taken_back P (Err met) e is holds = holds
+
+-- a fault that can be no other is want of memory
+spent_alone : (fault : PoolFault) → ((fault ≢ NoMemory) → ⊥) → fault ≡ NoMemory
+spent_alone NoMemory never = refl
+spent_alone ServerFault never = absurd (never (λ same. cc))
+spent_alone (BadReply line) never = absurd (never (λ same. cc))
+spent_alone Compile never = absurd (never (λ same. cc))
+spent_alone UnknownLanguage never = absurd (never (λ same. cc))
 
 module _ {C : Type 0} (s : Servers C) (old new : C) (pool pool' : Pool) (design : Design) (place : ℕ) (query : Query) (picture : Picture) (a b : Summers C)
     (idle : a.slot.stage ≡ Idle) (same_pool : a.slot.pool.now ≡ pool) (same_servers : a.slot.servers.now ≡ old) (same_design : a.design.now ≡ design) (at : a.view ≡ place) where
@@ -75,7 +84,7 @@ module _ {C : Type 0} (s : Servers C) (old new : C) (pool pool' : Pool) (design 
 
   -- ---- what was asked
 
-  module _ (last_pool : pool' ≡ b.slot.pool.now) (last_servers : new ≡ b.slot.servers.now) where
+  module _ (last_pool : pool' ≡ b.slot.pool.now) (last_servers : new ≡ b.slot.servers.now) (unasked : query.reduced ≡ false → b ≡ a) where
     -- what is said of the talk is said of the pool and the servers
     said : (Says : C → C → Pool → Pool → List ℕ → List (List ℕ) → Type 0) → Says a.slot.servers.now b.slot.servers.now a.slot.pool.now b.slot.pool.now a.design.now.language (reduce_source (reduce_of s a))
         → Says old new pool pool' design.language (reduce_source (reduce_in design.views place))
@@ -87,16 +96,40 @@ module _ {C : Type 0} (s : Servers C) (old new : C) (pool pool' : Pool) (design 
         (subst (λ (d : Design). Says a.slot.servers.now b.slot.servers.now a.slot.pool.now b.slot.pool.now d.language (reduce_source (reduce_in design.views place))) same_design
         (subst (λ (r : Reduce). Says a.slot.servers.now b.slot.servers.now a.slot.pool.now b.slot.pool.now a.design.now.language (reduce_source r)) reduce_is is)))))
 
-    all : SummersGo s a b → HasAll s old new pool pool' design place query picture
-    all go = said (Reduces s) (reduces_whole s a.design.now.language (reduce_source (reduce_of s a)) a.slot b.slot idle go.slot)
+    -- what the query asks for
+    abbrev asked : Bool → List (List ℕ)
+    asked reduced = if reduced then reduce_source (reduce_in design.views place) else []
 
-    -- of no rows nothing was asked, and no fault met
-    wanted : (fault : PoolFault) → SummersFail s a b fault → (rows : List Row) → rows ≡ slice_index_or picture.rows place [] → (rows ≡ [] → b ≡ a) → fault ≡ Compile → slice_index_or picture.rows place [] ≢ []
-    wanted fault fail rows rows_are unasked complains none =
-        let given_up : b.slot.stage ≡ GivenUp = fail.slot.given_up (λ is. let clash : Compile ≡ NoMemory = sym complains ∙ is in cc) in
-        let same : b.slot.stage ≡ a.slot.stage = ap (λ (x : Summers C). x.slot.stage) (unasked (rows_are ∙ none)) in
-        let clash : Idle ≡ GivenUp = sym idle ∙ sym same ∙ given_up in
+    all_by : SummersGo s a b → (reduced : Bool) → query.reduced ≡ reduced → Reduces s old new pool pool' design.language (asked reduced)
+    all_by go true is = said (Reduces s) (reduces_whole s a.design.now.language (reduce_source (reduce_of s a)) a.slot b.slot idle go.slot)
+    all_by go false is =
+        subst (λ (c : C). Reduces s old c pool pool' design.language []) (sym (last_servers ∙ ap (λ (x : Summers C). x.slot.servers.now) (unasked is) ∙ same_servers))
+        (subst (λ (p : Pool). Reduces s old old pool p design.language []) (sym (last_pool ∙ ap (λ (x : Summers C). x.slot.pool.now) (unasked is) ∙ same_pool)) (nothing_reduced s old pool design.language []))
+
+    all : SummersGo s a b → HasAll s old new pool pool' design place query picture
+    all go = all_by go query.reduced refl
+
+    -- where nothing was asked no fault was met but want of memory
+    idle_still : (fault : PoolFault) → SummersFail s a b fault → b ≡ a → (fault ≢ NoMemory) → ⊥
+    idle_still fault fail same other =
+        let given_up : b.slot.stage ≡ GivenUp = fail.slot.given_up other in
+        let stays : b.slot.stage ≡ a.slot.stage = ap (λ (x : Summers C). x.slot.stage) same in
+        let clash : Idle ≡ GivenUp = sym idle ∙ sym stays ∙ given_up in
         cc
+
+    wanted : (fault : PoolFault) → SummersFail s a b fault → (rows : List Row) → rows ≡ slice_index_or picture.rows place [] → (rows ≡ [] → b ≡ a) → fault ≡ Compile → slice_index_or picture.rows place [] ≢ []
+    wanted fault fail rows rows_are empty complains none = idle_still fault fail (empty (rows_are ∙ none)) (λ is. let clash : Compile ≡ NoMemory = sym complains ∙ is in cc)
+
+    met_by : (fault : PoolFault) → SummersFail s a b fault → (rows : List Row) → rows ≡ slice_index_or picture.rows place [] → (rows ≡ [] → b ≡ a) → (reduced : Bool) → query.reduced ≡ reduced
+        → (FailsReducing s old new pool pool' design.language (asked reduced) fault × (fault ≡ Compile → slice_index_or picture.rows place [] ≢ [])) ⊎ ((fault ≡ NoMemory) × Reduces s old new pool pool' design.language (asked reduced))
+    met_by fault fail rows rows_are empty true is = inl (
+      said (λ x y p q l r. FailsReducing s x y p q l r fault) (fails_whole s a.design.now.language (reduce_source (reduce_of s a)) a.slot b.slot fault idle fail.slot),
+      wanted fault fail rows rows_are empty,
+    )
+    met_by fault fail rows rows_are empty false is = inr (
+      spent_alone fault (idle_still fault fail (unasked is)),
+      all_by (subst (λ (x : Summers C). SummersGo s a x) (sym (unasked is)) ((summers_steps s).none a)) false is,
+    )
 
     -- ---- how it ends
 
@@ -108,15 +141,8 @@ module _ {C : Type 0} (s : Servers C) (old new : C) (pool pool' : Pool) (design 
 
     pub shows_err : (fault : AnswerFault PoolFault) → IsCaused (SummersGo s a b) (SummersFail s a b) fault → (rows : List Row) → rows ≡ slice_index_or picture.rows place [] → (rows ≡ [] → b ≡ a)
         → (out out' : List ℕ) → out' ≡ out → Shows s old new pool pool' design place query picture out out' (Err (fault_of_answer fault))
-    shows_err (answer.Values fault) cause rows rows_are unasked out out' silent = record {
-      ok = tt;
-      err = inl (
-        said (λ x y p q l r. FailsReducing s x y p q l r fault) (fails_whole s a.design.now.language (reduce_source (reduce_of s a)) a.slot b.slot fault idle cause.slot),
-        wanted fault cause rows rows_are unasked,
-      );
-      silent = silent;
-    }
-    shows_err answer.NoMemory cause rows rows_are unasked out out' silent = record { ok = tt; err = inr (refl, all cause); silent = silent }
+    shows_err (answer.Values fault) cause rows rows_are empty out out' silent = record { ok = tt; err = met_by fault cause rows rows_are empty query.reduced refl; silent = silent }
+    shows_err answer.NoMemory cause rows rows_are empty out out' silent = record { ok = tt; err = inr (refl, all cause); silent = silent }
 
     -- memory ran out behind all values
     pub shows_spent : SummersGo s a b → (out out' : List ℕ) → out' ≡ out → Shows s old new pool pool' design place query picture out out' (Err NoMemory)

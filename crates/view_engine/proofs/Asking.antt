@@ -49,7 +49,7 @@ use Rattle.view_engine.specs.View.{all_reduces, own_reduces, DoesUpdatedView, Is
 use Rattle.view_engine.specs.ViewPlan.{met_by, met_by_pool, source_at, IsUpdateFault}
 use Rattle.view_engine.specs.World.{World}
 use Rattle.view_engine.proofs.Viewed.{all_are, asked_some, asked_then, asked_up, at_moment, breaks_at_moment, mapped_then, refuses, spoiled_there, IsKnown, Updates}
-use Rattle.view_engine.proofs.Reduced.{HasGone, all_had, met_there, reduced_none, refused_reducing, somehow_had, somehow_met}
+use Rattle.view_engine.proofs.Reduced.{HasGone, all_had, met_there, nothing_reduced, reduced_none, refused_reducing, somehow_had, somehow_met}
 use Rattle.view_engine.specs.ViewQuery.{ViewQuery, view_request}
 
 -- ---- how a refusal is met
@@ -116,14 +116,6 @@ none_since seq history same = ap (λ changes. map (λ entry. document_of entry.1
 told_if : {P : Type 0} (Q : Type 0) (x : Option (Disk FileName)) → (P → IfTold x (λ d. Q)) → IfTold x (λ d. P → Q)
 told_if Q None told = tt
 told_if Q (Some d) told = told
-
--- nothing was asked of the child that reduces
-nothing_reduced : {C : Type 0} (s : Servers C) (servers : C) (pool : Pool) (language : List ℕ) (reduces : List (List ℕ)) → Reduces s servers servers pool pool language reduces
-nothing_reduced s servers pool language reduces = record {
-  keeps = record { languages = refl; width = refl };
-  later = omega arith;
-  went = λ path calls follows is child. record { added = []; now = calls; is_now = refl; follows = follows; lawful = tt; holds = (child, inl (refl, refl)) };
-}
 
 module _ {C : Type 0} (s : Servers C) (before : Moment) (name : ViewQuery) (id : List ℕ) (design : Design) (place : ℕ) (path : List ℕ) (within : place < length design.views)
     (pool : Pool) (servers : C) (path_is : path_in (languages_of pool) design.language ≡ Some path) (child : HasChild (s.may_follow servers) (s.faults servers) pool before) (x : Option (Disk FileName)) where

@@ -33,7 +33,7 @@ use Rattle.child_pool.specs.Honesty.{SomeReduceFails}
 use Rattle.child_pool.specs.Jobs.{reduce_job}
 use Rattle.child_pool.specs.Outcomes.{IsCaused}
 use Rattle.child_pool.specs.PoolCalls.{StaysAsMade}
-use Rattle.child_pool.specs.ReduceTalk.{reduce_in, reduce_source}
+use Rattle.child_pool.specs.ReduceTalk.{reduce_in}
 use Rattle.view_ports.specs.Calls.{Call}
 use Rattle.view_model.specs.Picture.{Picture, IsTrueOf}
 use Rattle.view_model.specs.Rows.{rows_of, some_reduce_fails, view_rows}
@@ -72,7 +72,7 @@ use Rattle.view_engine.specs.Updating.{picture_in, AreFit, IsSound}
 use Rattle.view_engine.specs.View.{design_id, own_reduces, rows_in, IsAnswered, IsAnswerOf, IsNever, IsRefusedReducing, PrintsRows}
 use Rattle.view_engine.specs.ViewPlan.{met_by, met_by_pool, source_at, IsPlan}
 use Rattle.query_args.specs.Query.{is_updated}
-use Rattle.view_engine.specs.ViewQuery.{ViewQuery, parameters_of, query_for, reduce_named, view_request}
+use Rattle.view_engine.specs.ViewQuery.{ViewQuery, asked_sources, parameters_of, query_for, reduce_named, view_request}
 use Rattle.view_engine.specs.World.{World}
 use Rattle.view_engine.specs.Worlds.{IsAtWorld, IsOpen, StandsAround, StandsEither}
 use Rattle.view_engine.proofs.Apart.{documents_beside, old_stands}
@@ -246,7 +246,7 @@ module _ {F C : Type 0} (f : Folders F) (s : Servers C) (docs : Docs) (pool : Po
     last = scene engine'' new servers''
 
     abbrev own : List (List ℕ)
-    own = reduce_source (reduce_in design.views place)
+    own = asked_sources query (reduce_in design.views place)
 
     group : IsGroup groups' slot (sig_of design) (views_in design) found
     group = subst (IsGroup groups' slot (sig_of design) (views_in design)) (let same : Some opens.place.0 ≡ Some found = sym opens.place.1.there ∙ there in cc) opens.place.1
@@ -312,7 +312,7 @@ module _ {F C : Type 0} (f : Folders F) (s : Servers C) (docs : Docs) (pool : Po
         Asked = first (picture_in here_world document).seq here_world.history
 
         own_is : own ≡ own_reduces name document
-        own_is = ap reduce_source (plan.reduced ∙ ap (reduce_named name.view) plan.views)
+        own_is = λ i. asked_sources ((query_is ∙ ap (λ (views : List DesignView). query_for views name) plan.views) i) ((plan.reduced ∙ ap (reduce_named name.view) plan.views) i)
 
         -- the picture of an honest path is true, where the pictures stand
         was : s.honest path → IsSound s.functions s.honest (languages_of pool) here_world → AreFit here_world.history → IsTrueOf (s.functions path) (views_of document) here_world.history (picture_in here_world document)
@@ -377,7 +377,7 @@ module _ {F C : Type 0} (f : Folders F) (s : Servers C) (docs : Docs) (pool : Po
             let true_there = was is_honest sound fit in
             let fails_there : some_reduce_fails (s.functions path) (views_of document) (rows_of (s.functions path) (views_of document) Asked) ≡ true =
             subst (λ (r : List (List Row)). some_reduce_fails (s.functions path) (views_of document) r ≡ true) (ap (λ (p : Picture). p.rows) same ∙ true_there.rows)
-            (subst (λ (views : List DesignView). some_reduce_fails (s.functions path) views (picture_of found).rows ≡ true) plan.views (fails_of_own (s.functions path) design.views (picture_of found).rows place each some fails)) in
+            (subst (λ (views : List DesignView). some_reduce_fails (s.functions path) views (picture_of found).rows ≡ true) plan.views (fails_of_own (s.functions path) design.views (picture_of found).rows place each some query fails)) in
             let clash : true ≡ false = sym (spoiled_by_reduce (s.functions path) (views_of document) Asked fails_there) ∙ true_there.sound in
             cc
 

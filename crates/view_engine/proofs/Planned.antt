@@ -25,7 +25,7 @@ use Rattle.child_pool.specs.Honesty.{SomeReduceFails}
 use Rattle.child_pool.specs.Jobs.{reduce_job}
 use Rattle.child_pool.specs.Languages.{path_in}
 use Rattle.child_pool.specs.Outcomes.{IsCaused}
-use Rattle.child_pool.specs.ReduceTalk.{reduce_in, reduce_source, reduce_sources}
+use Rattle.child_pool.specs.ReduceTalk.{reduce_in, reduce_sources}
 use Rattle.child_pool.specs.Mapping.{IsPart}
 use Rattle.child_pool.specs.Pools.{languages_of}
 use Rattle.doc_file.specs.declared.docs.Docs.{Docs}
@@ -63,7 +63,7 @@ use Rattle.view_engine.proofs.Viewed.{all_are, is_brought, own_are, prints, upda
 use Rattle.view_engine.proofs.Viewing.{Halts, LeavesStopped}
 use Rattle.view_engine.proofs.Whole.{leaves_none, world_none}
 use Rattle.view_engine.specs.View.{all_reduces, design_id, own_reduces, IsAnswered, IsNever, IsRefusedReducing}
-use Rattle.view_engine.specs.ViewQuery.{ViewQuery, query_for, view_request}
+use Rattle.view_engine.specs.ViewQuery.{ViewQuery, asked_sources, query_for, view_request}
 
 -- a history that a document is live in isn't empty
 written_some : (history : List Write) (id : List ℕ) (document : Json) → live_document history id ≡ Some document → history ≢ []
@@ -228,7 +228,7 @@ module _ {F C : Type 0} (f : Folders F) (s : Servers C) (docs : Docs) (pool pool
           (told_after (f.disk mid) (f.disk new) (λ d. IsAtWorld engine d.now before.world) (λ d. IsMadeThere) _ (λ a b there both. both.1.1) (at_mid before at).documents brought)))
 
       -- ---- the view is answered, through the pool and the servers then
-      module _ (pool'' : Pool) (servers'' : C) where
+      module _ (pool'' : Pool) (servers'' : C) (query : Query) (query_is : query ≡ query_for design.views name) where
         abbrev engine'' : Engine
         engine'' = record { docs = docs; pool = pool''; groups = groups' }
 
@@ -236,7 +236,7 @@ module _ {F C : Type 0} (f : Folders F) (s : Servers C) (docs : Docs) (pool pool
         last = scene engine'' new servers''
 
         abbrev own : List (List ℕ)
-        own = reduce_source (reduce_in design.views place)
+        own = asked_sources query (reduce_in design.views place)
 
         path_there : path_in (languages_of pool') design.language ≡ Some path
         path_there = ap (λ (l : List (List ℕ × List ℕ)). path_in l design.language) brings.keeps.languages ∙ path_is
@@ -262,7 +262,7 @@ module _ {F C : Type 0} (f : Folders F) (s : Servers C) (docs : Docs) (pool pool
           document = k.plan.document
 
           own_is : own ≡ own_reduces name document
-          own_is = own_are s.functions s.honest (languages_of pool) before name id design place path within mapped.documents k
+          own_is = own_are s.functions s.honest (languages_of pool) before name id design place path within mapped.documents k query query_is
 
           tried_it : Reduced path (all_reduces document) mapped_it between_it
           tried_it = subst (λ (r : List (List ℕ)). Reduced path r mapped_it between_it) (all_are s.functions s.honest (languages_of pool) before name id design place path within mapped.documents k) gone.holds
@@ -288,10 +288,10 @@ module _ {F C : Type 0} (f : Folders F) (s : Servers C) (docs : Docs) (pool pool
               (inr (record { between = between_it; tried = tried_it; brought = brought_it; answered = answered }))))
 
           -- all values were had
-          had_it : (query : Query) → query ≡ query_for design.views name → length (picture_of index).rows ≡ length design.views → AllByRecursion (λ (row : Row). IsPart (json row.key) × IsPart (json row.value)) rows
+          had_it : length (picture_of index).rows ≡ length design.views → AllByRecursion (λ (row : Row). IsPart (json row.key) × IsPart (json row.value)) rows
               → (reply : List ℕ) → Answers (s.functions path) (s.honest path) (reduce_in design.views place) query (picture_of index).seq rows reply → (calls : List Call) → Reduced path own between_it (last_it calls)
               → DoesRequest s.functions s.honest (languages_of pool) before (Ok (view_request name)) reply (last_it calls)
-          had_it query query_is each parts reply answers calls all =
+          had_it each parts reply answers calls all =
               does_it calls reply (inl (
                 subst (λ (r : List (List ℕ)). Reduced path r between_it (last_it calls)) own_is all,
                 prints s.functions s.honest (languages_of pool) before name id design place path within mapped.documents (picture_of index) after_world k made each parts reply
@@ -306,12 +306,12 @@ module _ {F C : Type 0} (f : Folders F) (s : Servers C) (docs : Docs) (pool pool
               (updated_with s.functions s.honest (languages_of pool) before name id design place path within mapped.documents k (picture_of index) made.updated) in
               let fails_there : some_reduce_fails (s.functions path) (views_of document) (rows_of (s.functions path) (views_of document) before.world.history) ≡ true =
               subst (λ (r : List (List Row)). some_reduce_fails (s.functions path) (views_of document) r ≡ true) afresh
-              (subst (λ (views : List View). some_reduce_fails (s.functions path) views (picture_of index).rows ≡ true) k.plan.views (fails_of_own (s.functions path) design.views (picture_of index).rows place each some fails)) in
+              (subst (λ (views : List View). some_reduce_fails (s.functions path) views (picture_of index).rows ≡ true) k.plan.views (fails_of_own (s.functions path) design.views (picture_of index).rows place each some query fails)) in
               let clash : true ≡ false = sym (spoiled_by_reduce (s.functions path) (views_of document) before.world.history fails_there) ∙ brought_it.answerable is_honest sound fit in
               cc
 
         -- ---- how it ends
-        module _ (query : Query) (query_is : query ≡ query_for design.views name) (each : length (picture_of index).rows ≡ length design.views) where
+        module _ (each : length (picture_of index).rows ≡ length design.views) where
           pub shown_leaves : (parts : AllByRecursion (λ (row : Row). IsPart (json row.key) × IsPart (json row.value)) rows) (out out' : List ℕ)
               → AppendsAnswer s servers' servers'' pool' pool'' design place query (picture_of index) out out' × HasAll s servers' servers'' pool' pool'' design place query (picture_of index)
               → AppendsText f s now last before (DoesRequestText s.functions s.honest (languages_of pool) before (Ok (view_request name))) out out'
@@ -322,7 +322,7 @@ module _ {F C : Type 0} (f : Folders F) (s : Servers C) (docs : Docs) (pool pool
                 leaves = left_it had.now had.has_child (DoesRequestText s.functions s.honest (languages_of pool) before (Ok (view_request name)) (ended answers.reply))
                     (told_now (f.disk old) (λ d. IsKnownMade) _ (λ d both. (
                       answers.reply,
-                      had_it both.0 both.1 query query_is each parts answers.reply (answers.is path gone.now child_it.follows path_there child_it.child) had.now had.holds,
+                      had_it both.0 both.1 each parts answers.reply (answers.is path gone.now child_it.follows path_there child_it.child) had.now had.holds,
                       refl,
                     )) known_made);
                 appended = answers.appended;

@@ -68,6 +68,14 @@ memory_alone P spent id fault.ServerFault = tt
 memory_alone P spent id (fault.BadReply line) = tt
 memory_alone P spent id fault.Compile = tt
 
+-- nothing was asked of the child that reduces
+pub nothing_reduced : {C : Type 0} (s : Servers C) (servers : C) (pool : Pool) (language : List ℕ) (reduces : List (List ℕ)) → Reduces s servers servers pool pool language reduces
+nothing_reduced s servers pool language reduces = record {
+  keeps = record { languages = refl; width = refl };
+  later = omega arith;
+  went = λ path calls follows is child. record { added = []; now = calls; is_now = refl; follows = follows; lawful = tt; holds = (child, inl (refl, refl)) };
+}
+
 -- so many children of a pool are those of a moment
 pub same_children : {follow : List Call → Type 0} {faults : ℕ} (pool : Pool) (moment : Moment) → HasChild follow faults pool moment → children_of pool ≡ children_at moment
 same_children pool moment child = λ i. record { started = child.started i; reducer = child.reducer i }

@@ -17,6 +17,8 @@ use Rattle.child_pool.specs.Jobs.{IsAmong}
 use Rattle.child_pool.specs.Honesty.{SomeReduceFails, SomeSourceFails}
 use Rattle.child_pool.specs.Languages.{path_in}
 use Rattle.child_pool.specs.ReduceTalk.{reduce_in, reduce_source}
+use Rattle.query_args.specs.declared.query.Query.{Query}
+use Rattle.view_engine.specs.ViewQuery.{asked_sources}
 use Rattle.raw_collation.specs.Sorting.{sorted_rows}
 use Rattle.child_pool.specs.Sessions.{AllCompile}
 use Rattle.doc_file.specs.History.{Write, last_write, live_document, mapped, mapped_after}
@@ -143,14 +145,18 @@ fails_in_place functions (view ∷ views) (own ∷ rows) (suc place) source long
 
 -- the same where the sources of the view's own reduce are told
 pub fails_of_own : (functions : Functions) (views : List View) (rows : List (List Row)) (place : ℕ) → length rows ≡ length views → slice_index_or rows place [] ≢ []
-    → SomeReduceFails functions (reduce_source (reduce_in views place)) → some_reduce_fails functions views rows ≡ true
-fails_of_own functions views rows place each some own = by_reduce (reduce_in views place) refl own.source own.among own.fails
+    → (query : Query) → SomeReduceFails functions (asked_sources query (reduce_in views place)) → some_reduce_fails functions views rows ≡ true
+fails_of_own functions views rows place each some query own = by_asked query.reduced own.source own.among own.fails
   where
     by_reduce : (reduce : Reduce) → reduce_in views place ≡ reduce → (source : List ℕ) → IsAmong (reduce_source reduce) source → functions.reduce_compiles source ≡ false → some_reduce_fails functions views rows ≡ true
     by_reduce Absent is source among fails = absurd among
     by_reduce (Builtin kind) is source among fails = absurd among
     by_reduce (Source given) is source (inl same) fails = fails_in_place functions views rows place given each is some (ap functions.reduce_compiles (sym same) ∙ fails)
     by_reduce (Source given) is source (inr later) fails = absurd later
+
+    by_asked : (asked : Bool) (source : List ℕ) → IsAmong (if asked then reduce_source (reduce_in views place) else []) source → functions.reduce_compiles source ≡ false → some_reduce_fails functions views rows ≡ true
+    by_asked true source among fails = by_reduce (reduce_in views place) refl source among fails
+    by_asked false source among fails = absurd among
 
 -- ---- the rows of a view in its place
 

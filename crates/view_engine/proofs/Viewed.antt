@@ -27,7 +27,7 @@ use Rattle.child_pool.specs.Jobs.{Job, job_of}
 use Rattle.child_pool.specs.Mapping.{IsPart}
 use Rattle.child_pool.specs.Pools.{IsKeptOf, kept_of}
 use Rattle.child_pool.specs.Prompts.{update_prompts}
-use Rattle.child_pool.specs.ReduceTalk.{reduce_in, reduce_source, reduce_sources}
+use Rattle.child_pool.specs.ReduceTalk.{reduce_in, reduce_sources}
 use Rattle.child_pool.specs.Honesty.{SomeSourceFails}
 use Rattle.child_pool.specs.Sessions.{AllCompile}
 use Rattle.child_pool.specs.Talk.{AreCutShortIn, AreTurns, talk_of}
@@ -59,7 +59,8 @@ use Rattle.view_engine.specs.View.{all_reduces, design_id, own_reduces, rows_in,
 use Rattle.view_engine.specs.ViewPlan.{IsPlan, met_by_pool, source_at}
 use Rattle.view_engine.specs.World.{World}
 use Rattle.view_engine.proofs.Updated.{all_first, are_spoiled, are_spoiled_by_reduce, can_be_answered, rows_are_afresh, rows_at_place}
-use Rattle.view_engine.specs.ViewQuery.{ViewQuery, reduce_named, view_request}
+use Rattle.query_args.specs.declared.query.Query.{Query}
+use Rattle.view_engine.specs.ViewQuery.{ViewQuery, asked_sources, query_for, reduce_named, view_request}
 
 -- ---- documents that can be stored are those that functions are asked about
 
@@ -192,8 +193,9 @@ module _ (functions : List ℕ → Functions) (honest : List ℕ → Type 0) (la
   pub all_are : (known : Known) → reduce_sources design.views ≡ all_reduces known.plan.document
   all_are known = ap reduce_sources known.plan.views
 
-  pub own_are : (known : Known) → reduce_source (reduce_in design.views place) ≡ own_reduces name known.plan.document
-  own_are known = ap reduce_source (known.plan.reduced ∙ ap (reduce_named name.view) known.plan.views)
+  pub own_are : (known : Known) (query : Query) → query ≡ query_for design.views name → asked_sources query (reduce_in design.views place) ≡ own_reduces name known.plan.document
+  own_are known query query_is =
+      λ i. asked_sources ((query_is ∙ ap (λ (views : List View). query_for views name) known.plan.views) i) ((known.plan.reduced ∙ ap (reduce_named name.view) known.plan.views) i)
 
   -- the design was asked for
   asked_to : (known : Known) (now : Moment) → Called job before now (StopsMapping job before now) ⊎ MapsThenReduces job (all_reduces known.plan.document) (own_reduces name known.plan.document) before now

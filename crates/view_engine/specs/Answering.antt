@@ -14,7 +14,7 @@ use Rattle.child_pool.specs.declared.pool_fault.PoolFault.{PoolFault}
 use Rattle.child_pool.specs.declared.pool_fault.PoolFault.TheVariants.{Compile, NoMemory}
 use Rattle.child_pool.specs.Languages.{path_in}
 use Rattle.child_pool.specs.Pools.{HasItsChildren, languages_of}
-use Rattle.child_pool.specs.ReduceTalk.{reduce_in, reduce_source}
+use Rattle.child_pool.specs.ReduceTalk.{reduce_in}
 use Rattle.child_pool.specs.Reductions.{FailsReducing, Reduces}
 use Rattle.view_model.specs.declared.group_values.AnswerFault.{AnswerFault}
 use Rattle.view_model.specs.declared.group_values.AnswerFault.TheVariants as answer
@@ -27,6 +27,7 @@ use Rattle.view_engine.specs.declared.refusal.Refusal.TheVariants.{ServerFault}
 use Rattle.view_engine.specs.Calls.{IsReplyLine}
 use Rattle.view_engine.specs.Refusals.{refusal_text}
 use Rattle.view_engine.specs.ViewPlan.{met_by_pool}
+use Rattle.view_engine.specs.ViewQuery.{asked_sources}
 
 -- want of memory has one name
 abbrev pub fault_of_answer : AnswerFault PoolFault → PoolFault
@@ -53,12 +54,12 @@ module _ {C : Type 0} (s : Servers C) (old new : C) (pool pool' : Pool) (design 
 
   -- all values were had
   abbrev pub HasAll : Type 0
-  HasAll = Reduces s old new pool pool' design.language (reduce_source (reduce_in design.views place))
+  HasAll = Reduces s old new pool pool' design.language (asked_sources query (reduce_in design.views place))
 
   -- they were given up, or memory ran out; a complaint comes only where there are rows
   abbrev pub HasMet : PoolFault → Type 0
   HasMet f =
-      (FailsReducing s old new pool pool' design.language (reduce_source (reduce_in design.views place)) f × (f ≡ Compile → shown_rows ≢ []))
+      (FailsReducing s old new pool pool' design.language (asked_sources query (reduce_in design.views place)) f × (f ≡ Compile → shown_rows ≢ []))
       ⊎ ((f ≡ NoMemory) × HasAll)
 
   -- so a view is answered

@@ -18,7 +18,7 @@ use Rattle.child_pool.specs.Mapping.{IsPart}
 use Rattle.child_pool.specs.Outcomes.{IsCaused}
 use Rattle.child_pool.specs.Pools.{NoneIsLeft, kept_of}
 use Rattle.child_pool.specs.Prompts.{update_prompts}
-use Rattle.child_pool.specs.ReduceTalk.{reduce_source, reduce_sources}
+use Rattle.child_pool.specs.ReduceTalk.{reduce_sources}
 use Rattle.child_pool.specs.Talk.{AreCutShortIn, AreTurns, talk_of}
 use Rattle.child_pool.specs.Tries.{AllAnswered, Prompt, StopsAt}
 use Rattle.view_engine.specs.declared.refusal.Refusal.{Refusal}
@@ -38,7 +38,7 @@ use Rattle.view_model.specs.Answer.{IsAnswer}
 use Rattle.view_model.specs.Values.{IsValueText}
 use Rattle.query_args.specs.Faults.{query_fault}
 use Rattle.query_args.specs.Query.{is_updated}
-use Rattle.view_engine.specs.ViewQuery.{ViewQuery, parameters_of, query_for, reduce_named, target_for}
+use Rattle.view_engine.specs.ViewQuery.{ViewQuery, asked_sources, parameters_of, query_for, reduce_named, target_for}
 use Rattle.view_engine.specs.Refusals.{first_of, refusal_text}
 
 -- the id of the design document with this name
@@ -93,12 +93,12 @@ pub record IsJobOf (languages : List (List ℕ × List ℕ)) (world : World) (na
   pub documents : job.documents ≡ map (λ entry. document_of entry.1) (mapped_after (picture_in world design).seq world.history)
   pub reduces : job.reduces ≡ []
 
--- the sources by which a query server reduces: those of all views of a design, and that of the view, where it has one
+-- the sources by which a query server reduces: those of all views of a design, and that of the view, where it has one and the query is reduced
 abbrev pub all_reduces : Json → List (List ℕ)
 all_reduces design = reduce_sources (views_of design)
 
 abbrev pub own_reduces : ViewQuery → Json → List (List ℕ)
-own_reduces name design = reduce_source (reduce_named name.view (views_of design))
+own_reduces name design = asked_sources (query_for (views_of design) name) (reduce_named name.view (views_of design))
 
 -- the prompts of an update, in the order in which they are asked: a child of the job's path that is kept isn't started again
 abbrev pub prompts_of : Job → Moment → List Prompt

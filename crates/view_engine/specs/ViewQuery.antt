@@ -4,6 +4,7 @@ use Rattle.json_terms.specs.Json.{Json, object, no_members, members_of}
 use Rattle.design_docs.specs.declared.design.Reduce.{Reduce}
 use Rattle.design_docs.specs.declared.design.Reduce.TheVariants as reduce
 use Rattle.design_docs.specs.declared.design.View.{View}
+use Rattle.child_pool.specs.ReduceTalk.{reduce_source}
 use Rattle.query_args.specs.declared.query.Query.{Query}
 use Rattle.query_args.specs.declared.query.Target.{Target}
 use Rattle.query_args.specs.declared.query.Target.TheVariants as target
@@ -50,3 +51,7 @@ target_for views asked = target.View (has_reduce (reduce_named asked.view views)
 
 abbrev pub query_for : List View → ViewQuery → Query
 query_for views asked = query_of (target_for views asked) (parameters_of asked)
+
+-- the sources that a query asks a query server to reduce by: that of this reduce, where the query is reduced
+abbrev pub asked_sources : Query → Reduce → List (List ℕ)
+asked_sources query reduce = if query.reduced then reduce_source reduce else []
