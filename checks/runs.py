@@ -39,12 +39,17 @@ class Run:
         self.status = None
 
     def add(self, line):
-        text = line.partition(" ")[2].encode()
-        if line.startswith(">"):
-            size = line[1:].partition(" ")[0]
-            self.input += text.rjust(int(size or 0)) + b"\n"
-        elif line.startswith("< "):
-            self.output += text + b"\n"
+        mark, _, text = line.partition(" ")
+        if line.startswith((">*", "<*")):
+            texts = [text % ((n,) * text.count("%")) for n in range(1, int(mark[2:]) + 1)]
+        else:
+            texts = [text]
+        if line.startswith(">*"):
+            self.input += "".join(text + "\n" for text in texts).encode()
+        elif line.startswith(">"):
+            self.input += text.encode().rjust(int(mark[1:] or 0)) + b"\n"
+        elif line.startswith(("<*", "< ")):
+            self.output += "".join(text + "\n" for text in texts).encode()
         elif line.startswith("= "):
             self.status = int(text)
         else:

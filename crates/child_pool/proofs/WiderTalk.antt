@@ -1,7 +1,6 @@
 -- A talk by some sources is one by more sources, as one for a view is one for its design.
-use Rattle.std.proofs.Common.{◌≢◌, ℕ, zero, suc, List, [], ◌∷◌, ◌++◌, refl, subst, inl, inr}
+use Rattle.std.proofs.Common.{◌≢◌, ℕ, List, [], ◌∷◌, ◌++◌, refl, subst, inl, inr}
 use Rattle.std.specs.List.{AllByRecursion}
-use Rattle.design_docs.specs.declared.design.View.{View}
 use Rattle.view_ports.specs.declared.command.Command.{Command}
 use Rattle.view_ports.specs.declared.servers.Servers.{Ghosts as Servers}
 use Rattle.view_ports.specs.Calls.{Call}
@@ -9,23 +8,17 @@ use Rattle.child_pool.specs.declared.pool_fault.PoolFault.{PoolFault}
 use Rattle.child_pool.specs.declared.reduce_slot.ReduceSlot.{ReduceSlot}
 use Rattle.child_pool.specs.Histories.{WentReducing}
 use Rattle.child_pool.specs.Jobs.{AllReducing, IsAmong, IsReducingAt}
-use Rattle.child_pool.specs.ReduceTalk.{Fails, Goes, IsReduction, Stretch, reduce_in, reduce_source, reduce_sources}
+use Rattle.child_pool.specs.ReduceTalk.{Fails, Goes, IsReduction, Stretch}
 use Rattle.child_pool.proofs.Widened.{caused_wider, lawful_wider}
 
-among_front : (xs ys : List (List ℕ)) (x : List ℕ) → IsAmong xs x → IsAmong (xs ++ ys) x
+pub among_front : (xs ys : List (List ℕ)) (x : List ℕ) → IsAmong xs x → IsAmong (xs ++ ys) x
 among_front [] ys x among = absurd among
 among_front (first ∷ xs) ys x (inl same) = inl same
 among_front (first ∷ xs) ys x (inr later) = inr (among_front xs ys x later)
 
-among_back : (xs ys : List (List ℕ)) (x : List ℕ) → IsAmong ys x → IsAmong (xs ++ ys) x
+pub among_back : (xs ys : List (List ℕ)) (x : List ℕ) → IsAmong ys x → IsAmong (xs ++ ys) x
 among_back [] ys x among = among
 among_back (first ∷ xs) ys x among = inr (among_back xs ys x among)
-
--- the source of a view is among those of its design
-pub among_views : (views : List View) (place : ℕ) (source : List ℕ) → IsAmong (reduce_source (reduce_in views place)) source → IsAmong (reduce_sources views) source
-among_views [] place source among = absurd among
-among_views (view ∷ views) zero source among = among_front (reduce_source view.reduce) (reduce_sources views) source among
-among_views (view ∷ views) (suc place) source among = among_back (reduce_source view.reduce) (reduce_sources views) source (among_views views place source among)
 
 module _ (few many : List (List ℕ)) (among : (source : List ℕ) → IsAmong few source → IsAmong many source) where
   some_wider : (xs ys : List (List ℕ)) → ((source : List ℕ) → IsAmong xs source → IsAmong ys source) → xs ≢ [] → ys ≢ []

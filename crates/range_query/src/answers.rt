@@ -3,6 +3,7 @@
 ghost use Rattle.std.specs.Prelude.{◌≡◌, [], false, IsSorted, IfErr, OnOk};
 ghost use Rattle.raw_collation.specs.Collation.{rows_cmp};
 ghost use Rattle.view_model.specs.Adding.{AddsAnswer};
+ghost use Rattle.view_model.specs.Groups.{picked_groups};
 ghost use Rattle.view_model.specs.GroupValues.{IsCaused};
 ghost use Rattle.view_model.specs.Written.{KeepsBefore};
 ghost use Rattle.range_query.specs.Summed.{IsSummedText};
@@ -17,7 +18,7 @@ use tree_laws::Summer;
 use view_model::{AnswerFault, Reply};
 
 /// Prints the answer to a query of a view that has these rows and whose index is at this sequence. Only where the query is reduced is
-/// the summer asked, and only for the values of groups that the query picks; of no rows there are none. Where a row of these is out of the bounds of what a tree
+/// the summer asked, and only for the values of the groups that it picks. Where a row of these is out of the bounds of what a tree
 /// keeps, the fault is want of memory.
 pub fn answer<M: Summer<Unit = RowItem>>(
     alloc: Global,
@@ -38,7 +39,7 @@ where
     ensures goes { OnOk result (M.goes summer.old summer.new) }
     ensures cause { IfErr result (IsCaused (M.goes summer.old summer.new) (M.fails summer.old summer.new)) }
     ensures unasked { query.now.reduced ≡ false → summer.new ≡ summer.old }
-    ensures idle { rows.now ≡ [] → summer.new ≡ summer.old }
+    ensures idle { picked_groups query.now rows.now ≡ [] → summer.new ≡ summer.old }
 {
     let mut values = SummedValues::new(summer);
     view_model::answer(alloc, rows, &mut values, seq, query, reply)

@@ -115,9 +115,12 @@ module _ (functions : List ℕ → Functions) (honest : List ℕ → Type 0) (la
     where
       by_query : (updating : Bool) → AskedBy functions honest languages updating before (view_query view query) after → (after.world).history ≡ (before.world).history
       by_query false asked = ap (λ (w : World). w.history) asked.same
-      by_query true asked = elim asked.world [
-        | inl same ↦ ap (λ (w : World). w.history) same
-        | inr brought ↦ brought.history
+      by_query true asked = elim asked.ends [
+        | inl mapping ↦ ap (λ (w : World). w.history) mapping.same
+        | inr later ↦ elim later [
+          | inl trying ↦ ap (λ (w : World). w.history) trying.same
+          | inr showing ↦ showing.brought.history
+        ]
       ]
   kept_world before other after same = same_moment before after same
 

@@ -1,5 +1,5 @@
 -- What a view's reply line asks for, from the reduces of its design that were lent a pool and servers for it.
-use Rattle.std.specs.Prelude.{◌≡◌, ◌≢◌, ◌⊎◌, ◌++◌, ℕ, List, [], Bool, true, false, if◌then◌else◌, Some, Result, Ok, Err, OnErr, slice_index_or}
+use Rattle.std.specs.Prelude.{◌≡◌, ◌≢◌, ◌⊎◌, ◌++◌, ℕ, List, [], ◌∷◌, Bool, true, false, if◌then◌else◌, Some, Result, Ok, Err, OnErr, slice_index_or}
 use Rattle.std.specs.List.{AllByRecursion}
 use Rattle.std.proofs.Common.{refl, sym, ap, ◌∙◌, subst, inl, inr}
 use Rattle.json_terms.specs.declared.term.Row.{Row}
@@ -18,7 +18,7 @@ use Rattle.child_pool.specs.Languages.{path_in}
 use Rattle.child_pool.specs.Pools.{HasItsChildren, languages_of}
 use Rattle.child_pool.specs.ReduceTalk.{reduce_in, reduce_source}
 use Rattle.child_pool.specs.Reductions.{FailsReducing, Reduces}
-use Rattle.child_pool.specs.SummerLaws.{fits, lawful, means, summers_steps}
+use Rattle.child_pool.specs.SummerLaws.{fits, lawful, means}
 use Rattle.child_pool.specs.Summers.{SummersFail, SummersGo, reduce_of}
 use Rattle.child_pool.specs.ViewSums.{view_sum_text}
 use Rattle.child_pool.proofs.Whole.{fails_whole, reduces_whole, stands_idle}
@@ -29,8 +29,9 @@ use Rattle.view_model.specs.Answer.{IsAnswer}
 use Rattle.view_model.specs.GroupValues.{IsCaused}
 use Rattle.view_model.specs.Picture.{Picture}
 use Rattle.range_query.specs.Summed.{IsSummedText}
-use Rattle.view_engine.specs.Answering.{fault_of_answer, Answers, AppendsAnswer, HasAll, Shows}
-use Rattle.view_engine.specs.ViewQuery.{has_reduce}
+use Rattle.view_model.specs.Groups.{picked_groups}
+use Rattle.view_engine.specs.Answering.{fault_of_answer, Answers, AppendsAnswer, HasAll, HasMet, Shows}
+use Rattle.view_engine.specs.ViewQuery.{asked_sources, has_reduce, source_for}
 use Rattle.view_engine.proofs.Answering.{own_answer}
 use Rattle.view_engine.proofs.Reduced.{nothing_reduced}
 use Rattle.view_engine.proofs.ReplyLines.{answer_line}
@@ -96,20 +97,13 @@ module _ {C : Type 0} (s : Servers C) (old new : C) (pool pool' : Pool) (design 
         (subst (λ (d : Design). Says a.slot.servers.now b.slot.servers.now a.slot.pool.now b.slot.pool.now d.language (reduce_source (reduce_in design.views place))) same_design
         (subst (λ (r : Reduce). Says a.slot.servers.now b.slot.servers.now a.slot.pool.now b.slot.pool.now a.design.now.language (reduce_source r)) reduce_is is)))))
 
-    -- what the query asks for
-    abbrev asked : Bool → List (List ℕ)
-    asked reduced = if reduced then reduce_source (reduce_in design.views place) else []
+    -- nothing was asked where the summers are as they were
+    none_by : b ≡ a → Reduces s old new pool pool' design.language []
+    none_by same =
+        subst (λ (c : C). Reduces s old c pool pool' design.language []) (sym (last_servers ∙ ap (λ (x : Summers C). x.slot.servers.now) same ∙ same_servers))
+        (subst (λ (p : Pool). Reduces s old old pool p design.language []) (sym (last_pool ∙ ap (λ (x : Summers C). x.slot.pool.now) same ∙ same_pool)) (nothing_reduced s old pool design.language []))
 
-    all_by : SummersGo s a b → (reduced : Bool) → query.reduced ≡ reduced → Reduces s old new pool pool' design.language (asked reduced)
-    all_by go true is = said (Reduces s) (reduces_whole s a.design.now.language (reduce_source (reduce_of s a)) a.slot b.slot idle go.slot)
-    all_by go false is =
-        subst (λ (c : C). Reduces s old c pool pool' design.language []) (sym (last_servers ∙ ap (λ (x : Summers C). x.slot.servers.now) (unasked is) ∙ same_servers))
-        (subst (λ (p : Pool). Reduces s old old pool p design.language []) (sym (last_pool ∙ ap (λ (x : Summers C). x.slot.pool.now) (unasked is) ∙ same_pool)) (nothing_reduced s old pool design.language []))
-
-    all : SummersGo s a b → HasAll s old new pool pool' design place query picture
-    all go = all_by go query.reduced refl
-
-    -- where nothing was asked no fault was met but want of memory
+    -- and then no fault was met but want of memory
     idle_still : (fault : PoolFault) → SummersFail s a b fault → b ≡ a → (fault ≢ NoMemory) → ⊥
     idle_still fault fail same other =
         let given_up : b.slot.stage ≡ GivenUp = fail.slot.given_up other in
@@ -117,33 +111,51 @@ module _ {C : Type 0} (s : Servers C) (old new : C) (pool pool' : Pool) (design 
         let clash : Idle ≡ GivenUp = sym idle ∙ sym stays ∙ given_up in
         cc
 
-    wanted : (fault : PoolFault) → SummersFail s a b fault → (rows : List Row) → rows ≡ slice_index_or picture.rows place [] → (rows ≡ [] → b ≡ a) → fault ≡ Compile → slice_index_or picture.rows place [] ≢ []
-    wanted fault fail rows rows_are empty complains none = idle_still fault fail (empty (rows_are ∙ none)) (λ is. let clash : Compile ≡ NoMemory = sym complains ∙ is in cc)
+    -- ---- the groups that are picked
 
-    met_by : (fault : PoolFault) → SummersFail s a b fault → (rows : List Row) → rows ≡ slice_index_or picture.rows place [] → (rows ≡ [] → b ≡ a) → (reduced : Bool) → query.reduced ≡ reduced
-        → (FailsReducing s old new pool pool' design.language (asked reduced) fault × (fault ≡ Compile → slice_index_or picture.rows place [] ≢ [])) ⊎ ((fault ≡ NoMemory) × Reduces s old new pool pool' design.language (asked reduced))
-    met_by fault fail rows rows_are empty true is = inl (
-      said (λ x y p q l r. FailsReducing s x y p q l r fault) (fails_whole s a.design.now.language (reduce_source (reduce_of s a)) a.slot b.slot fault idle fail.slot),
-      wanted fault fail rows rows_are empty,
-    )
-    met_by fault fail rows rows_are empty false is = inr (
-      spent_alone fault (idle_still fault fail (unasked is)),
-      all_by (subst (λ (x : Summers C). SummersGo s a x) (sym (unasked is)) ((summers_steps s).none a)) false is,
-    )
+    module _ (rows : List Row) (rows_are : rows ≡ slice_index_or picture.rows place []) (unpicked : picked_groups query rows ≡ [] → b ≡ a) where
+      -- what the query asks for
+      abbrev asked : Bool → List (List Row) → List (List ℕ)
+      asked reduced groups = if reduced then source_for groups (reduce_in design.views place) else []
 
-    -- ---- how it ends
+      asked_is : asked query.reduced (picked_groups query rows) ≡ asked_sources query (reduce_in design.views place) (slice_index_or picture.rows place [])
+      asked_is = ap (asked_sources query (reduce_in design.views place)) rows_are
 
-    pub shows_ok : SummersGo s a b → (rows : List Row) → rows ≡ slice_index_or picture.rows place [] → AllByRecursion HasParts rows → (seq : ℕ) → seq ≡ picture.seq
-        → (query.reduced ≡ true → has_reduce (reduce_in design.views place) ≡ true) → (reply : List ℕ) → IsAnswer (IsSummedText view_sum_text (fits s a) (lawful s a) (means s a)) query seq rows reply → IsLine reply
-        → (out out' : List ℕ) → out' ≡ out ++ ended reply → Shows s old new pool pool' design place query picture out out' (Ok tt)
-    shows_ok go rows rows_are parts seq seq_is has reply is plain out out' appended =
-        record { ok = (appends rows rows_are parts seq seq_is has reply is plain out out' appended, all go); err = tt; silent = tt }
+      all_by : SummersGo s a b → (reduced : Bool) (groups : List (List Row)) → (reduced ≡ false → b ≡ a) → (groups ≡ [] → b ≡ a) → Reduces s old new pool pool' design.language (asked reduced groups)
+      all_by go true (group ∷ groups) whole empty = said (Reduces s) (reduces_whole s a.design.now.language (reduce_source (reduce_of s a)) a.slot b.slot idle go.slot)
+      all_by go true [] whole empty = none_by (empty refl)
+      all_by go false groups whole empty = none_by (whole refl)
 
-    pub shows_err : (fault : AnswerFault PoolFault) → IsCaused (SummersGo s a b) (SummersFail s a b) fault → (rows : List Row) → rows ≡ slice_index_or picture.rows place [] → (rows ≡ [] → b ≡ a)
-        → (out out' : List ℕ) → out' ≡ out → Shows s old new pool pool' design place query picture out out' (Err (fault_of_answer fault))
-    shows_err (answer.Values fault) cause rows rows_are empty out out' silent = record { ok = tt; err = met_by fault cause rows rows_are empty query.reduced refl; silent = silent }
-    shows_err answer.NoMemory cause rows rows_are empty out out' silent = record { ok = tt; err = inr (refl, all cause); silent = silent }
+      all : SummersGo s a b → HasAll s old new pool pool' design place query picture
+      all go = subst (Reduces s old new pool pool' design.language) asked_is (all_by go query.reduced (picked_groups query rows) unasked unpicked)
 
-    -- memory ran out behind all values
-    pub shows_spent : SummersGo s a b → (out out' : List ℕ) → out' ≡ out → Shows s old new pool pool' design place query picture out out' (Err NoMemory)
-    shows_spent go out out' silent = record { ok = tt; err = inr (refl, all go); silent = silent }
+      met_idle : (fault : PoolFault) → SummersFail s a b fault → b ≡ a → FailsReducing s old new pool pool' design.language [] fault ⊎ ((fault ≡ NoMemory) × Reduces s old new pool pool' design.language [])
+      met_idle fault fail same = inr (spent_alone fault (idle_still fault fail same), none_by same)
+
+      met_by : (fault : PoolFault) → SummersFail s a b fault → (reduced : Bool) (groups : List (List Row)) → (reduced ≡ false → b ≡ a) → (groups ≡ [] → b ≡ a)
+          → FailsReducing s old new pool pool' design.language (asked reduced groups) fault ⊎ ((fault ≡ NoMemory) × Reduces s old new pool pool' design.language (asked reduced groups))
+      met_by fault fail true (group ∷ groups) whole empty =
+          inl (said (λ x y p q l r. FailsReducing s x y p q l r fault) (fails_whole s a.design.now.language (reduce_source (reduce_of s a)) a.slot b.slot fault idle fail.slot))
+      met_by fault fail true [] whole empty = met_idle fault fail (empty refl)
+      met_by fault fail false groups whole empty = met_idle fault fail (whole refl)
+
+      has_met : (fault : PoolFault) → SummersFail s a b fault → HasMet s old new pool pool' design place query picture fault
+      has_met fault fail =
+          subst (λ (sources : List (List ℕ)). FailsReducing s old new pool pool' design.language sources fault ⊎ ((fault ≡ NoMemory) × Reduces s old new pool pool' design.language sources)) asked_is
+          (met_by fault fail query.reduced (picked_groups query rows) unasked unpicked)
+
+      -- ---- how it ends
+
+      pub shows_ok : SummersGo s a b → AllByRecursion HasParts rows → (seq : ℕ) → seq ≡ picture.seq
+          → (query.reduced ≡ true → has_reduce (reduce_in design.views place) ≡ true) → (reply : List ℕ) → IsAnswer (IsSummedText view_sum_text (fits s a) (lawful s a) (means s a)) query seq rows reply → IsLine reply
+          → (out out' : List ℕ) → out' ≡ out ++ ended reply → Shows s old new pool pool' design place query picture out out' (Ok tt)
+      shows_ok go parts seq seq_is has reply is plain out out' appended =
+          record { ok = (appends rows rows_are parts seq seq_is has reply is plain out out' appended, all go); err = tt; silent = tt }
+
+      pub shows_err : (fault : AnswerFault PoolFault) → IsCaused (SummersGo s a b) (SummersFail s a b) fault → (out out' : List ℕ) → out' ≡ out → Shows s old new pool pool' design place query picture out out' (Err (fault_of_answer fault))
+      shows_err (answer.Values fault) cause out out' silent = record { ok = tt; err = has_met fault cause; silent = silent }
+      shows_err answer.NoMemory cause out out' silent = record { ok = tt; err = inr (refl, all cause); silent = silent }
+
+      -- memory ran out behind all values
+      pub shows_spent : SummersGo s a b → (out out' : List ℕ) → out' ≡ out → Shows s old new pool pool' design place query picture out out' (Err NoMemory)
+      shows_spent go out out' silent = record { ok = tt; err = inr (refl, all go); silent = silent }

@@ -2,9 +2,8 @@
 use Rattle.std.specs.Prelude.{◌≡◌, ◌≢◌, ◌⊎◌, ◌<◌, ◌≤◌, ◌++◌, ℕ, List, [], ◌∷◌, filter_map, length, map, Option, None, Some, Result, Ok, Err, IfErr, IfOk}
 use Rattle.std.proofs.Common.{refl, sym, ap, ◌∙◌, subst, inl, inr, arith}
 use Rattle.json_terms.specs.Json.{Json}
-use Rattle.json_terms.specs.declared.term.Row.{Row}
 use Rattle.design_docs.specs.declared.design.Design.{Design}
-use Rattle.design_docs.specs.Design.{map_sources}
+use Rattle.design_docs.specs.Design.{map_sources, views_of}
 use Rattle.query_protocol.specs.CommandLines.{document_of}
 use Rattle.view_ports.specs.Calls.{Call}
 use Rattle.view_ports.specs.Disk.{Disk, IfTold}
@@ -23,33 +22,34 @@ use Rattle.child_pool.specs.Histories.{WentIn}
 use Rattle.child_pool.specs.Jobs.{job_of}
 use Rattle.child_pool.specs.Languages.{path_in}
 use Rattle.child_pool.specs.PoolCalls.{MapsAll, StaysAsMade}
-use Rattle.child_pool.specs.ReduceTalk.{reduce_sources}
 use Rattle.child_pool.specs.Reductions.{Reduces}
 use Rattle.child_pool.specs.Pools.{languages_of, HasItsChildren}
 use Rattle.child_pool.proofs.Nexts.{first_whole, nothing_first}
 use Rattle.child_pool.proofs.Updated.{stands_stopped}
 use Rattle.doc_file.specs.History.{Write, mapped_by}
 use Rattle.view_model.proofs.Firsts.{changes_none}
+use Rattle.view_model.specs.Picture.{Picture}
+use Rattle.view_model.specs.Update.{IsUpdated}
 use Rattle.view_updater.specs.declared.fault.UpdateFault.{UpdateFault}
 use Rattle.view_updater.specs.declared.fault.UpdateFault.TheVariants as update
 use Rattle.view_index.specs.declared.fault.IndexFault.TheVariants as index
 use Rattle.view_updater.specs.Faults.{by_pool}
-use Rattle.view_updater.specs.Checking.{Checks, FailsChecking, HasChecked}
-use Rattle.view_updater.specs.Updates.{documents_since, ComplainsRightly, HasAskedFor, HasMappedSome, IsBreak, IsIdleEnd, IsMetAs, IsMetBy, IsThenChecked}
+use Rattle.view_updater.specs.Checking.{tried_sources, Checks, FailsChecking, HasChecked}
+use Rattle.view_updater.specs.Updates.{documents_since, ComplainsRightly, HasAskedFor, HasMappedSome, IsBreak, IsIdleEnd, IsMapped, IsMetAs, IsMetBy, IsThenChecked}
 use Rattle.view_groups.specs.Reached.{picture_for}
 use Rattle.view_engine.specs.declared.halt.Halt.TheVariants.{Refused}
 use Rattle.view_engine.specs.declared.refusal.Refusal.{Refusal}
 use Rattle.view_engine.specs.Engine.{HasChild}
 use Rattle.view_engine.specs.Moments.{CalledReducing, Moment}
-use Rattle.view_engine.specs.Reducing.{Reduced, ReducedSomehow, TriedAndReduced}
+use Rattle.view_engine.specs.Reducing.{Reduced, ReducedSomehow}
 use Rattle.view_engine.specs.Refusals.{refusal_text}
 use Rattle.view_engine.specs.Steps.{DoesRequest, MayHaveCalled}
-use Rattle.view_engine.specs.Updating.{IsBrought}
-use Rattle.view_engine.specs.View.{all_reduces, own_reduces, DoesUpdatedView, IsBroughtUp, IsRefusedReducing, IsRefusedTrying, IsRightly}
+use Rattle.view_engine.specs.Updating.{picture_in, IsBrought}
+use Rattle.view_engine.specs.View.{own_reduces, sources_tried, DoesUpdatedView, IsBroughtUp, IsRefusedReducing, IsRefusedTrying, IsRightly}
 use Rattle.view_engine.specs.ViewPlan.{met_by, met_by_pool, source_at, IsUpdateFault}
 use Rattle.view_engine.specs.World.{World}
-use Rattle.view_engine.proofs.Viewed.{all_are, asked_some, asked_then, asked_up, at_moment, breaks_at_moment, mapped_then, refuses, spoiled_there, IsKnown, Updates}
-use Rattle.view_engine.proofs.Reduced.{HasGone, all_had, met_there, nothing_reduced, reduced_none, refused_reducing, somehow_had, somehow_met}
+use Rattle.view_engine.proofs.Viewed.{asked_some, asked_up, at_moment, breaks_at_moment, mapped_alone, mapped_then, none_tried, refuses, shown_then, spoiled_there, tried_are, tried_then, updated_with, IsKnown, Updates}
+use Rattle.view_engine.proofs.Reduced.{HasGone, all_had, met_there, nothing_reduced, refused_reducing, somehow_had, somehow_met}
 use Rattle.view_engine.specs.ViewQuery.{ViewQuery, view_request}
 
 -- ---- how a refusal is met
@@ -127,6 +127,23 @@ module _ {C : Type 0} (s : Servers C) (before : Moment) (name : ViewQuery) (id :
 
   abbrev Known : List (List (List ℕ × Json)) → Type 0
   Known documents = IsKnown languages before name id design place path documents
+
+  -- a next picture that the mapped documents make
+  abbrev pub IsMappedHere : Picture → Type 0
+  IsMappedHere next = IsMapped s.functions s.honest design path before.world.history (picture_for design before.world.pictures) next
+
+  -- something was written since the picture, so it is due
+  pub record IsDue (documents : List (List (List ℕ × Json))) (next : Picture) : Type 0 where
+    pub known : Known documents
+    pub differs : seq ≢ length before.world.history
+    pub made : IsMappedHere next
+
+  -- what is told of the documents that were asked for, and of the next picture
+  abbrev pub AreSince : List (List (List ℕ × Json)) → Type 0
+  AreSince documents = (documents ≡ documents_since seq before.world.history) × (seq ≢ length before.world.history)
+
+  abbrev pub IsToldNext : Picture → Type 0
+  IsToldNext next = IfTold x (λ d. IsMappedHere next)
 
   -- the moment after these calls
   abbrev pub then : Pool → C → World → List Call → Moment
@@ -227,13 +244,7 @@ module _ {C : Type 0} (s : Servers C) (before : Moment) (name : ViewQuery) (id :
               now = w.now;
               has_child = has_child before.world w.now w.follows w.holds.1.0;
               called = told_now x (λ d. Known documents) (λ d. MayHave (then pool_between between before.world w.now))
-                  (λ d k. asked_then s.functions s.honest languages before name id design place path within documents (s.may_follow between) (s.faults servers) (s.faults between) pool_between child.counts later pool child.width child.started child.reducer lists (λ none. ap (λ (p : Pool). p.started) (idle none).1) w k
-                  (then pool_between between before.world w.now)
-                  (record {
-                    between = then pool_between between before.world w.now;
-                    tried = somehow_had path (all_reduces k.plan.document) _ _ (reduced_none path (all_reduces k.plan.document) (then pool_between between before.world w.now));
-                    reduced = somehow_had path (own_reduces name k.plan.document) _ _ (reduced_none path (own_reduces name k.plan.document) (then pool_between between before.world w.now));
-                  }) (inl refl)) known;
+                  (λ d k. mapped_alone s.functions s.honest languages before name id design place path within documents (s.may_follow between) (s.faults servers) (s.faults between) pool_between child.counts later pool child.width child.started child.reducer lists (λ none. ap (λ (p : Pool). p.started) (idle none).1) w k) known;
               refused = λ r is. absurd (never lists met r is);
             }
         by_end (Err g) met idle some maps = given_left f twice documents known g met some maps
@@ -256,12 +267,16 @@ module _ {C : Type 0} (s : Servers C) (before : Moment) (name : ViewQuery) (id :
       pub path_still : path_in (languages_of pool_between) design.language ≡ Some path
       path_still = ap (λ (l : List (List ℕ × List ℕ)). path_in l design.language) keeps.languages ∙ path_is
 
-      -- of the moment then and of a later one
-      pub asked_later : (now : Moment) (left : World) → now.world ≡ left → (k : Known documents) → TriedAndReduced path (all_reduces k.plan.document) (own_reduces name k.plan.document) mapped now
-          → (left ≡ before.world) ⊎ IsBrought s.functions s.honest languages k.plan.document path before.world left → MayHave now
-      asked_later now left is k reduced world =
-          asked_then s.functions s.honest languages before name id design place path within documents (s.may_follow between) (s.faults servers) (s.faults between) pool_between child.counts later pool child.width child.started child.reducer lists (λ none. ap (λ (p : Pool). p.started) (idle none).1) went k now reduced
-          (subst (λ (w : World). (w ≡ before.world) ⊎ IsBrought s.functions s.honest languages k.plan.document path before.world w) (sym is) world)
+      -- the moment then, a later one, and how it came to that
+      pub tried_later : (k : Known documents) (now : Moment) (next : Picture) → IsUpdated (s.functions path) (s.honest path) (views_of k.plan.document) before.world.history (picture_in before.world k.plan.document) next
+          → ReducedSomehow path (sources_tried k.plan.document before.world next) mapped now → now.world ≡ before.world → MayHave now
+      tried_later k now next updated tried same =
+          tried_then s.functions s.honest languages before name id design place path within documents (s.may_follow between) (s.faults servers) (s.faults between) pool_between child.counts later pool child.width child.started child.reducer lists (λ none. ap (λ (p : Pool). p.started) (idle none).1) went k now next updated tried same
+
+      pub shown_later : (k : Known documents) (tried_by now : Moment) → Reduced path (sources_tried k.plan.document before.world (picture_in now.world k.plan.document)) mapped tried_by
+          → IsBrought s.functions s.honest languages k.plan.document path before.world now.world → ReducedSomehow path (own_reduces name k.plan.document now.world) tried_by now → MayHave now
+      shown_later k tried_by now tried brought reduced =
+          shown_then s.functions s.honest languages before name id design place path within documents (s.may_follow between) (s.faults servers) (s.faults between) pool_between child.counts later pool child.width child.started child.reducer lists (λ none. ap (λ (p : Pool). p.started) (idle none).1) went k tried_by now tried brought reduced
 
       pub does_later : (k : Known documents) (now : Moment) (reply : List ℕ)
           → IsRefusedTrying s.functions s.honest languages name k.plan.document path before.world mapped now reply ⊎ IsBroughtUp s.functions s.honest languages name k.plan.document path (source_at design.views place) before.world mapped now reply
@@ -269,54 +284,61 @@ module _ {C : Type 0} (s : Servers C) (before : Moment) (name : ViewQuery) (id :
       does_later k now reply ends =
           mapped_then s.functions s.honest languages before name id design place path within documents (s.may_follow between) (s.faults servers) (s.faults between) pool_between child.counts later pool child.width child.started child.reducer lists (λ none. ap (λ (p : Pool). p.started) (idle none).1) went k now reply ends
 
-      -- they were tried, and this is how they were asked for
-      tried_so : (k : Known documents) (now : Moment) → ReducedSomehow path (reduce_sources design.views) mapped now → TriedAndReduced path (all_reduces k.plan.document) (own_reduces name k.plan.document) mapped now
-      tried_so k now tried = record {
-        between = now;
-        tried = subst (λ (r : List (List ℕ)). ReducedSomehow path r mapped now) (all_are s.functions s.honest languages before name id design place path within documents k) tried;
-        reduced = somehow_had path (own_reduces name k.plan.document) now now (reduced_none path (own_reduces name k.plan.document) now);
-      }
-
       -- all values were had
-      pub tried_there : Reduces s between servers' pool_between pool' design.language (reduce_sources design.views) → (left : World) → HasGone s between servers' pool_between pool' mapped mapped_child design.language path path_still (reduce_sources design.views)
-          (λ after. Reduced path (reduce_sources design.views) mapped after) left
-      tried_there all left = all_had s between servers' pool_between pool' mapped mapped_child design.language path path_still (reduce_sources design.views) all left
+      pub tried_there : (sources : List (List ℕ)) → Reduces s between servers' pool_between pool' design.language sources → (left : World)
+          → HasGone s between servers' pool_between pool' mapped mapped_child design.language path path_still sources (λ after. Reduced path sources mapped after) left
+      tried_there sources all left = all_had s between servers' pool_between pool' mapped mapped_child design.language path path_still sources all left
 
-      -- and then it was refused
-      had_left : (f : UpdateFault) (rows : List (List Row)) → IfTold x (λ d. Known documents) → HasChecked s between servers' pool_between pool' design rows → ((r : Refusal) → met_by id f ≡ Refused r → ⊥) → IsLeft pool' servers' f
-      had_left f rows known checked never =
-          let gone = tried_there checked.reduces before.world in
-          record {
-            now = gone.now;
-            has_child = gone.has_child;
-            called = told_now x (λ d. Known documents) (λ d. MayHave (then pool' servers' before.world gone.now))
-                (λ d k. asked_later (then pool' servers' before.world gone.now) before.world refl k (tried_so k _ (somehow_had path (reduce_sources design.views) mapped _ gone.holds)) (inl refl)) known;
-            refused = λ r is. absurd (never r is);
-          }
+      module _ (next : Picture) where
+        abbrev sources : List (List ℕ)
+        sources = tried_sources design.views next.rows
 
-      -- a fault was met as they were tried
-      met_left : (f : UpdateFault) (g : PoolFault) → f ≡ by_pool g → (rows : List (List Row)) → FailsChecking s between servers' pool_between pool' design rows g → IfTold x (λ d. Known documents)
-          → IfTold x (λ d. (k : Known documents) → g ≡ fault.Compile → IsRightly s.functions s.honest languages k.plan.document path before.world) → IsLeft pool' servers' f
-      met_left f g same rows fails known right =
-          let gone = met_there s between servers' pool_between pool' mapped mapped_child design.language path path_still (reduce_sources design.views) g fails.fails before.world in
-          let now : Moment = then pool' servers' before.world gone.now in
-          record {
-            now = gone.now;
-            has_child = gone.has_child;
-            called = told_now x (λ d. Known documents) (λ d. MayHave now)
-                (λ d k. asked_later now before.world refl k (tried_so k now (somehow_met s between servers' pool_between pool' mapped mapped_child design.language path path_still (reduce_sources design.views) g now gone.holds)) (inl refl)) known;
-            refused = λ r is. told_now x (λ d. Known documents × ((k : Known documents) → g ≡ fault.Compile → IsRightly s.functions s.honest languages k.plan.document path before.world)) (λ d. MayRefuse r now)
-                (λ d both.
-                let k = both.0 in
-                let all = all_are s.functions s.honest languages before name id design place path within documents k in
-                inl (inl (does_later k now (refusal_text r) (inl (record {
-                  same = refl;
-                  called = subst (λ (l : List (List ℕ)). CalledReducing path l mapped now (IsRefusedReducing s.functions s.honest name path l (IsRightly s.functions s.honest languages k.plan.document path before.world) mapped now (refusal_text r))) all
-                      (refused_reducing s between servers' pool_between pool' mapped mapped_child design.language path path_still (reduce_sources design.views) name id k.plan.id_is before.world g r (sym (ap (met_by id) same ∙ by_pool_met id g) ∙ is) fails.fails.twice
-                      (IsRightly s.functions s.honest languages k.plan.document path before.world) (both.1 k) gone.now gone.holds);
-                })))))
-                (told_pair x (λ d. Known documents) (λ d. (k : Known documents) → g ≡ fault.Compile → IsRightly s.functions s.honest languages k.plan.document path before.world) _ (λ d k is. (k, is)) known right);
-          }
+        updated_so : (k : Known documents) → IsMappedHere next → IsUpdated (s.functions path) (s.honest path) (views_of k.plan.document) before.world.history (picture_in before.world k.plan.document) next
+        updated_so k made = updated_with s.functions s.honest languages before name id design place path within documents k next made.updated
+
+        sources_are : (k : Known documents) → seq ≢ length before.world.history → sources ≡ sources_tried k.plan.document before.world next
+        sources_are k differs = tried_are s.functions s.honest languages before name id design place path within documents k next differs
+
+        -- and then it was refused
+        had_left : (f : UpdateFault) → IfTold x (λ d. IsDue documents next) → HasChecked s between servers' pool_between pool' design next.rows → ((r : Refusal) → met_by id f ≡ Refused r → ⊥) → IsLeft pool' servers' f
+        had_left f due checked never =
+            let gone = tried_there sources checked.reduces before.world in
+            let now : Moment = then pool' servers' before.world gone.now in
+            record {
+              now = gone.now;
+              has_child = gone.has_child;
+              called = told_now x (λ d. IsDue documents next) (λ d. MayHave now)
+                  (λ d k. tried_later k.known now next (updated_so k.known k.made)
+                  (subst (λ (r : List (List ℕ)). ReducedSomehow path r mapped now) (sources_are k.known k.differs) (somehow_had path sources mapped now gone.holds)) refl) due;
+              refused = λ r is. absurd (never r is);
+            }
+
+        -- a fault was met as they were tried
+        met_left : (f : UpdateFault) (g : PoolFault) → f ≡ by_pool g → FailsChecking s between servers' pool_between pool' design next.rows g → IfTold x (λ d. IsDue documents next)
+            → IfTold x (λ d. (k : Known documents) → g ≡ fault.Compile → IsRightly s.functions s.honest languages k.plan.document path before.world) → IsLeft pool' servers' f
+        met_left f g same fails due right =
+            let gone = met_there s between servers' pool_between pool' mapped mapped_child design.language path path_still sources g fails.fails before.world in
+            let now : Moment = then pool' servers' before.world gone.now in
+            record {
+              now = gone.now;
+              has_child = gone.has_child;
+              called = told_now x (λ d. IsDue documents next) (λ d. MayHave now)
+                  (λ d k. tried_later k.known now next (updated_so k.known k.made)
+                  (subst (λ (r : List (List ℕ)). ReducedSomehow path r mapped now) (sources_are k.known k.differs)
+                  (somehow_met s between servers' pool_between pool' mapped mapped_child design.language path path_still sources g now gone.holds)) refl) due;
+              refused = λ r is. told_now x (λ d. IsDue documents next × ((k : Known documents) → g ≡ fault.Compile → IsRightly s.functions s.honest languages k.plan.document path before.world)) (λ d. MayRefuse r now)
+                  (λ d both.
+                  let k = both.0.known in
+                  inl (inl (does_later k now (refusal_text r) (inl (record {
+                    same = refl;
+                    next = next;
+                    updated = updated_so k both.0.made;
+                    called = subst (λ (l : List (List ℕ)). CalledReducing path l mapped now (IsRefusedReducing s.functions s.honest name path l (IsRightly s.functions s.honest languages k.plan.document path before.world) mapped now (refusal_text r))) (sources_are k both.0.differs)
+                        (refused_reducing s between servers' pool_between pool' mapped mapped_child design.language path path_still sources name id k.plan.id_is before.world g r (sym (ap (met_by id) same ∙ by_pool_met id g) ∙ is) fails.fails.twice
+                        (IsRightly s.functions s.honest languages k.plan.document path before.world) (both.1 k) gone.now gone.holds);
+                  })))))
+                  (told_pair x (λ d. IsDue documents next) (λ d. (k : Known documents) → g ≡ fault.Compile → IsRightly s.functions s.honest languages k.plan.document path before.world) _ (λ d k is. (k, is)) due right);
+            }
 
   -- ---- however the update was refused
 
@@ -327,31 +349,40 @@ module _ {C : Type 0} (s : Servers C) (before : Moment) (name : ViewQuery) (id :
       spoiled_there s.functions s.honest languages before name id design place path within documents k is_honest sound fit (right path before.calls child.follows path_is child.child is_honest)
 
   module _ (pool' : Pool) (servers' : C) where
+    -- the reduces of a next picture were tried
+    abbrev Then : (Picture → Type 0) → C → Pool → Result (Unit {0}) UpdateFault → Result ℕ UpdateFault → Type 0
+    Then Last between pool_between mapped result = IsThenChecked s servers servers' pool pool' design {T = ℕ} (λ next. IsToldNext next × Last next) between pool_between mapped result
+
     -- they were asked for
-    asked_left : (f : UpdateFault) → IsUpdateFault f → (documents : List (List (List ℕ × Json))) → IfTold x (λ d. Known documents)
+    asked_left : (f : UpdateFault) → IsUpdateFault f → (documents : List (List (List ℕ × Json))) → IfTold x (λ d. Known documents) → IfTold x (λ d. seq ≢ length before.world.history)
         → (f ≡ update.Pool fault.Compile → IfTold x (λ d. ComplainsRightly s design servers pool before.world.history (picture_for design before.world.pictures)))
-        → HasAskedFor s servers servers' pool pool' design {T = ℕ} documents (Err f) → IsLeft pool' servers' f
-    asked_left f kind documents known right asked = by_mapped asked.mapped asked.maps asked.twice asked.checks
+        → (Last : Picture → Type 0) → HasAskedFor s servers servers' pool pool' design {T = ℕ} documents (λ next. IsToldNext next × Last next) (Err f) → IsLeft pool' servers' f
+    asked_left f kind documents known differs right Last asked = by_mapped asked.mapped asked.maps asked.twice asked.checks
       where
+        is_due : (next : Picture) → IsToldNext next → IfTold x (λ d. IsDue documents next)
+        is_due next made =
+            told_pair x (λ d. Known documents × (seq ≢ length before.world.history)) (λ d. IsMappedHere next) _ (λ d one is. record { known = one.0; differs = one.1; made = is })
+            (told_pair x (λ d. Known documents) (λ d. seq ≢ length before.world.history) _ (λ d k is. (k, is)) known differs) made
+
         by_checked : (lists : DocRowLists) → (documents ≡ [] → (asked.between ≡ servers) × (asked.pool_between ≡ pool)) → MapsAll s servers asked.between pool design documents asked.pool_between (Ok lists)
-            → (rows : List (List Row)) (checked : Result (Unit {0}) PoolFault) → Checks s asked.between servers' asked.pool_between pool' design rows checked → IsMetBy {T = ℕ} checked (Err f) → IsLeft pool' servers' f
-        by_checked lists idle maps rows (Ok done) checks met =
-            had_left asked.between asked.pool_between asked.keeps asked.later documents lists idle maps pool' servers' f rows known checks (λ r is. had_stops f id r kind met is)
-        by_checked lists idle maps rows (Err g) checks met =
+            → (next : Picture) → IsToldNext next → (checked : Result (Unit {0}) PoolFault) → Checks s asked.between servers' asked.pool_between pool' design next.rows checked → IsMetBy {T = ℕ} checked (Err f) → IsLeft pool' servers' f
+        by_checked lists idle maps next made (Ok done) checks met =
+            had_left asked.between asked.pool_between asked.keeps asked.later documents lists idle maps pool' servers' next f (is_due next made) checks (λ r is. had_stops f id r kind met is)
+        by_checked lists idle maps next made (Err g) checks met =
             let same : f ≡ by_pool g = cc in
-            met_left asked.between asked.pool_between asked.keeps asked.later documents lists idle maps pool' servers' f g same rows checks known
+            met_left asked.between asked.pool_between asked.keeps asked.later documents lists idle maps pool' servers' next f g same checks (is_due next made)
             (told_now x (λ d. g ≡ fault.Compile → ComplainsRightly s design servers pool before.world.history (picture_for design before.world.pictures)) _ (λ d told k is. rightly documents k (told is)) (told_if _ x (λ is. right (same ∙ ap by_pool is))))
 
-        by_maps : HasMappedSome s servers asked.between pool asked.pool_between design documents {T = Unit {0}} (Ok tt) → IsThenChecked s servers servers' pool pool' design {T = ℕ} asked.between asked.pool_between (Ok tt) (Err f) → IsLeft pool' servers' f
+        by_maps : HasMappedSome s servers asked.between pool asked.pool_between design documents {T = Unit {0}} (Ok tt) → Then Last asked.between asked.pool_between (Ok tt) (Err f) → IsLeft pool' servers' f
         by_maps (inl all) checks = by_end all.mapped all.met all.idle all.maps
           where
             by_end : (end : Result DocRowLists PoolFault) → IsMetAs {T = Unit {0}} end (Ok tt) → IfOk end (λ lists. documents ≡ [] → (asked.between ≡ servers) × (asked.pool_between ≡ pool)) → MapsAll s servers asked.between pool design documents asked.pool_between end → IsLeft pool' servers' f
-            by_end (Ok lists) met idle maps = by_checked lists idle maps checks.0 checks.1 checks.2 checks.3
+            by_end (Ok lists) met idle maps = by_checked lists idle maps checks.0 checks.1.0 checks.2 checks.3 checks.4
             by_end (Err g) met idle maps = let clash : ⊥ = cc in absurd clash
         by_maps (inr broken) checks = absurd broken.cause
 
         by_mapped : (mapped : Result (Unit {0}) UpdateFault) → HasMappedSome s servers asked.between pool asked.pool_between design documents mapped → (mapped ≡ Err (update.Pool fault.ServerFault) → RoseBy 2 (s.faults servers) (s.faults asked.between))
-            → IsThenChecked s servers servers' pool pool' design {T = ℕ} asked.between asked.pool_between mapped (Err f) → IsLeft pool' servers' f
+            → Then Last asked.between asked.pool_between mapped (Err f) → IsLeft pool' servers' f
         by_mapped (Ok done) maps twice checks = by_maps maps checks
         by_mapped (Err g) maps twice checks =
             let same : f ≡ g = cc in
@@ -362,68 +393,83 @@ module _ {C : Type 0} (s : Servers C) (before : Moment) (name : ViewQuery) (id :
 
     pub left_there : (f : UpdateFault) → IsUpdateFault f
         → ((documents : List (List (List ℕ × Json))) → IfTold x (λ d. documents ≡ documents_since seq before.world.history) → IfTold x (λ d. Known documents))
-        → (f ≡ update.Pool fault.Compile → IfTold x (λ d. ComplainsRightly s design servers pool before.world.history (picture_for design before.world.pictures)))
-        → ((servers' ≡ servers) × (pool' ≡ pool)) × IsIdleEnd {T = ℕ} (Err f) ⊎ ((documents : List (List (List ℕ × Json))) × HasAskedFor s servers servers' pool pool' design {T = ℕ} documents (Err f) × IfTold x (λ d. documents ≡ documents_since seq before.world.history))
+        → (f ≡ update.Pool fault.Compile → IfTold x (λ d. ComplainsRightly s design servers pool before.world.history (picture_for design before.world.pictures))) → (Last : Picture → Type 0)
+        → ((servers' ≡ servers) × (pool' ≡ pool)) × IsIdleEnd {T = ℕ} (Err f)
+        ⊎ ((documents : List (List (List ℕ × Json))) × HasAskedFor s servers servers' pool pool' design {T = ℕ} documents (λ next. IsToldNext next × Last next) (Err f) × IfTold x (λ d. AreSince documents))
         → IsLeft pool' servers' f
-    left_there f kind knows right (inl idle) = idle_left pool' servers' f idle.0.0 idle.0.1 (λ r is. idle_stops f id r kind idle.1 is)
-    left_there f kind knows right (inr some) = asked_left f kind some.0 (knows some.0 some.2) right some.1
+    left_there f kind knows right Last (inl idle) = idle_left pool' servers' f idle.0.0 idle.0.1 (λ r is. idle_stops f id r kind idle.1 is)
+    left_there f kind knows right Last (inr some) =
+        asked_left f kind some.0 (knows some.0 (told_now x (λ d. AreSince some.0) _ (λ d is. is.0) some.2)) (told_now x (λ d. AreSince some.0) _ (λ d is. is.1) some.2) right Last some.1
 
-    -- ---- the index was brought up to date
+    -- ---- the index was brought up to date, and shows a picture
 
-    -- all documents were mapped, and the reduces tried
-    pub record AreMapped : Type 0 where
-      pub documents : List (List (List ℕ × Json))
-      pub lists : DocRowLists
-      pub since : IfTold x (λ d. documents ≡ documents_since seq before.world.history)
-      pub between : C
-      pub pool_between : Pool
-      pub keeps : StaysAsMade pool pool_between
-      pub later : s.faults servers ≤ s.faults between
-      pub idle : documents ≡ [] → (between ≡ servers) × (pool_between ≡ pool)
-      pub maps : MapsAll s servers between pool design documents pool_between (Ok lists)
-      pub tried : Reduces s between servers' pool_between pool' design.language (reduce_sources design.views)
+    module _ (shown : Picture) where
+      -- all documents were mapped, and the reduces tried
+      pub record AreMapped : Type 0 where
+        pub documents : List (List (List ℕ × Json))
+        pub lists : DocRowLists
+        pub since : IfTold x (λ d. documents ≡ documents_since seq before.world.history)
+        pub between : C
+        pub pool_between : Pool
+        pub keeps : StaysAsMade pool pool_between
+        pub later : s.faults servers ≤ s.faults between
+        pub idle : documents ≡ [] → (between ≡ servers) × (pool_between ≡ pool)
+        pub maps : MapsAll s servers between pool design documents pool_between (Ok lists)
+        pub sources : List (List ℕ)
+        pub tried : Reduces s between servers' pool_between pool' design.language sources
+        pub sources_are : IfTold x (λ d. (k : Known documents) → sources ≡ sources_tried k.plan.document before.world shown)
 
-    pub all_mapped : (slot : ℕ) → ((servers' ≡ servers) × (pool' ≡ pool)) × IfTold x (λ d. seq ≡ length before.world.history) ⊎ ((documents : List (List (List ℕ × Json))) × HasAskedFor s servers servers' pool pool' design {T = ℕ} documents (Ok slot) × IfTold x (λ d. documents ≡ documents_since seq before.world.history))
-        → AreMapped
-    all_mapped slot (inl idle) = record {
-      documents = [];
-      lists = [];
-      since = told_now x (λ d. seq ≡ length before.world.history) (λ d. [] ≡ documents_since seq before.world.history) (λ d same. sym (none_since seq before.world.history same)) idle.1;
-      between = servers;
-      pool_between = pool;
-      keeps = record { languages = refl; width = refl };
-      later = omega arith;
-      idle = λ none. (refl, refl);
-      maps = first_whole s design servers servers pool pool [] [] (nothing_first s design servers pool);
-      tried = subst (λ (c : C). Reduces s servers c pool pool' design.language (reduce_sources design.views)) (sym idle.0.0) (subst (λ (p : Pool). Reduces s servers servers pool p design.language (reduce_sources design.views)) (sym idle.0.1) (nothing_reduced s servers pool design.language (reduce_sources design.views)));
-    }
-    all_mapped slot (inr (documents, asked, since)) = by_mapped asked.mapped asked.maps asked.checks
-      where
-        by_checked : (lists : DocRowLists) → (documents ≡ [] → (asked.between ≡ servers) × (asked.pool_between ≡ pool)) → MapsAll s servers asked.between pool design documents asked.pool_between (Ok lists)
-            → (rows : List (List Row)) (checked : Result (Unit {0}) PoolFault) → Checks s asked.between servers' asked.pool_between pool' design rows checked → IsMetBy {T = ℕ} checked (Ok slot) → AreMapped
-        by_checked lists idle maps rows (Ok done) checks met = record {
-          documents = documents;
-          lists = lists;
-          since = since;
-          between = asked.between;
-          pool_between = asked.pool_between;
-          keeps = asked.keeps;
-          later = asked.later;
-          idle = idle;
-          maps = maps;
-          tried = checks.reduces;
-        }
-        by_checked lists idle maps rows (Err g) checks met = let clash : ⊥ = cc in absurd clash
+      nothing_mapped : ((servers' ≡ servers) × (pool' ≡ pool)) × IfTold x (λ d. seq ≡ length before.world.history) → AreMapped
+      nothing_mapped idle = record {
+        documents = [];
+        lists = [];
+        since = told_now x (λ d. seq ≡ length before.world.history) (λ d. [] ≡ documents_since seq before.world.history) (λ d same. sym (none_since seq before.world.history same)) idle.1;
+        between = servers;
+        pool_between = pool;
+        keeps = record { languages = refl; width = refl };
+        later = omega arith;
+        idle = λ none. (refl, refl);
+        maps = first_whole s design servers servers pool pool [] [] (nothing_first s design servers pool);
+        sources = [];
+        tried = subst (λ (c : C). Reduces s servers c pool pool' design.language []) (sym idle.0.0) (subst (λ (p : Pool). Reduces s servers servers pool p design.language []) (sym idle.0.1) (nothing_reduced s servers pool design.language []));
+        sources_are = told_now x (λ d. seq ≡ length before.world.history) _ (λ d same k. none_tried s.functions s.honest languages before name id design place path within [] k shown same) idle.1;
+      }
 
-        by_maps : HasMappedSome s servers asked.between pool asked.pool_between design documents {T = Unit {0}} (Ok tt) → IsThenChecked s servers servers' pool pool' design {T = ℕ} asked.between asked.pool_between (Ok tt) (Ok slot) → AreMapped
-        by_maps (inl all) checks = by_end all.mapped all.met all.idle all.maps
-          where
-            by_end : (end : Result DocRowLists PoolFault) → IsMetAs {T = Unit {0}} end (Ok tt) → IfOk end (λ lists. documents ≡ [] → (asked.between ≡ servers) × (asked.pool_between ≡ pool)) → MapsAll s servers asked.between pool design documents asked.pool_between end → AreMapped
-            by_end (Ok lists) met idle maps = by_checked lists idle maps checks.0 checks.1 checks.2 checks.3
-            by_end (Err g) met idle maps = let clash : ⊥ = cc in absurd clash
-        by_maps (inr broken) checks = absurd broken.cause
+      some_mapped : (slot : ℕ) (documents : List (List (List ℕ × Json))) → HasAskedFor s servers servers' pool pool' design {T = ℕ} documents (λ next. IsToldNext next × (next ≡ shown)) (Ok slot) → IfTold x (λ d. AreSince documents) → AreMapped
+      some_mapped slot documents asked since = by_mapped asked.mapped asked.maps asked.checks
+        where
+          by_checked : (lists : DocRowLists) → (documents ≡ [] → (asked.between ≡ servers) × (asked.pool_between ≡ pool)) → MapsAll s servers asked.between pool design documents asked.pool_between (Ok lists)
+              → (next : Picture) → next ≡ shown → (checked : Result (Unit {0}) PoolFault) → Checks s asked.between servers' asked.pool_between pool' design next.rows checked → IsMetBy {T = ℕ} checked (Ok slot) → AreMapped
+          by_checked lists idle maps next is (Ok done) checks met = record {
+            documents = documents;
+            lists = lists;
+            since = told_now x (λ d. AreSince documents) _ (λ d all. all.0) since;
+            between = asked.between;
+            pool_between = asked.pool_between;
+            keeps = asked.keeps;
+            later = asked.later;
+            idle = idle;
+            maps = maps;
+            sources = tried_sources design.views next.rows;
+            tried = checks.reduces;
+            sources_are = told_now x (λ d. AreSince documents) _ (λ d all k.
+                tried_are s.functions s.honest languages before name id design place path within documents k next all.1 ∙ ap (sources_tried k.plan.document before.world) is) since;
+          }
+          by_checked lists idle maps next is (Err g) checks met = let clash : ⊥ = cc in absurd clash
 
-        by_mapped : (mapped : Result (Unit {0}) UpdateFault) → HasMappedSome s servers asked.between pool asked.pool_between design documents mapped
-            → IsThenChecked s servers servers' pool pool' design {T = ℕ} asked.between asked.pool_between mapped (Ok slot) → AreMapped
-        by_mapped (Ok done) maps checks = by_maps maps checks
-        by_mapped (Err g) maps checks = let clash : ⊥ = cc in absurd clash
+          by_maps : HasMappedSome s servers asked.between pool asked.pool_between design documents {T = Unit {0}} (Ok tt) → Then (λ next. next ≡ shown) asked.between asked.pool_between (Ok tt) (Ok slot) → AreMapped
+          by_maps (inl all) checks = by_end all.mapped all.met all.idle all.maps
+            where
+              by_end : (end : Result DocRowLists PoolFault) → IsMetAs {T = Unit {0}} end (Ok tt) → IfOk end (λ lists. documents ≡ [] → (asked.between ≡ servers) × (asked.pool_between ≡ pool)) → MapsAll s servers asked.between pool design documents asked.pool_between end → AreMapped
+              by_end (Ok lists) met idle maps = by_checked lists idle maps checks.0 checks.1.1 checks.2 checks.3 checks.4
+              by_end (Err g) met idle maps = let clash : ⊥ = cc in absurd clash
+          by_maps (inr broken) checks = absurd broken.cause
+
+          by_mapped : (mapped : Result (Unit {0}) UpdateFault) → HasMappedSome s servers asked.between pool asked.pool_between design documents mapped → Then (λ next. next ≡ shown) asked.between asked.pool_between mapped (Ok slot) → AreMapped
+          by_mapped (Ok done) maps checks = by_maps maps checks
+          by_mapped (Err g) maps checks = let clash : ⊥ = cc in absurd clash
+
+      pub all_mapped : (slot : ℕ) → ((servers' ≡ servers) × (pool' ≡ pool)) × IfTold x (λ d. seq ≡ length before.world.history)
+          ⊎ ((documents : List (List (List ℕ × Json))) × HasAskedFor s servers servers' pool pool' design {T = ℕ} documents (λ next. IsToldNext next × (next ≡ shown)) (Ok slot) × IfTold x (λ d. AreSince documents)) → AreMapped
+      all_mapped slot (inl idle) = nothing_mapped idle
+      all_mapped slot (inr (documents, asked, since)) = some_mapped slot documents asked since

@@ -24,9 +24,9 @@ use Rattle.view_model.specs.Picture.{Picture}
 use Rattle.view_updater.specs.declared.fault.UpdateFault.{UpdateFault}
 use Rattle.view_updater.specs.declared.fault.UpdateFault.TheVariants.{Pool as OfPool}
 use Rattle.child_pool.specs.declared.pool_fault.PoolFault.TheVariants.{Compile}
-use Rattle.view_updater.specs.Updates.{documents_since, ComplainsRightly, HasAskedFor, IsIdleEnd, IsOfIndex}
+use Rattle.view_updater.specs.Updates.{documents_since, ComplainsRightly, HasAskedFor, IsIdleEnd, IsMapped, IsOfIndex, IsThenChecked}
 use Rattle.view_groups.specs.declared.groups.Groups.{Groups}
-use Rattle.view_groups.specs.Brings.{side, Brings, EndsAt, IsIdle, IsNext, MayLeave}
+use Rattle.view_groups.specs.Brings.{side, AsksSince, Brings, EndsAt, IsIdle, IsLast, IsMappedTo, IsNext, MayLeave}
 use Rattle.view_groups.specs.Groups.{IsGroup}
 use Rattle.view_groups.specs.Reached.{picture_for, sig_of, views_in, IsReached, StandsAround as IndexStandsAround}
 use Rattle.view_engine.specs.declared.engine.Engine.{Engine}
@@ -45,7 +45,7 @@ abbrev pub with_picture : World → Design → Picture → World
 with_picture world design next = record { history = world.history; pictures = λ sig. if bytes_eq sig (sig_of design) then Some next else world.pictures sig }
 
 -- one place has one index
-one_index : (groups : Groups) (place : ℕ) (sig : List ℕ) (views : ℕ) (one other : Index) → IsGroup groups place sig views one → IsGroup groups place sig views other → one ≡ other
+pub one_index : (groups : Groups) (place : ℕ) (sig : List ℕ) (views : ℕ) (one other : Index) → IsGroup groups place sig views one → IsGroup groups place sig views other → one ≡ other
 one_index groups place sig views one other first second = let same : Some one ≡ Some other = sym first.there ∙ second.there in cc
 
 -- the picture that is there is no newer than the history
@@ -55,6 +55,25 @@ within_there engine files world design at = by_picture (world.pictures (sig_of d
     by_picture : (picture : Option Picture) → world.pictures (sig_of design) ≡ picture → (or_empty (views_in design) picture).seq ≤ length world.history
     by_picture None is = omega arith
     by_picture (Some picture) is = at.within (sig_of design) picture is
+
+-- what was asked for is so where the next picture is more
+pub asked_wider : {C : Type 0} (s : Servers C) (servers servers' : C) (pool pool' : Pool) (design : Design) (result : Result ℕ UpdateFault) (documents : List (List (List ℕ × Json))) (IsNext IsNext' : Picture → Type 0)
+    → ((next : Picture) → IsNext next → IsNext' next) → HasAskedFor s servers servers' pool pool' design documents IsNext result → HasAskedFor s servers servers' pool pool' design documents IsNext' result
+asked_wider s servers servers' pool pool' design result documents IsNext IsNext' wider asked = record {
+  between = asked.between;
+  pool_between = asked.pool_between;
+  mapped = asked.mapped;
+  maps = asked.maps;
+  keeps = asked.keeps;
+  later = asked.later;
+  twice = asked.twice;
+  checks = by_mapped asked.mapped asked.checks;
+}
+  where
+    by_mapped : (mapped : Result (Unit {0}) UpdateFault) → IsThenChecked s servers servers' pool pool' design {T = ℕ} IsNext asked.between asked.pool_between mapped result
+        → IsThenChecked s servers servers' pool pool' design {T = ℕ} IsNext' asked.between asked.pool_between mapped result
+    by_mapped (Err fault) is = is
+    by_mapped (Ok done) is = (is.0, wider is.0 is.1, is.2, is.3, is.4)
 
 module _ {F C : Type 0} (f : Folders F) (s : Servers C) (docs : Docs) (pool pool' : Pool) (groups groups' : Groups) (mid new : F) (servers servers' : C) (name : ViewQuery) (id : List ℕ) (design : Design) (place : ℕ) (path : List ℕ)
     (within : place < length design.views) (path_is : path_in (languages_of pool) design.language ≡ Some path) (result : Result ℕ UpdateFault)
@@ -80,18 +99,35 @@ module _ {F C : Type 0} (f : Folders F) (s : Servers C) (docs : Docs) (pool pool
 
     -- ---- what was asked for
 
+    -- what is told of the next picture, and of the documents
+    abbrev pub IsToldIn : Option (Disk FileName) → Picture → Type 0
+    IsToldIn y next = IfTold y (λ d. IsMapped s.functions s.honest design path world.history (picture_for design world.pictures) next)
+
+    abbrev pub AreSince : List (List (List ℕ × Json)) → Type 0
+    AreSince documents = (documents ≡ documents_since seq world.history) × (seq ≢ length world.history)
+
+    abbrev Last : Picture → Type 0
+    Last = IsLast f s docs design (side mid servers pool groups) (side new servers' pool' groups') result
+
     abbrev Asked : Option (Disk FileName) → Type 0
     Asked y = (IsIdle f s docs design (side mid servers pool groups) (side new servers' pool' groups') × IsIdleEnd result × IfTold y (λ d. OnOk result (seq ≡ length world.history)))
-        ⊎ ((documents : List (List (List ℕ × Json))) × HasAskedFor s servers servers' pool pool' design {T = ℕ} documents result × IfTold y (λ d. documents ≡ documents_since seq world.history))
+        ⊎ ((documents : List (List (List ℕ × Json))) × HasAskedFor s servers servers' pool pool' design {T = ℕ} documents (λ next. IsToldIn y next × Last next) result × IfTold y (λ d. AreSince documents))
 
     pub asked_there : Asked (f.disk mid)
     asked_there = by_disk (f.disk mid) at.documents (brings.asks world.history world.pictures)
       where
         by_disk : (y : Option (Disk FileName)) → IfTold y (λ d. IsAtWorld engine d.now world)
-            → IfTold y (λ d. IsReached docs groups design world.history world.pictures d.now → (IsIdle f s docs design (side mid servers pool groups) (side new servers' pool' groups') × (IsIdleEnd result × OnOk result (seq ≡ length world.history)))
-            ⊎ HasAskedFor s servers servers' pool pool' design {T = ℕ} (documents_since seq world.history) result) → Asked y
-        by_disk None here asks = ⊎_elim (λ idle. inl (idle.0, idle.1, tt)) (λ some. inr (some.0, some.1, tt)) brings.asked
-        by_disk (Some d) here asks = ⊎_elim (λ idle. inl (idle.0, idle.1.0, idle.1.1)) (λ some. inr (documents_since seq world.history, some, refl)) (asks (reached d here))
+            → IfTold y (λ d. IsReached docs groups design world.history world.pictures d.now → AsksSince f s docs design (side mid servers pool groups) (side new servers' pool' groups') world.history world.pictures result) → Asked y
+        by_disk None here asks = ⊎_elim (λ idle. inl (idle.0, idle.1, tt))
+            (λ some. inr (some.0, asked_wider s servers servers' pool pool' design result some.0 Last (λ next. IsToldIn None next × Last next) (λ next last. (tt, last)) some.1, tt)) brings.asked
+        by_disk (Some d) here asks = ⊎_elim (λ idle. inl (idle.0, idle.1, idle.2))
+            (λ some. inr (
+              documents_since seq world.history,
+              asked_wider s servers servers' pool pool' design result (documents_since seq world.history)
+                  (λ next. IsMappedTo f s docs design (side mid servers pool groups) (side new servers' pool' groups') world.history world.pictures next × Last next) (λ next. IsToldIn (Some d) next × Last next)
+                  (λ next is. (is.0 path before.calls at.child.follows path_is at.child.child, is.1)) some.1,
+              (refl, some.0),
+            )) (asks (reached d here))
 
     -- a complaint is right
     pub complains_there : result ≡ Err (OfPool Compile) → IfTold (f.disk mid) (λ d. ComplainsRightly s design servers pool world.history (picture_for design world.pictures))

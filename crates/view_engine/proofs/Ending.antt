@@ -170,13 +170,13 @@ module _ {F C : Type 0} (f : Folders F) (s : Servers C) (docs : Docs) (pool : Po
       -- or they were not
       met_then : {out' : List ℕ} (fault : PoolFault) → HasMet s servers' servers'' pool' pool'' design place query (picture_of brings.place.0) fault → out' ≡ out → Performed f s now last (Ok (view_request name)) out out' (Err (met_by_pool id fault))
       met_then {out'} fault met silent =
-          let made : StaysAsMade pool' pool'' × (s.faults servers' ≤ s.faults servers'') = ⊎_elim (λ fails. (fails.0.keeps, fails.0.later)) (λ spent. (spent.1.keeps, spent.1.later)) met in
+          let made : StaysAsMade pool' pool'' × (s.faults servers' ≤ s.faults servers'') = ⊎_elim (λ fails. (fails.keeps, fails.later)) (λ spent. (spent.1.keeps, spent.1.later)) met in
           viewed f s now last name
           (does_halted f s now last name out out' (met_by_pool id fault)
           (λ goes before at. halted_leaves f s docs pool pool' groups groups' old mid new servers servers' name id design place path within path_is read plans slot brings before at pool'' servers'' query query_is each fault met)
           (λ step is other before at. absurd (other (stops_for_memory id fault step is))))
           tt silent
-          (λ is. ⊎_elim (λ fails. rose_since _ _ _ brings.later.1 (fails.0.twice (pool_server_fault id fault (let same : met_by_pool id fault ≡ Refused ServerFault = cc in same))))
+          (λ is. ⊎_elim (λ fails. rose_since _ _ _ brings.later.1 (fails.twice (pool_server_fault id fault (let same : met_by_pool id fault ≡ Refused ServerFault = cc in same))))
           (λ spent. absurd (never_refused id fault ServerFault spent.0 (let same : met_by_pool id fault ≡ Refused ServerFault = cc in same))) met)
           moves (λ goes. opens)
           (λ before at file limit is. absurd (let full : met_by_pool id fault ≡ Stopped (Full file limit) = cc in let spent : Full file limit ≡ NoMemory = stops_for_memory id fault (Full file limit) full in cc))

@@ -69,7 +69,7 @@ use Rattle.view_engine.specs.Moments.{CalledReducing, Moment}
 use Rattle.view_engine.specs.Reducing.{Reduced, ReducedSomehow}
 use Rattle.view_engine.specs.Steps.{AskedBy, DoesRequest, DoesRequestText, MayHaveCalled}
 use Rattle.view_engine.specs.Updating.{picture_in, AreFit, IsSound}
-use Rattle.view_engine.specs.View.{design_id, own_reduces, rows_in, IsAnswered, IsAnswerOf, IsNever, IsRefusedReducing, PrintsRows}
+use Rattle.view_engine.specs.View.{design_id, or_no_rows, own_reduces, rows_in, IsAnswered, IsAnswerOf, IsNever, IsRefusedReducing, PrintsRows}
 use Rattle.view_engine.specs.ViewPlan.{met_by, met_by_pool, source_at, IsPlan}
 use Rattle.query_args.specs.Query.{is_updated}
 use Rattle.view_engine.specs.ViewQuery.{ViewQuery, asked_sources, parameters_of, query_for, reduce_named, view_request}
@@ -246,7 +246,7 @@ module _ {F C : Type 0} (f : Folders F) (s : Servers C) (docs : Docs) (pool : Po
     last = scene engine'' new servers''
 
     abbrev own : List (List ℕ)
-    own = asked_sources query (reduce_in design.views place)
+    own = asked_sources query (reduce_in design.views place) (slice_index_or (picture_of found).rows place [])
 
     group : IsGroup groups' slot (sig_of design) (views_in design) found
     group = subst (IsGroup groups' slot (sig_of design) (views_in design)) (let same : Some opens.place.0 ≡ Some found = sym opens.place.1.there ∙ there in cc) opens.place.1
@@ -311,8 +311,15 @@ module _ {F C : Type 0} (f : Folders F) (s : Servers C) (docs : Docs) (pool : Po
         abbrev Asked : List Write
         Asked = first (picture_in here_world document).seq here_world.history
 
-        own_is : own ≡ own_reduces name document
-        own_is = λ i. asked_sources ((query_is ∙ ap (λ (views : List DesignView). query_for views name) plan.views) i) ((plan.reduced ∙ ap (reduce_named name.view) plan.views) i)
+        shown_is : rows_in (views_of document) (picture_in here_world document).rows name.view ≡ Some printed
+        shown_is =
+            ap (λ (p : Picture). rows_in (views_of document) p.rows name.view) (sym same)
+            ∙ ap (λ (views : List DesignView). rows_in views (picture_of found).rows name.view) (sym plan.views)
+            ∙ plan.shown (picture_of found).rows each
+
+        own_is : own ≡ own_reduces name document here_world
+        own_is =
+            λ i. asked_sources ((query_is ∙ ap (λ (views : List DesignView). query_for views name) plan.views) i) ((plan.reduced ∙ ap (reduce_named name.view) plan.views) i) (ap or_no_rows (sym shown_is) i)
 
         -- the picture of an honest path is true, where the pictures stand
         was : s.honest path → IsSound s.functions s.honest (languages_of pool) here_world → AreFit here_world.history → IsTrueOf (s.functions path) (views_of document) here_world.history (picture_in here_world document)
@@ -330,10 +337,7 @@ module _ {F C : Type 0} (f : Folders F) (s : Servers C) (docs : Docs) (pool : Po
             → PrintsRows s.functions s.honest (languages_of pool) name document path (source_at design.views place) here_world here_world reply
         prints parts reply answers = record {
           rows = printed;
-          shown =
-              ap (λ (p : Picture). rows_in (views_of document) p.rows name.view) (sym same)
-              ∙ ap (λ (views : List DesignView). rows_in views (picture_of found).rows name.view) (sym plan.views)
-              ∙ plan.shown (picture_of found).rows each;
+          shown = shown_is;
           parts = parts;
           afresh = λ is_honest sound fit.
               ap (λ (p : Picture). slice_index_or p.rows place []) same
@@ -372,12 +376,12 @@ module _ {F C : Type 0} (f : Folders F) (s : Servers C) (docs : Docs) (pool : Po
         )
 
         -- a complaint of an honest path there is none over pictures that stand
-        never_it : printed ≢ [] → SomeReduceFails (s.functions path) own → IsNever s.functions s.honest (languages_of pool) path here_world
-        never_it some fails = λ is_honest sound fit.
+        never_it : SomeReduceFails (s.functions path) own → IsNever s.functions s.honest (languages_of pool) path here_world
+        never_it fails = λ is_honest sound fit.
             let true_there = was is_honest sound fit in
             let fails_there : some_reduce_fails (s.functions path) (views_of document) (rows_of (s.functions path) (views_of document) Asked) ≡ true =
             subst (λ (r : List (List Row)). some_reduce_fails (s.functions path) (views_of document) r ≡ true) (ap (λ (p : Picture). p.rows) same ∙ true_there.rows)
-            (subst (λ (views : List DesignView). some_reduce_fails (s.functions path) views (picture_of found).rows ≡ true) plan.views (fails_of_own (s.functions path) design.views (picture_of found).rows place each some query fails)) in
+            (subst (λ (views : List DesignView). some_reduce_fails (s.functions path) views (picture_of found).rows ≡ true) plan.views (fails_of_own (s.functions path) design.views (picture_of found).rows place query fails)) in
             let clash : true ≡ false = sym (spoiled_by_reduce (s.functions path) (views_of document) Asked fails_there) ∙ true_there.sound in
             cc
 
@@ -402,7 +406,7 @@ module _ {F C : Type 0} (f : Folders F) (s : Servers C) (docs : Docs) (pool : Po
           }
 
       pub halted_leaves : (fault : PoolFault) → HasMet s servers servers'' pool pool'' design place query (picture_of found) fault → LeavesMoment f s now last before (Halts f s now last name before (met_by_pool id fault))
-      halted_leaves fault (inl (fails, wanted)) =
+      halted_leaves fault (inl fails) =
           let met = met_there s servers servers'' pool pool'' before at.child design.language path path_is own fault fails here_world in
           left_it met.now met.has_child (Halts f s now last name before (met_by_pool id fault))
           (told_now (f.disk old) (λ d. IsPlanned) _ (λ d both. (
@@ -410,7 +414,7 @@ module _ {F C : Type 0} (f : Folders F) (s : Servers C) (docs : Docs) (pool : Po
                 subst (λ (l : List (List ℕ)). CalledReducing path l before (last_it met.now) (IsRefusedReducing s.functions s.honest name path l (IsNever s.functions s.honest (languages_of pool) path here_world) before (last_it met.now) (refusal_text r))) (own_is both.0 both.1)
                 (refused_reducing s servers servers'' pool pool'' before at.child design.language path path_is own name id both.0.id_is here_world fault r is fails.twice (IsNever s.functions s.honest (languages_of pool) path here_world)
                 (λ complains is_honest sound fit.
-                never_it both.0 both.1 (wanted complains)
+                never_it both.0 both.1
                 (complains_of_reduce s.functions s.honest path own met.holds.added before.calls is_honest (subst (IsCaused s.functions s.honest (reduce_job path own) met.holds.added before.calls) complains met.holds.holds.caused))
                 is_honest sound fit)
                 met.now met.holds))),
@@ -441,13 +445,13 @@ module _ {F C : Type 0} (f : Folders F) (s : Servers C) (docs : Docs) (pool : Po
 
     met_then : {out' : List ℕ} (fault : PoolFault) → HasMet s servers servers'' pool pool'' design place query (picture_of found) fault → out' ≡ out → Performed f s now last (Ok (view_request name)) out out' (Err (met_by_pool id fault))
     met_then {out'} fault met silent =
-        let made : StaysAsMade pool pool'' × (s.faults servers ≤ s.faults servers'') = ⊎_elim (λ fails. (fails.0.keeps, fails.0.later)) (λ spent. (spent.1.keeps, spent.1.later)) met in
+        let made : StaysAsMade pool pool'' × (s.faults servers ≤ s.faults servers'') = ⊎_elim (λ fails. (fails.keeps, fails.later)) (λ spent. (spent.1.keeps, spent.1.later)) met in
         viewed f s now last name
         (does_halted f s now last name out out' (met_by_pool id fault)
         (λ goes before at. halted_leaves before at fault met)
         (λ step is other before at. absurd (other (stops_for_memory id fault step is))))
         tt silent
-        (λ is. ⊎_elim (λ fails. fails.0.twice (pool_server_fault id fault (let same : met_by_pool id fault ≡ Refused ServerFault = cc in same)))
+        (λ is. ⊎_elim (λ fails. fails.twice (pool_server_fault id fault (let same : met_by_pool id fault ≡ Refused ServerFault = cc in same)))
         (λ spent. absurd (never_refused id fault ServerFault spent.0 (let same : met_by_pool id fault ≡ Refused ServerFault = cc in same))) met)
         (moves_of opens) (λ goes. kept_open)
         (λ before at file limit is. absurd (let full : met_by_pool id fault ≡ Stopped (Full file limit) = cc in let spent : Full file limit ≡ NoMemory = stops_for_memory id fault (Full file limit) full in cc))

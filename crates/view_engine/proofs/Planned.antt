@@ -1,5 +1,5 @@
 -- A view that is planned, over what bringing the index of its design up to date left.
-use Rattle.std.specs.Prelude.{◌≡◌, ◌≢◌, ◌<◌, ℕ, List, [], ◌∷◌, length, Option, Some, None, Ok, Err, slice_index_or}
+use Rattle.std.specs.Prelude.{◌≡◌, ◌≢◌, ◌<◌, ℕ, List, [], ◌∷◌, length, Option, Some, None, Result, Ok, Err, slice_index_or}
 use Rattle.std.specs.List.{AllByRecursion}
 use Rattle.std.proofs.Common.{true, false, refl, sym, ap, ◌∙◌, subst, inl, inr, ⊎_elim}
 use Rattle.json_terms.specs.Json.{Json}
@@ -25,7 +25,7 @@ use Rattle.child_pool.specs.Honesty.{SomeReduceFails}
 use Rattle.child_pool.specs.Jobs.{reduce_job}
 use Rattle.child_pool.specs.Languages.{path_in}
 use Rattle.child_pool.specs.Outcomes.{IsCaused}
-use Rattle.child_pool.specs.ReduceTalk.{reduce_in, reduce_sources}
+use Rattle.child_pool.specs.ReduceTalk.{reduce_in}
 use Rattle.child_pool.specs.Mapping.{IsPart}
 use Rattle.child_pool.specs.Pools.{languages_of}
 use Rattle.doc_file.specs.declared.docs.Docs.{Docs}
@@ -34,7 +34,8 @@ use Rattle.doc_file.specs.History.{Write, AreStored, live_document}
 use Rattle.view_index.specs.declared.index.Index.{Index}
 use Rattle.view_index.specs.Index.{picture_of}
 use Rattle.view_updater.specs.declared.fault.UpdateFault.{UpdateFault}
-use Rattle.view_updater.specs.Updates.{documents_since, IsOfIndex}
+use Rattle.view_model.specs.Picture.{Picture}
+use Rattle.view_updater.specs.Updates.{documents_since, HasAskedFor, IsMapped, IsOfIndex}
 use Rattle.view_groups.specs.declared.groups.Groups.{Groups}
 use Rattle.view_groups.specs.Brings.{side, Brings, IsNext}
 use Rattle.view_groups.specs.Groups.{IsGroup}
@@ -48,21 +49,21 @@ use Rattle.view_engine.specs.Answering.{Answers, AppendsAnswer, HasAll, HasMet}
 use Rattle.view_engine.specs.Engine.{HasChild}
 use Rattle.view_engine.specs.Moments.{CalledReducing, Moment}
 use Rattle.view_engine.specs.Reducing.{Reduced, ReducedSomehow}
-use Rattle.view_engine.specs.Updating.{IsBrought}
+use Rattle.view_engine.specs.Updating.{picture_in, IsBrought}
 use Rattle.view_engine.specs.Refusals.{refusal_text}
 use Rattle.view_engine.specs.Steps.{DoesRequest, DoesRequestText, MayHaveCalled}
 use Rattle.view_engine.specs.ViewPlan.{met_by, met_by_pool, source_at, IsPlan, IsUpdateFault}
 use Rattle.view_engine.specs.World.{World}
 use Rattle.view_engine.specs.Worlds.{IsAtWorld, StandsAround, StandsEither}
 use Rattle.view_engine.proofs.Between.{stands_first, stands_same}
-use Rattle.view_engine.proofs.Asking.{all_mapped, asked_later, does_later, left_there, mapped as mapped_moment, mapped_child, path_still, then, tried_there, AreMapped, IsLeft}
-use Rattle.view_engine.proofs.Bringing.{asked_there, brought_at, complains_there, failed_at, moved, next_is, refused_at, with_picture}
+use Rattle.view_engine.proofs.Asking.{all_mapped, shown_later, does_later, left_there, mapped as mapped_moment, mapped_child, path_still, then, tried_there, AreMapped, IsLeft}
+use Rattle.view_engine.proofs.Bringing.{asked_there, asked_wider, brought_at, complains_there, failed_at, moved, next_is, one_index, refused_at, with_picture}
 use Rattle.view_engine.proofs.Reduced.{HasGone, all_had, complains_of_reduce, met_there, never_refused, refused_reducing, somehow_had, somehow_met}
 use Rattle.view_engine.proofs.Updated.{fails_of_own, rows_are_afresh, spoiled_by_reduce}
-use Rattle.view_engine.proofs.Viewed.{all_are, is_brought, own_are, prints, updated_with, IsKnown, IsNextOf}
+use Rattle.view_engine.proofs.Viewed.{is_brought, own_are, picture_is, prints, shown_are, updated_with, IsKnown, IsNextOf}
 use Rattle.view_engine.proofs.Viewing.{Halts, LeavesStopped}
 use Rattle.view_engine.proofs.Whole.{leaves_none, world_none}
-use Rattle.view_engine.specs.View.{all_reduces, design_id, own_reduces, IsAnswered, IsNever, IsRefusedReducing}
+use Rattle.view_engine.specs.View.{design_id, own_reduces, sources_tried, IsAnswered, IsNever, IsRefusedReducing}
 use Rattle.view_engine.specs.ViewQuery.{ViewQuery, asked_sources, query_for, view_request}
 
 -- a history that a document is live in isn't empty
@@ -97,6 +98,15 @@ module _ {F C : Type 0} (f : Folders F) (s : Servers C) (docs : Docs) (pool pool
     told_first : (P : Type 0) → IfTold (f.disk mid) (λ d. P) → IfTold (f.disk old) (λ d. P)
     told_first P known = told_back (f.disk old) (f.disk mid) (λ d. P) (λ d. P) MovesNone (λ a b none is. is) read known
 
+    -- also of the next picture that was asked for
+    told_earlier : (result : Result ℕ UpdateFault) (Last Last' : Picture → Type 0) → ((next : Picture) → Last next → Last' next) → (documents : List (List (List ℕ × Json)))
+        → HasAskedFor s servers servers' pool pool' design documents (λ next. IfTold (f.disk mid) (λ d. IsMapped s.functions s.honest design path world.history (picture_for design world.pictures) next) × Last next) result
+        → HasAskedFor s servers servers' pool pool' design documents (λ next. IfTold (f.disk old) (λ d. IsMapped s.functions s.honest design path world.history (picture_for design world.pictures) next) × Last' next) result
+    told_earlier result Last Last' same documents asked =
+        asked_wider s servers servers' pool pool' design result documents (λ next. IfTold (f.disk mid) (λ d. IsMapped s.functions s.honest design path world.history (picture_for design world.pictures) next) × Last next)
+        (λ next. IfTold (f.disk old) (λ d. IsMapped s.functions s.honest design path world.history (picture_for design world.pictures) next) × Last' next)
+        (λ next is. (told_first (IsMapped s.functions s.honest design path world.history (picture_for design world.pictures) next) is.0, same next is.1)) asked
+
     pub planned : IfTold (f.disk old) (λ d. IsPlan true (languages_of pool) world.history name id design place path × AreStored world.history)
     planned = told_pair (f.disk old) (λ d. IsAtWorld engine d.now world) (λ d. AreAt docs d.now world.history → IsPlan true (languages_of pool) world.history name id design place path) _ (λ d here is. (is here.documents, here.documents.stored)) at.documents (plans world.history)
 
@@ -119,7 +129,8 @@ module _ {F C : Type 0} (f : Folders F) (s : Servers C) (docs : Docs) (pool pool
     left before at =
         left_there s before name id design place path within pool servers path_is at.child (f.disk old) pool' servers' fault kind (known before at)
         (λ is. told_first before at _ (complains_there f s docs pool pool' groups groups' mid new servers servers' name id design place path within path_is (Err fault) brings before (at_mid before at) (ap Err is)))
-        (⊎_elim (λ idle. inl ((idle.0.0, idle.0.1), idle.1)) (λ some. inr (some.0, some.1, told_first before at _ some.2))
+        (λ next. Unit {0})
+        (⊎_elim (λ idle. inl ((idle.0.0, idle.0.1), idle.1)) (λ some. inr (some.0, told_earlier before at (Err fault) (λ next. Unit {0}) (λ next. Unit {0}) (λ next is. is) some.0 some.1, told_first before at _ some.2))
         (asked_there f s docs pool pool' groups groups' mid new servers servers' name id design place path within path_is (Err fault) brings before (at_mid before at)))
 
     pub refused_leaves : (IsOfIndex fault → ⊥) → (before : Moment) → StandsAt f s now before → LeavesMoment f s now later before (Halts f s now later name before halt)
@@ -176,10 +187,19 @@ module _ {F C : Type 0} (f : Folders F) (s : Servers C) (docs : Docs) (pool pool
       abbrev after_world : World
       after_world = with_picture before.world design (picture_of index)
 
-      mapped : AreMapped s before name id design place path within pool servers path_is at.child (f.disk old) pool' servers'
+      -- it is that of the last update
+      last_shown : (next : Picture) → (last : Index) × IsGroup groups' slot (sig_of design) (views_in design) last × (next ≡ picture_of last) → next ≡ picture_of index
+      last_shown next is = is.2 ∙ ap picture_of (one_index groups' slot (sig_of design) (views_in design) is.0 index is.1 group)
+
+      mapped : AreMapped s before name id design place path within pool servers path_is at.child (f.disk old) pool' servers' (picture_of index)
       mapped =
-          all_mapped s before name id design place path within pool servers path_is at.child (f.disk old) pool' servers' slot
-          (⊎_elim (λ idle. inl ((idle.0.0, idle.0.1), told_first before at _ idle.2)) (λ some. inr (some.0, some.1, told_first before at _ some.2))
+          all_mapped s before name id design place path within pool servers path_is at.child (f.disk old) pool' servers' (picture_of index) slot
+          (⊎_elim (λ idle. inl ((idle.0.0, idle.0.1), told_first before at _ idle.2))
+          (λ some. inr (
+            some.0,
+            told_earlier before at (Ok slot) (λ next. (last : Index) × IsGroup groups' slot (sig_of design) (views_in design) last × (next ≡ picture_of last)) (λ next. next ≡ picture_of index) last_shown some.0 some.1,
+            told_first before at _ some.2,
+          ))
           (asked_there f s docs pool pool' groups groups' mid new servers servers' name id design place path within path_is (Ok slot) brings before (at_mid before at)))
 
       abbrev IsKnownThere : Type 0
@@ -194,8 +214,8 @@ module _ {F C : Type 0} (f : Folders F) (s : Servers C) (docs : Docs) (pool pool
           (mapped_child s before name id design place path within pool servers path_is at.child (f.disk old) mapped.between mapped.pool_between mapped.keeps mapped.later mapped.documents mapped.lists mapped.idle mapped.maps pool' servers')
           design.language path
           (path_still s before name id design place path within pool servers path_is at.child (f.disk old) mapped.between mapped.pool_between mapped.keeps mapped.later mapped.documents mapped.lists mapped.idle mapped.maps pool' servers')
-          (reduce_sources design.views) (λ after. Reduced path (reduce_sources design.views) mapped_it after) after_world
-      gone = tried_there s before name id design place path within pool servers path_is at.child (f.disk old) mapped.between mapped.pool_between mapped.keeps mapped.later mapped.documents mapped.lists mapped.idle mapped.maps pool' servers' mapped.tried after_world
+          mapped.sources (λ after. Reduced path mapped.sources mapped_it after) after_world
+      gone = tried_there s before name id design place path within pool servers path_is at.child (f.disk old) mapped.between mapped.pool_between mapped.keeps mapped.later mapped.documents mapped.lists mapped.idle mapped.maps pool' servers' mapped.sources mapped.tried after_world
 
       abbrev between_it : Moment
       between_it = then s before name id design place path within pool servers path_is at.child (f.disk old) pool' servers' after_world gone.now
@@ -216,16 +236,27 @@ module _ {F C : Type 0} (f : Folders F) (s : Servers C) (docs : Docs) (pool pool
           (moved f s docs pool pool' groups groups' mid new servers servers' name id design place path within path_is (Ok slot) brings before here)
 
       -- told of the disk before
-      abbrev IsKnownMade : Type 0
-      IsKnownMade = (k : IsKnownThere) × IsNextOf s.functions s.honest before.world design path mapped.documents (picture_of index) after_world
+      abbrev AreTried : Type 0
+      AreTried = (k : IsKnownThere) → mapped.sources ≡ sources_tried k.plan.document before.world (picture_of index)
+
+      record IsKnownMade : Type 0 where
+        pub known : IsKnownThere
+        pub made : IsNextOf s.functions s.honest before.world design path mapped.documents (picture_of index) after_world
+        pub tried : mapped.sources ≡ sources_tried known.plan.document before.world (picture_of index)
 
       known_made : IfTold (f.disk old) (λ d. IsKnownMade)
       known_made =
-          told_pair (f.disk old) (λ d. IsKnownThere) (λ d. IsMadeThere) _
-          (λ d k made. (k, next_is f s docs pool pool' groups groups' mid new servers servers' name id design place path within path_is (Ok slot) brings before (at_mid before at) (picture_of index) after_world mapped.documents made k.documents_are refl (λ sig. refl)))
+          told_pair (f.disk old) (λ d. IsKnownThere × IsMadeThere) (λ d. AreTried) _
+          (λ d both tried. record {
+            known = both.0;
+            made = next_is f s docs pool pool' groups groups' mid new servers servers' name id design place path within path_is (Ok slot) brings before (at_mid before at) (picture_of index) after_world mapped.documents both.1 both.0.documents_are refl (λ sig. refl);
+            tried = tried both.0;
+          })
+          (told_pair (f.disk old) (λ d. IsKnownThere) (λ d. IsMadeThere) _ (λ d k made. (k, made))
           (known before at mapped.documents mapped.since)
           (told_first before at IsMadeThere (told_back (f.disk mid) (f.disk new) (λ d. IsMadeThere) (λ d. IsMadeThere) _ (λ a b both is. is) brought
-          (told_after (f.disk mid) (f.disk new) (λ d. IsAtWorld engine d.now before.world) (λ d. IsMadeThere) _ (λ a b there both. both.1.1) (at_mid before at).documents brought)))
+          (told_after (f.disk mid) (f.disk new) (λ d. IsAtWorld engine d.now before.world) (λ d. IsMadeThere) _ (λ a b there both. both.1.1) (at_mid before at).documents brought))))
+          mapped.sources_are
 
       -- ---- the view is answered, through the pool and the servers then
       module _ (pool'' : Pool) (servers'' : C) (query : Query) (query_is : query ≡ query_for design.views name) where
@@ -236,7 +267,7 @@ module _ {F C : Type 0} (f : Folders F) (s : Servers C) (docs : Docs) (pool pool
         last = scene engine'' new servers''
 
         abbrev own : List (List ℕ)
-        own = asked_sources query (reduce_in design.views place)
+        own = asked_sources query (reduce_in design.views place) rows
 
         path_there : path_in (languages_of pool') design.language ≡ Some path
         path_there = ap (λ (l : List (List ℕ × List ℕ)). path_in l design.language) brings.keeps.languages ∙ path_is
@@ -257,15 +288,24 @@ module _ {F C : Type 0} (f : Folders F) (s : Servers C) (docs : Docs) (pool pool
         }
 
         -- in the words of the design document
-        module _ (k : IsKnownThere) (made : IsNextOf s.functions s.honest before.world design path mapped.documents (picture_of index) after_world) where
+        module _ (there : IsKnownMade) (each : length (picture_of index).rows ≡ length design.views) where
+          abbrev k : IsKnownThere
+          k = there.known
+
+          abbrev made : IsNextOf s.functions s.honest before.world design path mapped.documents (picture_of index) after_world
+          made = there.made
+
           abbrev document : Json
           document = k.plan.document
 
-          own_is : own ≡ own_reduces name document
-          own_is = own_are s.functions s.honest (languages_of pool) before name id design place path within mapped.documents k query query_is
+          own_is : own ≡ own_reduces name document after_world
+          own_is = own_are s.functions s.honest (languages_of pool) before name id design place path within mapped.documents k query query_is rows after_world
+              (shown_are s.functions s.honest (languages_of pool) before name id design place path within mapped.documents (picture_of index) after_world k made each)
 
-          tried_it : Reduced path (all_reduces document) mapped_it between_it
-          tried_it = subst (λ (r : List (List ℕ)). Reduced path r mapped_it between_it) (all_are s.functions s.honest (languages_of pool) before name id design place path within mapped.documents k) gone.holds
+          tried_it : Reduced path (sources_tried document before.world (picture_in after_world document)) mapped_it between_it
+          tried_it =
+              subst (λ (r : List (List ℕ)). Reduced path r mapped_it between_it)
+              (there.tried ∙ ap (sources_tried document before.world) (sym (picture_is s.functions s.honest (languages_of pool) before name id design place path within mapped.documents (picture_of index) after_world k made))) gone.holds
 
           brought_it : IsBrought s.functions s.honest (languages_of pool) document path before.world after_world
           brought_it = is_brought s.functions s.honest (languages_of pool) before name id design place path within mapped.documents (picture_of index) after_world k made
@@ -273,13 +313,8 @@ module _ {F C : Type 0} (f : Folders F) (s : Servers C) (docs : Docs) (pool pool
           -- so it is asked for
           asked_it : (calls : List Call) → ReducedSomehow path own between_it (last_it calls) → MayHaveCalled s.functions s.honest (languages_of pool) before (Ok (view_request name)) (last_it calls)
           asked_it calls somehow =
-              asked_later s before name id design place path within pool servers path_is at.child (f.disk old) mapped.between mapped.pool_between mapped.keeps mapped.later mapped.documents mapped.lists mapped.idle mapped.maps pool' servers'
-              (last_it calls) after_world refl k
-              (record {
-                between = between_it;
-                tried = somehow_had path (all_reduces document) mapped_it between_it tried_it;
-                reduced = subst (λ (r : List (List ℕ)). ReducedSomehow path r between_it (last_it calls)) own_is somehow;
-              }) (inr brought_it)
+              shown_later s before name id design place path within pool servers path_is at.child (f.disk old) mapped.between mapped.pool_between mapped.keeps mapped.later mapped.documents mapped.lists mapped.idle mapped.maps pool' servers'
+              k between_it (last_it calls) tried_it brought_it (subst (λ (r : List (List ℕ)). ReducedSomehow path r between_it (last_it calls)) own_is somehow)
 
           -- so it is answered
           does_it : (calls : List Call) (reply : List ℕ) → IsAnswered s.functions s.honest (languages_of pool) name document path (source_at design.views place) before.world between_it (last_it calls) reply
@@ -288,10 +323,10 @@ module _ {F C : Type 0} (f : Folders F) (s : Servers C) (docs : Docs) (pool pool
               (inr (record { between = between_it; tried = tried_it; brought = brought_it; answered = answered }))))
 
           -- all values were had
-          had_it : length (picture_of index).rows ≡ length design.views → AllByRecursion (λ (row : Row). IsPart (json row.key) × IsPart (json row.value)) rows
+          had_it : AllByRecursion (λ (row : Row). IsPart (json row.key) × IsPart (json row.value)) rows
               → (reply : List ℕ) → Answers (s.functions path) (s.honest path) (reduce_in design.views place) query (picture_of index).seq rows reply → (calls : List Call) → Reduced path own between_it (last_it calls)
               → DoesRequest s.functions s.honest (languages_of pool) before (Ok (view_request name)) reply (last_it calls)
-          had_it each parts reply answers calls all =
+          had_it parts reply answers calls all =
               does_it calls reply (inl (
                 subst (λ (r : List (List ℕ)). Reduced path r between_it (last_it calls)) own_is all,
                 prints s.functions s.honest (languages_of pool) before name id design place path within mapped.documents (picture_of index) after_world k made each parts reply
@@ -300,13 +335,13 @@ module _ {F C : Type 0} (f : Folders F) (s : Servers C) (docs : Docs) (pool pool
               ))
 
           -- a complaint of an honest path there is none, where the pictures stood
-          never_it : length (picture_of index).rows ≡ length design.views → rows ≢ [] → SomeReduceFails (s.functions path) own → IsNever s.functions s.honest (languages_of pool) path before.world
-          never_it each some fails = λ is_honest sound fit.
+          never_it : SomeReduceFails (s.functions path) own → IsNever s.functions s.honest (languages_of pool) path before.world
+          never_it fails = λ is_honest sound fit.
               let afresh = rows_are_afresh s.functions s.honest (languages_of pool) before.world (design_id name.design) document path refl k.plan.live k.plan.path_is is_honest sound fit (picture_of index)
               (updated_with s.functions s.honest (languages_of pool) before name id design place path within mapped.documents k (picture_of index) made.updated) in
               let fails_there : some_reduce_fails (s.functions path) (views_of document) (rows_of (s.functions path) (views_of document) before.world.history) ≡ true =
               subst (λ (r : List (List Row)). some_reduce_fails (s.functions path) (views_of document) r ≡ true) afresh
-              (subst (λ (views : List View). some_reduce_fails (s.functions path) views (picture_of index).rows ≡ true) k.plan.views (fails_of_own (s.functions path) design.views (picture_of index).rows place each some query fails)) in
+              (subst (λ (views : List View). some_reduce_fails (s.functions path) views (picture_of index).rows ≡ true) k.plan.views (fails_of_own (s.functions path) design.views (picture_of index).rows place query fails)) in
               let clash : true ≡ false = sym (spoiled_by_reduce (s.functions path) (views_of document) before.world.history fails_there) ∙ brought_it.answerable is_honest sound fit in
               cc
 
@@ -322,33 +357,31 @@ module _ {F C : Type 0} (f : Folders F) (s : Servers C) (docs : Docs) (pool pool
                 leaves = left_it had.now had.has_child (DoesRequestText s.functions s.honest (languages_of pool) before (Ok (view_request name)) (ended answers.reply))
                     (told_now (f.disk old) (λ d. IsKnownMade) _ (λ d both. (
                       answers.reply,
-                      had_it both.0 both.1 each parts answers.reply (answers.is path gone.now child_it.follows path_there child_it.child) had.now had.holds,
+                      had_it both each parts answers.reply (answers.is path gone.now child_it.follows path_there child_it.child) had.now had.holds,
                       refl,
                     )) known_made);
                 appended = answers.appended;
               }
 
           pub halted_leaves : (fault : PoolFault) → HasMet s servers' servers'' pool' pool'' design place query (picture_of index) fault → LeavesMoment f s now last before (Halts f s now last name before (met_by_pool id fault))
-          halted_leaves fault (inl (fails, wanted)) =
+          halted_leaves fault (inl fails) =
               let met = met_there s servers' servers'' pool' pool'' between_it child_it design.language path path_there own fault fails after_world in
               left_it met.now met.has_child (Halts f s now last name before (met_by_pool id fault))
-              (told_now (f.disk old) (λ d. IsKnownMade) _ (λ d both.
-              let k = both.0 in
-              let made = both.1 in (
-                λ r is. does_it k made met.now (refusal_text r) (inr (
-                    subst (λ (l : List (List ℕ)). CalledReducing path l between_it (last_it met.now) (IsRefusedReducing s.functions s.honest name path l (IsNever s.functions s.honest (languages_of pool) path before.world) between_it (last_it met.now) (refusal_text r))) (own_is k made)
-                    (refused_reducing s servers' servers'' pool' pool'' between_it child_it design.language path path_there own name id k.plan.id_is after_world fault r is fails.twice (IsNever s.functions s.honest (languages_of pool) path before.world)
+              (told_now (f.disk old) (λ d. IsKnownMade) _ (λ d there. (
+                λ r is. does_it there each met.now (refusal_text r) (inr (
+                    subst (λ (l : List (List ℕ)). CalledReducing path l between_it (last_it met.now) (IsRefusedReducing s.functions s.honest name path l (IsNever s.functions s.honest (languages_of pool) path before.world) between_it (last_it met.now) (refusal_text r))) (own_is there each)
+                    (refused_reducing s servers' servers'' pool' pool'' between_it child_it design.language path path_there own name id there.known.plan.id_is after_world fault r is fails.twice (IsNever s.functions s.honest (languages_of pool) path before.world)
                     (λ complains is_honest sound fit.
-                    never_it k made each (wanted complains)
+                    never_it there each
                     (complains_of_reduce s.functions s.honest path own met.holds.added between_it.calls is_honest (subst (IsCaused s.functions s.honest (reduce_job path own) met.holds.added between_it.calls) complains met.holds.holds.caused))
                     is_honest sound fit)
                     met.now met.holds))),
-                asked_it k made met.now (somehow_met s servers' servers'' pool' pool'' between_it child_it design.language path path_there own fault (last_it met.now) met.holds),
+                asked_it there each met.now (somehow_met s servers' servers'' pool' pool'' between_it child_it design.language path path_there own fault (last_it met.now) met.holds),
               )) known_made)
           halted_leaves fault (inr (spent, all)) =
               let had = all_had s servers' servers'' pool' pool'' between_it child_it design.language path path_there own all after_world in
               left_it had.now had.has_child (Halts f s now last name before (met_by_pool id fault))
-              (told_now (f.disk old) (λ d. IsKnownMade) _ (λ d both. (
+              (told_now (f.disk old) (λ d. IsKnownMade) _ (λ d there. (
                 λ r is. absurd (never_refused id fault r spent is),
-                asked_it both.0 both.1 had.now (somehow_had path own between_it (last_it had.now) had.holds),
+                asked_it there each had.now (somehow_had path own between_it (last_it had.now) had.holds),
               )) known_made)

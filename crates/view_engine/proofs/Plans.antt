@@ -1,7 +1,7 @@
 -- A view request before any server is asked.
-use Rattle.std.specs.Prelude.{◌≡◌, ◌<◌, ◌≤◌, ℕ, codes, not, zero, suc, List, [], ◌∷◌, true, Bool, Option, Some, None, option_and_then, option_map, bytes_eq, length, map, slice_index_or}
+use Rattle.std.specs.Prelude.{◌≡◌, ◌<◌, ◌≤◌, ℕ, codes, not, List, [], ◌∷◌, true, Bool, Option, Some, None, option_and_then, option_map, bytes_eq, length, map, slice_index_or}
 use Rattle.std.specs.Map.{lookup}
-use Rattle.std.proofs.Common.{◌⊎◌, inl, inr, refl, sym, ap, ◌∙◌, subst, arith}
+use Rattle.std.proofs.Common.{◌⊎◌, inl, inr, refl, sym, ap, ◌∙◌, subst}
 use Rattle.std.proofs.lemmas.Bool.{and_parts}
 use Rattle.json_terms.specs.Json.{Json}
 use Rattle.json_terms.specs.Find.{member_of}
@@ -17,6 +17,7 @@ use Rattle.child_pool.specs.Languages.{path_in}
 use Rattle.child_pool.specs.ReduceTalk.{reduce_in}
 use Rattle.doc_file.specs.Held.{IsBodyOf}
 use Rattle.doc_file.specs.History.{Write, last_write, live_document}
+use Rattle.view_updater.proofs.OneTried.{reduce_at}
 use Rattle.view_engine.specs.declared.refusal.Refusal.{Refusal}
 use Rattle.view_engine.specs.declared.refusal.Refusal.TheVariants.{BadQuery, MissingNamedView, UnknownLanguage}
 use Rattle.view_engine.specs.World.{World, of_history}
@@ -129,12 +130,6 @@ met_query other refusal stands is (inr memory) = absurd (let clash : ⊥ = memor
     memory_is_no_fault : (found : QueryFault) (refusal : Refusal) → found ≡ query.NoMemory → met_by_query found ≡ Refused refusal → ⊥
     memory_is_no_fault found refusal memory is = let met : Stopped NoMemory ≡ Refused refusal = sym (ap met_by_query memory) ∙ is in cc
 
--- the reduce in a place is that of the view there
-reduce_at_place : (views : List View) (place : ℕ) (view : View) → place < length views → (slice_index_or views place view).reduce ≡ reduce_in views place
-reduce_at_place [] place view within = absurd (omega arith)
-reduce_at_place (first ∷ views) zero view within = refl
-reduce_at_place (first ∷ views) (suc place) view within = reduce_at_place views place view (omega arith)
-
 -- the reduce of the view in the place that was found is that of the view with the name
 pub has_there : (views one : List View) (name text : List ℕ) (place : ℕ) → one ≡ views → text ≡ name → HasReduce one text place → HasReduce views name place
 has_there views one name text place one_is text_is has =
@@ -145,7 +140,7 @@ pub reduced_there : (views one two : List View) (name text : List ℕ) (place : 
 reduced_there views one two name text place view found one_is two_is text_is within is has =
     sym (is
     ∙ ap (λ (vs : List View). has_reduce (slice_index_or vs place view).reduce) two_is
-    ∙ ap has_reduce (reduce_at_place views place view (subst (λ (vs : List View). place < length vs) one_is within) ∙ has_there views one name text place one_is text_is has))
+    ∙ ap has_reduce (reduce_at views views place view refl (subst (λ (vs : List View). place < length vs) one_is within) ∙ has_there views one name text place one_is text_is has))
 
 -- a query that is reduced is of a view with a reduce
 pub reduced_has : (views : List View) (name : ViewQuery) (place : ℕ) (query : Query) → query ≡ query_for views name → HasReduce views name.view place → query.reduced ≡ true → has_reduce (reduce_in views place) ≡ true

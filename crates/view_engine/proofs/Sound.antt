@@ -130,9 +130,12 @@ module _ (functions : List ℕ → Functions) (honest : List ℕ → Type 0) (la
 
   asked_sound : (updating : Bool) (before : Moment) (name : ViewQuery) (after : Moment) → AskedBy functions honest languages updating before name after → Sound before.world → Sound after.world
   asked_sound false before name after asked sound = subst Sound (sym asked.same) sound
-  asked_sound true before name after asked sound = elim asked.world [
-    | inl same ↦ subst Sound (sym same) sound
-    | inr brought ↦ brought_sound asked.design asked.job.path before.world after.world (named_is_design (before.world).history name.design asked.design asked.is_job.live) asked.is_job.path_is brought sound
+  asked_sound true before name after asked sound = elim asked.ends [
+    | inl mapping ↦ subst Sound (sym mapping.same) sound
+    | inr later ↦ elim later [
+      | inl trying ↦ subst Sound (sym trying.same) sound
+      | inr showing ↦ brought_sound asked.design asked.job.path before.world after.world (named_is_design (before.world).history name.design asked.design asked.is_job.live) asked.is_job.path_is showing.brought sound
+    ]
   ]
 
   called_sound : (before : Moment) (request : Result Request Refusal) (after : Moment) → MayHaveCalled functions honest languages before request after → Sound before.world → Sound after.world

@@ -1,5 +1,5 @@
 -- What an update of a design's picture is to a world whose pictures stand.
-use Rattle.std.specs.Prelude.{◌≡◌, ◌≢◌, ◌⊎◌, ◌<◌, ◌&&◌, ◌||◌, ℕ, zero, suc, List, [], ◌∷◌, Bool, true, false, not, if◌then◌else◌, Option, Some, None, option_and_then, bytes_eq, length, slice_index_or, nat_lt, Contains}
+use Rattle.std.specs.Prelude.{◌≡◌, ◌≢◌, ◌⊎◌, ◌<◌, ◌&&◌, ◌||◌, ℕ, zero, suc, List, [], ◌∷◌, Bool, true, false, if◌then◌else◌, Option, Some, None, option_and_then, bytes_eq, length, slice_index_or, nat_lt, Contains}
 use Rattle.std.proofs.Common.{refl, sym, ap, ◌∙◌, subst, inl, inr, arith}
 use Rattle.std.specs.List.{flat_map}
 use Rattle.std.proofs.lemmas.List.Elements.{Contains-append_right}
@@ -18,7 +18,10 @@ use Rattle.child_pool.specs.Honesty.{SomeReduceFails, SomeSourceFails}
 use Rattle.child_pool.specs.Languages.{path_in}
 use Rattle.child_pool.specs.ReduceTalk.{reduce_in, reduce_source}
 use Rattle.query_args.specs.declared.query.Query.{Query}
-use Rattle.view_engine.specs.ViewQuery.{asked_sources}
+use Rattle.view_engine.specs.ViewQuery.{asked_sources, source_for}
+use Rattle.view_model.specs.Groups.{picked_groups}
+use Rattle.view_model.proofs.NoGroups.{none_picked}
+use Rattle.view_updater.proofs.Tried.{fails_in_place}
 use Rattle.raw_collation.specs.Sorting.{sorted_rows}
 use Rattle.child_pool.specs.Sessions.{AllCompile}
 use Rattle.doc_file.specs.History.{Write, last_write, live_document, mapped, mapped_after}
@@ -123,40 +126,23 @@ spoiled_by_reduce functions views history fails =
     by_documents [] none = let clash : true ≡ false = sym fails ∙ unmapped_want_none functions views history none in absurd cc
     by_documents (first ∷ others) some = refl
 
--- the reduce of a view in a place fails, which has rows
-pub fails_in_place : (functions : Functions) (views : List View) (rows : List (List Row)) (place : ℕ) (source : List ℕ) → length rows ≡ length views → reduce_in views place ≡ Source source → slice_index_or rows place [] ≢ []
-    → functions.reduce_compiles source ≡ false → some_reduce_fails functions views rows ≡ true
-fails_in_place functions [] rows place source long is some fails = let clash : Absent ≡ Source source = is in absurd cc
-fails_in_place functions (view ∷ views) [] place source long is some fails = absurd (some refl)
-fails_in_place functions (view ∷ views) (own ∷ rows) zero source long is some fails =
-    ap (λ (r : Reduce). reduce_fails functions r own || some_reduce_fails functions views rows) is
-    ∙ ap (λ (b : Bool). (has_some own && not b) || some_reduce_fails functions views rows) fails
-    ∙ by_rows own some
+-- a source fails by which the rows of a view are asked for
+pub fails_of_own : (functions : Functions) (views : List View) (rows : List (List Row)) (place : ℕ) (query : Query)
+    → SomeReduceFails functions (asked_sources query (reduce_in views place) (slice_index_or rows place [])) → some_reduce_fails functions views rows ≡ true
+fails_of_own functions views rows place query own =
+    by_asked query.reduced (picked_groups query (slice_index_or rows place [])) (λ some none. some (none_picked query (slice_index_or rows place []) none)) own.source own.among own.fails
   where
-    by_rows : (given : List Row) → given ≢ [] → ((has_some given && not false) || some_reduce_fails functions views rows) ≡ true
-    by_rows [] any = absurd (any refl)
-    by_rows (row ∷ more) any = refl
-fails_in_place functions (view ∷ views) (own ∷ rows) (suc place) source long is some fails =
-    or_later (reduce_fails functions view.reduce own) (some_reduce_fails functions views rows) (fails_in_place functions views rows place source (omega (arith, long)) is some fails)
-  where
-    or_later : (a b : Bool) → b ≡ true → (a || b) ≡ true
-    or_later true b later = refl
-    or_later false b later = later
+    by_reduce : slice_index_or rows place [] ≢ [] → (reduce : Reduce) → reduce_in views place ≡ reduce → (source : List ℕ) → IsAmong (reduce_source reduce) source → functions.reduce_compiles source ≡ false → some_reduce_fails functions views rows ≡ true
+    by_reduce some Absent is source among fails = absurd among
+    by_reduce some (Builtin kind) is source among fails = absurd among
+    by_reduce some (Source given) is source (inl same) fails = fails_in_place functions views rows place given is some (ap functions.reduce_compiles (sym same) ∙ fails)
+    by_reduce some (Source given) is source (inr later) fails = absurd later
 
--- the same where the sources of the view's own reduce are told
-pub fails_of_own : (functions : Functions) (views : List View) (rows : List (List Row)) (place : ℕ) → length rows ≡ length views → slice_index_or rows place [] ≢ []
-    → (query : Query) → SomeReduceFails functions (asked_sources query (reduce_in views place)) → some_reduce_fails functions views rows ≡ true
-fails_of_own functions views rows place each some query own = by_asked query.reduced own.source own.among own.fails
-  where
-    by_reduce : (reduce : Reduce) → reduce_in views place ≡ reduce → (source : List ℕ) → IsAmong (reduce_source reduce) source → functions.reduce_compiles source ≡ false → some_reduce_fails functions views rows ≡ true
-    by_reduce Absent is source among fails = absurd among
-    by_reduce (Builtin kind) is source among fails = absurd among
-    by_reduce (Source given) is source (inl same) fails = fails_in_place functions views rows place given each is some (ap functions.reduce_compiles (sym same) ∙ fails)
-    by_reduce (Source given) is source (inr later) fails = absurd later
-
-    by_asked : (asked : Bool) (source : List ℕ) → IsAmong (if asked then reduce_source (reduce_in views place) else []) source → functions.reduce_compiles source ≡ false → some_reduce_fails functions views rows ≡ true
-    by_asked true source among fails = by_reduce (reduce_in views place) refl source among fails
-    by_asked false source among fails = absurd among
+    by_asked : (asked : Bool) (groups : List (List Row)) → (groups ≢ [] → slice_index_or rows place [] ≢ []) → (source : List ℕ) → IsAmong (if asked then source_for groups (reduce_in views place) else []) source
+        → functions.reduce_compiles source ≡ false → some_reduce_fails functions views rows ≡ true
+    by_asked true [] some source among fails = absurd among
+    by_asked true (group ∷ groups) some source among fails = by_reduce (some (λ none. let clash : group ∷ groups ≡ [] = none in cc)) (reduce_in views place) refl source among fails
+    by_asked false groups some source among fails = absurd among
 
 -- ---- the rows of a view in its place
 

@@ -1,18 +1,16 @@
 -- A view, as its servers answered it.
 use Rattle.std.specs.Prelude.{slice_index_or}
-use Rattle.std.proofs.Common.{◌≡◌, ◌≢◌, ◌⊎◌, ◌<◌, ◌≤◌, ◌∙◌, ◌++◌, ℕ, max, min, List, [], ◌∷◌, Bool, true, false, length, map, Option, None, Some, Result, Ok, Err, refl, sym, ap, subst, inl, inr}
+use Rattle.std.proofs.Common.{◌≡◌, ◌≢◌, ◌⊎◌, ◌<◌, ◌≤◌, ◌∙◌, ◌++◌, ℕ, max, min, List, [], ◌∷◌, Bool, true, false, length, map, Option, None, Some, Result, Ok, Err, refl, sym, ap, subst, inl, inr, eq-eqb, ne_eqb}
 use Rattle.std.specs.Prelude.{if◌then◌else◌}
 use Rattle.std.specs.List.{AllByRecursion}
 use Rattle.std.proofs.lemmas.List.{length-map}
 use Rattle.std.proofs.lemmas.Slice.Eq.{bytes_eq-Decides}
-use Rattle.json_terms.specs.Json.{Json, number, is_false, is_null, is_true, object, array, string}
+use Rattle.json_terms.specs.Json.{Json}
 use Rattle.json_terms.specs.Seen.{json}
 use Rattle.json_terms.specs.declared.term.Row.{Row}
-use Rattle.json_terms.proofs.Sames.{members_of-list_of_members}
 use Rattle.view_ports.specs.Calls.{Call}
 use Rattle.view_ports.specs.Faults.{Rose, RoseBy}
 use Rattle.view_ports.specs.Functions.{Functions, IsMappable, source_limit}
-use Rattle.view_ports.specs.Stored.{IsStoredDocument}
 use Rattle.design_docs.specs.declared.design.Design.{Design}
 use Rattle.design_docs.specs.declared.design.View.{View}
 use Rattle.design_docs.specs.Design.{map_sources, views_of}
@@ -27,7 +25,7 @@ use Rattle.child_pool.specs.Jobs.{Job, job_of}
 use Rattle.child_pool.specs.Mapping.{IsPart}
 use Rattle.child_pool.specs.Pools.{IsKeptOf, kept_of}
 use Rattle.child_pool.specs.Prompts.{update_prompts}
-use Rattle.child_pool.specs.ReduceTalk.{reduce_in, reduce_sources}
+use Rattle.child_pool.specs.ReduceTalk.{reduce_in}
 use Rattle.child_pool.specs.Honesty.{SomeSourceFails}
 use Rattle.child_pool.specs.Sessions.{AllCompile}
 use Rattle.child_pool.specs.Talk.{AreCutShortIn, AreTurns, talk_of}
@@ -36,7 +34,7 @@ use Rattle.child_pool.specs.Tries.{AllAnswered, Prompt, StopsAt}
 use Rattle.child_pool.specs.Updates.{AfterTries, AfterUpdate}
 use Rattle.child_pool.proofs.Remembered.{kept_is}
 use Rattle.child_pool.proofs.Honesty.{maps_complain_rightly, no_bad_reply}
-use Rattle.doc_file.specs.History.{IsStoredAs, AreStored, mapped_after}
+use Rattle.doc_file.specs.History.{AreStored, mapped_after}
 use Rattle.doc_file.proofs.CanBeStored.{mapped_are_stored}
 use Rattle.view_index.specs.Held.{empty_views, or_empty}
 use Rattle.view_model.specs.Picture.{Picture, picture_or_none}
@@ -46,36 +44,23 @@ use Rattle.view_model.specs.Standing.{AreSetAt}
 use Rattle.view_model.specs.Update.{IsUpdated}
 use Rattle.view_groups.specs.Reached.{picture_for, sig_of}
 use Rattle.view_signature.specs.Signature.{digest_of, signature_of}
+use Rattle.view_updater.specs.Checking.{tried_sources}
 use Rattle.view_updater.specs.Updates.{documents_since, IsSpoiled}
+use Rattle.view_updater.proofs.Nexts.{all_mappable}
 use Rattle.view_engine.specs.declared.refusal.Refusal.{Refusal}
 use Rattle.view_engine.specs.declared.refusal.Refusal.TheVariants as refusal
 use Rattle.view_engine.specs.declared.halt.Halt.TheVariants.{Refused}
 use Rattle.view_engine.specs.Moments.{Called, Moment}
-use Rattle.view_engine.specs.Reducing.{TriedAndReduced}
+use Rattle.view_engine.specs.Reducing.{Reduced, ReducedSomehow}
 use Rattle.view_engine.specs.Refusals.{refusal_text}
-use Rattle.view_engine.specs.Steps.{AskedBy, MapsThenReduces, MayHaveCalled, StopsMapping}
+use Rattle.view_engine.specs.Steps.{AskedBy, EndsMapping, EndsShowing, EndsTrying, MayHaveCalled, StopsMapping}
 use Rattle.view_engine.specs.Updating.{picture_in, AreFit, IsBrought, IsSound}
-use Rattle.view_engine.specs.View.{all_reduces, design_id, own_reduces, rows_in, DoesUpdatedView, IsAnswerOf, IsBroughtUp, IsBrokenOff, IsGivenUp, IsJobOf, IsMet, IsRefusedTrying, IsServed, PrintsRows, fault_of, prompts_of}
+use Rattle.view_engine.specs.View.{design_id, or_no_rows, own_reduces, rows_in, shown_rows, sources_tried, DoesUpdatedView, IsAnswerOf, IsBroughtUp, IsBrokenOff, IsGivenUp, IsJobOf, IsMet, IsRefusedTrying, IsServed, PrintsRows, fault_of, prompts_of}
 use Rattle.view_engine.specs.ViewPlan.{IsPlan, met_by_pool, source_at}
 use Rattle.view_engine.specs.World.{World}
 use Rattle.view_engine.proofs.Updated.{all_first, are_spoiled, are_spoiled_by_reduce, can_be_answered, rows_are_afresh, rows_at_place}
 use Rattle.query_args.specs.declared.query.Query.{Query}
 use Rattle.view_engine.specs.ViewQuery.{ViewQuery, asked_sources, query_for, reduce_named, view_request}
-
--- ---- documents that can be stored are those that functions are asked about
-
-mappable : (document : Json) → IsStoredDocument document → IsMappable (document_of document)
-mappable (object ms) is = subst IsStoredDocument (ap object (sym (members_of-list_of_members ms))) is
-mappable (number n) is = absurd (let found = is.id.1 in cc)
-mappable is_false is = absurd (let found = is.id.1 in cc)
-mappable is_null is = absurd (let found = is.id.1 in cc)
-mappable is_true is = absurd (let found = is.id.1 in cc)
-mappable (array ts) is = absurd (let found = is.id.1 in cc)
-mappable (string s) is = absurd (let found = is.id.1 in cc)
-
-all_mappable : (entries : List (List ℕ × Json)) → AllByRecursion (λ entry. IsStoredAs entry.0 entry.1) entries → AllByRecursion IsMappable (map (λ entry. document_of entry.1) entries)
-all_mappable [] all = tt
-all_mappable (entry ∷ entries) all = (mappable entry.1 all.0.stored, all_mappable entries all.1)
 
 no_documents : (entries : List (List ℕ × Json)) → map (λ entry. document_of entry.1) entries ≡ [] → entries ≡ []
 no_documents [] none = refl
@@ -189,26 +174,42 @@ module _ (functions : List ℕ → Functions) (honest : List ℕ → Type 0) (la
     reduces = refl;
   }
 
-  -- the sources of reduces, in the words of the pool
-  pub all_are : (known : Known) → reduce_sources design.views ≡ all_reduces known.plan.document
-  all_are known = ap reduce_sources known.plan.views
+  -- ---- the sources by which a query server reduces, in the words of the design document
 
-  pub own_are : (known : Known) (query : Query) → query ≡ query_for design.views name → asked_sources query (reduce_in design.views place) ≡ own_reduces name known.plan.document
-  own_are known query query_is =
-      λ i. asked_sources ((query_is ∙ ap (λ (views : List View). query_for views name) known.plan.views) i) ((known.plan.reduced ∙ ap (reduce_named name.view) known.plan.views) i)
+  same_seq : (known : Known) → (picture_for design before.world.pictures).seq ≡ (picture_in before.world known.plan.document).seq
+  same_seq known = ap (λ (p : Picture). p.seq) (same_picture languages before name id design place path documents known)
+
+  -- those that are tried where something was written since the picture
+  pub tried_are : (known : Known) (next : Picture) → (picture_for design before.world.pictures).seq ≢ length before.world.history → tried_sources design.views next.rows ≡ sources_tried known.plan.document before.world next
+  tried_are known next differs =
+      ap (λ (views : List View). tried_sources views next.rows) known.plan.views
+      ∙ sym (ap (λ (b : Bool). if b then [] else tried_sources (views_of known.plan.document) next.rows)
+      (ne_eqb (picture_in before.world known.plan.document).seq (length before.world.history) (λ same. differs (same_seq known ∙ same))))
+
+  -- and none where nothing was
+  pub none_tried : (known : Known) (next : Picture) → (picture_for design before.world.pictures).seq ≡ length before.world.history → [] ≡ sources_tried known.plan.document before.world next
+  none_tried known next same =
+      sym (ap (λ (b : Bool). if b then [] else tried_sources (views_of known.plan.document) next.rows)
+      (eq-eqb (picture_in before.world known.plan.document).seq (length before.world.history) (sym (same_seq known) ∙ same)))
+
+  -- that by which the answer is asked for
+  pub own_are : (known : Known) (query : Query) → query ≡ query_for design.views name → (rows : List Row) (world : World) → rows ≡ shown_rows name known.plan.document world
+      → asked_sources query (reduce_in design.views place) rows ≡ own_reduces name known.plan.document world
+  own_are known query query_is rows world rows_are =
+      λ i. asked_sources ((query_is ∙ ap (λ (views : List View). query_for views name) known.plan.views) i) ((known.plan.reduced ∙ ap (reduce_named name.view) known.plan.views) i) (rows_are i)
 
   -- the design was asked for
-  asked_to : (known : Known) (now : Moment) → Called job before now (StopsMapping job before now) ⊎ MapsThenReduces job (all_reduces known.plan.document) (own_reduces name known.plan.document) before now
-      → (now.world ≡ before.world) ⊎ IsBrought functions honest languages known.plan.document path before.world now.world → MayHaveCalled functions honest languages before (Ok (view_request name)) now
-  asked_to known now called world = inr (
+  asked_to : (known : Known) (now : Moment)
+      → EndsMapping functions honest languages job before now ⊎ EndsTrying functions honest languages known.plan.document job before now ⊎ EndsShowing functions honest languages name known.plan.document job before now
+      → MayHaveCalled functions honest languages before (Ok (view_request name)) now
+  asked_to known now ends = inr (
     known.plan.accepted,
     subst (λ (updating : Bool). AskedBy functions honest languages updating before name now) (sym known.plan.updates) (record {
       design = known.plan.document;
       job = job;
       source = source;
       is_job = is_job known;
-      called = called;
-      world = world;
+      ends = ends;
     }),
   )
 
@@ -247,14 +248,24 @@ module _ (functions : List ℕ → Functions) (honest : List ℕ → Type 0) (la
     abbrev rows_there : List Row
     rows_there = slice_index_or next.rows place []
 
+    -- the picture is there, and its rows are shown
+    pub picture_is : picture_in left known.plan.document ≡ next
+    picture_is = ap (picture_or_none (views_of known.plan.document)) (set_there (signature_of known.plan.document) next before.world.pictures left.pictures signed)
+
+    shown_is : length next.rows ≡ length design.views → rows_in (views_of known.plan.document) (picture_in left known.plan.document).rows name.view ≡ Some rows_there
+    shown_is each =
+        ap (λ (picture : Picture). rows_in (views_of known.plan.document) picture.rows name.view) picture_is
+        ∙ ap (λ views. rows_in views next.rows name.view) (sym known.plan.views)
+        ∙ known.plan.shown next.rows each
+
+    pub shown_are : length next.rows ≡ length design.views → rows_there ≡ shown_rows name known.plan.document left
+    shown_are each = ap or_no_rows (sym (shown_is each))
+
     pub prints : length next.rows ≡ length design.views → AllByRecursion (λ (row : Row). IsPart (json row.key) × IsPart (json row.value)) rows_there
         → (reply : List ℕ) → IsAnswerOf (functions path) (honest path) design.views name next.seq rows_there reply → PrintsRows functions honest languages name known.plan.document path source before.world left reply
     prints each parts reply answers = record {
       rows = rows_there;
-      shown =
-          ap (λ picture. rows_in (views_of known.plan.document) (picture_or_none (views_of known.plan.document) picture).rows name.view) (set_there (signature_of known.plan.document) next before.world.pictures left.pictures signed)
-          ∙ ap (λ views. rows_in views next.rows name.view) (sym known.plan.views)
-          ∙ known.plan.shown next.rows each;
+      shown = shown_is each;
       parts = parts;
       afresh = λ is_honest sound fit.
           ap (λ rows. slice_index_or rows place [])
@@ -366,7 +377,10 @@ module _ (functions : List ℕ → Functions) (honest : List ℕ → Type 0) (la
     -- the mapping stopped
     stopped_so : (P : List Call → List Call → Type 0) (w : WentIn may_follow job before.width before.calls P) → StopsMapping job before (after before.world w.now) w.added
         → Known → MayHaveCalled functions honest languages before (Ok (view_request name)) (after before.world w.now)
-    stopped_so P w ends known = asked_to known (after before.world w.now) (inl (record { added = w.added; is = w.is_now; width = refl; lawful = w.lawful; later = later_there; holds = ends })) (inl refl)
+    stopped_so P w ends known = asked_to known (after before.world w.now) (inl (record {
+      called = record { added = w.added; is = w.is_now; width = refl; lawful = w.lawful; later = later_there; holds = inr ends };
+      same = refl;
+    }))
 
     -- the documents were mapped
     module _ (lists : DocRowLists) (idle : documents ≡ [] → pool.started ≡ old_pool.started) (w : Updates before.width (Ok lists)) where
@@ -377,9 +391,24 @@ module _ (functions : List ℕ → Functions) (honest : List ℕ → Type 0) (la
       pub served_there : Called job before mapped (IsServed job before mapped)
       served_there = record { added = w.added; is = w.is_now; width = refl; lawful = w.lawful; later = later_there; holds = served before.world lists w idle }
 
-      pub asked_then : (known : Known) (now : Moment) → TriedAndReduced path (all_reduces known.plan.document) (own_reduces name known.plan.document) mapped now
-          → (now.world ≡ before.world) ⊎ IsBrought functions honest languages known.plan.document path before.world now.world → MayHaveCalled functions honest languages before (Ok (view_request name)) now
-      asked_then known now reduced world = asked_to known now (inr (record { mapped = mapped; served = served_there; reduced = reduced })) world
+      -- nothing else was asked
+      pub mapped_alone : Known → MayHaveCalled functions honest languages before (Ok (view_request name)) mapped
+      mapped_alone known = asked_to known mapped (inl (record {
+        called = record { added = w.added; is = w.is_now; width = refl; lawful = w.lawful; later = later_there; holds = inl (served before.world lists w idle) };
+        same = refl;
+      }))
+
+      -- the reduces were tried of the picture that they make
+      pub tried_then : (known : Known) (now : Moment) (next : Picture) → IsUpdated (functions path) (honest path) (views_of known.plan.document) before.world.history (picture_in before.world known.plan.document) next
+          → ReducedSomehow path (sources_tried known.plan.document before.world next) mapped now → now.world ≡ before.world → MayHaveCalled functions honest languages before (Ok (view_request name)) now
+      tried_then known now next updated tried same = asked_to known now (inr (inl (record { mapped = mapped; served = served_there; next = next; updated = updated; tried = tried; same = same })))
+
+      -- the world has it, and values of the view were asked for
+      pub shown_then : (known : Known) (between now : Moment) → Reduced path (sources_tried known.plan.document before.world (picture_in now.world known.plan.document)) mapped between
+          → IsBrought functions honest languages known.plan.document path before.world now.world → ReducedSomehow path (own_reduces name known.plan.document now.world) between now
+          → MayHaveCalled functions honest languages before (Ok (view_request name)) now
+      shown_then known between now tried brought reduced =
+          asked_to known now (inr (inr (record { mapped = mapped; served = served_there; between = between; tried = tried; brought = brought; reduced = reduced })))
 
       pub mapped_then : (known : Known) (now : Moment) (reply : List ℕ)
           → IsRefusedTrying functions honest languages name known.plan.document path before.world mapped now reply ⊎ IsBroughtUp functions honest languages name known.plan.document path source before.world mapped now reply

@@ -11,7 +11,7 @@ use Rattle.view_ports.specs.Lines.{ended}
 use Rattle.query_args.specs.declared.query.Query.{Query}
 use Rattle.child_pool.specs.declared.pool.Pool.{Pool}
 use Rattle.child_pool.specs.declared.pool_fault.PoolFault.{PoolFault}
-use Rattle.child_pool.specs.declared.pool_fault.PoolFault.TheVariants.{Compile, NoMemory}
+use Rattle.child_pool.specs.declared.pool_fault.PoolFault.TheVariants.{NoMemory}
 use Rattle.child_pool.specs.Languages.{path_in}
 use Rattle.child_pool.specs.Pools.{HasItsChildren, languages_of}
 use Rattle.child_pool.specs.ReduceTalk.{reduce_in}
@@ -54,13 +54,11 @@ module _ {C : Type 0} (s : Servers C) (old new : C) (pool pool' : Pool) (design 
 
   -- all values were had
   abbrev pub HasAll : Type 0
-  HasAll = Reduces s old new pool pool' design.language (asked_sources query (reduce_in design.views place))
+  HasAll = Reduces s old new pool pool' design.language (asked_sources query (reduce_in design.views place) shown_rows)
 
-  -- they were given up, or memory ran out; a complaint comes only where there are rows
+  -- they were given up, or memory ran out
   abbrev pub HasMet : PoolFault → Type 0
-  HasMet f =
-      (FailsReducing s old new pool pool' design.language (asked_sources query (reduce_in design.views place)) f × (f ≡ Compile → shown_rows ≢ []))
-      ⊎ ((f ≡ NoMemory) × HasAll)
+  HasMet f = FailsReducing s old new pool pool' design.language (asked_sources query (reduce_in design.views place) shown_rows) f ⊎ ((f ≡ NoMemory) × HasAll)
 
   -- so a view is answered
   pub record Shows (out out' : List ℕ) (result : Result (Unit {0}) PoolFault) : Type 0 where

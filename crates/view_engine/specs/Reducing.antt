@@ -20,9 +20,3 @@ module _ (path : List ℕ) (reduces : List (List ℕ)) (before after : Moment) w
   -- or they were given up
   abbrev pub ReducedSomehow : Type 0
   ReducedSomehow = CalledReducing path reduces before after (λ added now. AllHad added ⊎ ((f : PoolFault) × AreGivenUp f added now))
-
--- the sources of a design's reduces were tried, and then values of a view were asked for by its own
-pub record TriedAndReduced (path : List ℕ) (all own : List (List ℕ)) (before after : Moment) : Type 0 where
-  pub between : Moment
-  pub tried : ReducedSomehow path all before between
-  pub reduced : ReducedSomehow path own between after

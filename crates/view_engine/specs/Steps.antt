@@ -1,7 +1,7 @@
 -- What a request line does, and what is answered.
 use Rattle.std.specs.Prelude.{◌≡◌, ◌≢◌, ◌⊎◌, ℕ, List, [], ◌∷◌, Bool, true, false, Some, None, Result, Ok, Err}
 use Rattle.json_terms.specs.Json.{Json, object, members_of}
-use Rattle.design_docs.specs.Design.{language_of}
+use Rattle.design_docs.specs.Design.{language_of, views_of}
 use Rattle.child_pool.specs.Languages.{path_in}
 use Rattle.view_ports.specs.Functions.{Functions}
 use Rattle.view_ports.specs.Lines.{ended}
@@ -14,16 +14,18 @@ use Rattle.view_engine.specs.declared.request.Request.{Request}
 use Rattle.view_engine.specs.declared.request.Request.TheVariants.{Put, Delete, Get, View, Info, Cleanup}
 use Rattle.view_engine.specs.declared.refusal.Refusal.{Refusal}
 use Rattle.view_engine.specs.declared.refusal.Refusal.TheVariants.{NotBuiltYet, NoMemory}
+use Rattle.view_model.specs.Picture.{Picture}
+use Rattle.view_model.specs.Update.{IsUpdated}
 use Rattle.view_engine.specs.World.{World, written}
-use Rattle.view_engine.specs.Updating.{IsBrought}
+use Rattle.view_engine.specs.Updating.{picture_in, IsBrought}
 use Rattle.view_engine.specs.Moments.{Called, Moment, with_world}
 use Rattle.view_engine.specs.Refusals.{request_of, refusal_text}
 use Rattle.view_engine.specs.Put.{DoesPut, IsPutRefused, put_write}
 use Rattle.view_engine.specs.Delete.{DoesDelete, IsDeleteRefused, delete_write}
 use Rattle.view_engine.specs.Get.{DoesGet, DoesInfo, get_refusal}
 use Rattle.view_engine.specs.Cleanup.{DoesCleanup, IsPartlyCleaned}
-use Rattle.view_engine.specs.Reducing.{ReducedSomehow, TriedAndReduced}
-use Rattle.view_engine.specs.View.{all_reduces, design_id, own_reduces, view_refusal, DoesView, IsBrokenOff, IsGivenUp, IsJobOf, IsServed}
+use Rattle.view_engine.specs.Reducing.{Reduced, ReducedSomehow}
+use Rattle.view_engine.specs.View.{design_id, own_reduces, sources_tried, view_refusal, DoesView, IsBrokenOff, IsGivenUp, IsJobOf, IsServed}
 use Rattle.view_engine.specs.ViewQuery.{ViewQuery, parameters_in, view_query}
 use Rattle.query_args.specs.Query.{is_updated}
 
@@ -51,21 +53,37 @@ IsWrite world other write = ⊥
 abbrev pub StopsMapping : Job → Moment → Moment → List Call → Type 0
 StopsMapping job before after added = ((f : PoolFault) × IsGivenUp job before after f added) ⊎ IsBrokenOff job before after added
 
--- all documents were mapped, and then reduces were tried, and values asked for
-pub record MapsThenReduces (job : Job) (all own : List (List ℕ)) (before after : Moment) : Type 0 where
-  pub mapped : Moment
-  pub served : Called job before mapped (IsServed job before mapped)
-  pub reduced : TriedAndReduced job.path all own mapped after
-
 module _ (functions : List ℕ → Functions) (honest : List ℕ → Type 0) (languages : List (List ℕ × List ℕ)) where
-  -- the design of a view was asked for, with lawful calls; the world may have its next picture already, wholly
+  -- documents were mapped, all of them or some, and nothing else was asked; the world is as it was
+  pub record EndsMapping (job : Job) (before after : Moment) : Type 0 where
+    pub called : Called job before after (λ added. IsServed job before after added ⊎ StopsMapping job before after added)
+    pub same : after.world ≡ before.world
+
+  -- all were mapped, and the sources of reduces tried over the picture that was made; the world is as it was
+  pub record EndsTrying (design : Json) (job : Job) (before after : Moment) : Type 0 where
+    pub mapped : Moment
+    pub served : Called job before mapped (IsServed job before mapped)
+    pub next : Picture
+    pub updated : IsUpdated (functions job.path) (honest job.path) (views_of design) before.world.history (picture_in before.world design) next
+    pub tried : ReducedSomehow job.path (sources_tried design before.world next) mapped after
+    pub same : after.world ≡ before.world
+
+  -- all were had, the world has that picture, wholly, and values of the view were asked for
+  pub record EndsShowing (name : ViewQuery) (design : Json) (job : Job) (before after : Moment) : Type 0 where
+    pub mapped : Moment
+    pub served : Called job before mapped (IsServed job before mapped)
+    pub between : Moment
+    pub tried : Reduced job.path (sources_tried design before.world (picture_in after.world design)) mapped between
+    pub brought : IsBrought functions honest languages design job.path before.world after.world
+    pub reduced : ReducedSomehow job.path (own_reduces name design after.world) between after
+
+  -- the design of a view was asked for, with lawful calls
   pub record AskedFor (before : Moment) (name : ViewQuery) (after : Moment) : Type 0 where
     pub design : Json
     pub job : Job
     pub source : List ℕ
     pub is_job : IsJobOf languages before.world name design job source
-    pub called : Called job before after (StopsMapping job before after) ⊎ MapsThenReduces job (all_reduces design) (own_reduces name design) before after
-    pub world : (after.world ≡ before.world) ⊎ IsBrought functions honest languages design job.path before.world after.world
+    pub ends : EndsMapping job before after ⊎ EndsTrying design job before after ⊎ EndsShowing name design job before after
 
   -- values of a view were asked for, with lawful calls, from its index as it stands
   pub record AskedForValues (before : Moment) (name : ViewQuery) (after : Moment) : Type 0 where
@@ -73,7 +91,7 @@ module _ (functions : List ℕ → Functions) (honest : List ℕ → Type 0) (la
     pub path : List ℕ
     pub live : live_document before.world.history (design_id name.design) ≡ Some design
     pub path_is : path_in languages (language_of design) ≡ Some path
-    pub called : ReducedSomehow path (own_reduces name design) before after
+    pub called : ReducedSomehow path (own_reduces name design before.world) before after
     pub same : after.world ≡ before.world
 
   -- by whether the query brings the index up to date

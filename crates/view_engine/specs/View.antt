@@ -1,5 +1,5 @@
 -- What a view request does.
-use Rattle.std.specs.Prelude.{◌≡◌, ◌≢◌, ◌⊎◌, ◌++◌, ℕ, max, min, List, [], ◌∷◌, map, length, codes, true, false, bytes_eq, if◌then◌else◌, Option, Some, None, option_and_then, option_map}
+use Rattle.std.specs.Prelude.{◌≡◌, ◌≢◌, ◌⊎◌, ◌++◌, ℕ, max, min, List, [], ◌∷◌, map, length, codes, true, false, bytes_eq, nat_eq, if◌then◌else◌, Option, Some, None, option_and_then, option_map}
 use Rattle.std.specs.List.{AllByRecursion}
 use Rattle.json_terms.specs.Json.{Json}
 use Rattle.design_docs.specs.Design.{language_of, map_sources, source_of, views_of}
@@ -18,7 +18,6 @@ use Rattle.child_pool.specs.Mapping.{IsPart}
 use Rattle.child_pool.specs.Outcomes.{IsCaused}
 use Rattle.child_pool.specs.Pools.{NoneIsLeft, kept_of}
 use Rattle.child_pool.specs.Prompts.{update_prompts}
-use Rattle.child_pool.specs.ReduceTalk.{reduce_sources}
 use Rattle.child_pool.specs.Talk.{AreCutShortIn, AreTurns, talk_of}
 use Rattle.child_pool.specs.Tries.{AllAnswered, Prompt, StopsAt}
 use Rattle.view_engine.specs.declared.refusal.Refusal.{Refusal}
@@ -35,7 +34,10 @@ use Rattle.json_terms.specs.Seen.{json}
 use Rattle.json_terms.specs.declared.term.Row.{Row}
 use Rattle.design_docs.specs.declared.design.View.{View}
 use Rattle.view_model.specs.Answer.{IsAnswer}
+use Rattle.view_model.specs.Picture.{Picture}
+use Rattle.view_model.specs.Update.{IsUpdated}
 use Rattle.view_model.specs.Values.{IsValueText}
+use Rattle.view_updater.specs.Checking.{tried_sources}
 use Rattle.query_args.specs.Faults.{query_fault}
 use Rattle.query_args.specs.Query.{is_updated}
 use Rattle.view_engine.specs.ViewQuery.{ViewQuery, asked_sources, parameters_of, query_for, reduce_named, target_for}
@@ -93,12 +95,21 @@ pub record IsJobOf (languages : List (List ℕ × List ℕ)) (world : World) (na
   pub documents : job.documents ≡ map (λ entry. document_of entry.1) (mapped_after (picture_in world design).seq world.history)
   pub reduces : job.reduces ≡ []
 
--- the sources by which a query server reduces: those of all views of a design, and that of the view, where it has one and the query is reduced
-abbrev pub all_reduces : Json → List (List ℕ)
-all_reduces design = reduce_sources (views_of design)
+-- the rows of the view in the design's picture, or none where there is no such view
+abbrev pub or_no_rows : Option (List Row) → List Row
+or_no_rows None = []
+or_no_rows (Some rows) = rows
 
-abbrev pub own_reduces : ViewQuery → Json → List (List ℕ)
-own_reduces name design = asked_sources (query_for (views_of design) name) (reduce_named name.view (views_of design))
+abbrev pub shown_rows : ViewQuery → Json → World → List Row
+shown_rows name design world = or_no_rows (rows_in (views_of design) (picture_in world design).rows name.view)
+
+-- the sources that an update to a next picture tries: those of views that have rows in it; none where nothing was written since
+abbrev pub sources_tried : Json → World → Picture → List (List ℕ)
+sources_tried design world next = if nat_eq (picture_in world design).seq (length world.history) then [] else tried_sources (views_of design) next.rows
+
+-- and those that the answer to a query asks for values by, in a world with the design's picture
+abbrev pub own_reduces : ViewQuery → Json → World → List (List ℕ)
+own_reduces name design world = asked_sources (query_for (views_of design) name) (reduce_named name.view (views_of design)) (shown_rows name design world)
 
 -- the prompts of an update, in the order in which they are asked: a child of the job's path that is kept isn't started again
 abbrev pub prompts_of : Job → Moment → List Prompt
@@ -196,18 +207,20 @@ module _ (functions : List ℕ → Functions) (honest : List ℕ → Type 0) whe
   -- the rows of the view are printed, with values by its own reduce; or a refusal was met as these were asked for
   abbrev pub IsAnswered : List (List ℕ × List ℕ) → ViewQuery → Json → List ℕ → List ℕ → World → Moment → Moment → List ℕ → Type 0
   IsAnswered languages name design path source world before after reply =
-      (Reduced path (own_reduces name design) before after × PrintsRows languages name design path source world after.world reply)
-      ⊎ CalledReducing path (own_reduces name design) before after (IsRefusedReducing name path (own_reduces name design) (IsNever languages path world) before after reply)
+      (Reduced path (own_reduces name design after.world) before after × PrintsRows languages name design path source world after.world reply)
+      ⊎ CalledReducing path (own_reduces name design after.world) before after (IsRefusedReducing name path (own_reduces name design after.world) (IsNever languages path world) before after reply)
 
-  -- the sources of the design's reduces were tried, and the update is refused: the world is as it was
+  -- the sources of reduces were tried over a picture that was made, and the update is refused: the world is as it was
   pub record IsRefusedTrying (languages : List (List ℕ × List ℕ)) (name : ViewQuery) (design : Json) (path : List ℕ) (world : World) (before after : Moment) (reply : List ℕ) : Type 0 where
     pub same : after.world ≡ world
-    pub called : CalledReducing path (all_reduces design) before after (IsRefusedReducing name path (all_reduces design) (IsRightly languages design path world) before after reply)
+    pub next : Picture
+    pub updated : IsUpdated (functions path) (honest path) (views_of design) world.history (picture_in world design) next
+    pub called : CalledReducing path (sources_tried design world next) before after (IsRefusedReducing name path (sources_tried design world next) (IsRightly languages design path world) before after reply)
 
   -- they were tried, and the index of the design is up to date; then the view is answered
   pub record IsBroughtUp (languages : List (List ℕ × List ℕ)) (name : ViewQuery) (design : Json) (path source : List ℕ) (world : World) (before after : Moment) (reply : List ℕ) : Type 0 where
     pub between : Moment
-    pub tried : Reduced path (all_reduces design) before between
+    pub tried : Reduced path (sources_tried design world (picture_in after.world design)) before between
     pub brought : IsBrought functions honest languages design path world after.world
     pub answered : IsAnswered languages name design path source world between after reply
 

@@ -1,6 +1,7 @@
 -- A view that is asked for, with the parameters of the query.
 use Rattle.std.specs.Prelude.{ℕ, List, [], ◌∷◌, bytes_eq, if◌then◌else◌, Bool, true, false, Option, Some, None}
 use Rattle.json_terms.specs.Json.{Json, object, no_members, members_of}
+use Rattle.json_terms.specs.declared.term.Row.{Row}
 use Rattle.design_docs.specs.declared.design.Reduce.{Reduce}
 use Rattle.design_docs.specs.declared.design.Reduce.TheVariants as reduce
 use Rattle.design_docs.specs.declared.design.View.{View}
@@ -9,6 +10,7 @@ use Rattle.query_args.specs.declared.query.Query.{Query}
 use Rattle.query_args.specs.declared.query.Target.{Target}
 use Rattle.query_args.specs.declared.query.Target.TheVariants as target
 use Rattle.query_args.specs.Query.{query_of}
+use Rattle.view_model.specs.Groups.{picked_groups}
 use Rattle.view_engine.specs.declared.request.Request.{Request}
 use Rattle.view_engine.specs.declared.request.Request.TheVariants as request
 use Rattle.view_engine.specs.declared.request.ViewName.{ViewName}
@@ -52,6 +54,10 @@ target_for views asked = target.View (has_reduce (reduce_named asked.view views)
 abbrev pub query_for : List View → ViewQuery → Query
 query_for views asked = query_of (target_for views asked) (parameters_of asked)
 
--- the sources that a query asks a query server to reduce by: that of this reduce, where the query is reduced
-abbrev pub asked_sources : Query → Reduce → List (List ℕ)
-asked_sources query reduce = if query.reduced then reduce_source reduce else []
+-- the sources that a query of these rows asks a query server to reduce by: that of this reduce, where the query is reduced and picks a group
+abbrev pub source_for : List (List Row) → Reduce → List (List ℕ)
+source_for [] reduce = []
+source_for (group ∷ groups) reduce = reduce_source reduce
+
+abbrev pub asked_sources : Query → Reduce → List Row → List (List ℕ)
+asked_sources query reduce rows = if query.reduced then source_for (picked_groups query rows) reduce else []

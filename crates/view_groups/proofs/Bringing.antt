@@ -43,10 +43,10 @@ use Rattle.view_index.specs.Opens.{FindsDamage, IsOpenFault}
 use Rattle.view_updater.specs.declared.fault.UpdateFault.{UpdateFault}
 use Rattle.view_updater.specs.declared.fault.UpdateFault.TheVariants.{Docs as OfDocuments, Index as OfIndex, NoMemory, Pool as OfPool}
 use Rattle.view_updater.specs.Faults.{by_index, by_pool}
-use Rattle.view_updater.specs.Updates.{documents_since, side as side_of_index, Side as IndexSide, ComplainsRightly, EndsAt as EndsIndex, HasAskedFor, IsBodyDamaged, IsFileFault, IsFullWith, IsIdleEnd, IsLost, IsMade, IsMadeBy as IsMadeOf, IsMetBy, IsOfIndex, IsThenChecked}
+use Rattle.view_updater.specs.Updates.{documents_since, side as side_of_index, Side as IndexSide, AsksSince as AsksOf, ComplainsRightly, EndsAt as EndsIndex, HasAskedFor, IsBodyDamaged, IsFileFault, IsFullWith, IsIdleEnd, IsLast as IsLastOf, IsLost, IsMade, IsMadeBy as IsMadeOf, IsMapped, IsMappedTo as IsMappedOf, IsMetBy, IsOfIndex, IsThenChecked}
 use Rattle.view_updater.proofs.Ends.{index_of_no_documents, index_of_no_pool, index_stored}
 use Rattle.view_groups.specs.declared.groups.Groups.{Groups}
-use Rattle.view_groups.specs.Brings.{side, Brings, EndsAt, HasAsked, IsGroupFault, IsIdle, IsMadeBy, IsNext, MayLeave, Side}
+use Rattle.view_groups.specs.Brings.{side, AsksSince, Brings, EndsAt, HasAsked, IsGroupFault, IsIdle, IsLast, IsMadeBy, IsMappedTo, IsNext, MayLeave, Side}
 use Rattle.view_groups.specs.Groups.{open_of, AreAt, AreOpen, IsGroup}
 use Rattle.view_groups.specs.Openings.{EndsOpen, IsFit, IsWithin, OpensGroup}
 use Rattle.view_groups.specs.Pictures.{Pictures, StandsOf}
@@ -128,22 +128,23 @@ met_placed place (Ok done) (Err e) met = λ fault is.
 met_placed place (Err fault) result met = ap (placed place) met
 
 module _ {C : Type 0} (s : Servers C) (servers servers' : C) (pool pool' : Pool) (design : Design) (place : ℕ) (result : Result (Unit {0}) UpdateFault) where
-  checked_placed : (between : C) (pool_between : Pool) (mapped : Result (Unit {0}) UpdateFault) → IsThenChecked s servers servers' pool pool' design between pool_between mapped result
-      → IsThenChecked s servers servers' pool pool' design between pool_between mapped (placed place result)
-  checked_placed between pool_between (Err fault) is = (ap (placed place) is.0, is.1, is.2)
-  checked_placed between pool_between (Ok done) is = (is.0, is.1, is.2, met_placed place is.1 result is.3)
+  module _ (IsNext IsNext' : Picture → Type 0) (wider : (next : Picture) → IsNext next → IsNext' next) where
+    checked_placed : (between : C) (pool_between : Pool) (mapped : Result (Unit {0}) UpdateFault) → IsThenChecked s servers servers' pool pool' design IsNext between pool_between mapped result
+        → IsThenChecked s servers servers' pool pool' design IsNext' between pool_between mapped (placed place result)
+    checked_placed between pool_between (Err fault) is = (ap (placed place) is.0, is.1, is.2)
+    checked_placed between pool_between (Ok done) is = (is.0, wider is.0 is.1, is.2, is.3, met_placed place is.2 result is.4)
 
-  asked_placed : (documents : List (List (List ℕ × Json))) → HasAskedFor s servers servers' pool pool' design documents result → HasAskedFor s servers servers' pool pool' design documents (placed place result)
-  asked_placed documents asked = record {
-    between = asked.between;
-    pool_between = asked.pool_between;
-    mapped = asked.mapped;
-    maps = asked.maps;
-    keeps = asked.keeps;
-    later = asked.later;
-    twice = asked.twice;
-    checks = checked_placed asked.between asked.pool_between asked.mapped asked.checks;
-  }
+    asked_placed : (documents : List (List (List ℕ × Json))) → HasAskedFor s servers servers' pool pool' design documents IsNext result → HasAskedFor s servers servers' pool pool' design documents IsNext' (placed place result)
+    asked_placed documents asked = record {
+      between = asked.between;
+      pool_between = asked.pool_between;
+      mapped = asked.mapped;
+      maps = asked.maps;
+      keeps = asked.keeps;
+      later = asked.later;
+      twice = asked.twice;
+      checks = checked_placed asked.between asked.pool_between asked.mapped asked.checks;
+    }
 
 -- faults of files are the same for the update of an open index, which is never damaged
 file_kept : (fault : UpdateFault) → IsFileFault fault → IsGroupFault fault
@@ -216,7 +217,7 @@ module _ {F C : Type 0} (f : Folders F) (s : Servers C) (docs : Docs) (design : 
     stands = λ history pictures reached. told_still (f.disk folder) _ _
         (λ d k. moves_none (IsFileOf (View (sig_of design))) (StandsAround design pictures (MayLeave f s docs design given given history pictures (Err NoMemory))) (EndsAt f s docs design given given history pictures (Err NoMemory)) d
         (λ image is. inl (now_stands history pictures d.now image k (λ n of_pair. is n))) (λ kept. k.indexes)) reached;
-    asks = λ history pictures. told_all (f.disk folder) _ (λ d k. inl ((refl, refl), (tt, tt)));
+    asks = λ history pictures. told_all (f.disk folder) _ (λ d k. inl ((refl, refl), tt, tt));
     spoils = λ history pictures reached is. let no : ⊥ = cc in absurd no;
     asked = inl ((refl, refl), tt);
     idle = λ place index group last. (inr refl, refl);
@@ -255,7 +256,7 @@ module _ {F C : Type 0} (f : Folders F) (s : Servers C) (docs : Docs) (design : 
             (EndsAt f s docs design given (side mid servers pool mid_groups) history pictures (Err (by_index fault))) a b (λ n is. is) (λ image framed. inl framed.inside)
             (λ others ended. ends_refused history pictures b.now fault ended) moved)
             (opens.stands pictures (told_now (f.disk folder) _ _ (λ d k. within_of newest newest_is history pictures d.now k) reached));
-        asks = λ history pictures. told_all (f.disk folder) _ (λ d k. inl ((refl, refl), (open_idle fault, tt)));
+        asks = λ history pictures. told_all (f.disk folder) _ (λ d k. inl ((refl, refl), open_idle fault, tt));
         spoils = λ history pictures reached is. absurd (index_of_no_pool fault Compile (let same : by_index fault ≡ OfPool Compile = cc in same));
         asked = inl ((refl, refl), open_idle fault);
         idle = λ place index group last. absurd (let no : unopened fault ≡ Ok place = (opens.found place index group).0 in cc);
@@ -464,28 +465,52 @@ module _ {F C : Type 0} (f : Folders F) (s : Servers C) (docs : Docs) (design : 
           (subst (λ (n : ℕ). Tells (f.disk mid) (f.disk new) (Filling n history pictures name size)) at.there.number
           (at.updates.filled history (pictures (sig_of design)) (told_now (f.disk mid) (IsThere history pictures) _ (λ d k. record { documents = k.0; at = before_at d.now pictures k.1 }) (there history pictures reached)) name size is))
 
-      asked : (history : List Write) (pictures : Pictures) (files : FileName → File) → AreAt mid_groups files pictures
-          → (((servers' ≡ servers) × (pool' ≡ pool)) × (IsIdleEnd result × OnOk result (seq_of at.before ≡ length history))) ⊎ HasAskedFor s servers servers' pool pool' design (documents_since (seq_of at.before) history) result
-          → (IsIdle f s docs design given left × (IsIdleEnd (placed place result) × OnOk (placed place result) ((picture_for design pictures).seq ≡ length history)))
-          ⊎ HasAsked f s docs design given left (documents_since (picture_for design pictures).seq history) (placed place result)
+      -- ---- what was asked
+
+      abbrev given_index : IndexSide F C
+      given_index = side_of_index mid servers pool at.before
+
+      abbrev left_index : IndexSide F C
+      left_index = side_of_index new servers' pool' at.after
+
+      last_placed : (r : Result (Unit {0}) UpdateFault) (next : Picture) → IsLastOf f s docs design given_index left_index r next → IsLast f s docs design given left (placed place r) next
+      last_placed (Ok done) next is = (at.after, group, is)
+      last_placed (Err fault) next is = tt
+
+      mapped_placed : (history : List Write) (pictures : Pictures) (next : Picture) → IsMappedOf f s docs design given_index left_index history (pictures (sig_of design)) next → IsMappedTo f s docs design given left history pictures next
+      mapped_placed history pictures next is = λ path calls follows known children.
+          subst (λ (n : ℕ). IsMapped s.functions s.honest design path history (or_empty n (pictures (sig_of design))) next) at.there.number (is path calls follows known children)
+
+      asked : (history : List Write) (pictures : Pictures) (files : FileName → File) → AreAt mid_groups files pictures → AsksOf f s docs design given_index left_index history (pictures (sig_of design)) result
+          → AsksSince f s docs design given left history pictures (placed place result)
       asked history pictures files was either =
           let seq_is : seq_of at.before ≡ (picture_for design pictures).seq = ap (λ (p : Picture). p.seq) (before_at files pictures was).last ∙ ap (λ n. (or_empty n (pictures (sig_of design))).seq) at.there.number in
           ⊎_elim
           (λ idle. inl (
             idle.0,
-            (
-              idle_placed place result idle.1.0,
-              ok_placed place result ((picture_for design pictures).seq ≡ length history) (subst (λ (n : ℕ). OnOk result (n ≡ length history)) seq_is idle.1.1),
-            ),
+            idle_placed place result idle.1,
+            ok_placed place result ((picture_for design pictures).seq ≡ length history) (subst (λ (n : ℕ). OnOk result (n ≡ length history)) seq_is idle.2),
           ))
-          (λ some. inr (asked_placed s servers servers' pool pool' design place result (documents_since (picture_for design pictures).seq history)
-          (subst (λ (n : ℕ). HasAskedFor s servers servers' pool pool' design (documents_since n history) result) seq_is some)))
+          (λ some. inr (
+            λ same. some.0 (seq_is ∙ same),
+            asked_placed s servers servers' pool pool' design place result
+                (λ next. IsMappedOf f s docs design given_index left_index history (pictures (sig_of design)) next × IsLastOf f s docs design given_index left_index result next)
+                (λ next. IsMappedTo f s docs design given left history pictures next × IsLast f s docs design given left (placed place result) next)
+                (λ next is. (mapped_placed history pictures next is.0, last_placed result next is.1)) (documents_since (picture_for design pictures).seq history)
+                (subst (λ (n : ℕ). HasAskedFor s servers servers' pool pool' design (documents_since n history)
+                (λ next. IsMappedOf f s docs design given_index left_index history (pictures (sig_of design)) next × IsLastOf f s docs design given_index left_index result next) result) seq_is some.1),
+          ))
           either
 
-      asked_some : (((servers' ≡ servers) × (pool' ≡ pool)) × IsIdleEnd result) ⊎ ((documents : List (List (List ℕ × Json))) × HasAskedFor s servers servers' pool pool' design documents result)
-          → (IsIdle f s docs design given left × IsIdleEnd (placed place result)) ⊎ ((documents : List (List (List ℕ × Json))) × HasAsked f s docs design given left documents (placed place result))
+      asked_some : (((servers' ≡ servers) × (pool' ≡ pool)) × IsIdleEnd result)
+          ⊎ ((documents : List (List (List ℕ × Json))) × HasAskedFor s servers servers' pool pool' design documents (IsLastOf f s docs design given_index left_index result) result)
+          → (IsIdle f s docs design given left × IsIdleEnd (placed place result))
+          ⊎ ((documents : List (List (List ℕ × Json))) × HasAsked f s docs design given left documents (IsLast f s docs design given left (placed place result)) (placed place result))
       asked_some (inl idle) = inl (idle.0, idle_placed place result idle.1)
-      asked_some (inr some) = inr (some.0, asked_placed s servers servers' pool pool' design place result some.0 some.1)
+      asked_some (inr some) = inr (
+        some.0,
+        asked_placed s servers servers' pool pool' design place result (IsLastOf f s docs design given_index left_index result) (IsLast f s docs design given left (placed place result)) (last_placed result) some.0 some.1,
+      )
 
       -- where it was open, and nothing was written since, nothing is done
       idle_there : (p : ℕ) (index : Index) → IsGroup groups p (sig_of design) (views_in design) index → seq_of index ≡ documents_seq docs → ((placed place result ≡ Ok p) ⊎ (placed place result ≡ Err NoMemory)) × (left ≡ given)
@@ -561,7 +586,8 @@ module _ {F C : Type 0} (f : Folders F) (s : Servers C) (docs : Docs) (design : 
       brought : Brings f s docs design (side folder servers pool groups) (side new servers' pool' groups') (placed place result)
       brought = record {
         stands = stands;
-        asks = λ history pictures. known_before history pictures _ (told_now (f.disk mid) _ _ (λ d asks known. asked history pictures d.now known.1 (asks known.0)) (at.updates.asks history));
+        asks = λ history pictures. known_before history pictures _ (told_now (f.disk mid) _ _ (λ d asks known. asked history pictures d.now known.1 (asks (record { documents = known.0; at = before_at d.now pictures known.1 })))
+            (at.updates.asks history (pictures (sig_of design))));
         spoils = spoils;
         asked = asked_some at.updates.asked;
         idle = idle_there;

@@ -27,7 +27,7 @@ use Rattle.view_index.specs.Held.{or_empty, IsDamagedAt, IsFileOf}
 use Rattle.view_index.specs.Index.{picture_of, seq_of}
 use Rattle.view_updater.specs.declared.fault.UpdateFault.{UpdateFault}
 use Rattle.view_updater.specs.declared.fault.UpdateFault.TheVariants.{Docs as OfDocuments, Index as OfIndex, NoMemory as OutOfMemory, Pool as OfPool}
-use Rattle.view_updater.specs.Updates.{documents_since, ComplainsRightly, HasAskedFor, IsBodyDamaged, IsFileFault, IsFullWith, IsIdleEnd, IsLost, IsMade, IsOfIndex}
+use Rattle.view_updater.specs.Updates.{documents_since, ComplainsRightly, HasAskedFor, IsBodyDamaged, IsFileFault, IsFullWith, IsIdleEnd, IsLost, IsMade, IsMapped, IsOfIndex}
 use Rattle.view_groups.specs.declared.groups.Groups.{Groups}
 use Rattle.view_groups.specs.Groups.{AreAt, AreOpen, IsGroup}
 use Rattle.view_groups.specs.Pictures.{Pictures}
@@ -86,22 +86,38 @@ module _ {F C : Type 0} (f : Folders F) (s : Servers C) (docs : Docs) (design : 
   abbrev pub IsIdle : Type 0
   IsIdle = (new.servers ≡ old.servers) × (new.pool ≡ old.pool)
 
-  -- these documents were asked for
-  abbrev pub HasAsked : List (List (List ℕ × Json)) → Result ℕ UpdateFault → Type 0
-  HasAsked documents result = HasAskedFor s old.servers new.servers old.pool new.pool design documents result
+  -- a picture that documents make which were mapped, whether or not reduces can be had of it
+  abbrev pub IsMappedTo : List Write → Pictures → Picture → Type 0
+  IsMappedTo history pictures next = (path : List ℕ) (calls : List Call) → s.may_follow old.servers calls → path_for old.pool design ≡ Some path → HasItsChildren old.pool calls
+      → IsMapped s.functions s.honest design path history (picture_for design pictures) next
+
+  -- after Ok it is that of the index
+  abbrev pub IsLast : Result ℕ UpdateFault → Picture → Type 0
+  IsLast result next = IfOk result (λ place. (index : Index) × IsGroup new.groups place (sig_of design) (views_in design) index × (next ≡ picture_of index))
+
+  -- these documents were asked for, and then the reduces of such a picture
+  abbrev pub HasAsked : List (List (List ℕ × Json)) → (Picture → Type 0) → Result ℕ UpdateFault → Type 0
+  HasAsked documents IsNext result = HasAskedFor s old.servers new.servers old.pool new.pool design documents IsNext result
+
+  -- where something was written since the picture, its documents are asked for, and then the reduces of the picture that they make;
+  -- where nothing was, nothing is
+  abbrev pub AsksSince : List Write → Pictures → Result ℕ UpdateFault → Type 0
+  AsksSince history pictures result =
+      (IsIdle × IsIdleEnd result × OnOk result ((picture_for design pictures).seq ≡ length history))
+      ⊎ (((picture_for design pictures).seq ≢ length history)
+      × HasAsked (documents_since (picture_for design pictures).seq history) (λ next. IsMappedTo history pictures next × IsLast result next) result)
 
   pub record Brings (result : Result ℕ UpdateFault) : Type 0 where
     -- a crash leaves the picture of the design or an updated one; all other files are as they were
     pub stands : (history : List Write) (pictures : Pictures) → IfTold (f.disk old.folder) (λ d. IsReached docs old.groups design history pictures d.now)
         → Tells (f.disk old.folder) (f.disk new.folder) (Moves (IsFileOf (View (sig_of design))) (StandsAround design pictures (MayLeave history pictures result)) (EndsAt history pictures result))
-    -- the documents that were written since the picture are asked for, and no others; where there are none that were written, nothing is
-    pub asks : (history : List Write) (pictures : Pictures) → IfTold (f.disk old.folder) (λ d. IsReached docs old.groups design history pictures d.now
-        → (IsIdle × (IsIdleEnd result × OnOk result ((picture_for design pictures).seq ≡ length history))) ⊎ HasAsked (documents_since (picture_for design pictures).seq history) result)
+    -- the documents that were written since the picture are asked for, and no others, and the reduces of the picture that they make
+    pub asks : (history : List Write) (pictures : Pictures) → IfTold (f.disk old.folder) (λ d. IsReached docs old.groups design history pictures d.now → AsksSince history pictures result)
     -- it is refused for a source that doesn't compile only where one is wanted that doesn't
     pub spoils : (history : List Write) (pictures : Pictures) → IfTold (f.disk old.folder) (λ d. IsReached docs old.groups design history pictures d.now)
         → result ≡ Err (OfPool Compile) → IfTold (f.disk old.folder) (λ d. ComplainsRightly s design old.servers old.pool history (picture_for design pictures))
     -- whatever is told, some documents were asked for, all or the first ones, or nothing was
-    pub asked : (IsIdle × IsIdleEnd result) ⊎ ((documents : List (List (List ℕ × Json))) × HasAsked documents result)
+    pub asked : (IsIdle × IsIdleEnd result) ⊎ ((documents : List (List (List ℕ × Json))) × HasAsked documents (IsLast result) result)
     -- where the index of the design is open and nothing was written since, nothing is done
     pub idle : (place : ℕ) (index : Index) → IsGroup old.groups place (sig_of design) (views_in design) index → seq_of index ≡ written docs
         → ((result ≡ Ok place) ⊎ (result ≡ Err OutOfMemory)) × (new ≡ old)

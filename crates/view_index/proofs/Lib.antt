@@ -8,7 +8,6 @@ pub mod Pendings
 pub mod Writable
 pub mod Parts
 pub mod Rising
-pub mod Somes
 pub mod Carried
 pub mod Committing
 mod Numbers

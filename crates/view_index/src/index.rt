@@ -13,7 +13,8 @@ ghost use Rattle.view_index.specs.ViewRows.{are_fit, both_of};
 use crate::ids::Ids;
 use crate::view_rows::ViewRows;
 use gate_file::GateFile;
-use json_terms::Row;
+use json_terms::{NoMemory, Row};
+use std::alloc::Global;
 use view_ports::FileName;
 
 /// The index of a signature's views: the rows of each view as of the last commit, and the exchanges that the next one makes.
@@ -30,7 +31,7 @@ pub struct Index {
 }
 
 impl Index {
-    ghost use Rattle.std.specs.Prelude.{◌≡◌, [], slice_index_or, Contains, IfSome, IsSorted, None};
+    ghost use Rattle.std.specs.Prelude.{◌≡◌, [], map, take, slice_index_or, IfOk, IsSorted};
     ghost use Rattle.std.specs.List.{AllByRecursion};
     ghost use Rattle.gate_file.specs.GateFile.{name_of};
     ghost use Rattle.raw_collation.specs.Collation.{rows_cmp};
@@ -54,13 +55,20 @@ impl Index {
         self.views.as_slice()[view as usize].rows()
     }
 
-    /// A row of those that a view has after the next commit; none where it has none then. It takes no memory.
-    pub fn some_next_row(&self, view: u32) -> Option<&Row>
+    /// The first rows that a view has after the next commit, in order, and as many as that at most.
+    pub fn first_next_rows(
+        &self,
+        alloc: Global,
+        view: u32,
+        count: usize,
+    ) -> Result<Vec<&Row>, NoMemory>
         requires { view < views_of self.now }
-        ensures some { IfSome result (λ row. Contains (slice_index_or (next_in self.now) view []) row.now) }
-        ensures none { result ≡ None → slice_index_or (next_in self.now) view [] ≡ [] }
+        ensures { IfOk result (λ rows. map (λ row. row.now) rows.items ≡
+            take count (slice_index_or (next_in self.now) view [])) }
     {
-        self.views.as_slice()[view as usize].some_next(&self.touched)
+        let mut rows = self.views.as_slice()[view as usize].next(alloc, &self.touched)?;
+        rows.truncate(count);
+        Ok(rows)
     }
 
     /// How many views it has. It takes no memory.

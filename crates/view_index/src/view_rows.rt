@@ -21,7 +21,7 @@ pub(crate) struct ViewRows {
 }
 
 impl ViewRows {
-    ghost use Rattle.std.specs.Prelude.{◌≡◌, ◌++◌, [], map, Contains, IfOk, IfSome, None, OnOk, OnErr};
+    ghost use Rattle.std.specs.Prelude.{◌≡◌, ◌++◌, [], map, IfOk, OnOk, OnErr};
     ghost use Rattle.view_index.specs.Ids.{has};
     ghost use Rattle.view_index.specs.ViewRows.{added_of, next_of, of_others, rows_of};
 
@@ -86,19 +86,6 @@ impl ViewRows {
         }
         rows.sort_unstable_by(|one, other| row_cmp(one, other));
         Ok(rows)
-    }
-
-    /// A row of those that the next commit makes, where the documents of these ids have new ones; none where it makes none.
-    pub(crate) fn some_next(&self, ids: &Ids) -> Option<&Row>
-        ensures some { IfSome result (λ row. Contains (next_of (has ids.now) self.now) row.now) }
-        ensures none { result ≡ None → next_of (has ids.now) self.now ≡ [] }
-    {
-        for row in &self.rows {
-            if !ids.has(row.id.as_str()) {
-                return Some(row);
-            }
-        }
-        self.added.first()
     }
 
     /// Makes the next rows the rows, without taking memory.

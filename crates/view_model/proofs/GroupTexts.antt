@@ -1,22 +1,24 @@
 -- Groups that are printed one after another.
-use Rattle.std.specs.Prelude.{◌≡◌, ℕ, zero, suc, ◌-◌, ◌<◌, List, [], ◌∷◌, ◌++◌, Bool, true, false, ◌||◌, All, if◌then◌else◌, refl, drop, length, filter, Option, Some, None, option_map}
+use Rattle.std.specs.Prelude.{◌≡◌, ℕ, zero, suc, ◌+◌, ◌-◌, ◌<◌, List, [], ◌∷◌, ◌++◌, Bool, true, false, ◌||◌, All, if◌then◌else◌, refl, drop, length, map, filter, Option, Some, None, option_map}
 use Rattle.std.proofs.Common.{ap, sym, subst, ◌∙◌, arith, codes, get_or}
+use Rattle.std.proofs.lemmas.List.{drop_more}
 use Rattle.std.proofs.lemmas.List.Elements.{All-nil, All-cons, All-head, All-tail}
 use Rattle.json_terms.specs.Json.{Json}
 use Rattle.json_terms.specs.Seen.{json}
 use Rattle.json_terms.specs.Text.{text_of}
 use Rattle.json_terms.specs.declared.term.Row.{Row}
+use Rattle.json_terms.specs.declared.term.Term.{Term}
 use Rattle.view_ports.specs.Lines.{IsLine}
 use Rattle.raw_collation.specs.declared.group.Level.{Level}
 use Rattle.raw_collation.specs.Groups.{group_of}
 use Rattle.query_args.specs.declared.query.Query.{Query}
 use Rattle.view_model.specs.Answer.{group_text, key_of_group}
-use Rattle.view_model.specs.Groups.{groups_of_keys, listed_or_runs, picked_groups, runs}
-use Rattle.view_model.specs.Selection.{limited, is_in_range}
+use Rattle.view_model.specs.Groups.{groups_of_keys, listed_or_runs, one_group, picked_groups, runs}
+use Rattle.view_model.specs.Selection.{has_key, limited, is_in_range}
 use Rattle.view_model.specs.declared.print.Progress.{Progress}
 use Rattle.view_model.specs.Progress.{start_of, walked, walked_parts, due, is_some_list, past}
 use Rattle.view_model.proofs.Lines.{line, lines5}
-use Rattle.view_model.proofs.Printed.{due_none}
+use Rattle.view_model.proofs.Printed.{due_none, due_parts}
 
 -- ---- what a query picks
 
@@ -30,6 +32,15 @@ pub picked_ranged : (query : Query) (rows part : List Row) → query.keys ≡ No
 picked_ranged query rows part is same =
     ap (λ ps. due (start_of query) (walked query.descending (runs query.level ps))) same
     ∙ ap (λ ks. limited query.limit (drop query.skip (listed_or_runs ks query rows))) (sym is)
+
+-- the group of the first key, and those of the rest
+pub key_less : (rows group : List Row) (keys : List Term) (place : ℕ) (key : Term) → place < length keys → get_or keys place key ≡ key
+    → group ≡ filter (has_key (json key)) rows
+    → groups_of_keys rows (map json (drop place keys)) ≡ one_group group ++ groups_of_keys rows (map json (drop (place + 1) keys))
+key_less rows group keys place key below here is =
+    let rest = drop (place + 1) keys in
+    ap (λ ks. groups_of_keys rows (map json ks)) (drop_more keys place key below ∙ ap (λ k. k ∷ rest) here)
+    ∙ ap (λ g. one_group g ++ groups_of_keys rows (map json rest)) (sym is)
 
 -- ---- one group more
 
@@ -77,6 +88,17 @@ module _ (A : Type 0) where
 
   pub nil_due : (progress : Progress) (xs : List A) → xs ≡ [] → due progress xs ≡ []
   nil_due progress xs none = ap (due progress) none ∙ due_none progress.skip progress.limit
+
+  none_both : (xs ys : List A) → xs ++ ys ≡ [] → (xs ≡ []) × (ys ≡ [])
+  none_both [] ys none = (refl, none)
+  none_both (x ∷ xs) ys none = absurd (let clash : ⊥ = cc in clash)
+
+  -- where nothing is due of all, nothing is of a part, nor then of the rest
+  pub none_parts : (progress : Progress) (part rest all : List A) → all ≡ part ++ rest → due progress all ≡ []
+      → (due progress part ≡ []) × (due (past progress part) rest ≡ [])
+  none_parts progress part rest all is none =
+      none_both (due progress part) (due (past progress part) rest)
+      (sym (due_parts progress.skip progress.limit progress.printed part rest) ∙ ap (due progress) (sym is) ∙ none)
 
   -- it is printed
   taken : (limit : Option ℕ) (x : A) → (limit ≡ Some 0 → ⊥) → limited limit (x ∷ []) ≡ x ∷ []

@@ -1,5 +1,5 @@
 -- Of no rows no group is picked.
-use Rattle.std.specs.Prelude.{◌≡◌, ◌≤◌, ℕ, List, [], ◌∷◌, filter, length, reverse, Bool, true, false, if◌then◌else◌, Option, Some, None, drop, take}
+use Rattle.std.specs.Prelude.{◌≡◌, ℕ, List, [], ◌∷◌, filter, reverse, Bool, true, false, if◌then◌else◌, Option, Some, None}
 use Rattle.std.specs.List.{flat_map}
 use Rattle.std.proofs.Common.{refl, ap, ◌∙◌}
 use Rattle.std.proofs.Math.Seq.{drop-nil, take-nil}

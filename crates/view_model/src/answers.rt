@@ -7,6 +7,7 @@ ghost use Rattle.raw_collation.specs.Collation.{rows_cmp};
 ghost use Rattle.view_ports.specs.Lines.{IsLine};
 ghost use Rattle.view_model.specs.Adding.{AddsAnswer, AddsSome};
 ghost use Rattle.view_model.specs.Answer as print;
+ghost use Rattle.view_model.specs.Groups.{picked_groups};
 ghost use Rattle.view_model.specs.GroupValues.{IsCaused};
 ghost use Rattle.view_model.specs.Selection as pick;
 ghost use Rattle.view_model.specs.Progress.{due_text};
@@ -22,7 +23,7 @@ use query_args::Query;
 use std::alloc::Global;
 
 /// Prints the answer to a query of a view that has these rows and whose index is at this sequence. Only where the query is reduced are
-/// values asked for, and of no rows none is.
+/// values asked for, and only of the groups that it picks.
 pub fn answer<V: GroupValues>(
     alloc: Global,
     rows: &[Row],
@@ -39,7 +40,7 @@ pub fn answer<V: GroupValues>(
     ensures goes { OnOk result (V.goes values.old values.new) }
     ensures cause { IfErr result (IsCaused (V.goes values.old values.new) (V.fails values.old values.new)) }
     ensures unasked { query.now.reduced ≡ false → values.new ≡ values.old }
-    ensures idle { rows.now ≡ [] → values.new ≡ values.old }
+    ensures idle { picked_groups query.now rows.now ≡ [] → values.new ≡ values.old }
 {
     if query.reduced {
         groups_answer(alloc, rows, values, seq, query, reply)
@@ -87,7 +88,7 @@ fn groups_answer<V: GroupValues>(
     ensures before { KeepsBefore reply.old reply.new }
     ensures goes { OnOk result (V.goes values.old values.new) }
     ensures cause { IfErr result (IsCaused (V.goes values.old values.new) (V.fails values.old values.new)) }
-    ensures idle { rows.now ≡ [] → values.new ≡ values.old }
+    ensures idle { picked_groups query.now rows.now ≡ [] → values.new ≡ values.old }
 {
     reply.put(b"{")?;
     print_seq(seq, query, reply)?;

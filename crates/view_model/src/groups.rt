@@ -19,7 +19,7 @@ use query_args::Query;
 use raw_collation::{Level, group_key, same_group};
 use std::alloc::Global;
 
-/// Prints the groups that a query picks. Of no rows there is none, and no value is asked for.
+/// Prints the groups that a query picks. Values are asked for only of these.
 pub(crate) fn print_groups<V: GroupValues>(
     alloc: Global,
     rows: &[Row],
@@ -34,11 +34,8 @@ pub(crate) fn print_groups<V: GroupValues>(
     ensures before { KeepsBefore reply.old reply.new }
     ensures goes { OnOk result (V.goes values.old values.new) }
     ensures cause { IfErr result (IsCaused (V.goes values.old values.new) (V.fails values.old values.new)) }
-    ensures idle { rows.now ≡ [] → values.new ≡ values.old }
+    ensures idle { picked_groups query.now rows.now ≡ [] → values.new ≡ values.old }
 {
-    if rows.is_empty() {
-        return Ok(());
-    }
     match &query.keys {
         Some(keys) => print_listed(alloc, rows, keys.as_slice(), values, query, reply),
         None => print_runs(alloc, ranged(rows, query), values, query, reply),
@@ -61,6 +58,8 @@ fn print_listed<V: GroupValues>(
     ensures before { KeepsBefore reply.old reply.new }
     ensures goes { OnOk result (V.goes values.old values.new) }
     ensures cause { IfErr result (IsCaused (V.goes values.old values.new) (V.fails values.old values.new)) }
+    ensures idle { due (start_of query.now) (groups_of_keys rows.now (map json keys.now)) ≡ []
+        → values.new ≡ values.old }
 {
     let mut progress = Progress::start(query);
     for key in keys {
@@ -88,6 +87,8 @@ fn print_runs<V: GroupValues>(
     ensures before { KeepsBefore reply.old reply.new }
     ensures goes { OnOk result (V.goes values.old values.new) }
     ensures cause { IfErr result (IsCaused (V.goes values.old values.new) (V.fails values.old values.new)) }
+    ensures idle { due (start_of query.now) (walked query.now.descending (runs query.now.level rows.now)) ≡ []
+        → values.new ≡ values.old }
 {
     let mut progress = Progress::start(query);
     let mut left = rows;
@@ -168,6 +169,7 @@ fn print_group<V: GroupValues>(
     ensures progress { IfOk result (λ next. next ≡ past progress (one_group group.now)) }
     ensures goes { OnOk result (V.goes values.old values.new) }
     ensures cause { IfErr result (IsCaused (V.goes values.old values.new) (V.fails values.old values.new)) }
+    ensures idle { due progress (one_group group.now) ≡ [] → values.new ≡ values.old }
 {
     if group.is_empty() {
         return Ok(progress);

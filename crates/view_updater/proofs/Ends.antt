@@ -1,5 +1,5 @@
 -- How an update ends: what the folder and the index are at, and what was asked.
-use Rattle.std.specs.Prelude.{◌≡◌, ◌⊎◌, ◌≤◌, ℕ, List, map, length, Bool, false, Result, Ok, Err, IfOk, OnOk, Option, Some, None}
+use Rattle.std.specs.Prelude.{◌≡◌, ◌≢◌, ◌⊎◌, ◌≤◌, ℕ, List, map, length, Bool, false, Result, Ok, Err, IfOk, OnOk, Option, Some, None}
 use Rattle.std.proofs.Common.{refl, sym, ap, ◌∙◌, subst, inl, inr}
 use Rattle.json_terms.specs.Json.{Json}
 use Rattle.raw_collation.specs.Sorting.{sorted_rows}
@@ -15,7 +15,7 @@ use Rattle.view_ports.proofs.DiskRuns.{moves_none, moves_then, none_same, none_w
 use Rattle.view_ports.proofs.Told.{told_after, told_given, told_now, told_pair, told_still, told_then}
 use Rattle.design_docs.specs.declared.design.Design.{Design}
 use Rattle.doc_file.specs.declared.docs.Docs.{Docs}
-use Rattle.doc_file.specs.Docs.{IsAt as AreAt}
+use Rattle.doc_file.specs.Docs.{seq_of as written, IsAt as AreAt}
 use Rattle.doc_file.specs.History.{AreStored, Write, changes_after}
 use Rattle.child_pool.specs.declared.doc_rows.DocRowLists.{DocRowLists}
 use Rattle.child_pool.specs.declared.pool.Pool.{Pool}
@@ -43,10 +43,10 @@ use Rattle.view_index.specs.Replaced.{replaced_views}
 use Rattle.view_index.proofs.Committing.{last_sorted}
 use Rattle.view_updater.specs.declared.fault.UpdateFault.{UpdateFault}
 use Rattle.view_updater.specs.declared.fault.UpdateFault.TheVariants.{Docs as OfDocuments, Index as OfIndex, NoMemory, Pool as OfPool}
-use Rattle.view_updater.specs.Checking.{FailsThere}
+use Rattle.view_updater.specs.Checking.{Checks, FailsThere}
 use Rattle.view_updater.specs.Exchanges.{BreaksOff, Exchanges, HasExchanged, TakesIn}
 use Rattle.view_updater.specs.Faults.{by_index, by_pool}
-use Rattle.view_updater.specs.Updates.{documents_since, side, EndsAt, HasAsked, HasMapped, HasMappedSome, IsFullWith, IsIdle, IsIdleEnd, IsLost, IsMade, IsMadeBy, IsMapped, IsMetAs, IsNext, IsReached, IsThenChecked, Side, StandsAround}
+use Rattle.view_updater.specs.Updates.{documents_since, side, EndsAt, HasAsked, HasMapped, HasMappedSome, IsFullWith, AsksSince, IsIdle, IsIdleEnd, IsLast, IsLost, IsMade, IsMadeBy, IsMapped, IsMappedTo, IsMetAs, IsMetBy, IsNext, IsReached, IsThenChecked, Side, StandsAround}
 use Rattle.view_updater.proofs.Carrying.{at_still, open_still, same_stem, same_views, stands_now, views_by_picture}
 use Rattle.view_updater.proofs.Nexts.{no_documents_since, nothing_updated, rows_updated}
 
@@ -195,13 +195,14 @@ module _ {F C : Type 0} (f : Folders F) (s : Servers C) (docs : Docs) (design : 
     abbrev left : Side F C
     left = side folder servers pool index
 
-    abbrev Asked : Result (Unit {0}) UpdateFault → List Write → Type 0
-    Asked result history =
-        (IsIdle f s docs design old left × (IsIdleEnd result × OnOk result (seq_of old.index ≡ length history))) ⊎ HasAsked f s docs design old left (documents_since (seq_of old.index) history) result
+    module _ (before result : Result (Unit {0}) UpdateFault) (ex : Exchanges f s docs design from mid before) where
+      -- then the reduces of such a picture were tried
+      abbrev Then : (Picture → Type 0) → Type 0
+      Then IsNext = IsThenChecked s old.servers servers old.pool pool design IsNext mid.servers mid.pool before result
 
-    module _ (before result : Result (Unit {0}) UpdateFault) (ex : Exchanges f s docs design from mid before) (checks : IsThenChecked s old.servers servers old.pool pool design mid.servers mid.pool before result) where
-      asked_as : (documents : List (List (List ℕ × Json))) → HasMappedSome s old.servers mid.servers old.pool mid.pool design documents before → HasAsked f s docs design old left documents result
-      asked_as documents maps = record {
+      asked_as : (IsNext : Picture → Type 0) → Then IsNext → (documents : List (List (List ℕ × Json))) → HasMappedSome s old.servers mid.servers old.pool mid.pool design documents before
+          → HasAsked f s docs design old left documents IsNext result
+      asked_as IsNext checks documents maps = record {
         between = mid.servers;
         pool_between = mid.pool;
         mapped = before;
@@ -212,14 +213,25 @@ module _ {F C : Type 0} (f : Folders F) (s : Servers C) (docs : Docs) (design : 
         checks = checks;
       }
 
-      pub asked_over : (history : List Write) → IfTold (f.disk old.folder) (λ d. AreAt docs d.now history → Asked result history)
-      asked_over history =
-          told_now (f.disk old.folder) (λ d. AreAt docs d.now history → HasExchanged f s docs design from mid history before ⊎ BreaksOff f s docs design from mid history before) (λ d. AreAt docs d.now history → Asked result history)
-          (λ d asks here. inr (subst (λ (n : ℕ). HasAsked f s docs design old left (documents_since n history) result) seq_back
-          (asked_as (documents_since (seq_of rolled) history) (elim (asks here) [ inl has ↦ inl has.asked | inr has ↦ inr has ])))) (ex.asks history)
+      -- over a history the documents are those that were written since
+      pub asked_over : seq_of old.index ≢ written docs → (history : List Write) (picture : Option Picture)
+          → ((files : FileName → File) → IsReached docs old.index history picture files → HasExchanged f s docs design from mid history before ⊎ BreaksOff f s docs design from mid history before
+          → Then (λ next. IsMappedTo f s docs design old left history picture next × IsLast f s docs design old left result next))
+          → IfTold (f.disk old.folder) (λ d. IsReached docs old.index history picture d.now → AsksSince f s docs design old left history picture result)
+      asked_over differs history picture checks =
+          told_now (f.disk old.folder) (λ d. AreAt docs d.now history → HasExchanged f s docs design from mid history before ⊎ BreaksOff f s docs design from mid history before)
+          (λ d. IsReached docs old.index history picture d.now → AsksSince f s docs design old left history picture result)
+          (λ d asks here.
+          let has = asks here.documents in
+          inr (
+            λ same. differs (same ∙ sym here.documents.count),
+            asked_as (λ next. IsMappedTo f s docs design old left history picture next × IsLast f s docs design old left result next) (checks d.now here has) (documents_since (seq_of old.index) history)
+                (subst (λ (n : ℕ). HasMappedSome s old.servers mid.servers old.pool mid.pool design (documents_since n history) before) seq_back (elim has [ inl all ↦ inl all.asked | inr first ↦ inr first ])),
+          )) (ex.asks history)
 
-      pub asked_some : (IsIdle f s docs design old left × IsIdleEnd result) ⊎ ((documents : List (List (List ℕ × Json))) × HasAsked f s docs design old left documents result)
-      asked_some = inr (ex.asked.0, asked_as ex.asked.0 ex.asked.1)
+      pub asked_some : Then (IsLast f s docs design old left result)
+          → (IsIdle f s docs design old left × IsIdleEnd result) ⊎ ((documents : List (List (List ℕ × Json))) × HasAsked f s docs design old left documents (IsLast f s docs design old left result) result)
+      asked_some checks = inr (ex.asked.0, asked_as (IsLast f s docs design old left result) checks ex.asked.0 ex.asked.1)
 
   -- what is found of reduces after the mapping was so before it
   pub fails_by : (fails : Bool) → StaysAsMade old.pool mid.pool → FailsThere s mid.servers servers mid.pool pool design (next_in mid.index) fails
@@ -270,6 +282,15 @@ module _ {F C : Type 0} (f : Folders F) (s : Servers C) (docs : Docs) (design : 
         mapped = mapped_is path calls follows known children;
         reduces = λ honest differs. fails_by false keeps compile (documents_since (seq_of rolled) history) has.asked path calls follows known children honest;
       }
+
+  -- where all were mapped, the reduces were tried of the picture that they make
+  pub checked_next : (folder : F) (index : Index) (result : Result (Unit {0}) UpdateFault) (checked : Result (Unit {0}) PoolFault) → Checks s mid.servers servers mid.pool pool design (next_in mid.index) checked → IsMetBy checked result
+      → (newest : ℕ) → newest ≡ written docs → OnOk result (next_picture newest mid.index ≡ picture_of index)
+      → (history : List Write) (picture : Option Picture) (files : FileName → File) → IsReached docs old.index history picture files → HasExchanged f s docs design from mid history well ⊎ BreaksOff f s docs design from mid history well
+      → IsThenChecked s old.servers servers old.pool pool design (λ next. IsMappedTo f s docs design old (left folder index) history picture next × IsLast f s docs design old (left folder index) result next) mid.servers mid.pool well result
+  checked_next folder index result checked checks met newest newest_is last history picture files here (inl has) =
+      (next_picture newest mid.index, (mapped_is history picture files here.at here.documents.stored newest (newest_is ∙ here.documents.count) has, last), checked, checks, met)
+  checked_next folder index result checked checks met newest newest_is last history picture files here (inr broken) = absurd broken.cause
 
   pending_now : (history : List Write) → HasExchanged f s docs design from mid history well → ArePending mid.index
   pending_now history has = by_mapped has.asked.mapped has.asked.met has.takes

@@ -8,6 +8,7 @@ pub mod Carrying
 pub mod Nexts
 pub mod Ends
 pub mod Tried
+pub mod TriedSources
 pub mod Spoils
 pub mod Refusing
 pub mod OneTried

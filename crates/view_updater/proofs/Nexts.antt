@@ -42,7 +42,7 @@ mappable is_true is = absurd (let found = is.id.1 in cc)
 mappable (array ts) is = absurd (let found = is.id.1 in cc)
 mappable (string s) is = absurd (let found = is.id.1 in cc)
 
-all_mappable : (entries : List (List ℕ × Json)) → AllByRecursion (λ entry. IsStoredAs entry.0 entry.1) entries → AllByRecursion IsMappable (map (λ entry. document_of entry.1) entries)
+pub all_mappable : (entries : List (List ℕ × Json)) → AllByRecursion (λ entry. IsStoredAs entry.0 entry.1) entries → AllByRecursion IsMappable (map (λ entry. document_of entry.1) entries)
 all_mappable [] all = tt
 all_mappable (entry ∷ entries) all = (mappable entry.1 all.0.stored, all_mappable entries all.1)
 

@@ -1,6 +1,7 @@
 -- The reduce of one view is tried.
-use Rattle.std.specs.Prelude.{◌≡◌, ◌≢◌, ◌<◌, ℕ, zero, suc, List, [], ◌∷◌, true, false, length, Contains, slice_index_or}
+use Rattle.std.specs.Prelude.{◌≡◌, ◌≢◌, ◌<◌, ℕ, zero, suc, List, [], ◌∷◌, true, false, length, take, slice_index_or}
 use Rattle.std.proofs.Common.{refl, sym, ap, ◌∙◌, subst, arith}
+use Rattle.std.proofs.Math.Seq.{take-nil}
 use Rattle.json_terms.specs.declared.term.Row.{Row}
 use Rattle.design_docs.specs.declared.design.Reduce.{Reduce}
 use Rattle.design_docs.specs.declared.design.Reduce.TheVariants.{Absent, Builtin, Source}
@@ -9,11 +10,12 @@ use Rattle.view_ports.specs.declared.servers.Servers.{Ghosts as Servers}
 use Rattle.child_pool.specs.declared.pool_fault.PoolFault.{PoolFault}
 use Rattle.child_pool.specs.declared.pool_fault.PoolFault.TheVariants.{Compile, NoMemory}
 use Rattle.child_pool.specs.declared.summers.Summers.{Summers}
-use Rattle.child_pool.specs.ReduceTalk.{Fails, reduce_in, reduce_source, reduce_sources}
+use Rattle.child_pool.specs.ReduceTalk.{Fails, reduce_in, reduce_source}
 use Rattle.child_pool.specs.Summers.{IsUsableFor, SummersFail, SummersGo, reduce_of}
 use Rattle.child_pool.specs.TalkLaws.{fails_none, goes_none}
-use Rattle.child_pool.proofs.WiderTalk.{among_views, fails_wider, goes_wider}
-use Rattle.view_updater.specs.Checking.{FailsOne, HasTried, is_wanted}
+use Rattle.child_pool.proofs.WiderTalk.{fails_wider, goes_wider}
+use Rattle.view_updater.specs.Checking.{FailsOne, HasTried, is_wanted, tried_sources}
+use Rattle.view_updater.proofs.TriedSources.{among_tried, none_tried_here}
 
 -- ---- the reduce of a view
 
@@ -31,9 +33,21 @@ wanted_source Absent wanted = absurd (let never : false ≡ true = wanted in cc)
 wanted_source (Builtin kind) wanted = absurd (let never : false ≡ true = wanted in cc)
 wanted_source (Source source) wanted = (source, refl)
 
--- a list with a row has some
-pub has_one : (rows : List Row) (row : Row) → Contains rows row → rows ≢ []
-has_one rows row there none = let within = there.1 in let empty = ap length none in omega (arith, within, empty)
+-- the first of a list are none exactly where it has none
+first_none : (count : ℕ) (rows : List Row) → 0 < count → take count rows ≡ [] → rows ≡ []
+first_none zero rows some none = absurd (omega (arith, some))
+first_none (suc count) [] some none = refl
+first_none (suc count) (row ∷ rows) some none = absurd (let never : row ∷ take count rows ≡ [] = none in cc)
+
+none_long : (items : List Row) → length items ≡ 0 → items ≡ []
+none_long [] none = refl
+none_long (item ∷ items) none = absurd (omega (arith, none))
+
+pub none_first : (count : ℕ) (items rows : List Row) → 0 < count → items ≡ take count rows → length items ≡ 0 → rows ≡ []
+none_first count items rows some are none = first_none count rows some (sym are ∙ none_long items none)
+
+pub some_first : (count : ℕ) (items rows : List Row) → items ≡ take count rows → (length items ≡ 0 → ⊥) → rows ≢ []
+some_first count items rows are some none = some (ap length (are ∙ ap (take count) none ∙ take-nil count))
 
 module _ {C : Type 0} (s : Servers C) (old : Summers C) (view : ℕ) (rows : List (List Row)) where
   abbrev language : List ℕ
@@ -48,7 +62,7 @@ module _ {C : Type 0} (s : Servers C) (old : Summers C) (view : ℕ) (rows : Lis
   -- ---- nothing was asked
 
   untried : ((source : List ℕ) → reduce_in views view ≡ Source source → Own ≢ [] → ⊥) → HasTried s old old view rows
-  untried never = record { design = refl; goes = goes_none s language (reduce_sources views) old.slot; idle = λ none. refl; compile = λ source is some. absurd (never source is some) }
+  untried never = record { design = refl; goes = goes_none s language (tried_sources views rows) old.slot; idle = λ none. refl; compile = λ source is some. absurd (never source is some) }
 
   -- there are no rows
   pub no_rows : Own ≡ [] → HasTried s old old view rows
@@ -60,7 +74,7 @@ module _ {C : Type 0} (s : Servers C) (old : Summers C) (view : ℕ) (rows : Lis
 
   -- memory ran out before
   pub no_memory : FailsOne s old old view rows NoMemory
-  no_memory = record { design = refl; fails = fails_none s language (reduce_sources views) old.slot; own = λ is. absurd (let never : NoMemory ≡ Compile = is in cc) }
+  no_memory = record { design = refl; fails = fails_none s language (tried_sources views rows) old.slot; own = λ is. absurd (let never : NoMemory ≡ Compile = is in cc) }
 
   -- ---- a value was asked for
 
@@ -71,15 +85,15 @@ module _ {C : Type 0} (s : Servers C) (old : Summers C) (view : ℕ) (rows : Lis
     same : turned ≡ there
     same = λ i. record { slot = slot i; design = design i; view = at i }
 
-    pub had : SummersGo s turned after → IsUsableFor s (reduce_of s turned) turned.design.now.language turned.slot → HasTried s old new view rows
-    had go is_usable =
+    pub had : SummersGo s turned after → IsUsableFor s (reduce_of s turned) turned.design.now.language turned.slot → Own ≢ [] → HasTried s old new view rows
+    had go is_usable some =
         let goes : SummersGo s there new = subst (λ (x : Summers C). SummersGo s x new) same (subst (λ (x : Summers C). SummersGo s turned x) (sym last) go) in
         let usable : IsUsableFor s (reduce_in views view) language old.slot = subst (λ (x : Summers C). IsUsableFor s (reduce_of s x) x.design.now.language x.slot) same is_usable in
         record {
           design = goes.design;
-          goes = goes_wider (reduce_source (reduce_in views view)) (reduce_sources views) (among_views views view) s language old.slot new.slot goes.slot;
-          idle = goes.idle;
-          compile = λ source is some. subst (λ (r : Reduce). IsUsableFor s r language old.slot) is usable;
+          goes = goes_wider (reduce_source (reduce_in views view)) (tried_sources views rows) (among_tried views rows view some) s language old.slot new.slot goes.slot;
+          idle = λ none. goes.idle (none_tried_here views rows view some none);
+          compile = λ source is own. subst (λ (r : Reduce). IsUsableFor s r language old.slot) is usable;
         }
 
     pub refused_one : (fault : PoolFault) → SummersFail s turned after fault → (reduce : Reduce) → reduce ≡ reduce_in views view → true ≡ is_wanted reduce → Own ≢ [] → FailsOne s old new view rows fault
@@ -89,6 +103,6 @@ module _ {C : Type 0} (s : Servers C) (old : Summers C) (view : ℕ) (rows : Lis
         let is : reduce_in views view ≡ Source source.0 = sym in_place ∙ source.1 in
         record {
           design = fails.design;
-          fails = fails_wider (reduce_source (reduce_in views view)) (reduce_sources views) (among_views views view) s language old.slot new.slot fault fails.slot;
+          fails = fails_wider (reduce_source (reduce_in views view)) (tried_sources views rows) (among_tried views rows view some) s language old.slot new.slot fault fails.slot;
           own = λ complains. (source.0, is, some, subst (λ (r : Reduce). Fails s language (reduce_source r) old.slot new.slot fault) is fails.slot);
         }

@@ -1,6 +1,7 @@
 -- An update that is refused before its commit: the folder was only read, and the index is as of its last commit.
-use Rattle.std.specs.Prelude.{◌≡◌, ◌≢◌, ◌≤◌, List, length, Option, Result, Err}
+use Rattle.std.specs.Prelude.{◌≡◌, ◌≢◌, ◌⊎◌, ◌≤◌, ℕ, List, length, Option, Err}
 use Rattle.std.proofs.Common.{sym, ◌∙◌, subst, inl, inr, arith}
+use Rattle.json_terms.specs.Json.{Json}
 use Rattle.view_ports.specs.Disk.{IfTold}
 use Rattle.view_ports.specs.declared.folder.Folder.{Ghosts as Folders}
 use Rattle.view_ports.specs.declared.servers.Servers.{Ghosts as Servers}
@@ -13,7 +14,6 @@ use Rattle.child_pool.specs.declared.pool.Pool.{Pool}
 use Rattle.child_pool.specs.declared.pool_fault.PoolFault.{PoolFault}
 use Rattle.child_pool.specs.declared.pool_fault.PoolFault.TheVariants.{Compile, ServerFault, UnknownLanguage}
 use Rattle.child_pool.specs.PoolCalls.{StaysAsMade}
-use Rattle.child_pool.specs.ReduceTalk.{reduce_sources}
 use Rattle.child_pool.specs.Reductions.{FailsReducing}
 use Rattle.view_model.specs.Picture.{Picture}
 use Rattle.view_index.specs.declared.fault.IndexFault.{IndexFault}
@@ -24,17 +24,17 @@ use Rattle.view_index.specs.Held.{or_empty}
 use Rattle.view_index.specs.Index.{file_of, picture_of, seq_of, views_of}
 use Rattle.view_updater.specs.declared.fault.UpdateFault.{UpdateFault}
 use Rattle.view_updater.specs.declared.fault.UpdateFault.TheVariants.{Index as OfIndex, Pool as OfPool}
-use Rattle.view_updater.specs.Exchanges.{Exchanges, OnlyReads}
+use Rattle.view_updater.specs.Exchanges.{OnlyReads}
 use Rattle.view_updater.specs.Faults.{by_pool}
-use Rattle.view_updater.specs.Updates.{side, ComplainsRightly, IsOfIndex, IsReached, IsThenChecked, Side, Updates}
+use Rattle.view_updater.specs.Updates.{side, AsksSince, ComplainsRightly, HasAsked, IsIdle, IsIdleEnd, IsLast, IsOfIndex, IsReached, Side, Updates}
 use Rattle.view_updater.proofs.Carrying.{same_stem, same_views}
-use Rattle.view_updater.proofs.Ends.{asked_over, asked_some, refused, refused_others, refused_stands, IsBack}
+use Rattle.view_updater.proofs.Ends.{refused, refused_others, refused_stands, IsBack}
 use Rattle.view_updater.proofs.Exchanging.{by_pool_of, path_before, rose_since, EndsPool}
 
 -- the pool refused to reduce, after the documents were mapped
-pub pool_refused_later : {C : Type 0} (s : Servers C) (design : Design) (old mid new : C) (pool pool' made : Pool) (fault : PoolFault) → StaysAsMade pool pool' → s.faults old ≤ s.faults mid
-    → FailsReducing s mid new pool' made design.language (reduce_sources design.views) fault → EndsPool s design old new pool made (by_pool fault)
-pool_refused_later s design old mid new pool pool' made fault keeps later fails = record {
+pub pool_refused_later : {C : Type 0} (s : Servers C) (design : Design) (old mid new : C) (pool pool' made : Pool) (fault : PoolFault) (reduces : List (List ℕ)) → StaysAsMade pool pool' → s.faults old ≤ s.faults mid
+    → FailsReducing s mid new pool' made design.language reduces fault → EndsPool s design old new pool made (by_pool fault)
+pool_refused_later s design old mid new pool pool' made fault reduces keeps later fails = record {
   keeps = record { languages = fails.keeps.languages ∙ keeps.languages; width = fails.keeps.width ∙ keeps.width };
   later = omega (arith, later, fails.later);
   blames = λ is. rose_since (s.faults old) (s.faults mid) (s.faults new) later (fails.twice (by_pool_of fault ServerFault is));
@@ -42,21 +42,22 @@ pool_refused_later s design old mid new pool pool' made fault keeps later fails 
 }
 
 module _ {F C : Type 0} (f : Folders F) (s : Servers C) (docs : Docs) (design : Design) (old mid : Side F C) (servers : C) (pool : Pool) (number : views_of old.index ≡ length design.views) (rolled : Index) (back : IsBack old.index rolled)
-    (before : Result (Unit {0}) UpdateFault) (fault : UpdateFault) (last : Index) where
+    (fault : UpdateFault) (last : Index) where
   abbrev new : Side F C
   new = side mid.folder servers pool last
 
-  pub refuses : IfTold (f.disk old.folder) (λ d. IsOpen old.index d.now) → seq_of old.index ≢ written docs → Exchanges f s docs design (side old.folder old.servers old.pool rolled) mid before
-      → IsThenChecked s old.servers servers old.pool pool design mid.servers mid.pool before (refused fault) → OnlyReads f docs old.folder mid.folder (refused fault) → EndsPool s design old.servers servers old.pool pool fault
+  pub refuses : IfTold (f.disk old.folder) (λ d. IsOpen old.index d.now) → seq_of old.index ≢ written docs
+      → ((history : List Write) (picture : Option Picture) → IfTold (f.disk old.folder) (λ d. IsReached docs old.index history picture d.now → AsksSince f s docs design old new history picture (refused fault)))
+      → (IsIdle f s docs design old new × IsIdleEnd (refused fault)) ⊎ ((documents : List (List (List ℕ × Json))) × HasAsked f s docs design old new documents (IsLast f s docs design old new (refused fault)) (refused fault)) → OnlyReads f docs old.folder mid.folder (refused fault) → EndsPool s design old.servers servers old.pool pool fault
       → file_of last ≡ file_of old.index → picture_of last ≡ picture_of old.index → IsSettled last
       → ((history : List Write) (picture : Option Picture) → IfTold (f.disk old.folder) (λ d. IsReached docs old.index history picture d.now) → refused fault ≡ Err (OfPool Compile)
       → IfTold (f.disk old.folder) (λ d. ComplainsRightly s design old.servers old.pool history (or_empty (views_of old.index) picture)))
       → Updates f s docs design old new (refused fault)
-  refuses is_open differs ex checks reads ends file rows settled spoils = record {
+  refuses is_open differs asks asked reads ends file rows settled spoils = record {
     stands = refused_stands f s docs design old number new reads.disk fault file rows settled.pending;
-    asks = asked_over f s docs design old mid servers pool number rolled back mid.folder last before (refused fault) ex checks;
+    asks = asks;
     spoils = spoils;
-    asked = asked_some f s docs design old mid servers pool number rolled back mid.folder last before (refused fault) ex checks;
+    asked = asked;
     idle = λ same. absurd (differs same);
     others = refused_others f s docs design old number new reads.disk (refused fault) file is_open;
     same = (same_stem old.index last file, same_views old.index last rows);

@@ -16,16 +16,14 @@ use Rattle.child_pool.specs.declared.pool_fault.PoolFault.TheVariants.{Compile}
 use Rattle.child_pool.specs.declared.reduce_slot.ReduceSlot.{ReduceSlot}
 use Rattle.child_pool.specs.declared.summers.Summers.{Summers}
 use Rattle.child_pool.specs.declared.reduce_slot.Stage.TheVariants.{Idle}
-use Rattle.child_pool.specs.Jobs.{IsAmong}
 use Rattle.child_pool.specs.PoolCalls.{path_for}
 use Rattle.child_pool.specs.Pools.{HasItsChildren}
-use Rattle.child_pool.specs.ReduceTalk.{Compiles, Fails, Goes, reduce_in, reduce_source, reduce_sources}
+use Rattle.child_pool.specs.ReduceTalk.{Compiles, Fails, Goes, reduce_in}
 use Rattle.child_pool.specs.Reductions.{FailsReducing, Reduces}
 use Rattle.child_pool.specs.TalkLaws.{fails_behind, goes_both, goes_none}
 use Rattle.child_pool.proofs.Whole.{compiles_behind, complains_of, fails_whole, reduces_whole, stands_idle}
-use Rattle.child_pool.proofs.WiderTalk.{among_views}
 use Rattle.view_model.specs.Rows.{reduce_fails, some_reduce_fails}
-use Rattle.view_updater.specs.Checking.{FailsChecking, FailsOne, HasChecked, HasTried}
+use Rattle.view_updater.specs.Checking.{FailsChecking, FailsOne, HasChecked, HasTried, tried_sources}
 
 -- ---- of all views
 
@@ -73,20 +71,11 @@ source_within [] place source is = absurd (let never : Absent ≡ Source source 
 source_within (view ∷ views) zero source is = omega arith
 source_within (view ∷ views) (suc place) source is = let within = source_within views place source is in omega (arith, within)
 
-empty_of : (sources : List (List ℕ)) → ((source : List ℕ) → IsAmong sources source → ⊥) → sources ≡ []
-empty_of [] none = refl
-empty_of (source ∷ sources) none = absurd (none source (inl refl))
-
--- where no view has a source, none in a place has
-pub no_source_in : (views : List View) (place : ℕ) → reduce_sources views ≡ [] → reduce_source (reduce_in views place) ≡ []
-no_source_in views place none =
-    empty_of (reduce_source (reduce_in views place)) (λ source among. subst (λ (sources : List (List ℕ)). IsAmong sources source) none (among_views views place source among))
-
 -- ---- so far
 
 module _ {C : Type 0} (s : Servers C) (design : Design) (rows : List (List Row)) (first : ReduceSlot C) where
   abbrev sources : List (List ℕ)
-  sources = reduce_sources design.views
+  sources = tried_sources design.views rows
 
   -- the source in a place compiles, where the view there has rows
   abbrev IsTried : ℕ → Type 0
@@ -94,8 +83,8 @@ module _ {C : Type 0} (s : Servers C) (design : Design) (rows : List (List Row))
 
   -- the reduces of the first views were tried
   pub record FirstAreTried (count : ℕ) (now : ReduceSlot C) : Type 0 where
-    pub goes : Goes s design.language (reduce_sources design.views) first now
-    pub idle : reduce_sources design.views ≡ [] → now ≡ first
+    pub goes : Goes s design.language (tried_sources design.views rows) first now
+    pub idle : tried_sources design.views rows ≡ [] → now ≡ first
     pub each : (place : ℕ) → place < count → IsTried place
 
   pub none_tried : FirstAreTried 0 first
@@ -104,8 +93,8 @@ module _ {C : Type 0} (s : Servers C) (design : Design) (rows : List (List Row))
   module _ (place : ℕ) (old new : Summers C) (same : old.design.now ≡ design) (so_far : FirstAreTried place old.slot) where
     pub one_more : HasTried s old new place rows → FirstAreTried (place + 1) new.slot
     one_more tried = record {
-      goes = goes_both s design.language sources first old.slot new.slot so_far.goes (subst (λ (d : Design). Goes s d.language (reduce_sources d.views) old.slot new.slot) same tried.goes);
-      idle = λ none. subst (λ (d : Design). reduce_source (reduce_in d.views place) ≡ [] → new.slot ≡ old.slot) same tried.idle (no_source_in design.views place none) ∙ so_far.idle none;
+      goes = goes_both s design.language sources first old.slot new.slot so_far.goes (subst (λ (d : Design). Goes s d.language (tried_sources d.views rows) old.slot new.slot) same tried.goes);
+      idle = λ none. subst (λ (d : Design). tried_sources d.views rows ≡ [] → new.slot ≡ old.slot) same tried.idle none ∙ so_far.idle none;
       each = λ at within. elim (cases_lt at place) [
         | inl earlier ↦ so_far.each at earlier
         | inr later ↦ subst IsTried (let is : place ≡ at = omega (arith, within, later) in is) own
@@ -119,7 +108,7 @@ module _ {C : Type 0} (s : Servers C) (design : Design) (rows : List (List Row))
 
     module _ (fault : PoolFault) (tried : FailsOne s old new place rows fault) where
       pub fails_then : Fails s design.language sources first new.slot fault
-      fails_then = fails_behind s design.language sources first old.slot new.slot fault so_far.goes (subst (λ (d : Design). Fails s d.language (reduce_sources d.views) old.slot new.slot fault) same tried.fails)
+      fails_then = fails_behind s design.language sources first old.slot new.slot fault so_far.goes (subst (λ (d : Design). Fails s d.language (tried_sources d.views rows) old.slot new.slot fault) same tried.fails)
 
       -- a complaint is right
       pub right_then : first.stage ≡ Idle → fault ≡ Compile → (path : List ℕ) (calls : List Call) → s.may_follow first.servers.now calls → path_for first.pool.now design ≡ Some path → HasItsChildren first.pool.now calls → s.honest path
@@ -157,11 +146,11 @@ module _ {C : Type 0} (s : Servers C) (design : Design) (rows : List (List Row))
   pub all_tried : (count : ℕ) (last : ReduceSlot C) → FirstAreTried s design rows first count last → count ≡ length design.views → servers' ≡ last.servers.now → pool' ≡ last.pool.now
       → HasChecked s servers servers' pool pool' design rows
   all_tried count last all counted servers_is pool_is = record {
-    reduces = subst (λ (p : Pool). Reduces s servers servers' p pool' design.language (reduce_sources design.views)) same_pool
-        (subst (λ (c : C). Reduces s c servers' first.pool.now pool' design.language (reduce_sources design.views)) same_servers
-        (subst (λ (p : Pool). Reduces s first.servers.now servers' first.pool.now p design.language (reduce_sources design.views)) (sym pool_is)
-        (subst (λ (c : C). Reduces s first.servers.now c first.pool.now last.pool.now design.language (reduce_sources design.views)) (sym servers_is)
-        (reduces_whole s design.language (reduce_sources design.views) first last idle all.goes))));
+    reduces = subst (λ (p : Pool). Reduces s servers servers' p pool' design.language (tried_sources design.views rows)) same_pool
+        (subst (λ (c : C). Reduces s c servers' first.pool.now pool' design.language (tried_sources design.views rows)) same_servers
+        (subst (λ (p : Pool). Reduces s first.servers.now servers' first.pool.now p design.language (tried_sources design.views rows)) (sym pool_is)
+        (subst (λ (c : C). Reduces s first.servers.now c first.pool.now last.pool.now design.language (tried_sources design.views rows)) (sym servers_is)
+        (reduces_whole s design.language (tried_sources design.views rows) first last idle all.goes))));
     idle = λ none.
         let same = all.idle none in
         (servers_is ∙ ap (λ (slot : ReduceSlot C). slot.servers.now) same ∙ same_servers, pool_is ∙ ap (λ (slot : ReduceSlot C). slot.pool.now) same ∙ same_pool);
@@ -174,11 +163,11 @@ module _ {C : Type 0} (s : Servers C) (design : Design) (rows : List (List Row))
   pub one_refused : (place : ℕ) (old new : Summers C) → old.design.now ≡ design → FirstAreTried s design rows first place old.slot → (fault : PoolFault) → FailsOne s old new place rows fault
       → servers' ≡ new.slot.servers.now → pool' ≡ new.slot.pool.now → FailsChecking s servers servers' pool pool' design rows fault
   one_refused place old new same so_far fault tried servers_is pool_is = record {
-    fails = subst (λ (p : Pool). FailsReducing s servers servers' p pool' design.language (reduce_sources design.views) fault) same_pool
-        (subst (λ (c : C). FailsReducing s c servers' first.pool.now pool' design.language (reduce_sources design.views) fault) same_servers
-        (subst (λ (p : Pool). FailsReducing s first.servers.now servers' first.pool.now p design.language (reduce_sources design.views) fault) (sym pool_is)
-        (subst (λ (c : C). FailsReducing s first.servers.now c first.pool.now new.slot.pool.now design.language (reduce_sources design.views) fault) (sym servers_is)
-        (fails_whole s design.language (reduce_sources design.views) first new.slot fault idle (fails_then s design rows first place old new same so_far fault tried)))));
+    fails = subst (λ (p : Pool). FailsReducing s servers servers' p pool' design.language (tried_sources design.views rows) fault) same_pool
+        (subst (λ (c : C). FailsReducing s c servers' first.pool.now pool' design.language (tried_sources design.views rows) fault) same_servers
+        (subst (λ (p : Pool). FailsReducing s first.servers.now servers' first.pool.now p design.language (tried_sources design.views rows) fault) (sym pool_is)
+        (subst (λ (c : C). FailsReducing s first.servers.now c first.pool.now new.slot.pool.now design.language (tried_sources design.views rows) fault) (sym servers_is)
+        (fails_whole s design.language (tried_sources design.views rows) first new.slot fault idle (fails_then s design rows first place old new same so_far fault tried)))));
     right = λ complains path calls follows known children honest.
         right_then s design rows first place old new same so_far fault tried idle complains path calls
         (follows_first path calls follows) (known_first path calls known) (children_first path calls children) honest;

@@ -29,7 +29,6 @@ use Rattle.child_pool.specs.PoolCalls.{path_for, MapsAll, StaysAsMade}
 use Rattle.child_pool.specs.Honesty.{SomeSourceFails}
 use Rattle.child_pool.specs.Pools.{HasItsChildren}
 use Rattle.child_pool.specs.Sessions.{AllCompile}
-use Rattle.json_terms.specs.declared.term.Row.{Row}
 use Rattle.view_model.specs.Picture.{Picture}
 use Rattle.view_model.specs.Rows.{some_reduce_fails}
 use Rattle.view_model.specs.Update.{IsUpdated}
@@ -141,14 +140,14 @@ IsMetBy (Ok done) result = (fault : PoolFault) → result ≡ Err (by_pool fault
 IsMetBy (Err fault) result = result ≡ Err (by_pool fault)
 
 module _ {C : Type 0} (s : Servers C) (servers servers' : C) (pool pool' : Pool) (design : Design) where
-  -- where the documents were mapped, the sources of reduces were tried
-  abbrev pub IsThenChecked : {T : Type 0} → C → Pool → Result (Unit {0}) UpdateFault → Result T UpdateFault → Type 0
-  IsThenChecked between pool_between (Err fault) result = (result ≡ Err fault) × (servers' ≡ between) × (pool' ≡ pool_between)
-  IsThenChecked between pool_between (Ok done) result =
-      (rows : List (List Row)) × (checked : Result (Unit {0}) PoolFault) × Checks s between servers' pool_between pool' design rows checked × IsMetBy checked result
+  -- where the documents were mapped, the sources of reduces were tried whose views have rows in a next picture
+  abbrev pub IsThenChecked : {T : Type 0} → (Picture → Type 0) → C → Pool → Result (Unit {0}) UpdateFault → Result T UpdateFault → Type 0
+  IsThenChecked IsNext between pool_between (Err fault) result = (result ≡ Err fault) × (servers' ≡ between) × (pool' ≡ pool_between)
+  IsThenChecked IsNext between pool_between (Ok done) result =
+      (next : Picture) × IsNext next × (checked : Result (Unit {0}) PoolFault) × Checks s between servers' pool_between pool' design next.rows checked × IsMetBy checked result
 
-  -- the documents were asked for, all or the first ones, and then, where all were mapped, the reduces that are wanted
-  pub record HasAskedFor {T : Type 0} (documents : List (List (List ℕ × Json))) (result : Result T UpdateFault) : Type 0 where
+  -- the documents were asked for, all or the first ones, and then, where all were mapped, the reduces of the next picture
+  pub record HasAskedFor {T : Type 0} (documents : List (List (List ℕ × Json))) (IsNext : Picture → Type 0) (result : Result T UpdateFault) : Type 0 where
     pub between : C
     pub pool_between : Pool
     pub mapped : Result (Unit {0}) UpdateFault
@@ -156,7 +155,7 @@ module _ {C : Type 0} (s : Servers C) (servers servers' : C) (pool pool' : Pool)
     pub keeps : StaysAsMade pool pool_between
     pub later : s.faults servers ≤ s.faults between
     pub twice : mapped ≡ Err (OfPool ServerFault) → RoseBy 2 (s.faults servers) (s.faults between)
-    pub checks : IsThenChecked between pool_between mapped result
+    pub checks : IsThenChecked IsNext between pool_between mapped result
 
 module _ (functions : List ℕ → Functions) (honest : List ℕ → Type 0) (design : Design) where
   -- a picture that the servers of a path made of another one: its rows are those of an honest path where there are no more views than a
@@ -208,22 +207,37 @@ module _ {F C : Type 0} (f : Folders F) (s : Servers C) (docs : Docs) (design : 
   abbrev pub IsIdle : Type 0
   IsIdle = (new.servers ≡ old.servers) × (new.pool ≡ old.pool)
 
-  -- these documents were asked for
-  abbrev pub HasAsked : List (List (List ℕ × Json)) → Result (Unit {0}) UpdateFault → Type 0
-  HasAsked documents result = HasAskedFor s old.servers new.servers old.pool new.pool design documents result
+  -- a picture that documents make which were mapped, whether or not reduces can be had of it
+  abbrev pub IsMappedTo : List Write → Option Picture → Picture → Type 0
+  IsMappedTo history picture next = (path : List ℕ) (calls : List Call) → s.may_follow old.servers calls → path_for old.pool design ≡ Some path → HasItsChildren old.pool calls
+      → IsMapped s.functions s.honest design path history (or_empty (views_of old.index) picture) next
+
+  -- after Ok it is that of the index
+  abbrev pub IsLast : Result (Unit {0}) UpdateFault → Picture → Type 0
+  IsLast result next = OnOk result (next ≡ picture_of new.index)
+
+  -- these documents were asked for, and then the reduces of such a picture
+  abbrev pub HasAsked : List (List (List ℕ × Json)) → (Picture → Type 0) → Result (Unit {0}) UpdateFault → Type 0
+  HasAsked documents IsNext result = HasAskedFor s old.servers new.servers old.pool new.pool design documents IsNext result
+
+  -- where something was written since the picture, its documents are asked for, and then the reduces of the picture that they make;
+  -- where nothing was, nothing is
+  abbrev pub AsksSince : List Write → Option Picture → Result (Unit {0}) UpdateFault → Type 0
+  AsksSince history picture result =
+      (IsIdle × IsIdleEnd result × OnOk result (seq_of old.index ≡ length history))
+      ⊎ ((seq_of old.index ≢ length history) × HasAsked (documents_since (seq_of old.index) history) (λ next. IsMappedTo history picture next × IsLast result next) result)
 
   pub record Updates (result : Result (Unit {0}) UpdateFault) : Type 0 where
     -- a crash leaves the picture or an updated one, and after Ok the index is at that; the documents' files are as they were
     pub stands : (history : List Write) (picture : Option Picture) → IfTold (f.disk old.folder) (λ d. IsReached docs old.index history picture d.now)
         → Tells (f.disk old.folder) (f.disk new.folder) (Moves (IsFileOf (stem_of old.index)) (StandsAround history picture result) (EndsAt history picture result))
-    -- the documents that were written since are asked for, and no others; where there are none that were written, nothing is
-    pub asks : (history : List Write) → IfTold (f.disk old.folder) (λ d. AreAt docs d.now history
-        → (IsIdle × (IsIdleEnd result × OnOk result (seq_of old.index ≡ length history))) ⊎ HasAsked (documents_since (seq_of old.index) history) result)
+    -- the documents that were written since are asked for, and no others, and the reduces of the picture that they make
+    pub asks : (history : List Write) (picture : Option Picture) → IfTold (f.disk old.folder) (λ d. IsReached docs old.index history picture d.now → AsksSince history picture result)
     -- it is refused for a source that doesn't compile only where one is wanted that doesn't
     pub spoils : (history : List Write) (picture : Option Picture) → IfTold (f.disk old.folder) (λ d. IsReached docs old.index history picture d.now)
         → result ≡ Err (OfPool Compile) → IfTold (f.disk old.folder) (λ d. ComplainsRightly s design old.servers old.pool history (or_empty (views_of old.index) picture))
     -- whatever is told, some documents were asked for, all or the first ones, or nothing was
-    pub asked : (IsIdle × IsIdleEnd result) ⊎ ((documents : List (List (List ℕ × Json))) × HasAsked documents result)
+    pub asked : (IsIdle × IsIdleEnd result) ⊎ ((documents : List (List (List ℕ × Json))) × HasAsked documents (IsLast result) result)
     -- where nothing was written since, nothing is done
     pub idle : seq_of old.index ≡ written docs → (result ≡ Ok tt) × (new ≡ old)
     -- whatever is told: files of other names are as they were, the index is open still where nothing of it failed, and a refusal leaves

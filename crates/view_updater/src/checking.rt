@@ -1,19 +1,22 @@
 //! Whether the reduces of an update's views can be had.
 
-ghost use Rattle.std.specs.Prelude.{◌≡◌, ◌≢◌, ◌<◌, IfErr, IfOk, OnOk, length};
+ghost use Rattle.std.specs.Prelude.{◌≡◌, ◌<◌, [], IfErr, IfOk, OnOk, length, slice_index_or, take};
 ghost use Rattle.view_index.specs.Index.{next_in, views_of};
 ghost use Rattle.view_updater.specs.Checking.{Checks, FailsOne, HasTried, is_wanted};
 
 use builtin_reduces::{RowItem, copy_row};
 use child_pool::{Pool, PoolFault, ReduceSlot, Summers};
 use design_docs::{Design, Reduce};
-use json_terms::{NoMemory, Row};
+use json_terms::NoMemory;
 use std::alloc::Global;
 use tree_laws::Summer;
 use view_index::Index;
 use view_ports::Servers;
 
-/// Asks for a value by each reduce that a query server runs, of whose view the next commit leaves rows: of one of these.
+/// So many rows of a view are reduced at most.
+const FIRST: usize = 32;
+
+/// Asks for a value by each reduce that a query server runs, of whose view the next commit leaves rows: of the first of these, 32 at most.
 pub fn check_reduces<C: Servers>(
     alloc: Global,
     servers: &mut C,
@@ -56,14 +59,14 @@ fn try_reduce<C: Servers>(
     if !is_served(&design.views.as_slice()[view as usize].reduce) {
         return Ok(());
     }
-    let Some(row) = index.some_next_row(view) else {
-        return Ok(());
-    };
-    let item = match item_of(alloc, row) {
-        Ok(item) => item,
+    let items = match first_items(alloc, index, view) {
+        Ok(items) => items,
         Err(NoMemory) => return Err(PoolFault::NoMemory),
     };
-    match summers.summer(view).leaf(alloc, &[item]) {
+    if items.is_empty() {
+        return Ok(());
+    }
+    match summers.summer(view).leaf(alloc, items.as_slice()) {
         Ok(_value) => Ok(()),
         Err(fault) => Err(fault),
     }
@@ -76,12 +79,18 @@ fn is_served(reduce: &Reduce) -> bool
     matches!(reduce, Reduce::Source(_))
 }
 
-/// A copy of a row, as what a tree keeps. Where it is out of the bounds of that, the error is want of memory too.
-fn item_of(alloc: Global, row: &Row) -> Result<RowItem, NoMemory>
-    ensures { IfOk result (λ item. item ≡ row.now) }
+/// Copies of the first rows of a view, as what a tree keeps. Where one is out of the bounds of that, the error is want of memory too.
+fn first_items(alloc: Global, index: &Index, view: u32) -> Result<Vec<RowItem>, NoMemory>
+    requires { view < views_of index.now }
+    ensures { IfOk result (λ items. items.items ≡ take 32 (slice_index_or (next_in index.now) view [])) }
 {
-    match RowItem::new(alloc, copy_row(alloc, row)?)? {
-        Some(item) => Ok(item),
-        None => Err(NoMemory),
+    let mut items = Vec::with_capacity(alloc, FIRST)?;
+    let rows = index.first_next_rows(alloc, view, FIRST)?;
+    for row in &rows {
+        match RowItem::new(alloc, copy_row(alloc, row)?)? {
+            Some(item) => items.push(item)?,
+            None => return Err(NoMemory),
+        }
     }
+    Ok(items)
 }

@@ -1,15 +1,11 @@
 -- What is due of the range's runs, or of the listed keys' groups, is what the query picks.
-use Rattle.std.proofs.Common.{List, false, map, subst}
+use Rattle.std.proofs.Common.{◌∙◌, List, false, map, subst}
 use Rattle.std.proofs.lemmas.Result.{on_ok_weaker}
 use Rattle.json_terms.specs.Seen.{json}
 use Rattle.json_terms.specs.declared.term.Row.{Row}
 use Rattle.view_model.specs.Adding.{AddsGroups}
 use Rattle.view_model.specs.Selection.{is_in_range}
-use Rattle.view_model.specs.Groups.{picked_groups}
-use Rattle.view_model.proofs.GroupAnswers.{no_groups}
 use Rattle.view_model.proofs.GroupTexts.{filtered, picked_listed, picked_ranged}
-use Rattle.view_model.proofs.NoGroups.{none_picked}
-use Rattle.view_model.proofs.RunParts.{no_rows}
 use Rattle.view_model.proofs.groups.print_groups.Goals as goal
 
 pub print_runs-requires : goal.print_runs-requires
@@ -32,7 +28,11 @@ returns-in-None-clause-ok g c =
     (λ added. subst (λ (groups : List (List Row)). AddsGroups (g.V.GroupValues.is_value c.args.values.now) query.level false groups c.args.reply.now c.print_runs.new.reply) same added)
     c.print_runs.ensures.ok
 
-pub returns-then-is_empty-clause-ok : goal.returns-then-is_empty-clause-ok
-returns-then-is_empty-clause-ok g c =
-    no_groups (g.V.GroupValues.is_value c.args.values.now) c.args.query.now.level false (picked_groups c.args.query.now c.args.rows.now) c.args.reply.now
-    (none_picked c.args.query.now c.args.rows.now (no_rows c.args.rows.now c.is_empty.result c.is_empty.ensures c.if-is_empty.true))
+pub returns-in-Some-clause-idle : goal.returns-in-Some-clause-idle
+returns-in-Some-clause-idle g c none =
+    c.print_listed.ensures.idle
+    (picked_listed c.args.query.now c.args.rows.now c.in-Some.keys (map json c.as_slice.result.now) c.in-Some.is c.as_slice.ensures ∙ none)
+
+pub returns-in-None-clause-idle : goal.returns-in-None-clause-idle
+returns-in-None-clause-idle g c none =
+    c.print_runs.ensures.idle (picked_ranged c.args.query.now c.args.rows.now c.ranged.result.now c.in-None.is c.ranged.ensures ∙ none)

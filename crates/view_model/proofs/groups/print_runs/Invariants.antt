@@ -1,4 +1,4 @@
-use Rattle.std.proofs.Common.{◌≡◌, false, All, length}
+use Rattle.std.proofs.Common.{◌≡◌, [], false, All, length}
 use Rattle.view_model.specs.declared.reply.Reply.{Reply}
 use Rattle.view_model.specs.Adding.{AddsGroups}
 use Rattle.view_model.specs.Groups.{runs}
@@ -6,7 +6,8 @@ use Rattle.view_model.specs.Progress.{due, start_of, walked}
 use Rattle.view_model.specs.Written.{before_of}
 use Rattle.view_model.proofs.groups.print_runs.Given as goal
 
--- once what is due of the rows that are left is printed too, all that is due is; and nothing before it has changed
+-- once what is due of the rows that are left is printed too, all that is due is; and nothing before it has changed.
+-- Where nothing is due, nothing is of what is left, and no value was asked for.
 abbrev pub invariant-loop-progress : goal.invariant-loop-progress
 invariant-loop-progress g l =
     let is_value = g.V.GroupValues.is_value l.initial.values in
@@ -16,6 +17,7 @@ invariant-loop-progress g l =
           → AddsGroups is_value l.query.level false (due (start_of l.query) all) l.initial.reply end;
       before : before_of l.reply ≡ before_of l.initial.reply;
       goes : g.V.GroupValues.goes l.initial.values l.values;
+      idle : due (start_of l.query) all ≡ [] → (due l.progress left ≡ []) × (l.values ≡ l.initial.values);
       kept : All (g.V.GroupValues.takes l.initial.values) l.left;
     }
 

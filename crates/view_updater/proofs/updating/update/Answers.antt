@@ -23,10 +23,11 @@ use Rattle.view_index.specs.ViewRows.{next_rows}
 use Rattle.view_updater.specs.declared.fault.UpdateFault.{UpdateFault}
 use Rattle.view_updater.specs.declared.fault.UpdateFault.TheVariants.{Docs as OfDocuments, Index as OfIndex, Pool as OfPool}
 use Rattle.view_updater.specs.Faults.{by_index, by_pool}
-use Rattle.view_updater.specs.Updates.{side, EndsAt, IsFileFault, IsLost, Updates}
+use Rattle.view_updater.specs.Checking.{tried_sources}
+use Rattle.view_updater.specs.Updates.{side, EndsAt, IsFileFault, IsLost, IsReached, Updates}
 use Rattle.view_updater.proofs.Carrying.{same_stem, same_views, views_by_picture}
 use Rattle.view_updater.proofs.Exchanging.{as_made, by_pool_of}
-use Rattle.view_updater.proofs.Ends.{asked_over, asked_some, commit_filled, commit_met, commit_refused, committed_stands, idle_stands, index_of_no_documents, index_of_no_pool, index_stored, is_filled, known_next, others_refused, others_then, refused, well, well_met, IsBack, IsOfCommit}
+use Rattle.view_updater.proofs.Ends.{asked_over, asked_some, checked_next, commit_filled, commit_met, commit_refused, committed_stands, idle_stands, index_of_no_documents, index_of_no_pool, index_stored, is_filled, known_next, others_refused, others_then, refused, well, well_met, IsBack, IsOfCommit}
 use Rattle.view_updater.proofs.OnlyReading.{pool_of_no_documents, pool_of_no_index, read_then, FindsBodies}
 use Rattle.view_updater.proofs.Refusing.{pool_refused_later, refuses}
 use Rattle.view_updater.proofs.Spoils.{spoils_checking, spoils_mapping}
@@ -74,7 +75,7 @@ returns-then-seq-newest g c =
     let newest : seq_of c.args.index.now ≡ documents_seq docs = sym c.seq.ensures ∙ c.if-seq-newest.true ∙ ap (λ (info : Info). info.update_seq) c.info-newest.ensures.kept in
     record {
       stands = idle_stands g.F.Folder g.C.Servers docs c.args.design.now old c.requires.number newest;
-      asks = λ history. told_all disk (λ d. AreAt docs d.now history → _) (λ d here. inl ((refl, refl), (tt, newest ∙ here.count)));
+      asks = λ history picture. told_all disk (λ d. IsReached docs c.args.index.now history picture d.now → _) (λ d here. inl ((refl, refl), tt, newest ∙ here.documents.count));
       spoils = λ history picture reached is. cc;
       asked = inl ((refl, refl), tt);
       idle = λ same. (refl, refl);
@@ -107,9 +108,10 @@ returns-in-Err g c =
     let fault = c.in-Err.fault in
     let ex = c.in-Err.ensures in
     let back : IsBack index rolled = record { file = c.roll_back.ensures.same.file; rows = c.roll_back.ensures.picture; next = c.roll_back.ensures.next; pending = c.roll_back.ensures.pending } in
-    refuses g.F.Folder g.C.Servers docs design old mid mid.servers mid.pool c.requires.number rolled back (refused fault) fault last c.requires.index
-    (λ same. written_since c.seq.result c.info-newest.result (seq_of index) docs c.seq.ensures c.info-newest.ensures.kept c.if-seq-newest.false same)
-    ex (refl, refl, refl) ex.reads (record { keeps = ex.keeps; later = ex.later; blames = ex.blames; unknown = ex.unknown })
+    let differs : seq_of index ≢ documents_seq docs = λ same. written_since c.seq.result c.info-newest.result (seq_of index) docs c.seq.ensures c.info-newest.ensures.kept c.if-seq-newest.false same in
+    refuses g.F.Folder g.C.Servers docs design old mid mid.servers mid.pool c.requires.number rolled back fault last c.requires.index differs
+    (λ history picture. asked_over g.F.Folder g.C.Servers docs design old mid mid.servers mid.pool c.requires.number rolled back mid.folder last (refused fault) (refused fault) ex differs history picture (λ files here has. (refl, refl, refl)))
+    (asked_some g.F.Folder g.C.Servers docs design old mid mid.servers mid.pool c.requires.number rolled back mid.folder last (refused fault) (refused fault) ex (refl, refl, refl)) ex.reads (record { keeps = ex.keeps; later = ex.later; blames = ex.blames; unknown = ex.unknown })
     (c.roll_back-in-Err.ensures.same.file ∙ ex.same.file ∙ back.file) (c.roll_back-in-Err.ensures.picture ∙ ex.picture ∙ back.rows)
     (record { next = c.roll_back-in-Err.ensures.next; pending = c.roll_back-in-Err.ensures.pending })
     (λ history picture reached is. spoils_mapping g.F.Folder g.C.Servers docs design old mid mid.servers mid.pool c.requires.number rolled back history picture reached fault ex is)
@@ -126,15 +128,19 @@ returns-in-Err-check_reduces g c =
     let docs = c.args.docs.now in
     let design = c.args.design.now in
     let fault = c.in-Err-check_reduces.fault in
+    let newest = c.info-newest.result.update_seq in
+    let newest_is : newest ≡ documents_seq docs = ap (λ (info : Info). info.update_seq) c.info-newest.ensures.kept in
     let ex = c.in_default.ensures in
     let fails = c.in-Err-check_reduces.ensures in
     let back : IsBack index rolled = record { file = c.roll_back.ensures.same.file; rows = c.roll_back.ensures.picture; next = c.roll_back.ensures.next; pending = c.roll_back.ensures.pending } in
     subst (λ (e : UpdateFault). Updates g.F.Folder g.C.Servers docs design old (side mid.folder servers pool last) (refused e)) (sym c.from.ensures)
-    (refuses g.F.Folder g.C.Servers docs design old mid servers pool c.requires.number rolled back well (by_pool fault) last c.requires.index
-    (λ same. written_since c.seq.result c.info-newest.result (seq_of index) docs c.seq.ensures c.info-newest.ensures.kept c.if-seq-newest.false same)
-    ex (next_in mid.index, Err fault, fails, refl)
+    (let differs : seq_of index ≢ documents_seq docs = λ same. written_since c.seq.result c.info-newest.result (seq_of index) docs c.seq.ensures c.info-newest.ensures.kept c.if-seq-newest.false same in
+    refuses g.F.Folder g.C.Servers docs design old mid servers pool c.requires.number rolled back (by_pool fault) last c.requires.index differs
+    (λ history picture. asked_over g.F.Folder g.C.Servers docs design old mid servers pool c.requires.number rolled back mid.folder last well (refused (by_pool fault)) ex differs history picture
+    (checked_next g.F.Folder g.C.Servers docs design old mid servers pool c.requires.number rolled back mid.folder last (refused (by_pool fault)) (Err fault) fails refl newest newest_is tt history picture))
+    (asked_some g.F.Folder g.C.Servers docs design old mid servers pool c.requires.number rolled back mid.folder last well (refused (by_pool fault)) ex (next_picture newest mid.index, tt, Err fault, fails, refl))
     (read_then g.F.Folder docs old.folder mid.folder tt (by_pool fault) (refused (by_pool fault)) refl (pool_of_no_index fault) (pool_of_no_documents fault) ex.reads)
-    (pool_refused_later g.C.Servers design old.servers mid.servers servers old.pool mid.pool pool fault ex.keeps ex.later fails.fails)
+    (pool_refused_later g.C.Servers design old.servers mid.servers servers old.pool mid.pool pool fault (tried_sources design.views (next_in mid.index)) ex.keeps ex.later fails.fails)
     (c.roll_back-in-Err-check_reduces.ensures.same.file ∙ ex.same.file ∙ back.file) (c.roll_back-in-Err-check_reduces.ensures.picture ∙ ex.picture ∙ back.rows)
     (record { next = c.roll_back-in-Err-check_reduces.ensures.next; pending = c.roll_back-in-Err-check_reduces.ensures.pending })
     (λ history picture reached is. spoils_checking g.F.Folder g.C.Servers docs design old mid servers pool c.requires.number rolled back history picture reached ex (fails.right (by_pool_of fault Compile is))))
@@ -164,9 +170,11 @@ returns-in-Err-commit g c =
     subst (λ (e : UpdateFault). Updates g.F.Folder g.C.Servers docs design old new (refused e)) (sym c.from-in-Err-commit.ensures) (record {
       stands = commit_refused g.F.Folder g.C.Servers docs design old mid servers pool c.requires.number rolled back ex.same.file ex.picture ex.reads.disk committed c.commit.new.folder newest (Err fault) commits newest_is ex.asks ex.keeps checked.compile
           last c.roll_back-in-Err-commit.ensures.same.file rows c.roll_back-in-Err-commit.ensures.pending fault refl;
-      asks = asked_over g.F.Folder g.C.Servers docs design old mid servers pool c.requires.number rolled back c.commit.new.folder last well (refused (by_index fault)) ex (next_in mid.index, Ok tt, checked, commit_met fault);
+      asks = λ history picture. asked_over g.F.Folder g.C.Servers docs design old mid servers pool c.requires.number rolled back c.commit.new.folder last well (refused (by_index fault)) ex
+          (λ same. written_since c.seq.result c.info-newest.result (seq_of index) docs c.seq.ensures c.info-newest.ensures.kept c.if-seq-newest.false same) history picture
+          (checked_next g.F.Folder g.C.Servers docs design old mid servers pool c.requires.number rolled back c.commit.new.folder last (refused (by_index fault)) (Ok tt) checked (commit_met fault) newest newest_is tt history picture);
       spoils = λ history picture reached is. absurd (index_of_no_pool fault Compile (let same : by_index fault ≡ OfPool Compile = cc in same));
-      asked = asked_some g.F.Folder g.C.Servers docs design old mid servers pool c.requires.number rolled back c.commit.new.folder last well (refused (by_index fault)) ex (next_in mid.index, Ok tt, checked, commit_met fault);
+      asked = asked_some g.F.Folder g.C.Servers docs design old mid servers pool c.requires.number rolled back c.commit.new.folder last well (refused (by_index fault)) ex (next_picture newest mid.index, tt, Ok tt, checked, commit_met fault);
       idle = λ same. absurd (written_since c.seq.result c.info-newest.result (seq_of index) docs c.seq.ensures c.info-newest.ensures.kept c.if-seq-newest.false same);
       others = others_refused g.F.Folder g.C.Servers docs design old mid servers pool c.requires.number rolled back ex.same.file ex.picture ex.reads.disk committed c.commit.new.folder newest (Err fault) commits last
           c.roll_back-in-Err-commit.ensures.same.file c.requires.index fault refl;
@@ -220,9 +228,11 @@ returns g c =
             ended,
             known_next g.F.Folder g.C.Servers docs design old mid servers pool c.requires.number rolled back ex.same.file ex.picture ex.reads.disk committed c.commit.new.folder newest well_index commits newest_is ex.asks ex.keeps checked.compile history picture new was known,
           ));
-      asks = asked_over g.F.Folder g.C.Servers docs design old mid servers pool c.requires.number rolled back c.commit.new.folder committed well well ex (next_in mid.index, Ok tt, checked, λ fault is. absurd (well_met fault is));
+      asks = λ history picture. asked_over g.F.Folder g.C.Servers docs design old mid servers pool c.requires.number rolled back c.commit.new.folder committed well well ex
+          (λ same. written_since c.seq.result c.info-newest.result (seq_of index) docs c.seq.ensures c.info-newest.ensures.kept c.if-seq-newest.false same) history picture
+          (checked_next g.F.Folder g.C.Servers docs design old mid servers pool c.requires.number rolled back c.commit.new.folder committed well (Ok tt) checked (λ fault is. absurd (well_met fault is)) newest newest_is (sym commits.picture) history picture);
       spoils = λ history picture reached is. cc;
-      asked = asked_some g.F.Folder g.C.Servers docs design old mid servers pool c.requires.number rolled back c.commit.new.folder committed well well ex (next_in mid.index, Ok tt, checked, λ fault is. absurd (well_met fault is));
+      asked = asked_some g.F.Folder g.C.Servers docs design old mid servers pool c.requires.number rolled back c.commit.new.folder committed well well ex (next_picture newest mid.index, sym commits.picture, Ok tt, checked, λ fault is. absurd (well_met fault is));
       idle = λ same. absurd (written_since c.seq.result c.info-newest.result (seq_of index) docs c.seq.ensures c.info-newest.ensures.kept c.if-seq-newest.false same);
       others = others_then g.F.Folder g.C.Servers docs design old mid servers pool c.requires.number rolled back ex.same.file ex.picture ex.reads.disk committed c.commit.new.folder newest well_index commits committed well (λ files ended. inr ended);
       same = (stem, views);
