@@ -18,11 +18,10 @@ use Rattle.view_ports.specs.ReduceRow.{ReduceRow, reduce_row}
 use Rattle.query_protocol.specs.CommandLines.{IsProperCommand}
 use Rattle.builtin_reduces.specs.Kept.{IsKept}
 use Rattle.child_pool.specs.declared.pool_fault.PoolFault.{PoolFault}
-use Rattle.child_pool.specs.declared.pool_fault.PoolFault.TheVariants.{NoMemory}
 use Rattle.child_pool.specs.declared.reduce_slot.ReduceSlot.{ReduceSlot}
 use Rattle.child_pool.specs.Reducing.{IsLineOf, IsReduceLine, ReducesBy}
 use Rattle.child_pool.specs.ReduceTalk.{AreRightFor, Blames, Compiles, FoldsIn, IsMadeOf, IsRightFor, IsWholeOf, Rejoins, Stands, Talks}
-use Rattle.child_pool.specs.TalkLaws.{fails_behind, fails_none, goes_both, goes_none, stands_on}
+use Rattle.child_pool.specs.TalkLaws.{fails_behind, goes_both, goes_none, stands_on}
 
 -- ---- lists
 
@@ -71,10 +70,6 @@ module _ {C : Type 0} (s : Servers C) (language source : List ℕ) where
   pub talks_on : (a b c : ReduceSlot C) (result : Result Term PoolFault) → Talks s language source a b → OnOk result (Talks s language source b c) → OnOk result (Talks s language source a c)
   talks_on a b c (Ok value) first second = talks_both a b c first second
   talks_on a b c (Err fault) first second = tt
-
-  -- want of memory behind some calls
-  pub fails_late : (a b : ReduceSlot C) → Talks s language source a b → Blames s language source a b NoMemory
-  fails_late a b talks = λ reduces among. fails_behind s language reduces a b b NoMemory (talks reduces among) (fails_none s language reduces b)
 
   -- no value is right for no rows
   pub right_none : (first : ReduceSlot C) → AreRightFor s language source first [] []

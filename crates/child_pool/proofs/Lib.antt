@@ -29,6 +29,7 @@ pub mod Nexts
 pub mod Remembered
 pub mod Honesty
 mod Talks
+mod Spent
 pub mod ChildSums
 mod Tried
 mod Folds

@@ -38,7 +38,7 @@ on_slot : (path : List ℕ) (reduces : List (List ℕ)) (width : ℕ) (added bef
 on_slot path reduces width [] before some lawful = tt
 on_slot path reduces width (call ∷ added) before some lawful = (inl (lawful.0, lawful.1, some), on_slot path reduces width added before some lawful.2)
 
-stops_reducing : (job : Job) (path : List ℕ) (reduces : List (List ℕ)) (width : ℕ) (added before : List Call) → AllLawfulIn job width added before → AllStops added → AllReducing path reduces width added before
+pub stops_reducing : (job : Job) (path : List ℕ) (reduces : List (List ℕ)) (width : ℕ) (added before : List Call) → AllLawfulIn job width added before → AllStops added → AllReducing path reduces width added before
 stops_reducing job path reduces width [] before lawful only = tt
 stops_reducing job path reduces width (call ∷ added) before lawful only = (
   elim lawful.0 [
@@ -54,14 +54,14 @@ own_calls job slot [] before lawful = tt
 own_calls job slot (call ∷ added) before lawful = (lawful.0, own_calls job slot added before lawful.2)
 
 -- where all children are stopped, those that are remembered are there
-stopped_children : (width : ℕ) (pool : Pool) (calls : List Call) → AreStopped width pool calls → HasItsChildren pool calls
+pub stopped_children : (width : ℕ) (pool : Pool) (calls : List Call) → AreStopped width pool calls → HasItsChildren pool calls
 stopped_children width pool calls stopped = record {
   mapping = subst (λ (o : Option Started). MatchOption o (Unit {0}) (λ started. (started.count ≤ pool.width) × AreThere started.path started.count calls)) (sym stopped.forgotten) tt;
   reducing = subst (λ (o : Option (List ℕ)). MatchOption o (Unit {0}) (λ path. IsThere path pool.width calls)) (sym stopped.reducer) tt;
 }
 
 -- a refusal before anything was done, but that two attempts failed
-stops_at_once : (fault : PoolFault) (rose : Type 0) (prompt : Prompt) (more : List Prompt) → (fault ≡ ServerFault → ⊥) → StopsAt fault rose (prompt ∷ more) []
+pub stops_at_once : (fault : PoolFault) (rose : Type 0) (prompt : Prompt) (more : List Prompt) → (fault ≡ ServerFault → ⊥) → StopsAt fault rose (prompt ∷ more) []
 stops_at_once fault rose prompt more other =
     stops_before fault rose (prompt ∷ []) more [] (stops_one fault rose prompt [] (given_up_by fault rose prompt [] other (inl (cut_at_once prompt.slot prompt.once))))
 
@@ -75,7 +75,7 @@ talked_ok F GivenUp to slot fresh commands rose old pool added now going is h = 
 talked_ok F from Idle slot fresh commands rose old pool added now going is h = absurd (cc)
 talked_ok F from GivenUp slot fresh commands rose old pool added now going is h = absurd (cc)
 
-talked_err : (F : PoolFault → Type 0) (from to : Stage) (slot : ℕ) (fresh : Bool) (commands : List Command) (rose : Type 0) (old pool : Pool) (added now : List Call) → from ≢ GivenUp → to ≡ GivenUp
+pub talked_err : (F : PoolFault → Type 0) (from to : Stage) (slot : ℕ) (fresh : Bool) (commands : List Command) (rose : Type 0) (old pool : Pool) (added now : List Call) → from ≢ GivenUp → to ≡ GivenUp
     → IsLeftOff F (talk_prompts from Begun slot fresh commands) rose old pool added now → HasTalked F from to (talk_prompts from to slot fresh commands) rose old pool added now
 talked_err F Idle GivenUp slot fresh commands rose old pool added now going is h = h
 talked_err F Begun GivenUp slot fresh commands rose old pool added now going is h = h
@@ -98,6 +98,16 @@ known_path (Some other) path some known = ap Some (sym known)
 path_or_none : (found : Option (List ℕ)) (path : List ℕ) → MayBePath found path → (found ≡ None) ⊎ (found ≡ Some path)
 path_or_none None path known = inl refl
 path_or_none (Some other) path known = inr (ap Some (sym known))
+
+module _ {C : Type 0} (s : Servers C) where
+  -- all children are stopped, and the talk is given up
+  pub record IsStoppedBy (b n : ReduceSlot C) : Type 0 where
+    pub pool : n.pool.ghost_name ≡ b.pool.ghost_name
+    pub servers : n.servers.ghost_name ≡ b.servers.ghost_name
+    pub stage : n.stage ≡ GivenUp
+    pub keeps : StaysAsMade b.pool.now n.pool.now
+    pub stops : StopsAll s b.servers.now n.servers.now b.pool.now n.pool.now
+    pub faults : s.faults n.servers.now ≡ s.faults b.servers.now
 
 module _ {C : Type 0} (s : Servers C) (language line source : List ℕ) (asked : Command) (spells : IsLineOf asked line) (by : ReducesBy source asked) where
   abbrev Found : ReduceSlot C → Option (List ℕ)
@@ -200,16 +210,7 @@ module _ {C : Type 0} (s : Servers C) (language line source : List ℕ) (asked :
         }
   ]
 
-  -- all children are stopped then
-  pub record IsStoppedBy (b n : ReduceSlot C) : Type 0 where
-    pub pool : n.pool.ghost_name ≡ b.pool.ghost_name
-    pub servers : n.servers.ghost_name ≡ b.servers.ghost_name
-    pub stage : n.stage ≡ GivenUp
-    pub keeps : StaysAsMade b.pool.now n.pool.now
-    pub stops : StopsAll s b.servers.now n.servers.now b.pool.now n.pool.now
-    pub faults : s.faults n.servers.now ≡ s.faults b.servers.now
-
-  stopped_stretch : (reduces : List (List ℕ)) → IsAmong reduces source → (a b n : ReduceSlot C) (fault : PoolFault) → a.stage ≢ GivenUp → Tries s language line a b (Err fault) → IsStoppedBy b n
+  stopped_stretch : (reduces : List (List ℕ)) → IsAmong reduces source → (a b n : ReduceSlot C) (fault : PoolFault) → a.stage ≢ GivenUp → Tries s language line a b (Err fault) → IsStoppedBy s b n
       → (path : List ℕ) (calls : List Call) → Stands s language a path calls
       → WentReducing (s.may_follow n.servers.now) path reduces a.pool.now.width calls (λ added now. Stretch s language reduces (λ met. met ≡ fault) path a n added now
       × ((fault ≡ UnknownLanguage) ⊎ IsCaused s.functions s.honest (reduce_job path reduces) added calls fault))
@@ -253,7 +254,7 @@ module _ {C : Type 0} (s : Servers C) (language line source : List ℕ) (asked :
         );
       }
 
-  pub ask_err : (a b n : ReduceSlot C) (fault : PoolFault) → a.stage ≢ GivenUp → Tries s language line a b (Err fault) → IsStoppedBy b n → Asks s language source asked a n (Err fault)
+  pub ask_err : (a b n : ReduceSlot C) (fault : PoolFault) → a.stage ≢ GivenUp → Tries s language line a b (Err fault) → IsStoppedBy s b n → Asks s language source asked a n (Err fault)
   ask_err a b n fault going tries stopped = record {
     talks = tt;
     bounded = tt;

@@ -14,6 +14,7 @@ use Rattle.builtin_reduces.specs.Kept.{IsKept}
 use Rattle.child_pool.specs.declared.pool_fault.PoolFault.{PoolFault}
 use Rattle.child_pool.specs.declared.pool_fault.PoolFault.TheVariants.{NoMemory}
 use Rattle.child_pool.specs.declared.reduce_slot.ReduceSlot.{ReduceSlot}
+use Rattle.child_pool.specs.declared.reduce_slot.Stage.TheVariants.{GivenUp}
 use Rattle.child_pool.specs.declared.summers.Summers.{Summers}
 use Rattle.child_pool.specs.declared.view_sum.ViewSum.{ViewSum}
 use Rattle.child_pool.specs.declared.view_sum.ViewSum.TheVariants as value
@@ -86,17 +87,18 @@ module _ {C : Type 0} (s : Servers C) where
   }
 
   pub source_fails : (a b : Summers C) (source language own : List ℕ) (fault : PoolFault) → reduce_of s a ≡ reduce.Source source → b.design ≡ a.design → b.view ≡ a.view → language ≡ a.design.now.language → own ≡ source → Blames s language own a.slot b.slot fault
-      → SummersFail s a b fault
-  source_fails a b source language own fault is design view of_design of_view blames = record {
+      → b.slot.stage ≡ GivenUp → SummersFail s a b fault
+  source_fails a b source language own fault is design view of_design of_view blames given_up = record {
     design = design;
     view = view;
     slot = subst (λ (l : List ℕ). Fails s l (reduce_source (reduce_of s a)) a.slot b.slot fault) of_design
         (blames (reduce_source (reduce_of s a)) (is_own (reduce_of s a) source own is of_view));
+    given_up = λ some. given_up;
   }
 
-  -- want of memory, where nothing was asked
-  pub no_memory : (a : Summers C) → SummersFail s a a NoMemory
-  no_memory a = record { design = refl; view = refl; slot = fails_none s a.design.now.language (reduce_source (reduce_of s a)) a.slot }
+  -- want of memory, where no query server runs the reduce
+  pub no_memory : (a : Summers C) → reduce_source (reduce_of s a) ≡ [] → SummersFail s a a NoMemory
+  no_memory a none = record { design = refl; view = refl; slot = fails_none s a.design.now.language (reduce_source (reduce_of s a)) a.slot; given_up = λ some. absurd (some none) }
 
   module _ (language : List ℕ) (slot : ReduceSlot C) where
     abbrev Joins : Reduce → List ViewSum → ViewSum → Type 0

@@ -1,5 +1,5 @@
 -- The laws of reduces as the values of lists of rows.
-use Rattle.std.proofs.Common.{◌≡◌, List, ℕ, Some, refl, sym, ap, ◌∙◌, subst}
+use Rattle.std.proofs.Common.{◌≡◌, ◌≢◌, List, [], ℕ, Some, refl, sym, ap, ◌∙◌, subst}
 use Rattle.json_terms.specs.Json.{Json}
 use Rattle.json_terms.specs.declared.term.Row.{Row}
 use Rattle.design_docs.specs.declared.design.Reduce.{Reduce}
@@ -96,6 +96,7 @@ module _ {C : Type 0} (s : Servers C) where
         language = cause.language ∙ before.language;
         source = cause.source ∙ before.source;
         slot = fails_behind s a.language.now sources a.slot b.slot c.slot fault before.slot (fails_as a b b c fault before.language before.source cause.slot);
+        given_up = cause.given_up;
       }
 
   -- ---- the views of a design
@@ -176,4 +177,5 @@ module _ {C : Type 0} (s : Servers C) where
     design = cause.design ∙ before.design;
     view = cause.view ∙ before.view;
     slot = fails_behind s a.design.now.language (own a) a.slot b.slot c.slot fault before.slot (all_fail_as a b b c fault before.design before.view cause.slot);
+    given_up = λ some. cause.given_up (subst (λ (r : Reduce). reduce_source r ≢ []) (sym (same_reduce a b before.design before.view)) some);
   }

@@ -1,5 +1,5 @@
 -- The reduces of views as the values of lists of rows.
-use Rattle.std.specs.Prelude.{◌≡◌, ℕ, List, [], map, Option, Some, None}
+use Rattle.std.specs.Prelude.{◌≡◌, ◌≢◌, ℕ, List, [], map, Option, Some, None}
 use Rattle.std.specs.Borrow.{MutBor}
 use Rattle.json_terms.specs.Json.{Json}
 use Rattle.json_terms.specs.declared.term.Row.{Row}
@@ -17,7 +17,7 @@ use Rattle.child_pool.specs.declared.child_summer.ChildSummer.{ChildSummer}
 use Rattle.child_pool.specs.declared.pool.Pool.{Pool}
 use Rattle.child_pool.specs.declared.pool_fault.PoolFault.{PoolFault}
 use Rattle.child_pool.specs.declared.reduce_slot.ReduceSlot.{ReduceSlot}
-use Rattle.child_pool.specs.declared.reduce_slot.Stage.TheVariants.{Idle}
+use Rattle.child_pool.specs.declared.reduce_slot.Stage.TheVariants.{GivenUp, Idle}
 use Rattle.child_pool.specs.declared.summers.Summers.{Summers}
 use Rattle.child_pool.specs.declared.view_sum.ViewSum.{ViewSum}
 use Rattle.child_pool.specs.declared.view_sum.ViewSum.TheVariants as value
@@ -73,11 +73,12 @@ module _ {C : Type 0} (s : Servers C) where
     pub source : new.source ≡ old.source
     pub slot : Goes s old.language.now (reduce_source (reduce.Source old.source.now)) old.slot new.slot
 
-  -- and a fault ended the talk
+  -- and a fault ended the talk: all children are stopped, or were
   pub record ChildFails (old new : ChildSummer C) (fault : PoolFault) : Type 0 where
     pub language : new.language ≡ old.language
     pub source : new.source ≡ old.source
     pub slot : Fails s old.language.now (reduce_source (reduce.Source old.source.now)) old.slot new.slot fault
+    pub given_up : new.slot.stage ≡ GivenUp
 
   -- ---- the views of a design
 
@@ -103,8 +104,9 @@ module _ {C : Type 0} (s : Servers C) where
     pub slot : Goes s old.design.now.language (reduce_source (reduce_of old)) old.slot new.slot
     pub idle : reduce_source (reduce_of old) ≡ [] → new.slot ≡ old.slot
 
-  -- and a fault ended the talk, or came of want of memory
+  -- and a fault ended the talk, where a query server runs the reduce; any other one came of want of memory, and nothing was asked
   pub record SummersFail (old new : Summers C) (fault : PoolFault) : Type 0 where
     pub design : new.design ≡ old.design
     pub view : new.view ≡ old.view
     pub slot : Fails s old.design.now.language (reduce_source (reduce_of old)) old.slot new.slot fault
+    pub given_up : reduce_source (reduce_of old) ≢ [] → new.slot.stage ≡ GivenUp

@@ -1,6 +1,6 @@
 //! The slot whose child reduces, for one talk: the child is reset once, and then asked for values.
 
-ghost use Rattle.std.specs.Prelude.{◌≡◌, ◌≢◌, ◌<◌, ◌≤◌, ◌⊎◌, ◌++◌, ◌∷◌, List, ℕ, [], None, Err, Ok, Some, map, length, IfErr, IfOk, OnOk};
+ghost use Rattle.std.specs.Prelude.{◌≡◌, ◌≢◌, ◌<◌, ◌≤◌, ◌⊎◌, ◌++◌, ◌∷◌, List, ℕ, [], None, Err, Ok, Some, map, length, IfErr, IfOk, OnErr, OnOk};
 ghost use Rattle.json_terms.specs.Seen.{json};
 ghost use Rattle.std.specs.List.{AllByRecursion};
 ghost use Rattle.view_ports.specs.Functions.{IsWithinBounds};
@@ -75,6 +75,7 @@ impl<'a, C: Servers> ReduceSlot<'a, C> {
         ensures right { IfOk result (λ value. talk.IsRightFor C.Servers language.now source.now
             self.old items.now (json value)) }
         ensures cause { IfErr result (talk.Blames C.Servers language.now source.now self.old self.new) }
+        ensures stage { OnErr result (self.new.stage ≡ Stage.GivenUp) }
     {
         let mut values = Vec::new(alloc);
         let mut left = items;
@@ -106,11 +107,12 @@ impl<'a, C: Servers> ReduceSlot<'a, C> {
         ensures right { IfOk result (λ value. talk.Rejoins C.Servers language.now source.now
             self.old sums.now (json value)) }
         ensures cause { IfErr result (talk.Blames C.Servers language.now source.now self.old self.new) }
+        ensures stage { OnErr result (self.new.stage ≡ Stage.GivenUp) }
     {
         let mut values = Vec::new(alloc);
         for sum in sums {
             let Ok(value) = copy_term(alloc, &sum.term) else {
-                return Err(PoolFault::NoMemory);
+                return Err(self.spend());
             };
             match self.fold(alloc, language, source, &mut values, value) {
                 Ok(()) => {}
@@ -139,9 +141,10 @@ impl<'a, C: Servers> ReduceSlot<'a, C> {
         ensures folds { OnOk result (talk.FoldsIn C.Servers language.now source.now self.old
             (map json values.old.items) (json value) (map json values.new.items)) }
         ensures cause { IfErr result (talk.Blames C.Servers language.now source.now self.old self.new) }
+        ensures stage { OnErr result (self.new.stage ≡ Stage.GivenUp) }
     {
         if keep(values, value).is_err() {
-            return Err(PoolFault::NoMemory);
+            return Err(self.spend());
         }
         if values.len() < PART {
             return Ok(());
@@ -153,7 +156,7 @@ impl<'a, C: Servers> ReduceSlot<'a, C> {
         *values = Vec::new(alloc);
         match keep(values, one) {
             Ok(()) => Ok(()),
-            Err(NoMemory) => Err(PoolFault::NoMemory),
+            Err(NoMemory) => Err(self.spend()),
         }
     }
 
@@ -173,13 +176,14 @@ impl<'a, C: Servers> ReduceSlot<'a, C> {
         ensures whole { IfOk result (λ value. talk.IsWholeOf C.Servers language.now source.now self.old
             (map json values.items) (json value)) }
         ensures cause { IfErr result (talk.Blames C.Servers language.now source.now self.old self.new) }
+        ensures stage { OnErr result (self.new.stage ≡ Stage.GivenUp) }
     {
         if values.len() > 1 {
             return self.ask_values(alloc, language, source, values.as_slice());
         }
         match values.pop() {
             Some(value) => Ok(value),
-            None => Err(PoolFault::NoMemory),
+            None => Err(self.spend()),
         }
     }
 
@@ -199,10 +203,11 @@ impl<'a, C: Servers> ReduceSlot<'a, C> {
         ensures right { IfOk result (λ value. talk.IsRightFor C.Servers language.now source.now
             self.old part.now (json value)) }
         ensures cause { IfErr result (talk.Blames C.Servers language.now source.now self.old self.new) }
+        ensures stage { OnErr result (self.new.stage ≡ Stage.GivenUp) }
     {
         match part_line(alloc, source, part) {
             Ok(line) => self.ask(alloc, language, line.as_slice()),
-            Err(NoMemory) => Err(PoolFault::NoMemory),
+            Err(NoMemory) => Err(self.spend()),
         }
     }
 
@@ -222,10 +227,11 @@ impl<'a, C: Servers> ReduceSlot<'a, C> {
         ensures made { IfOk result (λ value. talk.IsMadeOf C.Servers language.now source.now
             (Command.Rereduce source.now (map json values.now)) self.old (json value)) }
         ensures cause { IfErr result (talk.Blames C.Servers language.now source.now self.old self.new) }
+        ensures stage { OnErr result (self.new.stage ≡ Stage.GivenUp) }
     {
         match values_line(alloc, source, values) {
             Ok(line) => self.ask(alloc, language, line.as_slice()),
-            Err(NoMemory) => Err(PoolFault::NoMemory),
+            Err(NoMemory) => Err(self.spend()),
         }
     }
 
@@ -233,7 +239,8 @@ impl<'a, C: Servers> ReduceSlot<'a, C> {
     /// all children.
     fn ask(&mut self, alloc: Global, language: &str, line: &[u8]) -> Result<Term, PoolFault>
         requires whole { IsWhole line.now }
-        ensures { talk.AsksBy C.Servers language.now line.now self.old self.new result }
+        ensures asks { talk.AsksBy C.Servers language.now line.now self.old self.new result }
+        ensures stage { OnErr result (self.new.stage ≡ Stage.GivenUp) }
     {
         if self.stage == Stage::GivenUp {
             return Err(PoolFault::NoMemory);
@@ -246,6 +253,21 @@ impl<'a, C: Servers> ReduceSlot<'a, C> {
                 Err(fault)
             }
         }
+    }
+
+    /// Gives the talk up for want of memory: all children are stopped, unless they were. The fault is that.
+    pub(crate) fn spend(&mut self) -> PoolFault
+        ensures want { result ≡ PoolFault.NoMemory }
+        ensures stage { self.new.stage ≡ Stage.GivenUp }
+        ensures fails { (language : List ℕ) (reduces : List (List ℕ)) →
+            talk.Fails C.Servers language reduces self.old self.new result }
+    {
+        if self.stage == Stage::GivenUp {
+            return PoolFault::NoMemory;
+        }
+        self.pool.stop_all(self.servers);
+        self.stage = Stage::GivenUp;
+        PoolFault::NoMemory
     }
 
     /// The same, but after a refusal the children may be as they were left.

@@ -89,7 +89,7 @@ impl<'a, 'd, C: Servers> Summer for Summers<'a, 'd, C> {
             Some(Reduce::Source(source)) => {
                 let language = self.design.language.as_str();
                 let Ok(values) = children_of(alloc, parts) else {
-                    return Err(PoolFault::NoMemory);
+                    return Err(self.slot.spend());
                 };
                 match self
                     .slot

@@ -5,12 +5,11 @@ use Rattle.json_terms.specs.Json.{Json}
 use Rattle.json_terms.specs.Seen.{json}
 use Rattle.view_ports.specs.declared.command.Command.TheVariants.{Rereduce}
 use Rattle.child_pool.specs.ReduceTalk.{FoldsIn, IsMadeOf}
-use Rattle.child_pool.specs.TalkLaws.{fails_none}
-use Rattle.child_pool.proofs.Folds.{fails_late, folds_more, folds_one, kept_ok}
+use Rattle.child_pool.proofs.Folds.{fails_before, folds_more, folds_one, kept_ok}
 use Rattle.child_pool.proofs.reduce_slot.ReduceSlot.fold.Goals as goal
 
 pub returns-then-is_err-clause-cause : goal.returns-then-is_err-clause-cause
-returns-then-is_err-clause-cause g c = λ reduces among. fails_none g.C.Servers c.args.language.now reduces c.args.self.now
+returns-then-is_err-clause-cause g c = λ reduces among. c.spend.ensures.fails c.args.language.now reduces
 
 pub returns-then-len-lt-PART-clause-folds : goal.returns-then-len-lt-PART-clause-folds
 returns-then-len-lt-PART-clause-folds g c =
@@ -29,4 +28,5 @@ returns-in-Ok-keep-clause-folds g c =
     subst (λ (v : List Json). FoldsIn g.C.Servers c.args.language.now c.args.source.now c.args.self.now values (json c.args.value) v) (sym is) (folds_one g.C.Servers c.args.language.now c.args.source.now c.args.self.now values (json c.args.value) (json c.in-Ok.one) made)
 
 pub returns-in-Err-keep-clause-cause : goal.returns-in-Err-keep-clause-cause
-returns-in-Err-keep-clause-cause g c = fails_late g.C.Servers c.args.language.now c.args.source.now c.args.self.now c.ask_values.new.self c.in-Ok.ensures.talks
+returns-in-Err-keep-clause-cause g c =
+    fails_before g.C.Servers c.args.language.now c.args.source.now c.args.self.now c.ask_values.new.self c.spend-in-Err-keep.new.self c.spend-in-Err-keep.result c.in-Ok.ensures.talks (λ reduces among. c.spend-in-Err-keep.ensures.fails c.args.language.now reduces)

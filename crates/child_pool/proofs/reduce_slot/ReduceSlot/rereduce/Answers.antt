@@ -3,7 +3,7 @@ use Rattle.std.proofs.Common.{◌≡◌, ◌<◌, ◌+◌, ◌++◌, ◌∷◌, 
 use Rattle.std.proofs.lemmas.List.{take_all, take_more}
 use Rattle.json_terms.specs.Json.{Json}
 use Rattle.json_terms.specs.Seen.{json}
-use Rattle.child_pool.proofs.Folds.{Refolding, fails_before, fails_late, folded_blames, refolded, refolding_more, refolding_none, talks_on}
+use Rattle.child_pool.proofs.Folds.{Refolding, fails_before, folded_blames, refolded, refolding_more, refolding_none, talks_on}
 use Rattle.child_pool.proofs.reduce_slot.ReduceSlot.rereduce.Goals as goal
 
 pub loop-sum-init : goal.loop-sum-init
@@ -15,7 +15,8 @@ loop-sum-init g c =
     )
 
 pub returns-in_default-clause-cause : goal.returns-in_default-clause-cause
-returns-in_default-clause-cause g c = fails_late g.C.Servers c.args.language.now c.args.source.now c.args.self.now c.loop-sum.self c.loop-sum.invariant.1.talks
+returns-in_default-clause-cause g c =
+    fails_before g.C.Servers c.args.language.now c.args.source.now c.args.self.now c.loop-sum.self c.spend.new.self c.spend.result c.loop-sum.invariant.1.talks (λ reduces among. c.spend.ensures.fails c.args.language.now reduces)
 
 pub returns-in-Err-clause-cause : goal.returns-in-Err-clause-cause
 returns-in-Err-clause-cause g c =

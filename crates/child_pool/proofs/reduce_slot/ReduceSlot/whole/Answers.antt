@@ -6,7 +6,6 @@ use Rattle.json_terms.specs.Seen.{json}
 use Rattle.json_terms.specs.declared.term.Term.{Term}
 use Rattle.view_ports.specs.declared.command.Command.TheVariants.{Rereduce}
 use Rattle.child_pool.specs.ReduceTalk.{IsMadeOf, IsWholeOf}
-use Rattle.child_pool.specs.TalkLaws.{fails_none}
 use Rattle.child_pool.proofs.Folds.{popped_one, whole_of, whole_one}
 use Rattle.child_pool.proofs.reduce_slot.ReduceSlot.whole.Goals as goal
 
@@ -23,4 +22,4 @@ returns-in-Some-clause-whole g c =
     subst (λ (v : List Json). IsWholeOf g.C.Servers c.args.language.now c.args.source.now c.args.self.now v (json c.in-Some.value)) (sym (ap (map json) one)) (whole_one g.C.Servers c.args.language.now c.args.source.now c.args.self.now (json c.in-Some.value))
 
 pub returns-clause-cause : goal.returns-clause-cause
-returns-clause-cause g c = λ reduces among. fails_none g.C.Servers c.args.language.now reduces c.args.self.now
+returns-clause-cause g c = λ reduces among. c.spend.ensures.fails c.args.language.now reduces

@@ -2,12 +2,18 @@
 use Rattle.std.proofs.Common.{◌∙◌, ℕ, List, ap, map, refl, subst, sym}
 use Rattle.json_terms.specs.Seen.{json}
 use Rattle.child_pool.specs.declared.view_sum.ViewSum.TheVariants.{Child}
-use Rattle.child_pool.specs.ReduceTalk.{Rejoins}
+use Rattle.child_pool.specs.ReduceTalk.{Rejoins, reduce_source}
 use Rattle.child_pool.proofs.ViewJoins.{join_builtin, join_source, no_memory, source_fails, source_goes}
+use Rattle.child_pool.specs.Summers.{reduce_of}
 use Rattle.child_pool.proofs.summers.SummersSummer.join.Goals as goal
 
 pub returns-in_default-clause-cause : goal.returns-in_default-clause-cause
-returns-in_default-clause-cause g c = no_memory g.C.Servers c.args.self.now
+returns-in_default-clause-cause g c = record {
+  design = refl;
+  view = refl;
+  slot = c.spend.ensures.fails c.args.self.now.design.now.language (reduce_source (reduce_of g.C.Servers c.args.self.now));
+  given_up = λ some. c.spend.ensures.stage;
+}
 
 pub returns-in-Ok-rereduce-clause-value : goal.returns-in-Ok-rereduce-clause-value
 returns-in-Ok-rereduce-clause-value g c =
@@ -23,11 +29,11 @@ pub returns-in-Ok-rereduce-clause-goes : goal.returns-in-Ok-rereduce-clause-goes
 returns-in-Ok-rereduce-clause-goes g c = source_goes g.C.Servers c.args.self.now _ c.in-Some-Source.source c.as_str-language.result.now c.as_str.result.now (sym c.in-Some-Source.ensures ∙ c.in-Some-Source.field-0-is) refl refl c.as_str-language.ensures c.as_str.ensures c.in-Ok-rereduce.ensures.talks
 
 pub returns-in-Some-Source-clause-cause : goal.returns-in-Some-Source-clause-cause
-returns-in-Some-Source-clause-cause g c = source_fails g.C.Servers c.args.self.now _ c.in-Some-Source.source c.as_str-language.result.now c.as_str.result.now c.in-Err.fault (sym c.in-Some-Source.ensures ∙ c.in-Some-Source.field-0-is) refl refl c.as_str-language.ensures c.as_str.ensures c.in-Err.ensures.cause
+returns-in-Some-Source-clause-cause g c = source_fails g.C.Servers c.args.self.now _ c.in-Some-Source.source c.as_str-language.result.now c.as_str.result.now c.in-Err.fault (sym c.in-Some-Source.ensures ∙ c.in-Some-Source.field-0-is) refl refl c.as_str-language.ensures c.as_str.ensures c.in-Err.ensures.cause c.in-Err.ensures.stage
 
 pub returns-in-Ok-join_builtins-clause-value : goal.returns-in-Ok-join_builtins-clause-value
 returns-in-Ok-join_builtins-clause-value g c =
     join_builtin g.C.Servers c.args.self.now.design.now.language c.args.self.now.slot _ c.in-Some-Builtin.kind c.args.parts.now c.in-Ok-join_builtins.sum (sym c.in-Some-Builtin.ensures ∙ c.in-Some-Builtin.field-0-is) c.in-Ok-join_builtins.ensures.value
 
 pub returns-in-Some-Builtin-clause-cause : goal.returns-in-Some-Builtin-clause-cause
-returns-in-Some-Builtin-clause-cause g c = no_memory g.C.Servers c.args.self.now
+returns-in-Some-Builtin-clause-cause g c = no_memory g.C.Servers c.args.self.now (ap reduce_source (sym c.in-Some-Builtin.ensures ∙ c.in-Some-Builtin.field-0-is))
