@@ -13,6 +13,8 @@ import subprocess
 import sys
 import time
 
+from locks import wait_for_lock
+
 PROGRAM, SERVERS, SCRIPTS = sys.argv[1], sys.argv[2], int(sys.argv[3])
 WORDS = [PROGRAM, "serve", "python=" + os.path.join(SERVERS, "python.py")]
 RUNS, LINES = 24, 26
@@ -202,6 +204,7 @@ def killed(step, script, seconds):
     time.sleep(seconds * script.chance.random())
     child.kill()
     replies = child.communicate()[0].decode().split("\n")[:-1]
+    wait_for_lock()
     for (line, wanted), got in zip(pairs, replies):
         want("%s, %s" % (step, line), got, wanted)
     answered = writes + sum(reply.startswith('{"ok":true,"id"') for reply in replies)

@@ -11,6 +11,8 @@ import subprocess
 import sys
 import time
 
+from locks import wait_for_lock
+
 PROGRAM, SERVERS, DOCUMENTS = sys.argv[1], sys.argv[2], int(sys.argv[3])
 LOG = os.path.abspath("lines.log")
 KILLS = 50
@@ -167,6 +169,7 @@ def kills():
         child.kill()
         child.wait()
         child.stdin.close()
+        wait_for_lock()
         midst += 0 < mapped() < BATCH
         want("the view behind kill %d" % kill, run([VIEW]), [rows_of(documents)])
         info = json.loads(run(['{"info":true}'])[0])

@@ -14,7 +14,7 @@ use Rattle.child_pool.specs.Pools.{AreStopped}
 use Rattle.child_pool.specs.ReduceSlot.{is_fresh}
 use Rattle.child_pool.specs.ReduceTalk.{Fails, Stands, Stretch, talk_prompts}
 use Rattle.child_pool.specs.Tries.{StopsAt}
-use Rattle.child_pool.proofs.Talks.{stopped_children, stops_at_once, stops_reducing, talked_err, IsStoppedBy}
+use Rattle.child_pool.proofs.Talks.{asks_up, stopped_children, stops_at_once, stops_reducing, talked_err, IsStoppedBy}
 
 -- memory may run out before each prompt, and behind the last one
 spent_before : (from : Stage) (slot : ℕ) (fresh : Bool) (rose : Type 0) → from ≢ GivenUp → StopsAt NoMemory rose (talk_prompts from Begun slot fresh []) []
@@ -40,6 +40,7 @@ module _ {C : Type 0} (s : Servers C) (language : List ℕ) (reduces : List (Lis
           record {
             commands = [];
             each = tt;
+            some = asks_up a.stage n.stage [] stopped.stage;
             talked = talked_err (λ met. met ≡ NoMemory) a.stage n.stage a.pool.now.width (is_fresh path a.pool.now) [] (HasRisen s a.servers.now n.servers.now) a.pool.now n.pool.now v.added v.now going stopped.stage (record {
               fault = NoMemory;
               is_fault = refl;

@@ -19,7 +19,7 @@ use Rattle.child_pool.specs.Outcomes.{IsCaused}
 use Rattle.child_pool.specs.PoolCalls.{StaysAsMade, StopsAll}
 use Rattle.child_pool.specs.Pools.{AreStopped, AreThere, HasItsChildren, languages_of}
 use Rattle.child_pool.specs.ReduceSlot.{is_fresh}
-use Rattle.child_pool.specs.ReduceTalk.{AfterTry, AreAnswered, Asks, Goes, HasTalked, IsLeftOff, MayBePath, Stands, Stretch, Tries, talk_prompts}
+use Rattle.child_pool.specs.ReduceTalk.{AfterTry, AreAnswered, Asks, AsksSome, Goes, HasTalked, IsLeftOff, MayBePath, Stands, Stretch, Tries, talk_prompts}
 use Rattle.child_pool.specs.Reducing.{IsLineOf, ReducesBy, reduce_prompt}
 use Rattle.child_pool.specs.TalkLaws.{fails_none, reducing_append}
 use Rattle.child_pool.specs.TryLaws.{caused_more, stops_wider}
@@ -83,6 +83,22 @@ talked_err F GivenUp to slot fresh commands rose old pool added now going is h =
 talked_err F from Idle slot fresh commands rose old pool added now going is h = absurd (cc)
 talked_err F from Begun slot fresh commands rose old pool added now going is h = absurd (cc)
 
+-- a value is asked for
+asks_one : (from to : Stage) (asked : Command) → AsksSome from to (asked ∷ [])
+asks_one Idle Idle asked = tt
+asks_one Idle Begun asked = λ none. let clash : asked ∷ [] ≡ [] = none in cc
+asks_one Idle GivenUp asked = tt
+asks_one Begun to asked = tt
+asks_one GivenUp to asked = tt
+
+-- to give up none is needed
+pub asks_up : (from to : Stage) (commands : List Command) → to ≡ GivenUp → AsksSome from to commands
+asks_up Idle Idle commands up = tt
+asks_up Idle Begun commands up = absurd (let never : Begun ≡ GivenUp = up in cc)
+asks_up Idle GivenUp commands up = tt
+asks_up Begun to commands up = tt
+asks_up GivenUp to commands up = tt
+
 -- the first prompt is there
 stops_first : (from : Stage) (slot : ℕ) (fresh : Bool) (asked : Command) (rose : Type 0) → from ≢ GivenUp → StopsAt UnknownLanguage rose (talk_prompts from Begun slot fresh (asked ∷ [])) []
 stops_first Idle slot fresh asked rose going = stops_at_once UnknownLanguage rose _ _ (λ same. cc)
@@ -144,6 +160,7 @@ module _ {C : Type 0} (s : Servers C) (language line source : List ℕ) (asked :
           holds = record {
             commands = asked ∷ [];
             each = ((source, among, by), tt);
+            some = asks_one a.stage b.stage asked;
             talked = talked_ok (λ fault. ⊥) a.stage b.stage a.pool.now.width (is_fresh path a.pool.now) (asked ∷ []) (HasRisen s a.servers.now b.servers.now) a.pool.now b.pool.now w.added w.now going tries.stage
                 (record { answered = w.holds.0; own = own_calls (reduce_job path reduces) a.pool.now.width w.added calls w.lawful; mapping = tries.mapping });
             there = w.holds.2;
@@ -232,6 +249,7 @@ module _ {C : Type 0} (s : Servers C) (language line source : List ℕ) (asked :
           record {
             commands = asked ∷ [];
             each = ((source, among, by), tt);
+            some = asks_one a.stage n.stage asked;
             talked = talked_err (λ met. met ≡ fault) a.stage n.stage a.pool.now.width (is_fresh path a.pool.now) (asked ∷ []) (HasRisen s a.servers.now n.servers.now) a.pool.now n.pool.now (v.added ++ w.added) v.now going stopped.stage (record {
               fault = fault;
               is_fault = refl;

@@ -16,7 +16,7 @@ use Rattle.child_pool.specs.Languages.{path_in}
 use Rattle.child_pool.specs.Outcomes.{IsCaused}
 use Rattle.child_pool.specs.Pools.{HasItsChildren, NoneIsLeft, languages_of, reducer_of}
 use Rattle.child_pool.specs.ReduceSlot.{is_fresh}
-use Rattle.child_pool.specs.ReduceTalk.{AreAnswered, Compiles, Fails, Goes, HasTalked, IsLeftOff, IsReduction, MayBePath, Stands, talk_prompts}
+use Rattle.child_pool.specs.ReduceTalk.{AreAnswered, AsksSome, Compiles, Fails, Goes, HasTalked, IsLeftOff, IsReduction, MayBePath, Stands, talk_prompts}
 use Rattle.child_pool.specs.Reductions.{FailsReducing, HasFailedReducing, HasReduced, IsAsked, IsReducingGivenUp, Reduces, children_of, reduction_prompts}
 use Rattle.child_pool.specs.TalkLaws.{stands_on}
 use Rattle.child_pool.specs.Tries.{StopsAt}
@@ -36,9 +36,10 @@ module _ (path : List ℕ) (reduces : List (List ℕ)) (rose : Type 0) (old pool
   Had = HasReduced path reduces old.width rose (children_of old) (children_of pool) added
 
   -- the prompts were answered
-  asked : reducer_of pool ≡ Some path → AreAnswered (reduction_prompts path old.width (reducer_of old) commands) rose old pool added → IsAsked path reduces old.width rose (children_of old) (children_of pool) added
-  asked reducer h = record {
+  asked : commands ≢ [] → reducer_of pool ≡ Some path → AreAnswered (reduction_prompts path old.width (reducer_of old) commands) rose old pool added → IsAsked path reduces old.width rose (children_of old) (children_of pool) added
+  asked some reducer h = record {
     commands = commands;
+    some = some;
     each = each;
     answered = h.answered;
     own = h.own;
@@ -62,12 +63,12 @@ module _ (path : List ℕ) (reduces : List (List ℕ)) (rose : Type 0) (old pool
   }
 
   -- all values were had
-  pub all_had : (from to : Stage) → from ≡ Idle → (to ≡ Begun → reducer_of pool ≡ Some path) → HasTalked (λ fault. ⊥) from to (talk_prompts from to old.width (is_fresh path old) commands) rose old pool added now → Had
-  all_had Idle Idle idle ready h = inl (h.0, ap children_of h.1)
-  all_had Idle Begun idle ready h = inr (asked (ready refl) h)
-  all_had Idle GivenUp idle ready h = absurd h.is_fault
-  all_had Begun to idle ready h = absurd (cc)
-  all_had GivenUp to idle ready h = absurd (cc)
+  pub all_had : (from to : Stage) → from ≡ Idle → (to ≡ Begun → reducer_of pool ≡ Some path) → AsksSome from to commands → HasTalked (λ fault. ⊥) from to (talk_prompts from to old.width (is_fresh path old) commands) rose old pool added now → Had
+  all_had Idle Idle idle ready some h = inl (h.0, ap children_of h.1)
+  all_had Idle Begun idle ready some h = inr (asked some (ready refl) h)
+  all_had Idle GivenUp idle ready some h = absurd h.is_fault
+  all_had Begun to idle ready some h = absurd (cc)
+  all_had GivenUp to idle ready some h = absurd (cc)
 
   -- memory ran out between values
   ran_out : (fault : PoolFault) → (fault ≢ NoMemory → ⊥) → Had → HasFailedReducing path reduces old.width rose (children_of old) (children_of pool) fault added now
@@ -77,14 +78,14 @@ module _ (path : List ℕ) (reduces : List (List ℕ)) (rose : Type 0) (old pool
   ]
 
   -- a fault was met
-  pub fault_met : (from to : Stage) (fault : PoolFault) → from ≡ Idle → pool.width ≡ old.width → (fault ≢ NoMemory → to ≡ GivenUp) → (to ≡ Begun → reducer_of pool ≡ Some path)
+  pub fault_met : (from to : Stage) (fault : PoolFault) → from ≡ Idle → pool.width ≡ old.width → (fault ≢ NoMemory → to ≡ GivenUp) → (to ≡ Begun → reducer_of pool ≡ Some path) → AsksSome from to commands
       → HasTalked (λ met. met ≡ fault) from to (talk_prompts from to old.width (is_fresh path old) commands) rose old pool added now
       → HasFailedReducing path reduces old.width rose (children_of old) (children_of pool) fault added now
-  fault_met Idle Idle fault idle wide given_up ready h = ran_out fault (λ some. let never = given_up some in cc) (inl (h.0, ap children_of h.1))
-  fault_met Idle Begun fault idle wide given_up ready h = ran_out fault (λ some. let never = given_up some in cc) (inr (asked (ready refl) h))
-  fault_met Idle GivenUp fault idle wide given_up ready h = inl (left fault wide h)
-  fault_met Begun to fault idle wide given_up ready h = absurd (cc)
-  fault_met GivenUp to fault idle wide given_up ready h = absurd (cc)
+  fault_met Idle Idle fault idle wide given_up ready some h = ran_out fault (λ other. let never = given_up other in cc) (inl (h.0, ap children_of h.1))
+  fault_met Idle Begun fault idle wide given_up ready some h = ran_out fault (λ other. let never = given_up other in cc) (inr (asked some (ready refl) h))
+  fault_met Idle GivenUp fault idle wide given_up ready some h = inl (left fault wide h)
+  fault_met Begun to fault idle wide given_up ready some h = absurd (cc)
+  fault_met GivenUp to fault idle wide given_up ready some h = absurd (cc)
 
 module _ {C : Type 0} (s : Servers C) (language : List ℕ) where
   -- a talk that wasn't begun stands
@@ -111,7 +112,7 @@ module _ {C : Type 0} (s : Servers C) (language : List ℕ) where
           lawful = w.lawful;
           holds = (
             w.holds.there,
-            all_had path reduces (HasRisen s a.servers.now b.servers.now) a.pool.now b.pool.now w.holds.commands w.holds.each w.added w.now a.stage b.stage idle (λ begun. (w.holds.ready begun).1) w.holds.talked,
+            all_had path reduces (HasRisen s a.servers.now b.servers.now) a.pool.now b.pool.now w.holds.commands w.holds.each w.added w.now a.stage b.stage idle (λ begun. (w.holds.ready begun).1) w.holds.some w.holds.talked,
           );
         };
   }
@@ -133,7 +134,7 @@ module _ {C : Type 0} (s : Servers C) (language : List ℕ) where
           lawful = w.lawful;
           holds = (
             h.there,
-            fault_met path reduces (HasRisen s a.servers.now b.servers.now) a.pool.now b.pool.now h.commands h.each w.added w.now a.stage b.stage fault idle fails.keeps.width fails.given_up (λ begun. (h.ready begun).1) h.talked,
+            fault_met path reduces (HasRisen s a.servers.now b.servers.now) a.pool.now b.pool.now h.commands h.each w.added w.now a.stage b.stage fault idle fails.keeps.width fails.given_up (λ begun. (h.ready begun).1) h.some h.talked,
             elim w.holds.1 [
               | inl unknown ↦ let none = fails.unknown unknown in absurd (let never : Some path ≡ None = sym known ∙ none in cc)
               | inr caused ↦ caused

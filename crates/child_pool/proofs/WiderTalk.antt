@@ -50,7 +50,7 @@ module _ (few many : List (List ℕ)) (among : (source : List ℕ) → IsAmong f
 
   module _ {C : Type 0} (s : Servers C) (language : List ℕ) where
     stretch_wider : (IsFault : PoolFault → Type 0) (path : List ℕ) (a b : ReduceSlot C) (added now : List Call) → Stretch s language few IsFault path a b added now → Stretch s language many IsFault path a b added now
-    stretch_wider IsFault path a b added now h = record { commands = h.commands; each = each_wider h.commands h.each; talked = h.talked; there = h.there; ready = h.ready }
+    stretch_wider IsFault path a b added now h = record { commands = h.commands; each = each_wider h.commands h.each; some = h.some; talked = h.talked; there = h.there; ready = h.ready }
 
     pub goes_wider : (a b : ReduceSlot C) → Goes s language few a b → Goes s language many a b
     goes_wider a b goes = record {

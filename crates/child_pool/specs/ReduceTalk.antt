@@ -92,6 +92,14 @@ pub record IsLeftOff (IsFault : PoolFault → Type 0) (prompts : List Prompt) (r
 abbrev pub NothingSaid : Pool → Pool → List Call → Type 0
 NothingSaid old pool added = (added ≡ []) × (pool ≡ old)
 
+-- a child is reset to be asked for a value
+abbrev pub AsksSome : Stage → Stage → List Command → Type 0
+AsksSome Idle Idle commands = Unit {0}
+AsksSome Idle Begun commands = commands ≢ []
+AsksSome Idle GivenUp commands = Unit {0}
+AsksSome Begun to commands = Unit {0}
+AsksSome GivenUp to commands = Unit {0}
+
 -- from one stage to another these prompts were answered, or given up
 abbrev pub HasTalked : (PoolFault → Type 0) → Stage → Stage → List Prompt → Type 0 → Pool → Pool → List Call → List Call → Type 0
 HasTalked IsFault Idle Idle prompts rose old pool added now = NothingSaid old pool added
@@ -148,6 +156,7 @@ module _ {C : Type 0} (s : Servers C) (language : List ℕ) where
     pub record Stretch (IsFault : PoolFault → Type 0) (path : List ℕ) (old new : ReduceSlot C) (added now : List Call) : Type 0 where
       pub commands : List Command
       pub each : AllByRecursion (IsReduction reduces) commands
+      pub some : AsksSome old.stage new.stage commands
       pub talked : HasTalked IsFault old.stage new.stage (talk_prompts old.stage new.stage old.pool.now.width (is_fresh path old.pool.now) commands)
           (HasRisen s old.servers.now new.servers.now) old.pool.now new.pool.now added now
       pub there : HasItsChildren new.pool.now now
@@ -163,7 +172,7 @@ module _ {C : Type 0} (s : Servers C) (language : List ℕ) where
       pub talks : (path : List ℕ) (calls : List Call) → Stands old path calls
           → WentReducing (s.may_follow new.servers.now) path reduces old.pool.now.width calls (Stretch (λ fault. ⊥) path old new)
 
-    -- a fault was answered: it ended the talk, but for want of memory, and has its cause among the calls that were added
+    -- a fault was answered: it ended the talk, but for want of memory outside the slot, and has its cause among the calls that were added
     pub record Fails (old new : ReduceSlot C) (fault : PoolFault) : Type 0 where
       pub pool : new.pool.ghost_name ≡ old.pool.ghost_name
       pub servers : new.servers.ghost_name ≡ old.servers.ghost_name

@@ -1,5 +1,5 @@
 -- What the reduces of a request ask for, whole: from the pool that is lent for a talk to the pool that comes back.
-use Rattle.std.specs.Prelude.{◌≡◌, ◌⊎◌, ◌≤◌, ◌++◌, ℕ, List, [], map, not, Option, Some, None}
+use Rattle.std.specs.Prelude.{◌≡◌, ◌≢◌, ◌⊎◌, ◌≤◌, ◌++◌, ℕ, List, [], map, not, Option, Some, None}
 use Rattle.std.specs.List.{AllByRecursion}
 use Rattle.view_ports.specs.declared.command.Command.{Command}
 use Rattle.view_ports.specs.declared.servers.Servers.{Ghosts as Servers}
@@ -42,6 +42,7 @@ module _ (path : List ℕ) (reduces : List (List ℕ)) (width : ℕ) (rose : Typ
   -- two tries. It is kept then, and so are those that map.
   pub record IsAsked (added : List Call) : Type 0 where
     pub commands : List Command
+    pub some : commands ≢ []
     pub each : AllByRecursion (IsReduction reduces) commands
     pub answered : AllAnswered rose (reduction_prompts path width before.reducer commands) added
     pub own : AllOn width added

@@ -1,5 +1,5 @@
 -- The laws of a talk with the child that reduces: stretches one after another are one.
-use Rattle.std.proofs.Common.{None, ◌≡◌, ◌⊎◌, ◌≤◌, List, [], ◌∷◌, ◌++◌, ℕ, Bool, map, refl, sym, ap, ◌∙◌, subst, inl, inr, arith, append_assoc, append-nil}
+use Rattle.std.proofs.Common.{◌≢◌, None, ◌≡◌, ◌⊎◌, ◌≤◌, List, [], ◌∷◌, ◌++◌, ℕ, Bool, map, refl, sym, ap, ◌∙◌, subst, inl, inr, arith, append_assoc, append-nil}
 use Rattle.std.specs.List.{AllByRecursion}
 use Rattle.std.proofs.lemmas.List.{map-append}
 use Rattle.view_ports.specs.declared.command.Command.{Command}
@@ -19,7 +19,7 @@ use Rattle.child_pool.specs.Outcomes.{IsCaused}
 use Rattle.child_pool.specs.PoolCalls.{StaysAsMade}
 use Rattle.child_pool.specs.Pools.{languages_of, started_of}
 use Rattle.child_pool.specs.ReduceSlot.{is_fresh}
-use Rattle.child_pool.specs.ReduceTalk.{AreAnswered, Fails, Goes, HasTalked, IsLeftOff, IsReduction, MayBePath, NothingSaid, Stands, Stretch, opening, talk_prompts}
+use Rattle.child_pool.specs.ReduceTalk.{AreAnswered, AsksSome, Fails, Goes, HasTalked, IsLeftOff, IsReduction, MayBePath, NothingSaid, Stands, Stretch, opening, talk_prompts}
 use Rattle.child_pool.specs.Reducing.{reduce_prompt}
 use Rattle.child_pool.specs.TryLaws.{answered_then, answered_wider, caused_later, stops_later, stops_wider}
 use Rattle.child_pool.specs.Tries.{AllAnswered, Prompt, StopsAt}
@@ -124,10 +124,14 @@ all_append : (reduces : List (List ℕ)) (one two : List Command) → AllByRecur
 all_append reduces [] two all more = more
 all_append reduces (c ∷ one) two all more = (all.0, all_append reduces one two all.1 more)
 
+some_append : (one two : List Command) → one ≢ [] → one ++ two ≢ []
+some_append [] two some = absurd (some refl)
+some_append (c ∷ one) two some = λ none. let clash : c ∷ (one ++ two) ≡ [] = none in cc
+
 -- from one stage to another some values were asked for by these sources
 abbrev Talked : (PoolFault → Type 0) → List (List ℕ) → Stage → Stage → List ℕ → ℕ → Type 0 → Pool → Pool → List Call → List Call → Type 0
 Talked IsFault reduces from to path slot rose old pool added now =
-    (commands : List Command) × AllByRecursion (IsReduction reduces) commands × HasTalked IsFault from to (talk_prompts from to slot (is_fresh path old) commands) rose old pool added now
+    (commands : List Command) × AllByRecursion (IsReduction reduces) commands × HasTalked IsFault from to (talk_prompts from to slot (is_fresh path old) commands) rose old pool added now × AsksSome from to commands
 
 -- a stretch in which nothing was given up, and another behind it
 module _ (F : PoolFault → Type 0) (one_rose two_rose rose : Type 0) (i : one_rose → rose) (j : two_rose → rose)
@@ -145,13 +149,14 @@ module _ (F : PoolFault → Type 0) (one_rose two_rose rose : Type 0) (i : one_r
   fresh_still same = ap (is_fresh path) same
 
   from_idle : (to : Stage) → First Idle Idle → Second Idle to → Whole Idle to
-  from_idle Idle h k = ([], tt, nothing_twice F one_rose two_rose rose i j old pool new wide added later h.2 k.2)
+  from_idle Idle h k = ([], tt, nothing_twice F one_rose two_rose rose i j old pool new wide added later h.2 k.2, tt)
   from_idle Begun h k =
       let fresh = fresh_still h.2.1 in (
         k.0,
         k.1,
         answered_first F one_rose two_rose rose i j old pool new wide added later (talk_prompts Idle Begun slot (is_fresh path old) k.0) h.2
             (subst (λ (b : Bool). AreAnswered (talk_prompts Idle Begun slot b k.0) two_rose pool new later) fresh k.2),
+        k.3,
       )
   from_idle GivenUp h k =
       let fresh = fresh_still h.2.1 in (
@@ -159,15 +164,16 @@ module _ (F : PoolFault → Type 0) (one_rose two_rose rose : Type 0) (i : one_r
         k.1,
         left_off_first F one_rose two_rose rose i j old pool new wide added later (talk_prompts Idle GivenUp slot (is_fresh path old) k.0) new_now h.2
             (subst (λ (b : Bool). IsLeftOff F (talk_prompts Idle GivenUp slot b k.0) two_rose pool new later new_now) fresh k.2),
+        tt,
       )
 
   from_begun : (from to : Stage) → First from Begun → Second Begun to → Whole from to
   from_begun Idle Begun h k =
-      (h.0 ++ k.0, all_append reduces h.0 k.0 h.1 k.1, answered_behind F one_rose two_rose rose i j old pool new wide added later (opening Idle Begun slot (is_fresh path old)) slot h.0 k.0 h.2 k.2)
+      (h.0 ++ k.0, all_append reduces h.0 k.0 h.1 k.1, answered_behind F one_rose two_rose rose i j old pool new wide added later (opening Idle Begun slot (is_fresh path old)) slot h.0 k.0 h.2 k.2, some_append h.0 k.0 h.3)
   from_begun Idle GivenUp h k =
-      (h.0 ++ k.0, all_append reduces h.0 k.0 h.1 k.1, left_off_behind F one_rose two_rose rose i j old pool new wide added later (opening Idle Begun slot (is_fresh path old)) slot h.0 k.0 new_now h.2 k.2)
-  from_begun Begun Begun h k = (h.0 ++ k.0, all_append reduces h.0 k.0 h.1 k.1, answered_behind F one_rose two_rose rose i j old pool new wide added later [] slot h.0 k.0 h.2 k.2)
-  from_begun Begun GivenUp h k = (h.0 ++ k.0, all_append reduces h.0 k.0 h.1 k.1, left_off_behind F one_rose two_rose rose i j old pool new wide added later [] slot h.0 k.0 new_now h.2 k.2)
+      (h.0 ++ k.0, all_append reduces h.0 k.0 h.1 k.1, left_off_behind F one_rose two_rose rose i j old pool new wide added later (opening Idle Begun slot (is_fresh path old)) slot h.0 k.0 new_now h.2 k.2, tt)
+  from_begun Begun Begun h k = (h.0 ++ k.0, all_append reduces h.0 k.0 h.1 k.1, answered_behind F one_rose two_rose rose i j old pool new wide added later [] slot h.0 k.0 h.2 k.2, tt)
+  from_begun Begun GivenUp h k = (h.0 ++ k.0, all_append reduces h.0 k.0 h.1 k.1, left_off_behind F one_rose two_rose rose i j old pool new wide added later [] slot h.0 k.0 new_now h.2 k.2, tt)
   from_begun Idle Idle h k = absurd k.2
   from_begun Begun Idle h k = absurd k.2
   from_begun GivenUp to h k = absurd h.2
@@ -175,7 +181,7 @@ module _ (F : PoolFault → Type 0) (one_rose two_rose rose : Type 0) (i : one_r
   from_given_up : (from to : Stage) → First from GivenUp → Second GivenUp to → Whole from to
   from_given_up Idle to h k = absurd h.2.is_fault
   from_given_up Begun to h k = absurd h.2.is_fault
-  from_given_up GivenUp GivenUp h k = (h.0, h.1, nothing_twice F one_rose two_rose rose i j old pool new wide added later h.2 k.2)
+  from_given_up GivenUp GivenUp h k = (h.0, h.1, nothing_twice F one_rose two_rose rose i j old pool new wide added later h.2 k.2, tt)
   from_given_up GivenUp Idle h k = absurd k.2
   from_given_up GivenUp Begun h k = absurd k.2
 
@@ -199,21 +205,27 @@ module _ {C : Type 0} (s : Servers C) (language : List ℕ) (reduces : List (Lis
       → Kept path a b added now → Stretch s language reduces F path b c later new_now → Stretch s language reduces F path a c (later ++ added) new_now
   stretch_then F path a b c added later now new_now made early late h k =
       let second : Talked F reduces b.stage c.stage path a.pool.now.width (HasRisen s b.servers.now c.servers.now) b.pool.now c.pool.now later new_now =
-      subst (λ (n : ℕ). Talked F reduces b.stage c.stage path n (HasRisen s b.servers.now c.servers.now) b.pool.now c.pool.now later new_now) made.width (k.commands, k.each, k.talked) in
+      subst (λ (n : ℕ). Talked F reduces b.stage c.stage path n (HasRisen s b.servers.now c.servers.now) b.pool.now c.pool.now later new_now) made.width (k.commands, k.each, k.talked, k.some) in
       let whole = talked_then F (HasRisen s a.servers.now b.servers.now) (HasRisen s b.servers.now c.servers.now) (HasRisen s a.servers.now c.servers.now) (λ r. omega arith) (λ r. omega arith)
-      reduces path a.pool.now.width a.pool.now b.pool.now c.pool.now made.width added later now new_now a.stage b.stage c.stage (h.commands, h.each, h.talked) second in
-      record { commands = whole.0; each = whole.1; talked = whole.2; there = k.there; ready = k.ready }
+      reduces path a.pool.now.width a.pool.now b.pool.now c.pool.now made.width added later now new_now a.stage b.stage c.stage (h.commands, h.each, h.talked, h.some) second in
+      record { commands = whole.0; each = whole.1; some = whole.3; talked = whole.2; there = k.there; ready = k.ready }
 
   -- nothing was said
   pub stretch_none : (path : List ℕ) (a : ReduceSlot C) (calls : List Call) → Stands s language a path calls → (F : PoolFault → Type 0) → Stretch s language reduces F path a a [] calls
   stretch_none path a calls stands F = record {
     commands = [];
     each = tt;
+    some = still a.stage;
     talked = none a.stage;
     there = stands.children;
     ready = stands.ready;
   }
     where
+      still : (stage : Stage) → AsksSome stage stage []
+      still Idle = tt
+      still Begun = tt
+      still GivenUp = tt
+
       none : (stage : Stage) → HasTalked F stage stage (talk_prompts stage stage a.pool.now.width (is_fresh path a.pool.now) []) (HasRisen s a.servers.now a.servers.now) a.pool.now a.pool.now [] calls
       none Idle = (refl, refl)
       none Begun = record { answered = refl; own = tt; mapping = refl }

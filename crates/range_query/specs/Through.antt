@@ -27,10 +27,9 @@ module _ {S : Type 0} (text_of : S → List ℕ) (Fits Still : S → Type 0) (La
 
 pub keeps_through : {A B N S : Type 0} (name : A → N) (at : A → B) (Goes : B → B → Type 0) (text_of : S → List ℕ) (means : B → Meaning Row S) (Lawful Usable : B → Type 0)
     (Fits : B → S → Type 0) → KeepsMeaning Goes means Lawful Usable Fits
-    → KeepsValues (Through name at Goes) (λ a. IsSummedText text_of (Fits (at a)) (Lawful (at a)) (means (at a))) (λ a row. Unit {0})
+    → KeepsValues (Through name at Goes) (λ a. IsSummedText text_of (Fits (at a)) (Lawful (at a)) (means (at a)))
 keeps_through name at Goes text_of means Lawful Usable Fits k = record {
   value = λ a b group text goes.
       earlier text_of (Fits (at a)) (Fits (at b)) (Lawful (at a)) (Lawful (at b)) (means (at a)) (means (at b)) (k.meaning (at a) (at b) goes.1) (k.lawful (at a) (at b) goes.1)
       (λ sum. (k.fits (at a) (at b) sum goes.1).1) group text;
-  takes = λ a b row goes. (λ h. h, λ h. h);
 }

@@ -36,8 +36,6 @@ where
 
     ghost is_value = { λ values. IsSummedText M.Sum.text (M.fits values.summer.now) (M.lawful values.summer.now) (M.meaning values.summer.now) };
 
-    ghost takes = { λ values row. Unit {0} };
-
     ghost goes = { Through (λ values. values.summer.ghost_name) (λ values. values.summer.now) M.goes };
 
     ghost fails = { λ a b fault. Through (λ values. values.summer.ghost_name) (λ values. values.summer.now) (λ x y. M.fails x y fault) a b };

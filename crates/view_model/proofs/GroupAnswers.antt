@@ -1,8 +1,7 @@
 -- Groups whose values may be any of some.
-use Rattle.std.specs.Prelude.{◌≡◌, ℕ, List, [], ◌∷◌, ◌++◌, Bool, true, false, ◌||◌, All, refl, codes}
+use Rattle.std.specs.Prelude.{◌≡◌, ℕ, List, [], ◌∷◌, ◌++◌, Bool, true, false, ◌||◌, refl, codes}
 use Rattle.std.proofs.Common.{ap, sym, subst, ◌∙◌, append_assoc}
 use Rattle.std.proofs.lemmas.List.{append-nil}
-use Rattle.std.proofs.lemmas.List.Elements.{All-weaker}
 use Rattle.std.specs.List.{AllZip}
 use Rattle.json_terms.specs.Json.{Json}
 use Rattle.json_terms.specs.declared.term.Row.{Row}
@@ -142,14 +141,11 @@ weaker_groups P Q weaker level later groups old new added = record {
 
 -- ---- what calls do
 
-module _ {A : Type 0} {Goes : A → A → Type 0} {IsValue : A → List Row → List ℕ → Type 0} {Takes : A → Row → Type 0} (k : KeepsValues Goes IsValue Takes) where
+module _ {A : Type 0} {Goes : A → A → Type 0} {IsValue : A → List Row → List ℕ → Type 0} (k : KeepsValues Goes IsValue) where
   -- groups that were written later are groups of values at first
   pub groups_before : (a b : A) → Goes a b → (level : Level) (later : Bool) (groups : List (List Row)) (old new : Reply)
       → AddsGroups (IsValue b) level later groups old new → AddsGroups (IsValue a) level later groups old new
   groups_before a b goes = weaker_groups (IsValue b) (IsValue a) (λ group text is. k.value a b group text goes is)
-
-  pub still_taken : (a b : A) (rows : List Row) → Goes a b → All (Takes a) rows → All (Takes b) rows
-  still_taken a b rows goes = All-weaker (Takes a) (Takes b) (λ row is. (k.takes a b row goes).0 is) rows
 
 -- ---- the whole answer
 

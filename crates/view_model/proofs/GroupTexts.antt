@@ -1,8 +1,7 @@
 -- Groups that are printed one after another.
-use Rattle.std.specs.Prelude.{◌≡◌, ℕ, zero, suc, ◌+◌, ◌-◌, ◌<◌, List, [], ◌∷◌, ◌++◌, Bool, true, false, ◌||◌, All, if◌then◌else◌, refl, drop, length, map, filter, Option, Some, None, option_map}
-use Rattle.std.proofs.Common.{ap, sym, subst, ◌∙◌, arith, codes, get_or}
+use Rattle.std.specs.Prelude.{◌≡◌, ℕ, zero, suc, ◌+◌, ◌-◌, ◌<◌, List, [], ◌∷◌, ◌++◌, Bool, true, false, ◌||◌, refl, drop, length, map, filter, Option, Some, None, option_map}
+use Rattle.std.proofs.Common.{ap, sym, ◌∙◌, arith, codes, get_or}
 use Rattle.std.proofs.lemmas.List.{drop_more}
-use Rattle.std.proofs.lemmas.List.Elements.{All-nil, All-cons, All-head, All-tail}
 use Rattle.json_terms.specs.Json.{Json}
 use Rattle.json_terms.specs.Seen.{json}
 use Rattle.json_terms.specs.Text.{text_of}
@@ -16,7 +15,7 @@ use Rattle.view_model.specs.Answer.{group_text, key_of_group}
 use Rattle.view_model.specs.Groups.{groups_of_keys, listed_or_runs, one_group, picked_groups, runs}
 use Rattle.view_model.specs.Selection.{has_key, limited, is_in_range}
 use Rattle.view_model.specs.declared.print.Progress.{Progress}
-use Rattle.view_model.specs.Progress.{start_of, walked, walked_parts, due, is_some_list, past}
+use Rattle.view_model.specs.Progress.{start_of, walked, due, is_some_list, past}
 use Rattle.view_model.proofs.Lines.{line, lines5}
 use Rattle.view_model.proofs.Printed.{due_none, due_parts}
 
@@ -122,32 +121,3 @@ key_first level (row ∷ rows) d some = refl
 pub group_line : (key : Json) (value : List ℕ) → IsLine (text_of key) → IsLine value → IsLine (group_text (key, value))
 group_line key value kl vl =
     lines5 (codes "{\"key\":") (text_of key) (codes ",\"value\":") value (codes "}") (line (codes "{\"key\":") refl) kl (line (codes ",\"value\":") refl) vl (line (codes "}") refl)
-
--- ---- rows of a group are rows of the list
-
-module _ (P : Row → Type 0) where
-  kept_if : (test : Bool) (row : Row) (rows : List Row) → P row → All P rows → All P (if test then row ∷ rows else rows)
-  kept_if true row rows first others = All-cons P row rows first others
-  kept_if false row rows first others = others
-
-  All-filter : (test : Row → Bool) (rows : List Row) → All P rows → All P (filter test rows)
-  All-filter test [] all = All-nil P
-  All-filter test (row ∷ rows) all = kept_if (test row) row (filter test rows) (All-head P row rows all) (All-filter test rows (All-tail P row rows all))
-
-  pub filtered : (test : Row → Bool) (rows part : List Row) → part ≡ filter test rows → All P rows → All P part
-  filtered test rows part is all = subst (All P) (sym is) (All-filter test rows all)
-
-  front : (xs ys : List Row) → All P (xs ++ ys) → All P xs
-  front [] ys all = All-nil P
-  front (x ∷ xs) ys all = All-cons P x xs (All-head P x (xs ++ ys) all) (front xs ys (All-tail P x (xs ++ ys) all))
-
-  back : (xs ys : List Row) → All P (xs ++ ys) → All P ys
-  back [] ys all = all
-  back (x ∷ xs) ys all = back xs ys (All-tail P x (xs ++ ys) all)
-
-  both : (descending : Bool) (part rest : List Row) → All P (walked_parts descending part rest) → All P part × All P rest
-  both true part rest all = (back rest part all, front rest part all)
-  both false part rest all = (front part rest all, back part rest all)
-
-  pub parted : (descending : Bool) (rows part rest : List Row) → rows ≡ walked_parts descending part rest → All P rows → All P part × All P rest
-  parted descending rows part rest is all = both descending part rest (subst (All P) is all)

@@ -1,11 +1,10 @@
 -- Values of groups whose calls change nothing.
-use Rattle.std.proofs.Common.{◌↔◌, ℕ, List, sym, subst}
+use Rattle.std.proofs.Common.{ℕ, List, subst}
 use Rattle.json_terms.specs.declared.term.Row.{Row}
 use Rattle.builtin_reduces.specs.SummerLaws.{Same}
 use Rattle.view_model.specs.GroupValues.{KeepsValues}
 
-pub same_keeps_values : {A : Type 0} (IsValue : A → List Row → List ℕ → Type 0) (Takes : A → Row → Type 0) → KeepsValues Same IsValue Takes
-same_keeps_values {A} IsValue Takes = record {
+pub same_keeps_values : {A : Type 0} (IsValue : A → List Row → List ℕ → Type 0) → KeepsValues Same IsValue
+same_keeps_values {A} IsValue = record {
   value = λ a b group text same h. subst (λ (x : A). IsValue x group text) same h;
-  takes = λ a b row same. let P : A → Type 0 = λ x. Takes a row ↔ Takes x row in subst P (sym same) (λ h. h, λ h. h);
 }

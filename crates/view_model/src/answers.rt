@@ -32,8 +32,7 @@ pub fn answer<V: GroupValues>(
     query: &Query,
     reply: &mut Reply,
 ) -> Result<(), AnswerFault<V::Fault>>
-    requires sorted { IsSorted rows_cmp rows.now }
-    requires kept { query.now.reduced ≡ true → All (V.takes values.old) rows.now }
+    requires { IsSorted rows_cmp rows.now }
     ensures ok { OnOk result
         (AddsAnswer (V.is_value values.old) query.now seq rows.now reply.old reply.new) }
     ensures before { KeepsBefore reply.old reply.new }
@@ -81,8 +80,7 @@ fn groups_answer<V: GroupValues>(
     query: &Query,
     reply: &mut Reply,
 ) -> Result<(), AnswerFault<V::Fault>>
-    requires sorted { IsSorted rows_cmp rows.now }
-    requires kept { All (V.takes values.old) rows.now }
+    requires { IsSorted rows_cmp rows.now }
     ensures ok { OnOk result (AddsSome
         (print.IsGroupsAnswer (V.is_value values.old) query.now seq rows.now) reply.old reply.new) }
     ensures before { KeepsBefore reply.old reply.new }

@@ -1,6 +1,6 @@
 //! How the values of groups of rows are had.
 
-ghost use Rattle.std.specs.Prelude.{◌≡◌, ◌<◌, List, ℕ, All, IfErr, OnOk, length};
+ghost use Rattle.std.specs.Prelude.{◌≡◌, ◌<◌, List, ℕ, IfErr, OnOk, length};
 ghost use Rattle.tree_laws.specs.Meaning.{AreSteps, StaysCaused};
 ghost use Rattle.view_model.specs.declared.group_values.AnswerFault.TheVariants.{NoMemory as OutOfMemory};
 
@@ -27,9 +27,8 @@ impl<F: Drop> From<NoMemory> for AnswerFault<F> {
 
 /// How the values of groups of rows are had.
 ///
-/// `is_value` says which text may be the value of which rows, and `takes` which rows may stand in a group. `goes` says what a call
-/// that gives a value may do besides, as with a child that is asked: it changes neither of these. `fails` says why a call answered a
-/// fault, and what it did.
+/// `is_value` says which text may be the value of which rows. `goes` says what a call that gives a value may do besides, as with a
+/// child that is asked: it changes none of that. `fails` says why a call answered a fault, and what it did.
 pub trait GroupValues {
     ghost use Rattle.json_terms.specs.declared.term.Row.{Row};
     ghost use Rattle.view_model.specs.Adding.{AddsSome};
@@ -39,8 +38,6 @@ pub trait GroupValues {
     type Fault: Drop;
 
     ghost is_value: { Self → List Row → List ℕ → Type 0 };
-
-    ghost takes: { Self → Row → Type 0 };
 
     ghost goes: { Self → Self → Type 0 };
 
@@ -53,8 +50,7 @@ pub trait GroupValues {
         group: &[Row],
         reply: &mut Reply,
     ) -> Result<(), AnswerFault<Self::Fault>>
-        requires some { 0 < length group.now }
-        requires kept { All (takes self.old) group.now }
+        requires { 0 < length group.now }
         ensures ok { OnOk result (AddsSome (is_value self.old group.now) reply.old reply.new) }
         ensures before { KeepsBefore reply.old reply.new }
         ensures goes { OnOk result (goes self.old self.new) }
@@ -62,7 +58,7 @@ pub trait GroupValues {
 
     ghost are_steps: { AreSteps goes };
 
-    ghost keeps: { KeepsValues goes is_value takes };
+    ghost keeps: { KeepsValues goes is_value };
 
     ghost stays_caused: { StaysCaused goes fails };
 }

@@ -27,8 +27,7 @@ pub(crate) fn print_groups<V: GroupValues>(
     query: &Query,
     reply: &mut Reply,
 ) -> Result<(), AnswerFault<V::Fault>>
-    requires sorted { IsSorted rows_cmp rows.now }
-    requires kept { All (V.takes values.old) rows.now }
+    requires { IsSorted rows_cmp rows.now }
     ensures ok { OnOk result (AddsGroups (V.is_value values.old) query.now.level false
         (picked_groups query.now rows.now) reply.old reply.new) }
     ensures before { KeepsBefore reply.old reply.new }
@@ -51,8 +50,7 @@ fn print_listed<V: GroupValues>(
     query: &Query,
     reply: &mut Reply,
 ) -> Result<(), AnswerFault<V::Fault>>
-    requires sorted { IsSorted rows_cmp rows.now }
-    requires kept { All (V.takes values.old) rows.now }
+    requires { IsSorted rows_cmp rows.now }
     ensures ok { OnOk result (AddsGroups (V.is_value values.old) query.now.level false
         (due (start_of query.now) (groups_of_keys rows.now (map json keys.now))) reply.old reply.new) }
     ensures before { KeepsBefore reply.old reply.new }
@@ -80,7 +78,6 @@ fn print_runs<V: GroupValues>(
     query: &Query,
     reply: &mut Reply,
 ) -> Result<(), AnswerFault<V::Fault>>
-    requires { All (V.takes values.old) rows.now }
     ensures ok { OnOk result (AddsGroups (V.is_value values.old) query.now.level false
         (due (start_of query.now) (walked query.now.descending (runs query.now.level rows.now)))
         reply.old reply.new) }
@@ -162,7 +159,6 @@ fn print_group<V: GroupValues>(
     progress: Progress,
     reply: &mut Reply,
 ) -> Result<Progress, AnswerFault<V::Fault>>
-    requires { All (V.takes values.old) group.now }
     ensures ok { OnOk result (AddsGroups (V.is_value values.old) level progress.printed
         (due progress (one_group group.now)) reply.old reply.new) }
     ensures before { KeepsBefore reply.old reply.new }
@@ -199,8 +195,7 @@ fn print_next<V: GroupValues>(
     later: bool,
     reply: &mut Reply,
 ) -> Result<(), AnswerFault<V::Fault>>
-    requires some { 0 < length group.now }
-    requires kept { All (V.takes values.old) group.now }
+    requires { 0 < length group.now }
     ensures ok { OnOk result (AddsGroups (V.is_value values.old) level later
         (group.now ∷ []) reply.old reply.new) }
     ensures before { KeepsBefore reply.old reply.new }
@@ -221,8 +216,7 @@ fn print_whole<V: GroupValues>(
     level: Level,
     reply: &mut Reply,
 ) -> Result<(), AnswerFault<V::Fault>>
-    requires some { 0 < length group.now }
-    requires kept { All (V.takes values.old) group.now }
+    requires { 0 < length group.now }
     ensures ok { OnOk result (AddsGroups (V.is_value values.old) level false
         (group.now ∷ []) reply.old reply.new) }
     ensures before { KeepsBefore reply.old reply.new }

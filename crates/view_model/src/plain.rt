@@ -29,8 +29,6 @@ impl GroupValues for PlainValues {
 
     ghost is_value = { λ values group text. text ≡ builtin_text values.kind group };
 
-    ghost takes = { λ values row. Unit {0} };
-
     ghost goes = { λ a b. b ≡ a };
 
     ghost fails = { λ a b fault. Unit {0} };
@@ -49,7 +47,7 @@ impl GroupValues for PlainValues {
 
     ghost are_steps = { same_are_steps };
 
-    ghost keeps = { same_keeps_values _ _ };
+    ghost keeps = { same_keeps_values _ };
 
     ghost stays_caused = { same_stays_caused (λ values fault. Unit {0}) };
 }

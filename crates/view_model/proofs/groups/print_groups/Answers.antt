@@ -4,13 +4,8 @@ use Rattle.std.proofs.lemmas.Result.{on_ok_weaker}
 use Rattle.json_terms.specs.Seen.{json}
 use Rattle.json_terms.specs.declared.term.Row.{Row}
 use Rattle.view_model.specs.Adding.{AddsGroups}
-use Rattle.view_model.specs.Selection.{is_in_range}
-use Rattle.view_model.proofs.GroupTexts.{filtered, picked_listed, picked_ranged}
+use Rattle.view_model.proofs.GroupTexts.{picked_listed, picked_ranged}
 use Rattle.view_model.proofs.groups.print_groups.Goals as goal
-
-pub print_runs-requires : goal.print_runs-requires
-print_runs-requires g c =
-    filtered (g.V.GroupValues.takes c.args.values.now) (is_in_range c.args.query.now) c.args.rows.now c.ranged.result.now c.ranged.ensures c.requires.kept
 
 pub returns-in-Some-clause-ok : goal.returns-in-Some-clause-ok
 returns-in-Some-clause-ok g c =

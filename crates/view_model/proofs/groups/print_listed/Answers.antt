@@ -6,17 +6,10 @@ use Rattle.json_terms.specs.declared.term.Row.{Row}
 use Rattle.view_model.specs.declared.print.Progress.{Progress}
 use Rattle.view_model.specs.Groups.{groups_of_keys, one_group}
 use Rattle.view_model.specs.Progress.{due}
-use Rattle.view_model.specs.Selection.{has_key}
-use Rattle.view_model.proofs.GroupAnswers.{groups_before, no_groups, part_of_groups, still_taken}
-use Rattle.view_model.proofs.GroupTexts.{filtered, key_less, nil_due, none_due, none_parts}
+use Rattle.view_model.proofs.GroupAnswers.{groups_before, no_groups, part_of_groups}
+use Rattle.view_model.proofs.GroupTexts.{key_less, nil_due, none_due, none_parts}
 use Rattle.view_model.proofs.groups.print_listed.Goals as goal
 use Rattle.view_model.proofs.groups.print_listed.Goals.{else-loop-key-test, then-loop-key-test+then-is_done}
-
-pub print_group-requires : goal.print_group-requires
-print_group-requires g c =
-    let v = c.loop-key.values in
-    let kept = still_taken g.met.V.GroupValues.keeps c.args.values.now v c.args.rows.now c.loop-key.invariant.goes c.requires.kept in
-    filtered (g.V.GroupValues.takes v) (has_key (json c.key-item.result)) c.args.rows.now c.rows_of-group.result.now c.rows_of-group.ensures kept
 
 pub loop-key-preserved : goal.loop-key-preserved
 loop-key-preserved g c =

@@ -4,17 +4,11 @@ use Rattle.json_terms.specs.declared.term.Row.{Row}
 use Rattle.view_model.specs.declared.print.Progress.{Progress}
 use Rattle.view_model.specs.Groups.{one_group, runs}
 use Rattle.view_model.specs.Progress.{due, walked}
-use Rattle.view_model.proofs.GroupAnswers.{groups_before, no_groups, part_of_groups, still_taken}
-use Rattle.view_model.proofs.GroupTexts.{nil_due, none_due, none_parts, parted}
+use Rattle.view_model.proofs.GroupAnswers.{groups_before, no_groups, part_of_groups}
+use Rattle.view_model.proofs.GroupTexts.{nil_due, none_due, none_parts}
 use Rattle.view_model.proofs.RunParts.{no_rows, no_runs, some_group}
 use Rattle.view_model.proofs.groups.print_runs.Goals as goal
 use Rattle.view_model.proofs.groups.print_runs.Goals.{then-loop-progress-test+else-not-is_done, else-loop-progress-test}
-
-pub print_group-requires : goal.print_group-requires
-print_group-requires g c =
-    let v = c.loop-progress.values in
-    let kept = still_taken g.met.V.GroupValues.keeps c.args.values.now v c.loop-progress.left.now c.loop-progress.invariant.goes c.loop-progress.invariant.kept in
-    (parted (g.V.GroupValues.takes v) c.args.query.now.descending c.loop-progress.left.now c.next_run.result.0.now c.next_run.result.1.now c.next_run.ensures.parts kept).0
 
 pub loop-progress-preserved : goal.loop-progress-preserved
 loop-progress-preserved g c =
@@ -39,7 +33,6 @@ loop-progress-preserved g c =
           let so_far = before.idle none in
           let parts = none_parts (List Row) c.loop-progress.progress part rest old left so_far.0 in
           (ap (λ (p : Progress). due p rest) step.progress ∙ parts.1, step.idle parts.0 ∙ so_far.1);
-      kept = (parted (g.V.GroupValues.takes first) query.descending c.loop-progress.left.now run c.next_run.result.1.now c.next_run.ensures.parts before.kept).1;
     }
 
 pub returns-in_err-progress-clause-idle : goal.returns-in_err-progress-clause-idle

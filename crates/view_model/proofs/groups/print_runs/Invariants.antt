@@ -1,4 +1,4 @@
-use Rattle.std.proofs.Common.{◌≡◌, [], false, All, length}
+use Rattle.std.proofs.Common.{◌≡◌, [], false, length}
 use Rattle.view_model.specs.declared.reply.Reply.{Reply}
 use Rattle.view_model.specs.Adding.{AddsGroups}
 use Rattle.view_model.specs.Groups.{runs}
@@ -18,7 +18,6 @@ invariant-loop-progress g l =
       before : before_of l.reply ≡ before_of l.initial.reply;
       goes : g.V.GroupValues.goes l.initial.values l.values;
       idle : due (start_of l.query) all ≡ [] → (due l.progress left ≡ []) × (l.values ≡ l.initial.values);
-      kept : All (g.V.GroupValues.takes l.initial.values) l.left;
     }
 
 abbrev pub decreases-loop-progress : goal.decreases-loop-progress

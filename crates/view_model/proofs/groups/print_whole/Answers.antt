@@ -13,7 +13,7 @@ returns-clause-ok g c =
     let key = json c.in_ok-key.key in
     let value = c.in_ok-print.ensures.ok in
     one_group_added (g.V.GroupValues.is_value c.args.values.now) c.args.level group key value.text c.args.reply.now _ value.is
-    (c.in_ok-key.ensures ∙ key_first c.args.level group c.index-group-0.result c.requires.some)
+    (c.in_ok-key.ensures ∙ key_first c.args.level group c.index-group-0.result c.requires)
     (appended5 (written_of c.args.reply.now) (codes "{\"key\":") (text_of key) (codes ",\"value\":") value.text (codes "}")
     c.in_ok-put.ensures.ok c.in_ok-put_term.ensures.ok c.in_ok-put-2.ensures.ok value.adds c.in_ok-put-3.ensures.ok)
     (group_line key value.text c.text_is_line.ensures value.line)

@@ -9,8 +9,8 @@ use Rattle.view_model.specs.Written.{before_of, written_of}
 use Rattle.view_model.proofs.PlainAnswers.{both_on_ok, by_reduce}
 use Rattle.view_model.proofs.plain.plain_answer.Goals as goal
 
-pub answer-printed-requires-clause-sorted : goal.answer-printed-requires-clause-sorted
-answer-printed-requires-clause-sorted c =
+pub answer-printed-requires : goal.answer-printed-requires
+answer-printed-requires c =
     let same = c.as_slice.ensures.value ∙ c.sort_rows.ensures in
     rw same (sorted_rows_is_sorted c.in_ok-sorted.sorted.items)
 

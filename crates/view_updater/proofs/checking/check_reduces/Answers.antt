@@ -1,8 +1,11 @@
 -- Each reduce that is wanted is tried.
-use Rattle.std.proofs.Common.{rules, ap, ◌∙◌, arith}
+use Rattle.std.proofs.Common.{refl, rules, ap, ◌∙◌, arith}
 use Rattle.view_index.specs.Index.{next_in}
-use Rattle.view_updater.proofs.Tried.{all_tried, one_more, one_refused}
+use Rattle.view_updater.proofs.Tried.{all_tried, none_tried, one_more, one_refused}
 use Rattle.view_updater.proofs.checking.check_reduces.Goals as goal
+
+pub loop-view-init : goal.loop-view-init
+loop-view-init g c = (refl, none_tried g.C.Servers c.args.design.now (next_in c.args.index.now) c.over.result)
 
 pub loop-view-preserved : goal.loop-view-preserved
 loop-view-preserved g c =

@@ -6,6 +6,7 @@ use Rattle.json_terms.specs.Seen.{json}
 use Rattle.json_terms.specs.declared.term.Term.{Term}
 use Rattle.view_ports.specs.declared.command.Command.TheVariants.{Rereduce}
 use Rattle.child_pool.specs.ReduceTalk.{IsMadeOf, IsWholeOf}
+use Rattle.child_pool.specs.TalkLaws.{goes_none}
 use Rattle.child_pool.proofs.Folds.{popped_one, whole_of, whole_one}
 use Rattle.child_pool.proofs.reduce_slot.ReduceSlot.whole.Goals as goal
 
@@ -23,3 +24,6 @@ returns-in-Some-clause-whole g c =
 
 pub returns-clause-cause : goal.returns-clause-cause
 returns-clause-cause g c = λ reduces among. c.spend.ensures.fails c.args.language.now reduces
+
+pub returns-in-Some-clause-talks : goal.returns-in-Some-clause-talks
+returns-in-Some-clause-talks g c = λ reduces among. goes_none g.C.Servers c.args.language.now reduces c.args.self.now

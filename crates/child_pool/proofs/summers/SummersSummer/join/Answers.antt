@@ -3,6 +3,7 @@ use Rattle.std.proofs.Common.{◌∙◌, ℕ, List, ap, map, refl, subst, sym}
 use Rattle.json_terms.specs.Seen.{json}
 use Rattle.child_pool.specs.declared.view_sum.ViewSum.TheVariants.{Child}
 use Rattle.child_pool.specs.ReduceTalk.{Rejoins, reduce_source}
+use Rattle.child_pool.specs.SummerLaws.{summers_steps}
 use Rattle.child_pool.proofs.ViewJoins.{join_builtin, join_source, no_memory, source_fails, source_goes}
 use Rattle.child_pool.specs.Summers.{reduce_of}
 use Rattle.child_pool.proofs.summers.SummersSummer.join.Goals as goal
@@ -37,3 +38,9 @@ returns-in-Ok-join_builtins-clause-value g c =
 
 pub returns-in-Some-Builtin-clause-cause : goal.returns-in-Some-Builtin-clause-cause
 returns-in-Some-Builtin-clause-cause g c = no_memory g.C.Servers c.args.self.now (ap reduce_source (sym c.in-Some-Builtin.ensures ∙ c.in-Some-Builtin.field-0-is))
+
+pub returns-in-Ok-join_builtins-clause-goes : goal.returns-in-Ok-join_builtins-clause-goes
+returns-in-Ok-join_builtins-clause-goes g c = (summers_steps g.C.Servers).none c.args.self.now
+
+pub returns-clause-goes : goal.returns-clause-goes
+returns-clause-goes g c = (summers_steps g.C.Servers).none c.args.self.now
