@@ -50,3 +50,7 @@ pub mod CleanedUp
 pub mod LiveSignatures
 pub mod CleansThen
 pub mod Kept
+pub mod Fresh
+pub mod Unopened
+pub mod Listed
+pub mod Later

@@ -242,3 +242,7 @@ module _ {F : Type 0} (f : Folders F) where
     pub disk : Tells (f.disk old) (f.disk new) MovesNone
     pub why : IfErr result (IfStopped (IsReadReason docs old new))
     pub later : f.faults old ≤ f.faults new
+
+  -- the same of an engine's documents
+  abbrev pub IsReadReasonOf : Engine → F → F → StepFault → Type 0
+  IsReadReasonOf engine = IsReadReason engine.docs

@@ -30,3 +30,4 @@ pub mod Accepted
 pub mod Laws
 pub mod ViewQuery
 pub mod QueryReasons
+pub mod Fresh

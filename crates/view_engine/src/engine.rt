@@ -13,6 +13,7 @@ ghost use Rattle.view_engine.specs.Openings.{FailsByDisk, FillsNone, LeavesWorld
 ghost use Rattle.view_engine.specs.Worlds.{IsChildless, Knows, width as width_of};
 
 mod view;
+mod writes;
 
 use crate::cleanup::cleanup;
 use crate::halt::{Halt, StepFault};

@@ -30,6 +30,14 @@ pub enum StepFault {
     NoMemory,
 }
 
+impl From<NoMemory> for StepFault {
+    ghost from_gives = { λ _ fault. fault ≡ OutOfMemory };
+
+    fn from(_error: NoMemory) -> StepFault {
+        StepFault::NoMemory
+    }
+}
+
 /// Why a request isn't done.
 #[derive(Drop)]
 pub(crate) enum Halt {

@@ -2,6 +2,7 @@
 
 ghost use Rattle.std.specs.Prelude.{List, ℕ};
 ghost use Rattle.doc_file.specs.History.{Write};
+ghost use Rattle.view_engine.specs.Fresh.{RepliesAreFresh};
 ghost use Rattle.view_engine.specs.Laws.{HasLastWrites, HasLiveDocuments, IsAcceptedInTurn, IsInOrderOfId, IsNotRefusedAndDone, IsRefusedOnce, MadeWorldsAreSound, SoundWorldsAreShaped, StepsKeepSound, WorldsBetweenAreSound};
 
 use view_ports::Servers;
@@ -37,4 +38,11 @@ pub fn worlds_stay_sound<C: Servers>()
         → WorldsBetweenAreSound C.functions C.honest languages }
     ensures shaped { (languages : List (List ℕ × List ℕ))
         → SoundWorldsAreShaped C.functions C.honest languages }
+{}
+
+/// The reply to a view with a built-in reduce is what mapping all documents afresh prints, where the path of its language is honest, the
+/// pictures stand and no fault of the servers is counted.
+pub fn replies_are_fresh<C: Servers>()
+    ensures { (languages : List (List ℕ × List ℕ))
+        → RepliesAreFresh C.functions C.honest languages }
 {}
