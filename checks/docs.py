@@ -5,6 +5,8 @@ A block of lines and replies stands behind a comment that says how it is run:
     <!-- run: again couchview serve WORDS -->   in the folder of the block before
     <!-- run: map_server -->
 In WORDS `@` is the repository. Each line of the block is followed by its reply.
+
+The examples of examples/ are run as its README.md says, each in a new folder, and print what stands beside them.
 """
 
 import glob
@@ -16,6 +18,7 @@ import sys
 
 REPOSITORY, WORK = sys.argv[1:3]
 SECONDS = 60
+PROGRAM = "%s/crates/couchview_cli/out/couchview_cli" % REPOSITORY
 RUN = re.compile(r"<!-- run: (again )?(couchview|map_server) ?(.*?) ?-->$")
 # What the examples need beside the programs.
 NEEDS = {".js": "node", ".py": "python3"}
@@ -89,5 +92,34 @@ def page(path):
     return ran
 
 
+SHIPPED = re.compile(r"\.\./couchview (serve.*?) < \.\./examples/(\w+)\.jsonl$")
+
+
+def shipped():
+    """The examples of examples/README.md: how many there are."""
+    path, ran = os.path.join(REPOSITORY, "examples", "README.md"), set()
+    with open(path, encoding="utf-8") as file:
+        lines = [SHIPPED.match(line) for line in file.read().splitlines()]
+    for words, name in (line.groups() for line in lines if line):
+        place = "examples/%s.jsonl" % name
+        words = words.replace("../", REPOSITORY + "/").split()
+        tool = missing(words)
+        ran.add(name)
+        if tool:
+            print("docs: %s: skipped, since there is no %s" % (place, tool))
+            continue
+        folder = os.path.join(WORK, name)
+        os.mkdir(folder)
+        with open(os.path.join(REPOSITORY, place), "rb") as requests, open(os.path.join(REPOSITORY, "examples", name + ".out"), "rb") as wanted:
+            done = subprocess.run([PROGRAM, *words], cwd=folder, stdin=requests, stdout=subprocess.PIPE, stderr=subprocess.DEVNULL, timeout=SECONDS)
+            if (done.stdout, done.returncode) != (wanted.read(), 0):
+                fail(place, "it prints something else, or ends with status %d" % done.returncode)
+    there = {os.path.basename(path)[: -len(".jsonl")] for path in glob.glob(REPOSITORY + "/examples/*.jsonl")}
+    if ran != there:
+        fail("examples/README.md", "it doesn't run %s" % ", ".join(sorted(there ^ ran)))
+    return len(ran)
+
+
 pages = [os.path.join(REPOSITORY, "README.md"), *sorted(glob.glob(REPOSITORY + "/docs/*.md"))]
 print("docs: %d examples of %d pages are true" % (sum(page(path) for path in pages), len(pages)))
+print("docs: %d examples of examples/ are true" % shipped())

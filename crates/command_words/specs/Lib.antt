@@ -1,0 +1,4 @@
+pub mod Commands
+pub mod Reader
+pub mod Faults
+pub mod Laws
