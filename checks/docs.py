@@ -4,7 +4,7 @@ A block of lines and replies stands behind a comment that says how it is run:
     <!-- run: couchview serve WORDS -->         in a new folder
     <!-- run: again couchview serve WORDS -->   in the folder of the block before
     <!-- run: map_server -->
-In WORDS `@` is the repository. Each line of the block is followed by its reply.
+In WORDS `@` is the repository. Each line of the block is followed by its reply. A block of `couchview load` is what it prints.
 
 The examples of examples/ are run as its README.md says, each in a new folder, and print what stands beside them.
 """
@@ -56,6 +56,8 @@ def missing(words):
 
 
 def run(place, program, words, folder, lines):
+    if words[:1] == ["load"]:
+        return shows(place, [PROGRAM, *words], folder, lines)
     if len(lines) % 2:
         fail(place, "a line has no reply")
     path = "%s/crates/%s_cli/out/%s_cli" % (REPOSITORY, program, program)
@@ -67,6 +69,12 @@ def run(place, program, words, folder, lines):
             fail(place, "%s is answered %s and not %s" % (request, given, wanted))
     if len(got) != len(lines) // 2 or done.returncode != 0:
         fail(place, "%d lines come, with status %d" % (len(got), done.returncode))
+
+
+def shows(place, words, folder, lines):
+    done = subprocess.run(words, cwd=folder, stdin=subprocess.DEVNULL, stdout=subprocess.PIPE, stderr=subprocess.DEVNULL, timeout=SECONDS)
+    if (done.stdout.decode().splitlines(), done.returncode) != (lines, 0):
+        fail(place, "it prints something else, or ends with status %d" % done.returncode)
 
 
 def page(path):

@@ -242,10 +242,12 @@ def in_the_way():
 
 # Words that are no command, and what is said of them.
 WORDS = {
-    (): "a command is missing",
-    ("server",): "the word 'server' is no command",
-    ("load", "a", "1"): "the word 'load' is a command that isn't built yet",
-    ("serve", "--width", "3"): "the word '--width' is no option that is built yet",
+    (): "a command is wanted: serve or load",
+    ("server",): "the word 'server' is no command: the commands are serve and load",
+    ("load", "a", "1"): "load takes first how many documents, a number from 1 to 20000 without sign or leading zeros",
+    ("serve", "--width", "3"): "a width of 3 isn't built yet",
+    ("serve", "--width", "9"): "--width is given once at most, with one digit from 1 to 8",
+    ("serve", "--wide"): "serve takes no option but --width; a word behind -- may begin with a dash",
     ("serve", "a=b", "javascript"): "the word 'javascript' has not the form LANG=PATH",
     ("serve", "=b"): "the word '=b' has not the form LANG=PATH",
     ("serve", "a=builtin:x"): "the word 'a=builtin:x' names no server of this program",

@@ -11,8 +11,6 @@ mod laws;
 mod number;
 mod options;
 mod read;
-#[cfg(test)]
-mod tests;
 
 pub use command::{Command, DOCS_LIMIT, NUMBER_LIMIT, WIDTH_LIMIT};
 pub use fault::WordsFault;

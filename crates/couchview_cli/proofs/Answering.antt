@@ -86,6 +86,7 @@ module _ {F C : Type 0} {f : Folders F} {s : Servers C} {old new : Scene F C} {l
     blames = λ is. step.blames (appended_fault line start out empty is);
     still = step_still step;
     on = step_on step;
+    is_open = step.disk.is_open tt;
     stays = step.stays;
   }
 
@@ -100,6 +101,7 @@ module _ {F C : Type 0} {f : Folders F} {s : Servers C} {old new : Scene F C} {l
     blames = λ is. absurd (constant_no_fault line is);
     still = step_still step;
     on = step_on step;
+    is_open = step.disk.is_open tt;
     stays = step.stays;
   }
 

@@ -12,11 +12,12 @@ use Rattle.view_ports.proofs.Told.{told_all, told_now, told_pair, told_refl, tol
 use Rattle.line_loop.specs.declared.loop_end.LoopEnd.{LoopEnd}
 use Rattle.line_loop.specs.declared.loop_end.LoopEnd.TheVariants as loop_end
 use Rattle.line_loop.specs.declared.responder.Responder.{Ghosts as Responds}
-use Rattle.line_loop.specs.Loops.{Loops, Steps}
+use Rattle.line_loop.specs.Loops.{HasEnded, Loops, Steps}
 use Rattle.line_loop.proofs.Seeing.{LeadsTo-kept, LeadsTo-seen}
 use Rattle.view_engine.specs.declared.halt.StepFault.{StepFault}
 use Rattle.view_engine.specs.declared.halt.StepFault.TheVariants.{DiskFault}
 use Rattle.view_engine.specs.declared.engine.Engine.{Engine}
+use Rattle.view_engine.specs.Disks.{LiesOpen}
 use Rattle.view_engine.specs.Accepted.{is_ok, after_exchange, EachOk}
 use Rattle.view_engine.specs.declared.refusal.Refusal.{Refusal}
 use Rattle.view_engine.specs.declared.request.Request.{Request}
@@ -34,7 +35,8 @@ use Rattle.view_engine.proofs.Sound.{answers_sound}
 use Rattle.view_engine.proofs.Worlds.{answers_grow, holds_at, images_at, stays_still, stays_still_then}
 use Rattle.couchview_cli.specs.declared.session.Session.{Session}
 use Rattle.couchview_cli.specs.Ends.{Comes}
-use Rattle.couchview_cli.specs.Reading.{ComesTo, HasReplied, IsReplied, NoneChanges, Replies, Told}
+use Rattle.couchview_cli.specs.Reading.{ComesTo, HasReplied, NoneChanges, Replies, Told}
+use Rattle.couchview_cli.specs.Replied.{IsReplied}
 use Rattle.couchview_cli.specs.Serving.{width, HadRoom}
 use Rattle.couchview_cli.specs.Session.{HasCome, IsAnswered, IsUnanswered, KeepsPorts, Origin, StepsOf, scene_of}
 use Rattle.couchview_cli.proofs.Keeping.{Answered-of}
@@ -64,8 +66,11 @@ module _ {F C : Type 0} (f : Folders F) (s : Servers C) (origin : Origin) where
       let Sound = IsSound s.functions s.honest origin.languages in
       record {
         after = there.after;
-        step = told_pair origin.disk (λ d. Step) (λ d. Sound origin.opening → Sound before.world) (λ d. Step × (Sound origin.opening → Sound before.world)) (λ d answers sound. (answers, sound))
-            (told_first s.functions s.honest origin (f.disk old.folder) (f.disk new.folder) before.world come.moved Step there.answers) come.moved.sound;
+        step = (
+          answered.prints,
+          told_pair origin.disk (λ d. Step) (λ d. Sound origin.opening → Sound before.world) (λ d. Step × (Sound origin.opening → Sound before.world)) (λ d answers sound. (answers, sound))
+              (told_first s.functions s.honest origin (f.disk old.folder) (f.disk new.folder) before.world come.moved Step there.answers) come.moved.sound,
+        );
         come = record {
           languages = answered.stays.languages ∙ come.languages;
           stands = there.stands;
@@ -117,7 +122,7 @@ module _ {F C : Type 0} (f : Folders F) (s : Servers C) (origin : Origin) where
         went = went;
         fits = told_pair origin.disk (λ d. Answers s.functions s.honest origin.languages before e gone.after × (Sound origin.opening → Sound before.world)) (λ d. EachOk Room (gone.after).world es) (λ d. EachOk Room before.world (e ∷ es))
             (λ d step each. (had, each_ok_same {P = Room} {Q = Room} (λ a b request same room. had_same a b request same room) (gone.after).world (after_exchange before.world e) es (Answers-accepted s.functions s.honest origin.languages before e gone.after step.0) each))
-            gone.step rest.fits;
+            (gone.step).1 rest.fits;
       }
 
 module _ {F C : Type 0} (f : Folders F) (s : Servers C) (r : Responds (Session F C) StepFault)
@@ -290,6 +295,14 @@ module _ {F C : Type 0} (f : Folders F) (s : Servers C) (r : Responds (Session F
       let stopped = stops cut.mid last cut.line fault cut.stops in
       keeps_more start cut.mid last (LeadsTo-kept (KeepsAll start) (keeps_line start) start cut.mid cut.exchanges (keeps_none start) cut.leads) stopped.0 (stopped.1).stays
 
+  -- at the end of its input the engine lies open
+  pub stays_open : (start last : Session F C) (left left' held held' : Option (List ℕ)) (end : LoopEnd StepFault) → Loops r start last left left' held held' end → LiesOpen f start.engine.now start.folder.now → HasEnded end
+      → LiesOpen f last.engine.now last.folder.now
+  stays_open start last left left' held held' (loop_end.Run end) loops is_open ended =
+      let run = loops.ends.run in
+      LeadsTo-kept (λ (session : Session F C). LiesOpen f session.engine.now session.folder.now) (λ old new e before step. ((answers old new e.line step.0).1).is_open) start last run.exchanges is_open run.leads
+  stays_open start last left left' held held' (loop_end.Stopped fault) loops is_open ended = absurd cc
+
   -- only a fault of the folder ends it with one
   pub disk_failed : (start last : Session F C) (left left' held held' : Option (List ℕ)) (end : LoopEnd StepFault) → Loops r start last left left' held held' end → end ≡ loop_end.Stopped DiskFault
       → Rose (f.faults start.folder.now) (f.faults last.folder.now)
@@ -307,6 +320,9 @@ comes_behind {F} {C} f s origin ran engine folder servers same_engine same_folde
     subst (λ (x : Engine). Comes f s origin (scene x folder servers) left left' held held' end) (sym same_engine)
     (subst (λ (x : F). Comes f s origin (scene ran.engine.now x servers) left left' held held' end) (sym same_folder)
     (subst (λ (x : C). Comes f s origin (scene ran.engine.now ran.folder.now x) left left' held held' end) (sym same_servers) comes))
+
+pub open_behind : {F C : Type 0} (f : Folders F) (ran : Session F C) (engine : Engine) (folder : F) → engine ≡ ran.engine.now → folder ≡ ran.folder.now → LiesOpen f ran.engine.now ran.folder.now → LiesOpen f engine folder
+open_behind {F} {C} f ran engine folder same_engine same_folder is_open = subst (λ (x : Engine). LiesOpen f x folder) (sym same_engine) (subst (λ (x : F). LiesOpen f ran.engine.now x) (sym same_folder) is_open)
 
 pub replied_behind : {F C : Type 0} (f : Folders F) (s : Servers C) (ran : Session F C) (folder : F) (servers : C) → folder ≡ ran.folder.now → servers ≡ ran.servers.now
     → {left left' held held' : Option (List ℕ)} {old : Told} {faults : ℕ} {end : LoopEnd StepFault}

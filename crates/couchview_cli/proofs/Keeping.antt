@@ -26,7 +26,8 @@ use Rattle.view_engine.specs.Disks.{ChangesFiles, IsOfIndex, IsOnIndexes, IsShap
 use Rattle.view_engine.specs.FullIndex.{IsIndexFullFor}
 use Rattle.view_engine.specs.Halts.{Writes}
 use Rattle.view_engine.specs.ServerFaults.{says_server_fault}
-use Rattle.couchview_cli.specs.Reading.{IsFoundOn, IsReplied}
+use Rattle.couchview_cli.specs.Reading.{IsFoundOn}
+use Rattle.couchview_cli.specs.Replied.{IsReplied}
 use Rattle.couchview_cli.specs.Session.{Answered, IsAnswered, IsUnanswered, IsHalted}
 use Rattle.couchview_cli.proofs.Moving.{Told}
 
@@ -114,7 +115,7 @@ module _ {F C : Type 0} {f : Folders F} {s : Servers C} {old new : Scene F C} (l
   pub answered_whole : (text : List ℕ) → IsAnswered f s old new given text → IsAnswered f s old new line text
   answered_whole text answered =
       let kept_answered : IsAnswered f s old new (kept request_limit line) text = subst (λ (l : List ℕ). IsAnswered f s old new l text) (is_kept line given is) answered in
-      record { answers = λ before at. Answered-kept line (kept_answered.answers before at); room = λ before at. subst (λ request. IfTold (f.disk old.folder) (λ d. is_ok text ≡ true → HasRoomAt d.now before.world request)) (request_kept line) (kept_answered.room before at); prints = replied_kept line text kept_answered.prints; blames = λ fault. kept_answered.blames (ap (λ request. says_server_fault request text) (request_kept line) ∙ fault); still = unless_kept ChangesFiles line kept_answered.still; on = answered.on; stays = answered.stays }
+      record { answers = λ before at. Answered-kept line (kept_answered.answers before at); room = λ before at. subst (λ request. IfTold (f.disk old.folder) (λ d. is_ok text ≡ true → HasRoomAt d.now before.world request)) (request_kept line) (kept_answered.room before at); prints = replied_kept line text kept_answered.prints; blames = λ fault. kept_answered.blames (ap (λ request. says_server_fault request text) (request_kept line) ∙ fault); still = unless_kept ChangesFiles line kept_answered.still; on = answered.on; is_open = answered.is_open; stays = answered.stays }
 
   pub unanswered_whole : (fault : StepFault) → IsUnanswered f s old new given fault → IsUnanswered f s old new line fault
   unanswered_whole fault cut =

@@ -7,3 +7,16 @@ pub mod Naming
 pub mod Served
 pub mod Statuses
 pub mod Pieces
+pub mod Unread
+pub mod Called
+pub mod Shown
+pub mod LoadMeaning
+pub mod LoadRequests
+pub mod LoadSame
+pub mod LoadWhole
+pub mod FreshAnswer
+pub mod LoadServing
+pub mod Loaded
+pub mod LoadReplies
+pub mod LoadOpened
+pub mod LoadStatus

@@ -1,5 +1,6 @@
 -- Pieces that are written one after another, of which the sink may fail in one.
-use Rattle.std.proofs.Common.{◌∙◌, ◌++◌, ℕ, List, Option, Result, Ok, Err, OnErr, sym, ap, append_assoc}
+use Rattle.std.proofs.Common.{◌∙◌, ◌++◌, ℕ, List, Option, Result, Ok, Err, OnErr, sym, ap, append_assoc, true≢false}
+use Rattle.std.specs.Prelude.{◌≡◌, IsErr, IsErrAnd}
 use Rattle.std.specs.Io.KnownBytes.{Appends}
 use Rattle.std.proofs.KnownBytes.{Appends-trans}
 use Rattle.line_loop.specs.Loops.{FailsIn}
@@ -19,3 +20,8 @@ pub behind : (a b c : Option (List ℕ)) (piece rest : List ℕ) → Appends a b
 behind a b c piece rest wrote stopped =
     let part = stopped.0 in
     (piece ++ part, ((stopped.1).0, ap (λ (r : List ℕ). piece ++ r) (stopped.1).1 ∙ sym (append_assoc piece part (stopped.1).0)), Appends-trans a b c piece part wrote stopped.2)
+
+-- a fault that is passed on
+pub failed_as : {T E : Type 0} (result : Result T E) (fault : E) → IsErr result × IsErrAnd result (λ e. e ≡ fault) → result ≡ Err fault
+failed_as (Ok value) fault is = absurd (true≢false (sym is.0))
+failed_as (Err error) fault is = ap Err is.1

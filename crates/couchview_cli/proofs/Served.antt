@@ -49,15 +49,15 @@ module _ (functions : List ℕ → Functions) (honest : List ℕ → Type 0) (la
   leads_answers : (opening : World) (d : Disk FileName) (start : Moment) (exchanges : List Exchange) (moment : Moment) → LeadsTo (Steps functions honest languages opening (Some d)) start exchanges moment
       → LeadsTo (Answers functions honest languages) start exchanges moment
   leads_answers opening d start [] moment leads = leads
-  leads_answers opening d start (e ∷ es) moment leads = (leads.0, (leads.1).0, leads_answers opening d leads.0 es moment leads.2)
+  leads_answers opening d start (e ∷ es) moment leads = (leads.0, ((leads.1).1).0, leads_answers opening d leads.0 es moment leads.2)
 
-  leads_accepted : (opening : World) (disk : Told) (start : Moment) (exchanges : List Exchange) (moment : Moment) → LeadsTo (Steps functions honest languages opening disk) start exchanges moment
+  pub leads_accepted : (opening : World) (disk : Told) (start : Moment) (exchanges : List Exchange) (moment : Moment) → LeadsTo (Steps functions honest languages opening disk) start exchanges moment
       → IfTold disk (λ d. (moment.world).history ≡ (accepted start.world exchanges).history)
   leads_accepted opening None start exchanges moment leads = tt
   leads_accepted opening (Some d) start exchanges moment leads = LeadsTo-accepted functions honest languages start exchanges moment (leads_answers opening d start exchanges moment leads)
 
   -- each image now stands for the world before the line or the one that it makes
-  images_around : (old new : Told) (world : World) (line : List ℕ) → Tells old new (LeavesOnly (StandsAround functions honest languages world (request_of line)))
+  pub images_around : (old new : Told) (world : World) (line : List ℕ) → Tells old new (LeavesOnly (StandsAround functions honest languages world (request_of line)))
       → IfTold new (λ d. (image : FileName → List ℕ) → IsImageOf d.now image → StandsAround functions honest languages world (request_of line) image)
   images_around old new world line moments =
       let around = StandsAround functions honest languages world (request_of line) in
@@ -70,16 +70,15 @@ module _ (languages : List (List ℕ × List ℕ)) (opening : World) where
     abbrev after_at : F → Outside
     after_at folder = record { left = left; held = held; disk = f.disk folder; disk_faults = f.faults folder; faults = s.faults stopped.servers }
 
-    are_left : (moment : Moment) → s.may_follow now.servers moment.calls → AreLeft (s.may_follow stopped.servers) moment.calls
+    pub are_left : (moment : Moment) → s.may_follow now.servers moment.calls → AreLeft (s.may_follow stopped.servers) moment.calls
     are_left moment follows = let left = stops moment.calls follows in record { added = left.added; only = left.only; follows = left.follows; stopped = λ slot below. left.stopped.stopped slot (subst (λ (w : ℕ). slot ≤ w) (sym wide) below) }
 
     -- a session that came to its end, and then the children were ended
-    pub finishes : (bytes : List ℕ) (end : RunEnd) → Consumes before.left left bytes → HasRead end (length bytes) → Ended f s (origin_of languages opening before) (IsAtEnd left) before.held held bytes now end
-        → Finishes s.functions s.honest languages opening before (after_at stopped.folder) (AreLeft (s.may_follow stopped.servers)) (status_of end)
-    finishes bytes end reads counts ended =
+    abbrev pub finished_at : (bytes : List ℕ) (end : RunEnd) → Consumes before.left left bytes → HasRead end (length bytes) → Ended f s (origin_of languages opening before) (IsAtEnd left) before.held held bytes now end
+        → Finishes s.functions s.honest languages opening before (after_at now.folder) (AreLeft (s.may_follow stopped.servers)) (status_of end)
+    finished_at bytes end reads counts ended =
         let stands = ended.has_come.stands in
-        subst (λ (folder : F). Finishes s.functions s.honest languages opening before (after_at folder) (AreLeft (s.may_follow stopped.servers)) (status_of end)) (sym same_folder)
-        (record {
+        record {
           bytes = bytes;
           gained = ended.gained;
           end = end;
@@ -97,21 +96,25 @@ module _ (languages : List (List ℕ × List ℕ)) (opening : World) where
           holds = holds_at (f.disk now.folder) (s.may_follow now.servers) (s.faults now.servers) now.engine ended.moment stands;
           faulted = same ∙ stands.child.counts;
           at_end = are_left ended.moment stands.child.follows;
-        })
+        }
+
+    pub finishes : (bytes : List ℕ) (end : RunEnd) → Consumes before.left left bytes → HasRead end (length bytes) → Ended f s (origin_of languages opening before) (IsAtEnd left) before.held held bytes now end
+        → Finishes s.functions s.honest languages opening before (after_at stopped.folder) (AreLeft (s.may_follow stopped.servers)) (status_of end)
+    finishes bytes end reads counts ended =
+        subst (λ (folder : F). Finishes s.functions s.honest languages opening before (after_at folder) (AreLeft (s.may_follow stopped.servers)) (status_of end)) (sym same_folder) (finished_at bytes end reads counts ended)
 
     -- a session that was cut short, and then the children were ended and the last line was written
-    pub cut_short : (mid : Option (List ℕ)) (bytes : List ℕ) (fault : StepFault) (status : ℕ) → Consumes before.left left bytes → length bytes ≤ input_limit
+    abbrev pub cut_now : (mid : Option (List ℕ)) (bytes : List ℕ) (fault : StepFault) (status : ℕ) → Consumes before.left left bytes → length bytes ≤ input_limit
         → (fault ≡ DiskFault → Rose before.disk_faults (f.faults now.folder)) → CutOff f s (origin_of languages opening before) (IsAtEnd left) before.held mid bytes now fault → Closes mid held [] fault status
-        → IsCutShort s.functions s.honest languages opening before (after_at stopped.folder) (AreLeft (s.may_follow stopped.servers)) status
-    cut_short mid bytes fault status reads counts cause off closes =
+        → IsCutShort s.functions s.honest languages opening before (after_at now.folder) (AreLeft (s.may_follow stopped.servers)) status
+    cut_now mid bytes fault status reads counts cause off closes =
         let come = off.has_come in
         let halted = IsHalted-of languages off.line come.languages (off.halts.halts off.moment come.stands) in
         let old = f.disk off.mid.folder in
         let new = f.disk now.folder in
         let begun = origin_of languages opening before in
         let world = (off.moment).world in
-        subst (λ (folder : F). IsCutShort s.functions s.honest languages opening before (after_at folder) (AreLeft (s.may_follow stopped.servers)) status) (sym same_folder)
-        (record {
+        record {
           bytes = bytes;
           exchanges = off.exchanges;
           lines = off.lines;
@@ -146,7 +149,13 @@ module _ (languages : List (List ℕ × List ℕ)) (opening : World) where
           called = told_first s.functions s.honest begun old new world come.moved (MayHaveCalled s.functions s.honest languages off.moment (request_of off.line) halted.last) halted.called;
           faulted = same ∙ halted.left.counts;
           at_end = are_left halted.last halted.left.follows;
-        })
+        }
+
+    pub cut_short : (mid : Option (List ℕ)) (bytes : List ℕ) (fault : StepFault) (status : ℕ) → Consumes before.left left bytes → length bytes ≤ input_limit
+        → (fault ≡ DiskFault → Rose before.disk_faults (f.faults now.folder)) → CutOff f s (origin_of languages opening before) (IsAtEnd left) before.held mid bytes now fault → Closes mid held [] fault status
+        → IsCutShort s.functions s.honest languages opening before (after_at stopped.folder) (AreLeft (s.may_follow stopped.servers)) status
+    cut_short mid bytes fault status reads counts cause off closes =
+        subst (λ (folder : F). IsCutShort s.functions s.honest languages opening before (after_at folder) (AreLeft (s.may_follow stopped.servers)) status) (sym same_folder) (cut_now mid bytes fault status reads counts cause off closes)
 
 module _ (functions : List ℕ → Functions) (honest : List ℕ → Type 0) (languages : List (List ℕ × List ℕ)) (opening : World) where
   module _ (before : Outside) (held : Option (List ℕ)) (disk : Told) (disk_faults : ℕ) (may_follow : List Call → Type 0) (follows : may_follow []) (opened : Tells before.disk disk (LeavesOnly (λ image. StandsFor image opening))) where

@@ -26,6 +26,26 @@ fault_no_usage (Damaged name at) is = omega (arith, is)
 fault_no_usage (Full name size) is = omega (arith, is)
 fault_no_usage NoMemory is = omega (arith, is)
 
+-- nor with that of the source, or of a folder that has writes, where a fault ends it
+pub fault_others : (fault : StepFault) → (fault_status fault ≢ 5) × (fault_status fault ≢ 8) × (fault_status fault ≢ 10)
+fault_others DiskFault = (λ is. omega (arith, is), λ is. omega (arith, is), λ is. omega (arith, is))
+fault_others (Damaged name at) = (λ is. omega (arith, is), λ is. omega (arith, is), λ is. omega (arith, is))
+fault_others (Full name size) = (λ is. omega (arith, is), λ is. omega (arith, is), λ is. omega (arith, is))
+fault_others NoMemory = (λ is. omega (arith, is), λ is. omega (arith, is), λ is. omega (arith, is))
+
+pub closed_others : (before after : Option (List ℕ)) (text : List ℕ) (fault : StepFault) (status : ℕ) → Closes before after text fault status → (status ≢ 2) × (status ≢ 5) × (status ≢ 8) × (status ≢ 10)
+closed_others before after text fault status (inl (is, wrote)) =
+    let others = fault_others fault in
+    (λ two. fault_no_usage fault (sym is ∙ two), λ five. others.0 (sym is ∙ five), λ eight. others.1 (sym is ∙ eight), λ ten. others.2 (sym is ∙ ten))
+closed_others before after text fault status (inr (is, wrote)) = (λ two. omega (arith, is, two), λ five. omega (arith, is, five), λ eight. omega (arith, is, eight), λ ten. omega (arith, is, ten))
+
+pub end_no_load : (end : RunEnd) → status_of end ≢ 10
+end_no_load InputEnded is = omega (arith, is)
+end_no_load SinkFailed is = omega (arith, is)
+end_no_load SourceFailed is = omega (arith, is)
+end_no_load OutOfMemory is = omega (arith, is)
+end_no_load InputTooLong is = omega (arith, is)
+
 pub end_no_usage : (end : RunEnd) → status_of end ≢ 2
 end_no_usage InputEnded is = omega (arith, is)
 end_no_usage SinkFailed is = omega (arith, is)
@@ -92,7 +112,7 @@ faulted (Damaged name at) status is whole room disk = absurd (whole name at refl
 faulted (Full name size) status is whole room disk = absurd (room name size refl)
 faulted NoMemory status is whole room disk = inr is
 
-closed : (before after : Option (List ℕ)) (text : List ℕ) (fault : StepFault) (status : ℕ) → Closes before after text fault status → ((name : FileName) (at : ℕ) → fault ≡ Damaged name at → ⊥)
+pub closed : (before after : Option (List ℕ)) (text : List ℕ) (fault : StepFault) (status : ℕ) → Closes before after text fault status → ((name : FileName) (at : ℕ) → fault ≡ Damaged name at → ⊥)
     → ((name : FileName) (length : Option ℕ) → fault ≡ Full name length → ⊥) → (status ≡ 3 → ⊥) → (status ≡ 4 → ⊥) → (status ≡ 0) ⊎ (status ≡ 6)
 closed before after text fault status (inl written) whole room disk sink = faulted fault status written.0 whole room disk
 closed before after text fault status (inr failed) whole room disk sink = absurd (sink failed.0)

@@ -1,8 +1,11 @@
 pub mod BuiltIn
 pub mod Command
 pub mod Closing
+pub mod Replied
 pub mod Serving
 pub mod Reading
 pub mod Laws
 pub mod Session
 pub mod Ends
+pub mod Loading
+pub mod Showing

@@ -7,30 +7,22 @@ use Rattle.view_ports.specs.declared.file_name.FileName.{FileName}
 use Rattle.view_ports.specs.Disk.{Disk, IfTold, LeavesOnly, MovesNone, Tells}
 use Rattle.view_ports.specs.Exchanges.{Exchange, LeadsTo, lines_of, text_of}
 use Rattle.view_ports.specs.Faults.{RoseBy}
-use Rattle.view_ports.specs.Lines.{IsCut, ended}
+use Rattle.view_ports.specs.Lines.{IsCut}
 use Rattle.view_ports.specs.Runs.{AreLines, HasRead, Run, input_limit, status_of}
 use Rattle.line_loop.specs.declared.loop_end.LoopEnd.{LoopEnd}
 use Rattle.line_loop.specs.declared.loop_end.LoopEnd.TheVariants as loop_end
 use Rattle.line_loop.specs.Loops.{HasReadBy}
 use Rattle.view_engine.specs.declared.halt.StepFault.{StepFault}
 use Rattle.view_engine.specs.declared.halt.StepFault.TheVariants.{Damaged, Full, NoMemory}
-use Rattle.view_engine.specs.Calls.{IsReplyLine}
 use Rattle.view_engine.specs.Disks.{ChangesFiles, IsOfIndex, IsOnIndexes, MeetsIndexDamageIn, ReadsDocuments}
 use Rattle.view_engine.specs.Halts.{Writes}
 use Rattle.view_engine.specs.Openings.{IsMovedByOpening}
-use Rattle.view_engine.specs.declared.refusal.Refusal.TheVariants.{NoMemory as OutOfMemory}
-use Rattle.view_engine.specs.Refusals.{refusal_text, request_of}
+use Rattle.view_engine.specs.Refusals.{request_of}
 use Rattle.view_engine.specs.ServerFaults.{server_faults}
 use Rattle.view_engine.specs.Worlds.{HasBodyDamage, HasDamage, IsFullIn}
 use Rattle.couchview_cli.specs.Closing.{Closes}
+use Rattle.couchview_cli.specs.Replied.{IsReplied}
 use Rattle.couchview_cli.specs.Serving.{Outside}
-
--- a line is answered with one reply line, which isn't empty, and an empty one with nothing; a line that is no request is refused
--- as that, unless memory runs out
-pub record IsReplied (line text : List ℕ) : Type 0 where
-  pub none : line ≡ [] → text ≡ []
-  pub some : line ≢ [] → (reply : List ℕ) × IsReplyLine reply × (text ≡ ended reply)
-  pub refused : line ≢ [] → IfErr (request_of line) (λ refusal. (text ≡ ended (refusal_text refusal)) ⊎ (text ≡ ended (refusal_text OutOfMemory)))
 
 -- a step of a run of which only that is told
 abbrev pub Replies : Unit {0} → Exchange → Unit {0} → Type 0

@@ -30,6 +30,7 @@ use Rattle.view_engine.specs.Refusals.{request_of}
 use Rattle.view_engine.specs.Steps.{Answers, Makes, MayHaveCalled}
 use Rattle.view_engine.specs.Accepted.{accepted, EachOk}
 use Rattle.couchview_cli.specs.Closing.{Closes}
+use Rattle.couchview_cli.specs.Replied.{IsReplied}
 
 -- what the ports tell at one moment: the bytes that the source has left, those that the sink holds, the disk, and how many
 -- faults the folder had, and the query servers
@@ -85,9 +86,10 @@ module _ (functions : List ℕ → Functions) (honest : List ℕ → Type 0) (la
   abbrev pub HaveRoom : World → World → Option (Disk FileName) → Option (Disk FileName) → List Exchange → Type 0
   HaveRoom opening last old new exchanges = IfTold old (λ d. EachOk (HadRoom opening last old new) opening exchanges)
 
-  -- a step of a run, where the disk is told: the pictures before it stand where those of the opening did
+  -- A step of a run: the line is answered with a line. Where the disk is told it is one of the definition, and the pictures before it
+  -- stand where those of the opening did.
   abbrev pub Steps : World → Option (Disk FileName) → Moment → Exchange → Moment → Type 0
-  Steps opening disk before exchange after = IfTold disk (λ d. Answers functions honest languages before exchange after × (Sound opening → Sound before.world))
+  Steps opening disk before exchange after = IsReplied exchange.line exchange.text × IfTold disk (λ d. Answers functions honest languages before exchange after × (Sound opening → Sound before.world))
 
 module _ (functions : List ℕ → Functions) (honest : List ℕ → Type 0) (languages : List (List ℕ × List ℕ)) (opening : World) where
   -- A run that read the bytes that the source lost, that wrote what the sink gained, and that ended with this status. The

@@ -16,7 +16,7 @@ use Rattle.view_engine.specs.Calls.{KeepsChild, Scene, StandsAt, Stays, scene}
 use Rattle.view_engine.specs.Refusals.{refusal_text, request_of}
 use Rattle.view_engine.specs.Moments.{Moment}
 use Rattle.view_engine.specs.ServerFaults.{is_server_fault}
-use Rattle.view_engine.specs.Disks.{ChangesFiles, IsOfIndex, IsOnIndexes, IsShapedFor, IsView}
+use Rattle.view_engine.specs.Disks.{ChangesFiles, IsOfIndex, IsOnIndexes, IsShapedFor, IsView, LiesOpen}
 use Rattle.view_engine.specs.FullIndex.{IsIndexFullFor}
 use Rattle.view_engine.specs.Steps.{Answers, MayHaveCalled}
 use Rattle.view_engine.specs.Updating.{IsSound}
@@ -24,7 +24,8 @@ use Rattle.view_groups.specs.Cleans.{IsIndexFile}
 use Rattle.view_engine.specs.World.{World}
 use Rattle.view_engine.specs.Worlds.{at_start, GoesOnFrom, HasRoomAt, IsFullAt, StandsAround, StandsEither, languages as languages_of}
 use Rattle.couchview_cli.specs.declared.session.Session.{Session}
-use Rattle.couchview_cli.specs.Reading.{ComesTo, IsFoundOn, IsReplied}
+use Rattle.couchview_cli.specs.Reading.{ComesTo, IsFoundOn}
+use Rattle.couchview_cli.specs.Replied.{IsReplied}
 use Rattle.couchview_cli.specs.Serving.{StandsSince, Steps, width}
 
 -- where a session began: its languages, the world at the opening, the disk, and how many faults the query servers had
@@ -75,6 +76,7 @@ module _ {F C : Type 0} (f : Folders F) (s : Servers C) where
     pub blames : is_server_fault (record { line = line; text = text }) ≡ true → RoseBy 2 (s.faults old.servers) (s.faults new.servers)
     pub still : (ChangesFiles (request_of line) → ⊥) → Tells (f.disk old.folder) (f.disk new.folder) MovesNone
     pub on : ComesTo (f.disk old.folder) (f.disk new.folder)
+    pub is_open : LiesOpen f new.engine new.folder
     pub stays : Stays f s old new
 
   -- a line was not answered, for this fault

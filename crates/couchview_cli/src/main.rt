@@ -6,6 +6,8 @@ mod built_in;
 mod closing;
 mod command;
 mod laws;
+mod load;
+mod replies;
 mod serve;
 mod session;
 #[cfg(test)]
@@ -15,9 +17,10 @@ mod wrong_word;
 use advice::advice;
 use built_in::Mixed;
 pub use command::couchview;
+use command_words::{WordsFault, read_command};
 use json_terms::NoMemory;
 pub use laws::runs_go_on;
-use real_ports::{Diagnostics, Program, RealFolder, RealServers, StdSink, StdSource};
+use real_ports::{Diagnostics, Program, RealFolder, RealServers, Shown, StdSink, StdSource};
 use std::alloc::AllocError;
 use std::env;
 use std::io::ErrorKind;
@@ -31,9 +34,7 @@ fn words(rt: HostRuntime, diagnostics: Diagnostics) -> Result<Vec<String>, Alloc
     match env::args(&rt) {
         Ok(all) => {
             let words: Vec<String> = all.skip(1).collect(rt.alloc())?;
-            if let Some(wrong) = wrong_word(&words) {
-                diagnostics.say(wrong);
-            }
+            say_wrong(rt, diagnostics, &words);
             Ok(words)
         }
         Err(error) if error.kind() == ErrorKind::OutOfMemory => Err(AllocError),
@@ -41,6 +42,30 @@ fn words(rt: HostRuntime, diagnostics: Diagnostics) -> Result<Vec<String>, Alloc
             diagnostics.say("a word is not UTF-8");
             Ok(Vec::new(rt.alloc()))
         }
+    }
+}
+
+/// Says why nothing is done, where the words name no command that is.
+fn say_wrong(rt: HostRuntime, diagnostics: Diagnostics, words: &[String]) {
+    match read_command(rt.alloc(), words) {
+        Ok(command) => {
+            if let Some(wrong) = wrong_word(&command) {
+                diagnostics.say(wrong);
+            }
+        }
+        Err(WordsFault::NoMemory) => {}
+        Err(fault) => say_fault(diagnostics, words, fault),
+    }
+}
+
+/// Says which rule the words break.
+fn say_fault(diagnostics: Diagnostics, words: &[String], fault: WordsFault) {
+    match (fault, words.first()) {
+        (WordsFault::UnknownCommand, Some(word)) => {
+            let word = Shown(word.as_str());
+            diagnostics.say(format_args!("the word '{word}' is no command: {fault}"));
+        }
+        _ => diagnostics.say(fault),
     }
 }
 

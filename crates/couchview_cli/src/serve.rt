@@ -7,6 +7,7 @@ ghost use Rattle.child_pool.specs.Languages.{languages_in};
 ghost use Rattle.view_engine.specs.World.{World};
 ghost use Rattle.line_loop.specs.Loops.{HasEnded, HasSinkFailed, HasSourceFailed};
 ghost use Rattle.view_engine.specs.Calls.{scene};
+ghost use Rattle.view_engine.specs.Disks.{LiesOpen};
 ghost use Rattle.view_engine.specs.Worlds.{Holds, IsOpen, width as width_of};
 ghost use Rattle.couchview_cli.specs.Ends.{Comes};
 ghost use Rattle.couchview_cli.specs.Reading.{AnswersLines, HasReplied};
@@ -21,7 +22,7 @@ use view_engine::{Engine, StepFault};
 use view_ports::{Folder, Servers, Sink, Source};
 
 /// How many children map documents.
-const WIDTH: u32 = 1;
+pub const WIDTH: u32 = 1;
 
 /// Reads request lines and answers them, until the input ends or the run can't go on, and then ends the
 /// children and answers the exit status. The words LANG=PATH name the query servers of languages.
@@ -43,6 +44,7 @@ pub fn serve<S: Source, K: Sink, F: Folder, C: Servers>(
         (outside S.Source K.Sink F.Folder C.Servers source.old sink.old folder.old servers.old)
         (outside S.Source K.Sink F.Folder C.Servers source.new sink.new folder.new servers.new) result }
     ensures no_usage { result ≢ 2 }
+    ensures no_load { result ≢ 10 }
     ensures ended { result ≡ 0 → IsAtEnd (S.left source.new) }
     ensures disk_failed { result ≡ 3 → Rose (F.faults folder.old) (F.faults folder.new) }
     ensures sink_failed { result ≡ 4 → Rose (K.faults sink.old) (K.faults sink.new) }
@@ -74,7 +76,7 @@ pub fn serve<S: Source, K: Sink, F: Folder, C: Servers>(
 }
 
 /// Has the engine answer request lines until the run ends. A reply is made in `reply`.
-fn run<S: Source, K: Sink, F: Folder, C: Servers>(
+pub fn run<S: Source, K: Sink, F: Folder, C: Servers>(
     alloc: Global,
     engine: &mut Engine,
     reply: &mut Vec<u8>,
@@ -92,6 +94,7 @@ fn run<S: Source, K: Sink, F: Folder, C: Servers>(
         (K.held sink.old) (K.held sink.new) (F.disk folder.old) (F.disk folder.new)
         (C.faults servers.old) (C.faults servers.new) result }
     ensures wide { width_of engine.new ≡ width_of engine.old }
+    ensures open { HasEnded result → LiesOpen F.Folder engine.new folder.new }
     ensures ended { HasEnded result → IsAtEnd (S.left source.new) }
     ensures disk_failed { result ≡ LoopEnd.Stopped StepFault.DiskFault
         → Rose (F.faults folder.old) (F.faults folder.new) }

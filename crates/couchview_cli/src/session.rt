@@ -40,6 +40,8 @@ impl<F: Folder, C: Servers> Session<'_, F, C> {
             (C.faults self.old.servers.now) (C.faults self.new.servers.now) result }
         ensures ports { KeepsPorts self.old self.new }
         ensures stays { Stays F.Folder C.Servers (scene_of self.old) (scene_of self.new) }
+        ensures open { HasEnded result
+            → IfTold (F.disk self.new.folder.now) (λ d. IsOpen self.new.engine.now d.now) }
         ensures ended { HasEnded result → IsAtEnd (S.left source.new) }
         ensures disk_failed { result ≡ LoopEnd.Stopped StepFault.DiskFault
             → Rose (F.faults self.old.folder.now) (F.faults self.new.folder.now) }

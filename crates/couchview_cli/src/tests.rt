@@ -27,10 +27,10 @@ const REPLIES: &str = r#"{"ok":true,"id":"_design/by","rev":"1-00000000000000000
 
 const DISK_FAULT: &str = "{\"error\":\"disk_fault\",\"reason\":\"the run ends\"}\n";
 
-/// The one word of a command, what it reads, how many bytes its ports take a call at most, and which of their calls fail.
+/// The words of a command, with a space between two, what it reads, how many bytes its ports take a call at most, and which of their calls fail.
 #[derive(Clone, Copy)]
 struct Given<'a> {
-    word: &'a str,
+    words: &'a str,
     input: &'a str,
     piece: usize,
     reads: &'a [u64],
@@ -40,7 +40,7 @@ struct Given<'a> {
 
 /// A run over ports of which no call fails.
 const GIVEN: Given<'static> = Given {
-    word: "serve",
+    words: "serve",
     input: LINES,
     piece: 1000,
     reads: &[],
@@ -50,7 +50,10 @@ const GIVEN: Given<'static> = Given {
 
 /// What a run wrote over this folder, and its status.
 fn run_in(alloc: Global, folder: &mut MemoryFolder, given: &Given) -> Result<(Vec<u8>, u8), Fail> {
-    let words = [String::from_str(alloc, given.word)?];
+    let mut words = Vec::new(alloc);
+    for word in given.words.split(' ') {
+        words.push(String::from_str(alloc, word)?)?;
+    }
     let piece = given.piece.max(1);
     let reads = given.reads.to_vec(alloc)?;
     let mut source = MemorySource::new(alloc, given.input.as_bytes(), piece, reads)?;

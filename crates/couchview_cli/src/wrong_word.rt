@@ -1,25 +1,20 @@
-//! Why words are no command.
+//! Why a command isn't done.
 ghost use Rattle.std.specs.Prelude.{◌↔◌, IsNone};
-ghost use Rattle.couchview_cli.specs.Command.{IsServe};
+ghost use Rattle.couchview_cli.specs.Command.{IsBuilt};
 
-use crate::command::{LANGUAGES, is_named, is_path, is_serve};
+use crate::command::{LANGUAGES, is_built, is_named, is_path};
 use child_pool::language_word;
+use command_words::Command;
 use real_ports::Shown;
 use std::fmt::{self, Display, Formatter};
 
-/// Why words are no command, with the word that makes them none.
+/// Why a command isn't done, with the word that stands in the way.
 #[derive(Clone, Copy)]
 pub enum WrongWord<'a> {
-    /// There is no word.
-    None,
-    /// The first word names no command.
-    Command(&'a str),
-    /// The first word names a command that isn't built yet.
-    NotBuilt(&'a str),
+    /// A width other than 1 isn't built yet.
+    Width(u32),
     /// More than eight languages are named.
     TooMany(&'a str),
-    /// A word begins with `-`.
-    Option(&'a str),
     /// A word has no language before a `=`.
     Form(&'a str),
     /// A path begins with `builtin:` and is no server of this program.
@@ -31,11 +26,8 @@ pub enum WrongWord<'a> {
 impl Display for WrongWord<'_> {
     fn fmt<W: fmt::Write>(&self, f: &mut Formatter<W>) -> fmt::Result {
         let (word, why) = match self {
-            WrongWord::None => return f.write_str("a command is missing"),
-            WrongWord::Command(word) => (word, "is no command"),
-            WrongWord::NotBuilt(word) => (word, "is a command that isn't built yet"),
+            WrongWord::Width(width) => return write!(f, "a width of {width} isn't built yet"),
             WrongWord::TooMany(word) => (word, "is one too many: 8 words LANG=PATH may be given"),
-            WrongWord::Option(word) => (word, "is no option that is built yet"),
             WrongWord::Form(word) => (word, "has not the form LANG=PATH"),
             WrongWord::BuiltIn(word) => (word, "names no server of this program"),
             WrongWord::Twice(word) => (word, "names a language that was named before"),
@@ -45,42 +37,37 @@ impl Display for WrongWord<'_> {
     }
 }
 
-/// Why the words are no command. `None` where they are one.
-pub fn wrong_word(words: &[String]) -> Option<WrongWord<'_>>
-    ensures { IsNone result ↔ IsServe words.now }
+/// Why the command isn't done. `None` where it is.
+pub fn wrong_word(command: &Command) -> Option<WrongWord<'_>>
+    ensures { IsNone result ↔ IsBuilt command.now }
 {
-    if is_serve(words) {
+    if is_built(command) {
         return None;
     }
-    Some(match words.split_first() {
-        None => WrongWord::None,
-        Some((first, others)) => match first.as_str() {
-            "serve" => wrong_language(others),
-            "load" => WrongWord::NotBuilt("load"),
-            word => WrongWord::Command(word),
-        },
-    })
+    match command {
+        Command::Serve { width, words } => {
+            Some(wrong_language(words).unwrap_or(WrongWord::Width(*width)))
+        }
+        Command::Load { docs: _, number: _ } => None,
+    }
 }
 
-/// The first of the words behind `serve` that may not stand there. It is called where there is one.
-fn wrong_language(words: &[String]) -> WrongWord<'_> {
+/// The first of the words that may not stand behind `serve`, if there is one.
+fn wrong_language(words: &[String]) -> Option<WrongWord<'_>> {
     for (place, word) in words.iter().enumerate() {
         let word = word.as_str();
-        if word.as_bytes().starts_with(b"-") {
-            return WrongWord::Option(word);
-        }
         let Some((language, path)) = language_word(word) else {
-            return WrongWord::Form(word);
+            return Some(WrongWord::Form(word));
         };
         if !is_path(path) {
-            return WrongWord::BuiltIn(word);
+            return Some(WrongWord::BuiltIn(word));
         }
         if is_named(&words[..place], language) {
-            return WrongWord::Twice(word);
+            return Some(WrongWord::Twice(word));
         }
         if place >= LANGUAGES {
-            return WrongWord::TooMany(word);
+            return Some(WrongWord::TooMany(word));
         }
     }
-    WrongWord::None
+    None
 }

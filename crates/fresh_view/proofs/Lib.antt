@@ -1,2 +1,3 @@
 mod Places
 mod Changes
+pub mod TheViews

@@ -3,8 +3,6 @@
 #![tactic(auto)]
 
 mod afresh;
-#[cfg(test)]
-mod answer_tests;
 mod fault;
 mod laws;
 mod rows;

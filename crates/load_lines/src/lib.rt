@@ -8,8 +8,6 @@
 mod documents;
 mod lines;
 mod numbers;
-#[cfg(test)]
-mod tests;
 
 pub use documents::load_map;
 pub use lines::{first_lines, info_line, second_lines, view_line};

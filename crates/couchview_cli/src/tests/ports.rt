@@ -129,7 +129,21 @@ const FAULT_AND_ROWS: &str = r#"
 {"total_rows":2,"offset":0,"rows":[{"id":"b","key":"Ida","value":1},{"id":"a","key":"Ole","value":1}]}
 "#;
 
-/// The word of a command, the failing calls of the folder, the sink and the query servers, and the end of what is written, with
+/// What a load writes behind the reply to its first view.
+const LOADED: &str = r#"
+{"rows":[{"key":[3],"value":{"sum":1012,"count":1,"min":1012,"max":1012,"sumsqr":1024144}},{"key":[8],"value":{"sum":2258,"count":2,"min":575,"max":1683,"sumsqr":3163114}}]}
+{"rows":[{"key":[3],"value":{"sum":1012,"count":1,"min":1012,"max":1012,"sumsqr":1024144}},{"key":[8],"value":{"sum":2258,"count":2,"min":575,"max":1683,"sumsqr":3163114}}]}
+{"doc_count":4,"doc_del_count":0,"update_seq":5}
+"#;
+
+/// Both views of a load are refused, and the answer afresh is what it was.
+const REFUSED: &str = r#"{"error":"server_fault","reason":"query server failed twice"}
+{"error":"server_fault","reason":"query server failed twice"}
+{"rows":[{"key":[3],"value":{"sum":1012,"count":1,"min":1012,"max":1012,"sumsqr":1024144}},{"key":[8],"value":{"sum":2258,"count":2,"min":575,"max":1683,"sumsqr":3163114}}]}
+{"doc_count":4,"doc_del_count":0,"update_seq":5}
+"#;
+
+/// The words of a command, the failing calls of the folder, the sink and the query servers, and the end of what is written, with
 /// the status.
 ///
 /// The calls of the first view are the start 0; `reset` 1 and 2; `add_fun` 3 and 4; `map_doc` of two documents 5 to 8. A second
@@ -142,13 +156,19 @@ const FAILING: &[(&str, &[u64], &[u64], &[u64], &str, u8)] = &[
     ("serve", &[0], &[0], &[], "", 4),
     ("load", &[], &[], &[], USAGE, 2),
     ("load", &[], &[0], &[], "", 4),
+    ("load 3 1", &[], &[], &[], LOADED, 0),
+    ("load 3 1", &[], &[], &[6], LOADED, 0),
+    ("load 3 1", &[], &[], &[0, 1, 2, 3], REFUSED, 0),
+    ("load 3 1", &[], &[0], &[], "", 4),
+    ("load 3 1", &[0], &[], &[], DISK_FAULT, 3),
+    ("load 3 1", &[20], &[], &[], DISK_FAULT, 3),
 ];
 
 #[test]
 fn failing_calls_are_told(rt: HostRuntime) -> Result<(), Fail> {
-    for &(word, fail, writes, servers, want, want_status) in FAILING {
+    for &(words, fail, writes, servers, want, want_status) in FAILING {
         let given = Given {
-            word,
+            words,
             writes,
             servers,
             ..GIVEN

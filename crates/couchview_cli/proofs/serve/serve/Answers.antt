@@ -1,6 +1,6 @@
 -- Serving is what its session came to.
 use Rattle.std.specs.Prelude.{map, string_bytes}
-use Rattle.std.proofs.Common.{◌≡◌, ◌∙◌, ℕ, Err, Result, inl, inr, refl, sym, ap, subst}
+use Rattle.std.proofs.Common.{◌≡◌, ◌∙◌, ℕ, [], Err, Result, inl, inr, refl, sym, ap, subst}
 use Rattle.view_ports.specs.Causes.{HasCauseIf}
 use Rattle.view_ports.specs.declared.file_name.FileName.{FileName}
 use Rattle.view_ports.proofs.Counting.{Rose-earlier}
@@ -21,7 +21,7 @@ use Rattle.couchview_cli.specs.Session.{IsAtOrigin, Origin}
 use Rattle.couchview_cli.proofs.Coming.{come_opened}
 use Rattle.couchview_cli.proofs.Replying.{is_cut_off, reads_on}
 use Rattle.couchview_cli.proofs.Served.{cut_short, finishes, origin_of, unopened}
-use Rattle.couchview_cli.proofs.Statuses.{end_no_usage}
+use Rattle.couchview_cli.proofs.Statuses.{closed_others, end_no_load, end_no_usage}
 use Rattle.couchview_cli.proofs.serve.serve.Goals as goal
 
 pub returns-in-Err-clause-serves : goal.returns-in-Err-clause-serves
@@ -36,6 +36,15 @@ returns-in-Err-clause-serves g c = λ opening holds.
 
 pub returns-in-Run-clause-no_usage : goal.returns-in-Run-clause-no_usage
 returns-in-Run-clause-no_usage g c = λ two. end_no_usage c.in-Run.end (sym c.status.ensures ∙ two)
+
+pub returns-in-Err-clause-no_load : goal.returns-in-Err-clause-no_load
+returns-in-Err-clause-no_load g c = (closed_others _ _ [] _ _ c.close.ensures.closes).3
+
+pub returns-in-Run-clause-no_load : goal.returns-in-Run-clause-no_load
+returns-in-Run-clause-no_load g c = λ ten. end_no_load c.in-Run.end (sym c.status.ensures ∙ ten)
+
+pub returns-clause-no_load : goal.returns-clause-no_load
+returns-clause-no_load g c = (closed_others _ _ [] _ _ c.close-in-Stopped.ensures.closes).3
 
 pub returns-in-Run-clause-serves : goal.returns-in-Run-clause-serves
 returns-in-Run-clause-serves g c = λ opening holds.

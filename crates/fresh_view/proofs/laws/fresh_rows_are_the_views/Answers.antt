@@ -1,10 +1,5 @@
-use Rattle.std.proofs.Common.{ap, sym, ◌∙◌}
-use Rattle.raw_collation.specs.Sorting.{sorted_rows}
-use Rattle.doc_file.specs.History.{mapped_after}
-use Rattle.map_server.specs.Pick.{pick}
-use Rattle.view_model.proofs.SortedRows.{emitted_rows-are}
-use Rattle.view_model.proofs.Updates.{rows_are_by_sequence}
+use Rattle.fresh_view.proofs.TheViews.{fresh_rows-views}
 use Rattle.fresh_view.proofs.laws.fresh_rows_are_the_views.Goals as goal
 
 pub returns : goal.returns
-returns c = λ source history. ap sorted_rows (sym (emitted_rows-are pick source (mapped_after 0 history))) ∙ rows_are_by_sequence pick source history
+returns c = fresh_rows-views

@@ -1,5 +1,5 @@
 -- What a session does is what the loop over its lines did.
-use Rattle.couchview_cli.proofs.Coming.{comes, disk_failed, has_replied, keeps}
+use Rattle.couchview_cli.proofs.Coming.{comes, disk_failed, has_replied, keeps, stays_open}
 use Rattle.couchview_cli.proofs.session.Session.run.Goals as goal
 
 pub returns-clause-comes : goal.returns-clause-comes
@@ -13,6 +13,9 @@ returns-clause-ports g c = (keeps g.F.Folder g.C.Servers _ (λ old new line answ
 
 pub returns-clause-stays : goal.returns-clause-stays
 returns-clause-stays g c = (keeps g.F.Folder g.C.Servers _ (λ old new line answers. answers) (λ old new line fault stops. stops) _ _ _ _ _ _ c.answer_lines.result c.answer_lines.ensures.loops).1
+
+pub returns-clause-open : goal.returns-clause-open
+returns-clause-open g c = stays_open g.F.Folder g.C.Servers _ (λ old new line answers. answers) (λ old new line fault stops. stops) _ _ _ _ _ _ c.answer_lines.result c.answer_lines.ensures.loops c.requires
 
 pub returns-clause-disk_failed : goal.returns-clause-disk_failed
 returns-clause-disk_failed g c = disk_failed g.F.Folder g.C.Servers _ (λ old new line answers. answers) (λ old new line fault stops. stops) _ _ _ _ _ _ c.answer_lines.result c.answer_lines.ensures.loops

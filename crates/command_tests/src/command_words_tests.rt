@@ -1,6 +1,6 @@
 //! Lists of words, each with the command that it names or the cause of its refusal.
 
-use crate::{Command, read_command};
+use command_words::{Command, read_command};
 use std::alloc::Global;
 use std::test::Fail;
 

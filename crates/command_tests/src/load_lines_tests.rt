@@ -1,6 +1,6 @@
 //! The lines of small loads, and how many there are of the greatest.
 
-use crate::{first_lines, info_line, load_map, second_lines, view_line};
+use load_lines::{first_lines, info_line, load_map, second_lines, view_line};
 use std::alloc::{AllocError, Global};
 use std::test::Fail;
 

@@ -1,9 +1,8 @@
 //! Answers over small databases.
 
-use crate::answer_afresh;
-use crate::laws::fresh_rows_are_the_views;
 use design_docs::Builtin;
 use doc_file::Change;
+use fresh_view::{answer_afresh, fresh_rows_are_the_views};
 use json_terms::{Chars, read_term};
 use query_args::{Target, read_query};
 use std::alloc::Global;

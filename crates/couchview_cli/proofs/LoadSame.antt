@@ -1,0 +1,170 @@
+-- The reply to the second view of a load is the answer afresh.
+use Rattle.std.specs.Prelude.{if◌then◌else◌, pos}
+use Rattle.std.proofs.Common.{◌≡◌, ◌≢◌, ◌∙◌, ℕ, List, [], ◌∷◌, Bool, true, false, length, codes, Option, Some, None, Result, Ok, inl, inr, refl, sym, ap, subst}
+use Rattle.json_terms.specs.Json.{Json, members_of, number, object}
+use Rattle.design_docs.specs.Design.{design_term, language_of, source_of, views_of}
+use Rattle.design_docs.specs.Documents.{id_of}
+use Rattle.design_docs.specs.declared.design.Builtin.TheVariants.{Stats}
+use Rattle.design_docs.specs.declared.design.Reduce.TheVariants.{Builtin}
+use Rattle.child_pool.specs.Languages.{path_in}
+use Rattle.view_ports.specs.Exchanges.{Exchange}
+use Rattle.view_ports.specs.Faults.{Rose}
+use Rattle.view_ports.specs.Functions.{Functions}
+use Rattle.view_ports.specs.Lines.{ended}
+use Rattle.map_server.specs.Pick.{pick}
+use Rattle.doc_file.specs.History.{Write, live_document}
+use Rattle.doc_file.specs.Accepted.{state_of, unseen}
+use Rattle.doc_file.specs.Content.{content}
+use Rattle.doc_file.specs.Incoming.{deletes, given_revision, IsWritable}
+use Rattle.doc_file.specs.Stored.{next_revision, write_of}
+use Rattle.doc_file.specs.Writes.{content_of, write_refusal}
+use Rattle.query_args.specs.declared.query.Query.{Query}
+use Rattle.view_model.specs.Answer.{answer}
+use Rattle.view_model.specs.Rows.{spoiled, view_rows}
+use Rattle.view_model.specs.Values.{builtin_text}
+use Rattle.view_engine.specs.declared.refusal.Refusal.{Refusal}
+use Rattle.view_engine.specs.declared.refusal.Refusal.TheVariants.{NoMemory as OutOfMemory}
+use Rattle.view_engine.specs.declared.request.Request.{Request}
+use Rattle.view_engine.specs.declared.request.Request.TheVariants.{Put, View}
+use Rattle.view_engine.specs.Fresh.{fresh_reply, IsPlainView}
+use Rattle.view_engine.specs.Answer.{write_text}
+use Rattle.view_engine.specs.Moments.{Moment, with_world}
+use Rattle.view_engine.specs.Put.{put_write}
+use Rattle.view_engine.specs.Refusals.{refusal_text, request_of}
+use Rattle.view_engine.specs.Steps.{Answers, Does, DoesRequest, DoesRequestText, IsRefusedAs, Performs}
+use Rattle.view_engine.specs.Updating.{AreFit, IsSound}
+use Rattle.view_engine.specs.View.{view_refusal, DoesView}
+use Rattle.view_engine.specs.ViewQuery.{ViewQuery, query_for, reduce_named}
+use Rattle.view_engine.specs.World.{World, written}
+use Rattle.view_engine.proofs.Exclusive.{is_not_refused_and_done}
+use Rattle.view_engine.proofs.Fresh.{replies_are_fresh}
+use Rattle.load_lines.specs.Documents.{load_design, load_map}
+use Rattle.load_lines.proofs.Writable.{IsWritable-load_design, deletes-load_design, given-load_design, id_of-load_design}
+use Rattle.couchview_cli.specs.Loading.{fresh_answer, load_query}
+use Rattle.couchview_cli.proofs.LoadMeaning.{design_write, has_at_first, stored_design, HasLoadDesign}
+
+-- ---- the view of the stored design
+
+abbrev pub asked : ViewQuery
+asked = record { design = codes "load"; view = codes "by_group"; query = Some ((codes "group_level", number (pos 1)) ∷ []) }
+
+abbrev pub load_view : Request
+load_view = View (record { design = codes "load"; view = codes "by_group" }) (Some ((codes "group_level", number (pos 1)) ∷ []))
+
+stored_source : source_of (codes "by_group") stored_design ≡ Some load_map
+unfolding load_design
+stored_source = refl
+
+stored_path : path_in [] (language_of stored_design) ≡ Some (codes "builtin:pick")
+unfolding load_design
+stored_path = refl
+
+stored_reduce : reduce_named (codes "by_group") (views_of stored_design) ≡ Builtin Stats
+unfolding load_design
+stored_reduce = refl
+
+stored_query : query_for (views_of stored_design) asked ≡ load_query
+unfolding load_design
+stored_query = refl
+
+-- the view of the design is refused by nothing
+not_refused : (world : World) → HasLoadDesign world.history → view_refusal [] world asked ≡ None
+unfolding load_design
+not_refused world has = rw has.last refl
+
+-- no design of such a history is another one
+has_fit : (history : List Write) → HasLoadDesign history → AreFit history
+has_fit history has = record { apart = λ one other is_one is_other same. ap design_term (has.only one is_one ∙ sym (has.only other is_other)) }
+
+has_live : (history : List Write) → HasLoadDesign history → live_document history (codes "_design/load") ≡ Some stored_design
+has_live history has = rw has.last refl
+
+-- it can be answered where its source compiles
+answerable : (history : List Write) → pick.compiles load_map ≡ true → spoiled pick (views_of stored_design) history ≡ false
+unfolding load_design
+answerable history compiles = rw compiles refl
+
+-- the first write of a load
+first_write : write_of [] (id_of load_design) (content_of load_design) ≡ design_write
+first_write =
+    ap (λ (id : List ℕ). write_of [] id (content_of load_design)) id_of-load_design
+    ∙ ap (λ (b : Bool). write_of [] (codes "_design/load") (if b then None else Some (content load_design))) deletes-load_design
+
+module _ (functions : List ℕ → Functions) (honest : List ℕ → Type 0) where
+  -- a line that is answered, and not refused for want of memory, does its request
+  does_request : (before : Moment) (e : Exchange) (after : Moment) → e.line ≢ [] → e.text ≢ ended (refusal_text OutOfMemory) → Answers functions honest [] before e after
+      → DoesRequestText functions honest [] before (request_of e.line) e.text after
+  does_request before e after some done (inr gives_up) = absurd (done (gives_up.1))
+  does_request before e after some done (inl does) = by_line e.line some does
+    where
+      by_line : (line : List ℕ) → line ≢ [] → Does functions honest [] before line e.text after → DoesRequestText functions honest [] before (request_of line) e.text after
+      by_line [] some_ does_ = absurd (some_ refl)
+      by_line (byte ∷ bytes) some_ does_ = does_
+
+  -- ---- the put of the design
+
+  -- a put of the design to a history without writes stores it
+  pub first_put : (before : Moment) (e : Exchange) (after : Moment) (members : List (List ℕ × Json)) → request_of e.line ≡ Ok (Put members) → object (members_of members) ≡ load_design → (before.world).history ≡ []
+      → e.line ≢ [] → e.text ≢ ended (refusal_text OutOfMemory) → Answers functions honest [] before e after → HasLoadDesign (after.world).history
+  first_put before e after members asks is none some done answers =
+      let does = does_request before e after some done answers in
+      let request : DoesRequest functions honest [] before (Ok (Put members)) does.0 after = subst (λ (r : Result Request Refusal). DoesRequest functions honest [] before r does.0 after) asks does.1 in
+      elim request [
+        | inl acts ↦ put_done does.0 acts
+        | inr refused ↦ absurd (never refused.0 refused.1)
+      ]
+    where
+      doc : Json
+      doc = object (members_of members)
+
+      put_done : (reply : List ℕ) → Performs functions honest [] before (Put members) reply after → HasLoadDesign (after.world).history
+      put_done reply acts =
+          let wrote : (after.world).history ≡ put_write before.world doc ∷ (before.world).history = ap (λ (m : Moment). (m.world).history) acts.2 ∙ ap (λ (w : World). w.history) (acts.1).wrote in
+          let first : put_write before.world doc ≡ design_write = ap (λ (h : List Write). write_of h (id_of doc) (content_of doc)) none ∙ ap (λ (json : Json). write_of [] (id_of json) (content_of json)) is ∙ first_write in
+          subst HasLoadDesign (sym (wrote ∙ ap (λ (h : List Write). put_write before.world doc ∷ h) none ∙ ap (λ (w : Write). w ∷ []) first)) has_at_first
+
+      accepts : write_refusal (state_of (before.world).history (id_of doc)) (deletes doc) (given_revision doc) ≡ None
+      accepts =
+          ap (λ (h : List Write). write_refusal (state_of h (id_of doc)) (deletes doc) (given_revision doc)) none
+          ∙ ap (λ (b : Bool). write_refusal unseen b (given_revision doc)) (ap deletes is ∙ deletes-load_design)
+          ∙ ap (λ (given : Option (List ℕ)). write_refusal unseen false given) (ap given_revision is ∙ given-load_design)
+
+      never : (refusal : Refusal) → IsRefusedAs functions honest [] before.world (Put members) refusal → ⊥
+      never refusal refused =
+          is_not_refused_and_done functions honest [] before (with_world before (written before.world (put_write before.world doc))) (Put members) refusal (write_text (id_of doc) (next_revision (before.world).history (id_of doc))) refused
+          (written before.world (put_write before.world doc), record { accepted = record { writable = subst IsWritable (sym is) IsWritable-load_design; accepted = accepts }; prints = refl; wrote = refl }, refl)
+
+  -- ---- the second view
+
+  pub second_fresh : (before : Moment) (e : Exchange) (after : Moment) → request_of e.line ≡ Ok load_view → e.line ≢ [] → e.text ≢ ended (refusal_text OutOfMemory) → Answers functions honest [] before e after
+      → HasLoadDesign (before.world).history → IsSound functions honest [] before.world → honest (codes "builtin:pick") → functions (codes "builtin:pick") ≡ pick → (Rose before.faults after.faults → ⊥)
+      → pick.compiles load_map ≡ true → e.text ≡ ended (fresh_answer (before.world).history)
+  second_fresh before e after asks some done answers has sound is_honest is_pick calm compiles =
+      let does = does_request before e after some done answers in
+      let request : DoesRequest functions honest [] before (Ok load_view) does.0 after = subst (λ (r : Result Request Refusal). DoesRequest functions honest [] before r does.0 after) asks does.1 in
+      elim request [
+        | inl view ↦ does.2 ∙ ap ended (shown does.0 view)
+        | inr refused ↦ let never : None ≡ Some refused.0 = sym (not_refused before.world has) ∙ refused.1 in absurd (cc)
+      ]
+    where
+      history : List Write
+      history = (before.world).history
+
+      plain : IsPlainView functions honest [] before.world asked stored_design (codes "builtin:pick") load_map Stats
+      plain = record {
+        updates = refl;
+        live = has_live history has;
+        source_is = stored_source;
+        path_is = stored_path;
+        reduce = stored_reduce;
+        is_honest = is_honest;
+        sound = sound;
+        fit = has_fit history has;
+        answerable = ap (λ (f : Functions). spoiled f (views_of stored_design) history) is_pick ∙ answerable history compiles;
+      }
+
+      shown : (reply : List ℕ) → DoesView functions honest [] before asked reply after → reply ≡ fresh_answer history
+      shown reply view =
+          replies_are_fresh functions honest [] before after asked reply view calm stored_design (codes "builtin:pick") load_map Stats plain
+          ∙ ap (λ (f : Functions). fresh_reply f (views_of stored_design) asked load_map Stats history) is_pick
+          ∙ ap (λ (q : Query). answer (builtin_text Stats) q (length history) (view_rows pick load_map history)) stored_query
