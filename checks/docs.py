@@ -57,7 +57,7 @@ def missing(words):
 
 def run(place, program, words, folder, lines):
     if words[:1] == ["load"]:
-        return shows(place, [PROGRAM, *words], folder, lines)
+        return prints(place, words, folder, subprocess.DEVNULL, "".join(line + "\n" for line in lines).encode())
     if len(lines) % 2:
         fail(place, "a line has no reply")
     path = "%s/crates/%s_cli/out/%s_cli" % (REPOSITORY, program, program)
@@ -71,9 +71,10 @@ def run(place, program, words, folder, lines):
         fail(place, "%d lines come, with status %d" % (len(got), done.returncode))
 
 
-def shows(place, words, folder, lines):
-    done = subprocess.run(words, cwd=folder, stdin=subprocess.DEVNULL, stdout=subprocess.PIPE, stderr=subprocess.DEVNULL, timeout=SECONDS)
-    if (done.stdout.decode().splitlines(), done.returncode) != (lines, 0):
+def prints(place, words, folder, source, wanted):
+    """Fails unless the program, which reads the source, prints these bytes and ends with status 0."""
+    done = subprocess.run([PROGRAM, *words], cwd=folder, stdin=source, stdout=subprocess.PIPE, stderr=subprocess.DEVNULL, timeout=SECONDS)
+    if (done.stdout, done.returncode) != (wanted, 0):
         fail(place, "it prints something else, or ends with status %d" % done.returncode)
 
 
@@ -119,9 +120,7 @@ def shipped():
         folder = os.path.join(WORK, name)
         os.mkdir(folder)
         with open(os.path.join(REPOSITORY, place), "rb") as requests, open(os.path.join(REPOSITORY, "examples", name + ".out"), "rb") as wanted:
-            done = subprocess.run([PROGRAM, *words], cwd=folder, stdin=requests, stdout=subprocess.PIPE, stderr=subprocess.DEVNULL, timeout=SECONDS)
-            if (done.stdout, done.returncode) != (wanted.read(), 0):
-                fail(place, "it prints something else, or ends with status %d" % done.returncode)
+            prints(place, words, folder, requests, wanted.read())
     there = {os.path.basename(path)[: -len(".jsonl")] for path in glob.glob(REPOSITORY + "/examples/*.jsonl")}
     if ran != there:
         fail("examples/README.md", "it doesn't run %s" % ", ".join(sorted(there ^ ran)))

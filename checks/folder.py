@@ -245,6 +245,10 @@ WORDS = {
     (): "a command is wanted: serve or load",
     ("server",): "the word 'server' is no command: the commands are serve and load",
     ("load", "a", "1"): "load takes first how many documents, a number from 1 to 20000 without sign or leading zeros",
+    ("load", "3"): "load takes two numbers: how many documents, from 1 to 20000, and one from 0 to 2147483647",
+    ("load", "3", "2147483648"): "load takes second a number from 0 to 2147483647 without sign or leading zeros",
+    ("load", "--width", "1", "3", "1"): "load takes no option, only two numbers: how many documents, from 1 to 20000, and one from 0 to 2147483647",
+    ("serve", "-w"): "serve takes no option but --width; a word behind -- may begin with a dash",
     ("serve", "--width", "3"): "a width of 3 isn't built yet",
     ("serve", "--width", "9"): "--width is given once at most, with one digit from 1 to 8",
     ("serve", "--wide"): "serve takes no option but --width; a word behind -- may begin with a dash",
@@ -262,6 +266,16 @@ def wrong_words():
     for words, said in WORDS.items():
         status, _, error = run(WORK, b"", words)
         want(repr(words), (status, error), (2, "couchview: %s\n" % said))
+
+
+def used_folder():
+    """A load in a folder that has had a write does nothing, and says why."""
+    folder = new_folder("used")
+    run(folder, put("a"))
+    before = bytes_of(folder)
+    said = "couchview: the folder has had writes, so nothing was loaded: load in a new folder\n"
+    want("a load in a used folder", run(folder, b"", ("load", "3", "1")), (10, b"", said))
+    want("a load in a used folder", bytes_of(folder), before)
 
 
 def streams():
@@ -321,6 +335,7 @@ def without_locks():
 
 
 wrong_words()
+used_folder()
 streams()
 without_locks()
 foreign_files()

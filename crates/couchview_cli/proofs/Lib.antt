@@ -7,7 +7,7 @@ pub mod Naming
 pub mod Served
 pub mod Statuses
 pub mod Pieces
-pub mod Unread
+pub mod NoWords
 pub mod Called
 pub mod Shown
 pub mod LoadMeaning

@@ -30,10 +30,10 @@ module _ (engine : Engine) (seq : ℕ) (counts : (files : FileName → File) (wo
   some_writes is = back (opening.history ≢ []) (told_now new (λ d. IsAtWorld engine d.now opening) (λ d. opening.history ≢ []) (λ d at none. is (counts d.now opening at ∙ ap length none)) here)
 
 -- where it has some nothing is done
-pub has_writes : (functions : List ℕ → Functions) (honest : List ℕ → Type 0) (docs number : ℕ) (opening : World) (before : Outside) (disk : Option (Disk FileName)) (disk_faults : ℕ) (may_follow : List Call → Type 0) → may_follow []
+pub has_writes : (functions : List ℕ → Functions) (honest : List ℕ → Type 0) (docs seed : ℕ) (opening : World) (before : Outside) (disk : Option (Disk FileName)) (disk_faults : ℕ) (may_follow : List Call → Type 0) → may_follow []
     → IfTold before.disk (λ d. opening.history ≢ []) → Tells before.disk disk (LeavesOnly (λ image. StandsFor image opening)) → IfTold disk (λ d. Holds d.now opening)
-    → Loads functions honest docs number opening before (record before { disk = disk; disk_faults = disk_faults }) (AreLeft may_follow) 10
-has_writes functions honest docs number opening before disk disk_faults may_follow follows some moments holds =
+    → Loads functions honest docs seed opening before (record before { disk = disk; disk_faults = disk_faults }) (AreLeft may_follow) 10
+has_writes functions honest docs seed opening before disk disk_faults may_follow follows some moments holds =
     inr (inl (record {
       is_10 = refl;
       silent = refl;

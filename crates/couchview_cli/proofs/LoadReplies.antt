@@ -4,34 +4,32 @@ use Rattle.std.specs.List.{flat_map}
 use Rattle.view_ports.specs.Disk.{MovesNone, Tells}
 use Rattle.view_ports.specs.Exchanges.{Exchange}
 use Rattle.view_ports.specs.Lines.{ended}
-use Rattle.view_ports.specs.declared.file_name.FileName.{FileName}
 use Rattle.view_ports.specs.declared.folder.Folder.{Ghosts as Folders}
 use Rattle.view_ports.specs.declared.run_end.RunEnd.TheVariants.{InputEnded}
 use Rattle.view_ports.specs.declared.servers.Servers.{Ghosts as Servers}
 use Rattle.line_loop.specs.declared.loop_end.LoopEnd.{LoopEnd}
 use Rattle.line_loop.specs.declared.loop_end.LoopEnd.TheVariants as loop_end
 use Rattle.view_engine.specs.declared.halt.StepFault.{StepFault}
-use Rattle.view_engine.specs.declared.halt.StepFault.TheVariants.{Full}
 use Rattle.view_engine.specs.Calls.{Scene, scene}
-use Rattle.view_engine.specs.Disks.{IsReadReasonOf, LiesOpen}
+use Rattle.view_engine.specs.Disks.{LiesOpen}
 use Rattle.view_engine.specs.Openings.{IsMovedByOpening}
 use Rattle.view_engine.proofs.Worlds.{stays_still}
 use Rattle.couchview_cli.specs.Closing.{Closes}
-use Rattle.couchview_cli.specs.Loading.{load_lines, load_text, AnswersLoad, HasReplies, IsPrinted}
+use Rattle.couchview_cli.specs.Loading.{load_lines, load_text, AnswersLoad, HasRunOver, IsPrinted}
 use Rattle.couchview_cli.specs.Reading.{Replies}
 use Rattle.couchview_cli.specs.Replied.{IsReplied}
 use Rattle.couchview_cli.specs.Serving.{Outside}
-use Rattle.couchview_cli.specs.Showing.{HasComeTo, HasShown, IsHalted}
-use Rattle.couchview_cli.proofs.Loaded.{shown_text}
+use Rattle.couchview_cli.specs.Showing.{HasComeTo, HasShown, StopsEarly}
+use Rattle.couchview_cli.proofs.Loaded.{read_room, shown_text}
 use Rattle.couchview_cli.proofs.LoadRequests.{each_line}
 use Rattle.couchview_cli.proofs.Shown.{run_lines}
 
 replied : (a : Unit {0}) (e : Exchange) (b : Unit {0}) → Replies a e b → IsReplied e.line e.text
 replied a e b step = step
 
-module _ {F C : Type 0} (f : Folders F) (s : Servers C) (docs number : ℕ) (ports : Outside) (held : Option (List ℕ)) (start last stopped : Scene F C) (same : s.faults stopped.servers ≡ s.faults last.servers) where
+module _ {F C : Type 0} (f : Folders F) (s : Servers C) (docs seed : ℕ) (ports : Outside) (held : Option (List ℕ)) (start last stopped : Scene F C) (same : s.faults stopped.servers ≡ s.faults last.servers) where
   abbrev text : List ℕ
-  text = flat_map ended (load_lines docs number)
+  text = flat_map ended (load_lines docs seed)
 
   abbrev before : Outside
   before = record ports { faults = s.faults start.servers }
@@ -40,7 +38,7 @@ module _ {F C : Type 0} (f : Folders F) (s : Servers C) (docs number : ℕ) (por
   after = record { left = ports.left; held = held; disk = f.disk last.folder; disk_faults = f.faults last.folder; faults = s.faults stopped.servers }
 
   module _ (moved : Tells before.disk (f.disk start.folder) IsMovedByOpening) where
-    abbrev has_replies : (gained : List ℕ) (end : LoopEnd StepFault) (mid : F) → HasComeTo f s start text (scene last.engine mid last.servers) gained end → Tells (f.disk mid) (f.disk last.folder) MovesNone → HasReplies docs number before after end
+    abbrev has_replies : (gained : List ℕ) (end : LoopEnd StepFault) (mid : F) → HasComeTo f s start text (scene last.engine mid last.servers) gained end → Tells (f.disk mid) (f.disk last.folder) MovesNone → HasRunOver docs seed before after end
     has_replies gained end mid come read = record {
       opened = f.disk start.folder;
       mid = f.disk mid;
@@ -53,23 +51,20 @@ module _ {F C : Type 0} (f : Folders F) (s : Servers C) (docs number : ℕ) (por
       read = read;
     }
 
-    pub answers_all : number < 2 ^ 31 → docs ≤ 20000 → (shown : List ℕ) (status : ℕ) → HasShown f s start text docs number last shown → IsPrinted before.held held shown status → AnswersLoad docs number before after status
+    pub answers_all : seed < 2 ^ 31 → docs ≤ 20000 → (shown : List ℕ) (status : ℕ) → HasShown f s start text docs seed last shown → IsPrinted before.held held shown status → AnswersLoad docs seed before after status
     answers_all low few shown status has prints =
         let come = has.ran.come in
         let ended_ = come.replied.ends in
         let run = ended_.run in
-        let lines = run_lines Replies _ tt tt (load_lines docs number) come.replied.bytes ended_.gained come.left (each_line docs number low few) come.replied.reads (come.over refl) run in
-        let is : shown ≡ load_text docs number run.exchanges has.fresh = shown_text Replies replied tt tt run.exchanges docs number has.gained has.fresh shown run.leads lines (ended_.wrote ∙ run.written) has.is in
+        let lines = run_lines Replies _ tt tt (load_lines docs seed) come.replied.bytes ended_.gained come.left (each_line docs seed low few) come.replied.reads (come.over refl) run in
+        let is : shown ≡ load_text docs seed run.exchanges has.fresh = shown_text Replies replied tt tt run.exchanges docs seed has.gained has.fresh shown run.leads lines (ended_.wrote ∙ run.written) has.is in
         inl (has_replies has.gained (loop_end.Run InputEnded) has.ran.mid come has.ran.read, has.fresh, subst (λ (t : List ℕ). IsPrinted before.held held t status) is prints)
 
-    read_room : (mid : F) (fault : StepFault) → IsReadReasonOf f last.engine mid last.folder fault → (name : FileName) (length : Option ℕ) → fault ≡ Full name length → ⊥
-    read_room mid fault why name length is = subst (IsReadReasonOf f last.engine mid last.folder) is why
-
-    pub answers_not : LiesOpen f start.engine start.folder → (fault : StepFault) (status : ℕ) → IsHalted f s start text last fault → Closes before.held held [] fault status → AnswersLoad docs number before after status
+    pub answers_not : LiesOpen f start.engine start.folder → (fault : StepFault) (status : ℕ) → StopsEarly f s start text last fault → Closes before.held held [] fault status → AnswersLoad docs seed before after status
     answers_not is_open fault status (inl (gained, came, done)) closes =
         inr (inl (loop_end.Stopped fault, fault, has_replies gained (loop_end.Stopped fault) last.folder came (stays_still (f.disk last.folder)), inl refl, closes))
     answers_not is_open fault status (inr (inl unread)) closes =
-        inr (inl (loop_end.Run InputEnded, fault, has_replies unread.gained (loop_end.Run InputEnded) unread.ran.mid unread.ran.come unread.ran.read, inr (inr (refl, read_room unread.ran.mid fault unread.why)), closes))
+        inr (inl (loop_end.Run InputEnded, fault, has_replies unread.gained (loop_end.Run InputEnded) unread.ran.mid unread.ran.come unread.ran.read, inr (inr (refl, read_room f last unread.ran.mid fault unread.why)), closes))
     answers_not is_open fault status (inr (inr (is, inl still))) closes =
         inr (inr (inl (record {
           moved = subst (λ (x : Scene F C). Tells before.disk (f.disk x.folder) IsMovedByOpening) (sym still) moved;

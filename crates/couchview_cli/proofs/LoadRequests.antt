@@ -2,11 +2,12 @@
 use Rattle.std.specs.Prelude.{nat_lt, pos}
 use Rattle.std.proofs.Common.{◌≡◌, ◌≢◌, ◌≤◌, ◌<◌, ◌^◌, ◌∙◌, ◌++◌, ℕ, List, [], ◌∷◌, false, length, codes, Some, Ok, refl, ap, arith}
 use Rattle.std.specs.List.{AllByRecursion}
-use Rattle.json_terms.specs.Json.{Json, depth, list_of_members, members_of, Members, no_members, member, number, object}
+use Rattle.json_terms.specs.Json.{Json, depth, list_of_members, members_of, Members, number, object}
 use Rattle.json_terms.specs.Reading.{reading}
 use Rattle.json_terms.specs.Terms.{IsTerm}
 use Rattle.std.proofs.lemmas.Bool.{le-ltb}
 use Rattle.json_terms.proofs.OneLine.{line-text_of}
+use Rattle.json_terms.proofs.Sames.{members_of-list_of_members}
 use Rattle.design_docs.specs.Documents.{id_of, is_design_id}
 use Rattle.view_ports.specs.Lines.{IsLine}
 use Rattle.view_engine.specs.declared.request.Request.TheVariants.{Info, Put, View}
@@ -18,10 +19,6 @@ use Rattle.load_lines.proofs.Ids.{document_id-not_design}
 use Rattle.load_lines.proofs.Terms.{IsTerm-info_request, IsTerm-put_request, IsTerm-view_request, IsTerm-document, IsTerm-load_design, IsTerm-raised, depth-document, depth-load_design, depth-raised, reading-info_line, reading-put_line, reading-view_line, short-design_line, short-document_line, short-info_line, short-raised_line, short-view_line}
 use Rattle.couchview_cli.specs.Loading.{load_lines}
 use Rattle.couchview_cli.proofs.LoadMeaning.{IsPlainPut, WritesNone}
-
-members_list : (ms : Members) → members_of (list_of_members ms) ≡ ms
-members_list no_members = refl
-members_list (member name value rest) = ap (member name value) (members_list rest)
 
 -- a line that is short is what it is read as
 read_as : (line : List ℕ) (term : Json) → length line ≤ 1000 → reading line ≡ Ok term → request_of line ≡ request_in (Ok term)
@@ -41,7 +38,7 @@ plain_put : (ms : Members) → IsTerm (object ms) → depth (object ms) ≤ 99 �
 plain_put ms term shallow short plain = record {
   members = list_of_members ms;
   asks = put_of ms term shallow short;
-  plain = ap (λ (m : Members). is_design_id (id_of (object m))) (members_list ms) ∙ plain;
+  plain = ap (λ (m : Members). is_design_id (id_of (object m))) (members_of-list_of_members ms) ∙ plain;
 }
 
 pub document_plain : (seed k : ℕ) → seed < 2 ^ 31 → k ≤ 20000 → IsPlainPut (put_line (document seed k))
@@ -61,7 +58,7 @@ design_members other = []
 
 pub design_asks : (members : List (List ℕ × Json)) × (request_of (put_line load_design) ≡ Ok (Put members)) × (object (members_of members) ≡ load_design)
 unfolding load_design
-design_asks = (_, put_of _ IsTerm-load_design (let shallow = depth-load_design in omega (arith, shallow)) short-design_line, ap object (members_list _))
+design_asks = (_, put_of _ IsTerm-load_design (let shallow = depth-load_design in omega (arith, shallow)) short-design_line, ap object (members_of-list_of_members _))
 
 -- the view and `info`
 pub view_asks : request_of view_line ≡ Ok (View (record { design = codes "load"; view = codes "by_group" }) (Some ((codes "group_level", number (pos 1)) ∷ [])))

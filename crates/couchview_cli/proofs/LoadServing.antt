@@ -14,7 +14,7 @@ use Rattle.view_engine.proofs.Worlds.{stays_still}
 use Rattle.couchview_cli.specs.Ends.{Comes}
 use Rattle.couchview_cli.specs.Reading.{HasReplied}
 use Rattle.couchview_cli.specs.Session.{IsAtOrigin, Origin}
-use Rattle.couchview_cli.specs.Showing.{HasComeTo, IsHalted}
+use Rattle.couchview_cli.specs.Showing.{HasComeTo, StopsEarly}
 
 module _ {F C : Type 0} (f : Folders F) (s : Servers C) (before after : Scene F C) (text : List ℕ) where
   -- the source had the text, and the sink nothing
@@ -32,6 +32,6 @@ module _ {F C : Type 0} (f : Folders F) (s : Servers C) (before after : Scene F 
   }
 
   -- memory ran out, in one of the lines or behind them
-  pub wanted : (gained : List ℕ) (end : LoopEnd StepFault) → HasComeTo f s before text after gained end → IsHalted f s before text after NoMemory
+  pub wanted : (gained : List ℕ) (end : LoopEnd StepFault) → HasComeTo f s before text after gained end → StopsEarly f s before text after NoMemory
   wanted gained (Run end) come = inr (inr (refl, inr (inl (gained, end, record { mid = after.folder; come = come; read = stays_still (f.disk after.folder) }))))
   wanted gained (Stopped other) come = inr (inr (refl, inr (inr (gained, other, come))))

@@ -22,7 +22,7 @@ use Rattle.load_lines.specs.Documents.{document, load_design, load_map}
 use Rattle.load_lines.specs.Lines.{first_lines, info_line, numbers_to, put_line, second_lines, view_line}
 use Rattle.load_lines.proofs.Each.{each_document, each_second}
 use Rattle.view_engine.specs.Refusals.{request_of}
-use Rattle.couchview_cli.specs.Loading.{fresh_answer, load_lines, reply_to, second_view}
+use Rattle.couchview_cli.specs.Loading.{fresh_answer, load_lines, reply_to, second_view, NoneWants}
 use Rattle.couchview_cli.specs.Serving.{Steps}
 use Rattle.couchview_cli.proofs.LoadMeaning.{lines_split, leads_split, none_keeps, puts_keep, HasLoadDesign, IsPlainPut, WritesNone}
 use Rattle.couchview_cli.proofs.LoadRequests.{design_asks, document_plain, info_writes_none, put_some, raised_plain, view_asks, view_some, view_writes_none}
@@ -58,10 +58,7 @@ module _ (functions : List ℕ → Functions) (honest : List ℕ → Type 0) (op
   keeps line none before e after is step = none_keeps functions honest before e after (subst WritesNone (sym is) none) (step.1).0
 
   module _ (docs seed : ℕ) (low : seed < 2 ^ 31) (few : docs ≤ 20000) where
-    abbrev Done : List Exchange → Type 0
-    Done es = AllByRecursion (λ e. e.text ≢ ended (refusal_text OutOfMemory)) es
-
-    after_puts : (start mid : Moment) (es : List Exchange) → lines_of es ≡ first_lines docs seed → Done es → LeadsTo Step start es mid → (start.world).history ≡ [] → HasLoadDesign (mid.world).history
+    after_puts : (start mid : Moment) (es : List Exchange) → lines_of es ≡ first_lines docs seed → NoneWants es → LeadsTo Step start es mid → (start.world).history ≡ [] → HasLoadDesign (mid.world).history
     unfolding first_lines
     after_puts start mid [] same done leads none = absurd (let never : ⊥ = cc in never)
     after_puts start mid (e ∷ es) same done leads none =
@@ -74,7 +71,7 @@ module _ (functions : List ℕ → Functions) (honest : List ℕ → Type 0) (op
 
     module _ (sound : IsSound functions honest [] opening) (is_honest : honest (codes "builtin:pick")) (is_pick : functions (codes "builtin:pick") ≡ pick) (compiles : pick.compiles load_map ≡ true) where
       shaped : (start end : Moment) (firsts : List Exchange) (v : Exchange) (seconds : List Exchange) (w i : Exchange) → lines_of firsts ≡ first_lines docs seed → v.line ≡ view_line → lines_of seconds ≡ second_lines docs seed
-          → w.line ≡ view_line → i.line ≡ info_line → Done firsts → w.text ≢ ended (refusal_text OutOfMemory) → LeadsTo Step start (firsts ++ v ∷ (seconds ++ w ∷ i ∷ [])) end → (start.world).history ≡ []
+          → w.line ≡ view_line → i.line ≡ info_line → NoneWants firsts → w.text ≢ ended (refusal_text OutOfMemory) → LeadsTo Step start (firsts ++ v ∷ (seconds ++ w ∷ i ∷ [])) end → (start.world).history ≡ []
           → (Rose start.faults end.faults → ⊥) → w.text ≡ ended (fresh_answer (end.world).history)
       shaped start end firsts v seconds w i of_firsts of_v of_seconds of_w of_i done done_w leads none calm =
           let one = leads_split Step start end firsts (v ∷ (seconds ++ w ∷ i ∷ [])) leads in
@@ -114,7 +111,7 @@ module _ (functions : List ℕ → Functions) (honest : List ℕ → Type 0) (op
           ∙ ap (λ (n : ℕ). slice_index_or (map text front ++ w.text ∷ i.text ∷ []) n []) (sym long)
           ∙ at_behind (map text front) w.text (i.text ∷ []) []
 
-      pub second_is_fresh : (start end : Moment) (es : List Exchange) → lines_of es ≡ load_lines docs seed → Done es → LeadsTo Step start es end → (start.world).history ≡ [] → (Rose start.faults end.faults → ⊥)
+      pub second_is_fresh : (start end : Moment) (es : List Exchange) → lines_of es ≡ load_lines docs seed → NoneWants es → LeadsTo Step start es end → (start.world).history ≡ [] → (Rose start.faults end.faults → ⊥)
           → reply_to es (second_view docs seed) ≡ ended (fresh_answer (end.world).history)
       second_is_fresh start end es same done leads none calm =
           let one = lines_split es (first_lines docs seed) (view_line ∷ (second_lines docs seed ++ view_line ∷ info_line ∷ [])) same in
@@ -124,7 +121,7 @@ module _ (functions : List ℕ → Functions) (honest : List ℕ → Type 0) (op
           let i = cons_of w.1 info_line [] w.4 in
           let shape : es ≡ one.0 ++ v.0 ∷ (two.0 ++ w.0 ∷ i.0 ∷ []) =
           one.2 ∙ ap (λ (l : List Exchange). one.0 ++ l) (v.2 ∙ ap (λ (l : List Exchange). v.0 ∷ l) (two.2 ∙ ap (λ (l : List Exchange). two.0 ++ l) (w.2 ∙ ap (λ (l : List Exchange). w.0 ∷ l) (i.2 ∙ ap (λ (l : List Exchange). i.0 ∷ l) (none_of i.1 i.4))))) in
-          let parts = all_split _ one.0 (v.0 ∷ (two.0 ++ w.0 ∷ i.0 ∷ [])) (subst Done shape done) in
+          let parts = all_split _ one.0 (v.0 ∷ (two.0 ++ w.0 ∷ i.0 ∷ [])) (subst NoneWants shape done) in
           let later = all_split _ two.0 (w.0 ∷ i.0 ∷ []) (parts.1).1 in
           ap (λ (l : List Exchange). reply_to l (second_view docs seed)) shape ∙ placed one.0 v.0 two.0 w.0 i.0 one.3 two.3
           ∙ shaped start end one.0 v.0 two.0 w.0 i.0 one.3 v.3 two.3 w.3 i.3 parts.0 ((later.1).0) (subst (λ (l : List Exchange). LeadsTo Step start l end) shape leads) none calm

@@ -20,24 +20,21 @@ use Rattle.map_server.specs.Pick.{pick}
 use Rattle.doc_file.specs.Docs.{IsAt as AreAt}
 use Rattle.view_engine.specs.declared.halt.StepFault.{StepFault}
 use Rattle.view_engine.specs.declared.halt.StepFault.TheVariants.{Damaged, DiskFault, Full, NoMemory}
-use Rattle.view_engine.specs.declared.refusal.Refusal.TheVariants.{NoMemory as OutOfMemory}
 use Rattle.view_engine.specs.Calls.{Scene, scene}
 use Rattle.view_engine.specs.Disks.{IsReadReasonOf}
 use Rattle.view_engine.specs.Engine.{HasStopped}
 use Rattle.view_engine.specs.Moments.{Moment}
-use Rattle.view_engine.specs.Refusals.{refusal_text}
 use Rattle.view_engine.specs.Updating.{IsSound}
 use Rattle.view_engine.specs.World.{World}
 use Rattle.view_engine.specs.Worlds.{at_start, Holds, IsAtWorld, StandsFor, width as width_of}
 use Rattle.view_engine.proofs.Worlds.{holds_at}
 use Rattle.load_lines.specs.Documents.{load_map}
 use Rattle.couchview_cli.specs.Closing.{Closes, closing_of, fault_status}
-use Rattle.couchview_cli.specs.Loading.{first_view, fresh_answer, info_place, load_lines, load_text, reply_to, second_view, HasBegun, HasServed, IsIdle, IsPrinted, IsUnread, Loads}
+use Rattle.couchview_cli.specs.Loading.{first_view, fresh_answer, info_place, load_lines, load_text, reply_to, second_view, HasBegun, HasServed, IsIdle, IsPrinted, IsUnread, Loads, NoneWants}
 use Rattle.couchview_cli.specs.Replied.{IsReplied}
 use Rattle.couchview_cli.specs.Serving.{AreLeft, IsCutShort, Outside, Steps, width}
 use Rattle.couchview_cli.specs.Session.{IsAtOrigin, Origin}
-use Rattle.couchview_cli.specs.Showing.{HasComeTo, HasRunTo, HasShown, IsHalted, IsShown, NoneIsWant, reply_at}
-use Rattle.couchview_cli.specs.Showing.{IsUnread as IsUnreadAt}
+use Rattle.couchview_cli.specs.Showing.{HasComeTo, HasNotRead, HasRunTo, HasShown, StopsEarly, IsShown, NoneIsWant, reply_at}
 use Rattle.couchview_cli.proofs.LoadRequests.{each_line, each_some}
 use Rattle.couchview_cli.proofs.LoadWhole.{second_is_fresh}
 use Rattle.couchview_cli.proofs.Moving.{told_first}
@@ -54,30 +51,34 @@ closes_by None fault = inl (refl, tt)
 closes_by (Some text) fault = inl (refl, refl)
 
 -- what is shown is made of the replies of a run over all lines
-pub shown_text : {W : Type 0} (step : W → Exchange → W → Type 0) → ((a : W) (e : Exchange) (b : W) → step a e b → IsReplied e.line e.text) → (start end : W) (es : List Exchange) (docs number : ℕ) (gained fresh shown : List ℕ) → LeadsTo step start es end
-    → lines_of es ≡ load_lines docs number → gained ≡ text_of es → IsShown (first_view docs number) (second_view docs number) gained fresh shown → shown ≡ load_text docs number es fresh
-shown_text step replied start end es docs number gained fresh shown leads lines written has =
-    let answers = answers_of step replied start end es (subst (AllByRecursion (λ line. line ≢ [])) (sym lines) (each_some docs number)) leads in
+pub shown_text : {W : Type 0} (step : W → Exchange → W → Type 0) → ((a : W) (e : Exchange) (b : W) → step a e b → IsReplied e.line e.text) → (start end : W) (es : List Exchange) (docs seed : ℕ) (gained fresh shown : List ℕ) → LeadsTo step start es end
+    → lines_of es ≡ load_lines docs seed → gained ≡ text_of es → IsShown (first_view docs seed) (second_view docs seed) gained fresh shown → shown ≡ load_text docs seed es fresh
+shown_text step replied start end es docs seed gained fresh shown leads lines written has =
+    let answers = answers_of step replied start end es (subst (AllByRecursion (λ line. line ≢ [])) (sym lines) (each_some docs seed)) leads in
     let is : has.replies ≡ answers.0 = answers_cut gained es answers.0 has.replies has.rest answers.1 written has.cut in
     let at : (place : ℕ) → reply_at has.replies place ≡ reply_to es place = λ place. answers_at es answers.0 has.replies place answers.1 is in
     has.is
-    ∙ ap (λ (t : List ℕ). t ++ (reply_at has.replies (second_view docs number) ++ (ended fresh ++ reply_at has.replies (info_place docs number)))) (at (first_view docs number))
-    ∙ ap (λ (t : List ℕ). reply_to es (first_view docs number) ++ (t ++ (ended fresh ++ reply_at has.replies (info_place docs number)))) (at (second_view docs number))
-    ∙ ap (λ (t : List ℕ). reply_to es (first_view docs number) ++ (reply_to es (second_view docs number) ++ (ended fresh ++ t))) (at (info_place docs number))
+    ∙ ap (λ (t : List ℕ). t ++ (reply_at has.replies (second_view docs seed) ++ (ended fresh ++ reply_at has.replies (info_place docs seed)))) (at (first_view docs seed))
+    ∙ ap (λ (t : List ℕ). reply_to es (first_view docs seed) ++ (t ++ (ended fresh ++ reply_at has.replies (info_place docs seed)))) (at (second_view docs seed))
+    ∙ ap (λ (t : List ℕ). reply_to es (first_view docs seed) ++ (reply_to es (second_view docs seed) ++ (ended fresh ++ t))) (at (info_place docs seed))
 
 -- where the disk is told, the reply to the second view is the answer afresh
-same_of : (functions : List ℕ → Functions) (honest : List ℕ → Type 0) (opening : World) (disk : Option (Disk FileName)) (docs number faults faults' : ℕ) → number < 2 ^ 31 → docs ≤ 20000 → (start end : Moment) (es : List Exchange)
-    (fresh : List ℕ) → lines_of es ≡ load_lines docs number → AllByRecursion (λ e. e.text ≢ ended (refusal_text OutOfMemory)) es → LeadsTo (Steps functions honest [] opening disk) start es end → pick.compiles load_map ≡ true
+same_of : (functions : List ℕ → Functions) (honest : List ℕ → Type 0) (opening : World) (disk : Option (Disk FileName)) (docs seed faults faults' : ℕ) → seed < 2 ^ 31 → docs ≤ 20000 → (start end : Moment) (es : List Exchange)
+    (fresh : List ℕ) → lines_of es ≡ load_lines docs seed → NoneWants es → LeadsTo (Steps functions honest [] opening disk) start es end → pick.compiles load_map ≡ true
     → start.faults ≡ faults → faults' ≡ end.faults → IfTold disk (λ d. (start.world).history ≡ []) → IfTold disk (λ d. fresh ≡ fresh_answer (end.world).history)
-    → IfTold disk (λ d. IsSound functions honest [] opening → honest (codes "builtin:pick") → functions (codes "builtin:pick") ≡ pick → (Rose faults faults' → ⊥) → reply_to es (second_view docs number) ≡ ended fresh)
-same_of functions honest opening None docs number faults faults' low few start end es fresh lines done leads compiles before after none afresh = tt
-same_of functions honest opening (Some d) docs number faults faults' low few start end es fresh lines done leads compiles before after none afresh = λ sound is_honest is_pick calm.
-    second_is_fresh functions honest opening d docs number low few sound is_honest is_pick compiles start end es lines done leads none (λ rose. calm (rw (sym before, after) rose)) ∙ ap ended (sym afresh)
+    → IfTold disk (λ d. IsSound functions honest [] opening → honest (codes "builtin:pick") → functions (codes "builtin:pick") ≡ pick → (Rose faults faults' → ⊥) → reply_to es (second_view docs seed) ≡ ended fresh)
+same_of functions honest opening None docs seed faults faults' low few start end es fresh lines done leads compiles before after none afresh = tt
+same_of functions honest opening (Some d) docs seed faults faults' low few start end es fresh lines done leads compiles before after none afresh = λ sound is_honest is_pick calm.
+    second_is_fresh functions honest opening d docs seed low few sound is_honest is_pick compiles start end es lines done leads none (λ rose. calm (rw (sym before, after) rose)) ∙ ap ended (sym afresh)
 
-module _ {F C : Type 0} (f : Folders F) (s : Servers C) (docs number : ℕ) (opening : World) (before : Outside) (left held : Option (List ℕ)) (start last stopped : Scene F C)
+-- reading documents fills no file
+pub read_room : {F C : Type 0} (f : Folders F) (last : Scene F C) (mid : F) (fault : StepFault) → IsReadReasonOf f last.engine mid last.folder fault → (name : FileName) (length : Option ℕ) → fault ≡ Full name length → ⊥
+read_room f last mid fault why name length is = subst (IsReadReasonOf f last.engine mid last.folder) is why
+
+module _ {F C : Type 0} (f : Folders F) (s : Servers C) (docs seed : ℕ) (opening : World) (before : Outside) (left held : Option (List ℕ)) (start last stopped : Scene F C)
     (stops : (calls : List Call) → s.may_follow last.servers calls → HasStopped (s.may_follow stopped.servers) stopped.engine calls) (wide : width_of stopped.engine ≡ width) (same : s.faults stopped.servers ≡ s.faults last.servers) where
   abbrev text : List ℕ
-  text = flat_map ended (load_lines docs number)
+  text = flat_map ended (load_lines docs seed)
 
   abbrev origin : Origin
   origin = origin_of [] opening before
@@ -92,7 +93,7 @@ module _ {F C : Type 0} (f : Folders F) (s : Servers C) (docs number : ℕ) (ope
   AtEnd = AreLeft (s.may_follow stopped.servers)
 
   abbrev Does : ℕ → Type 0
-  Does = Loads s.functions s.honest docs number opening before after AtEnd
+  Does = Loads s.functions s.honest docs seed opening before after AtEnd
 
   abbrev Step : Moment → Exchange → Moment → Type 0
   Step = Steps s.functions s.honest [] opening before.disk
@@ -100,9 +101,9 @@ module _ {F C : Type 0} (f : Folders F) (s : Servers C) (docs number : ℕ) (ope
   replied : (a : Moment) (e : Exchange) (b : Moment) → Step a e b → IsReplied e.line e.text
   replied a e b step = step.0
 
-  module _ (low : number < 2 ^ 31) (few : docs ≤ 20000) (none : IfTold before.disk (λ d. opening.history ≡ [])) (at : IsAtOrigin f s origin start) where
+  module _ (low : seed < 2 ^ 31) (few : docs ≤ 20000) (none : IfTold before.disk (λ d. opening.history ≡ [])) (at : IsAtOrigin f s origin start) where
     -- lines were served, and the documents read
-    abbrev begun : (gained : List ℕ) (end : RunEnd) → HasRunTo f s start text last gained end → HasBegun s.functions s.honest docs number opening before after AtEnd (status_of end)
+    abbrev begun : (gained : List ℕ) (end : RunEnd) → HasRunTo f s start text last gained end → HasBegun s.functions s.honest docs seed opening before after AtEnd (status_of end)
     begun gained end ran =
         let came = ran.come.come origin at in
         record {
@@ -114,21 +115,21 @@ module _ {F C : Type 0} (f : Folders F) (s : Servers C) (docs number : ℕ) (ope
           read = ran.read;
         }
 
-    lines_served : (gained : List ℕ) (ran : HasRunTo f s start text last gained InputEnded) → lines_of (begun gained InputEnded ran).served.runs.exchanges ≡ load_lines docs number
+    lines_served : (gained : List ℕ) (ran : HasRunTo f s start text last gained InputEnded) → lines_of (begun gained InputEnded ran).served.runs.exchanges ≡ load_lines docs seed
     lines_served gained ran =
         let came = ran.come.come origin at in
-        run_lines Step _ (at_start opening width before.faults) came.ends.moment (load_lines docs number) came.bytes came.ends.gained ran.come.left (each_line docs number low few) came.reads (ran.come.over refl) came.ends.run
+        run_lines Step _ (at_start opening width before.faults) came.ends.moment (load_lines docs seed) came.bytes came.ends.gained ran.come.left (each_line docs seed low few) came.reads (ran.come.over refl) came.ends.run
 
-    none_refused : (gained : List ℕ) (ran : HasRunTo f s start text last gained InputEnded) → NoneIsWant gained → AllByRecursion (λ e. e.text ≢ ended (refusal_text OutOfMemory)) (begun gained InputEnded ran).served.runs.exchanges
+    none_refused : (gained : List ℕ) (ran : HasRunTo f s start text last gained InputEnded) → NoneIsWant gained → NoneWants (begun gained InputEnded ran).served.runs.exchanges
     none_refused gained ran done =
         let ended_ = (ran.come.come origin at).ends in
         none_wants gained ended_.run.exchanges (written_of Step replied (at_start opening width before.faults) ended_.moment ended_.run.exchanges ended_.run.leads) (ended_.wrote ∙ ended_.run.written) done
 
-    abbrev served : (gained : List ℕ) → HasRunTo f s start text last gained InputEnded → NoneIsWant gained → HasServed s.functions s.honest docs number opening before after AtEnd
+    abbrev served : (gained : List ℕ) → HasRunTo f s start text last gained InputEnded → NoneIsWant gained → HasServed s.functions s.honest docs seed opening before after AtEnd
     served gained ran done = record { begun = begun gained InputEnded ran; lines = lines_served gained ran; done = none_refused gained ran done }
 
     -- all were, and what is shown of them was printed
-    pub loads_all : (shown : List ℕ) (status : ℕ) → HasShown f s start text docs number last shown → IsPrinted before.held held shown status → Does status
+    pub loads_all : (shown : List ℕ) (status : ℕ) → HasShown f s start text docs seed last shown → IsPrinted before.held held shown status → Does status
     loads_all shown status has prints =
         let mid = has.ran.mid in
         let ended_ = (has.ran.come.come origin at).ends in
@@ -136,7 +137,7 @@ module _ {F C : Type 0} (f : Folders F) (s : Servers C) (docs number : ℕ) (ope
         let moment = ended_.moment in
         let start_ = at_start opening width before.faults in
         let lines = lines_served has.gained has.ran in
-        let prints_text = shown_text Step replied start_ moment run.exchanges docs number has.gained has.fresh shown run.leads lines (ended_.wrote ∙ run.written) has.is in
+        let prints_text = shown_text Step replied start_ moment run.exchanges docs seed has.gained has.fresh shown run.leads lines (ended_.wrote ∙ run.written) has.is in
         let done = none_refused has.gained has.ran has.done in
         let afresh = told_first s.functions s.honest origin (f.disk mid) (f.disk mid) moment.world ended_.has_come.moved (has.fresh ≡ fresh_answer (moment.world).history)
         (told_pair (f.disk mid) (λ d. IsAtWorld last.engine d.now moment.world → has.fresh ≡ fresh_answer (moment.world).history) (λ d. IsAtWorld last.engine d.now moment.world) (λ d. has.fresh ≡ fresh_answer (moment.world).history)
@@ -149,7 +150,7 @@ module _ {F C : Type 0} (f : Folders F) (s : Servers C) (docs number : ℕ) (ope
             fresh = has.fresh;
             afresh = afresh;
             prints = subst (λ (t : List ℕ). IsPrinted before.held held t status) prints_text prints;
-            same = same_of s.functions s.honest opening before.disk docs number before.faults after.faults low few start_ moment run.exchanges has.fresh lines done run.leads has.compiles refl ran.begun.served.faulted none afresh;
+            same = same_of s.functions s.honest opening before.disk docs seed before.faults after.faults low few start_ moment run.exchanges has.fresh lines done run.leads has.compiles refl ran.begun.served.faulted none afresh;
           }),
         )
 
@@ -162,12 +163,9 @@ module _ {F C : Type 0} (f : Folders F) (s : Servers C) (docs number : ℕ) (ope
     read_failed mid moment (Full name length) there other why = absurd why
     read_failed mid moment NoMemory there other why = absurd (other refl)
 
-    read_room : (mid : F) (fault : StepFault) → IsReadReasonOf f last.engine mid last.folder fault → (name : FileName) (length : Option ℕ) → fault ≡ Full name length → ⊥
-    read_room mid fault why name length is = subst (IsReadReasonOf f last.engine mid last.folder) is why
-
     -- nothing was done but the opening
     module _ (opened : Tells before.disk (f.disk start.folder) (LeavesOnly (λ image. StandsFor image opening))) (faulted : s.faults start.servers ≡ before.faults) (earlier : before.disk_faults ≤ f.faults start.folder) where
-      idle : last ≡ start → IsIdle s.functions s.honest docs number opening before after AtEnd
+      idle : last ≡ start → IsIdle s.functions s.honest docs seed opening before after AtEnd
       idle is =
           let left_ = stops [] (subst (λ (x : Scene F C). s.may_follow x.servers []) (sym is) at.stands.child.follows) in
           record {
@@ -192,7 +190,7 @@ module _ {F C : Type 0} (f : Folders F) (s : Servers C) (docs number : ℕ) (ope
       read_cause mid fault later why is =
           Rose-earlier before.disk_faults (f.faults mid) (f.faults last.folder) (omega (arith, earlier, later)) (subst (IsReadReasonOf f last.engine mid last.folder) is why)
 
-      unread : (fault : StepFault) (status : ℕ) → fault ≢ NoMemory → IsUnreadAt f s start text last fault → Closes before.held held [] fault status → IsUnread s.functions s.honest docs number opening before after AtEnd status
+      unread : (fault : StepFault) (status : ℕ) → fault ≢ NoMemory → HasNotRead f s start text last fault → Closes before.held held [] fault status → IsUnread s.functions s.honest docs seed opening before after AtEnd status
       unread fault status other is closes =
           let mid = is.ran.mid in
           let ended_ = (is.ran.come.come origin at).ends in
@@ -200,24 +198,24 @@ module _ {F C : Type 0} (f : Folders F) (s : Servers C) (docs number : ℕ) (ope
             fault = fault;
             ran = served is.gained is.ran is.done;
             halts = other;
-            room = read_room mid fault is.why;
+            room = read_room f last mid fault is.why;
             whole = told_first s.functions s.honest origin (f.disk mid) (f.disk mid) (ended_.moment).world ended_.has_come.moved (fault ≡ DiskFault) (read_failed mid ended_.moment fault ended_.has_come.stands.documents other is.why);
             cause = read_cause mid fault is.ran.come.count is.why;
             closes = closes;
           }
 
       -- memory ran out as the documents were read
-      read_spent : (status : ℕ) → IsUnreadAt f s start text last NoMemory → Closes before.held held [] NoMemory status → Does status
+      read_spent : (status : ℕ) → HasNotRead f s start text last NoMemory → Closes before.held held [] NoMemory status → Does status
       read_spent status is closes = inl (none, inr (inr (inr (record { closes = closes; served = inr (inl (0, begun is.gained InputEnded is.ran)) }))))
 
-      unread_as : (fault : StepFault) (status : ℕ) → IsUnreadAt f s start text last fault → Closes before.held held [] fault status → Does status
+      unread_as : (fault : StepFault) (status : ℕ) → HasNotRead f s start text last fault → Closes before.held held [] fault status → Does status
       unread_as NoMemory status is closes = read_spent status is closes
       unread_as DiskFault status is closes = inl (none, inr (inr (inl (unread DiskFault status (λ same. let never : ⊥ = cc in never) is closes))))
       unread_as (Damaged name place) status is closes = inl (none, inr (inr (inl (unread (Damaged name place) status (λ same. let never : ⊥ = cc in never) is closes))))
       unread_as (Full name length) status is closes = inl (none, inr (inr (inl (unread (Full name length) status (λ same. let never : ⊥ = cc in never) is closes))))
 
       -- something was in the way
-      pub loads_not : (fault : StepFault) (status : ℕ) → IsHalted f s start text last fault → Closes before.held held [] fault status → Does status
+      pub loads_not : (fault : StepFault) (status : ℕ) → StopsEarly f s start text last fault → Closes before.held held [] fault status → Does status
       loads_not fault status (inl (gained, came, done)) closes =
           let off = (came.come origin at).ends in
           inl (

@@ -16,8 +16,8 @@ use Rattle.view_ports.proofs.Cutting.{IsCut-unique, IsLine-nil}
 use Rattle.view_engine.specs.declared.refusal.Refusal.TheVariants.{NoMemory as OutOfMemory}
 use Rattle.view_engine.specs.Refusals.{refusal_text}
 use Rattle.couchview_cli.specs.Replied.{IsReplied}
-use Rattle.couchview_cli.specs.Loading.{reply_to}
-use Rattle.couchview_cli.specs.Showing.{NoneIsWant, reply_at}
+use Rattle.couchview_cli.specs.Loading.{reply_to, NoneWants}
+use Rattle.couchview_cli.specs.Showing.{NoLineWants, NoneIsWant, reply_at}
 
 -- each exchange was answered with one of these lines
 abbrev pub AreAnswers : List Exchange → List (List ℕ) → Type 0
@@ -73,15 +73,12 @@ ended_some : (text : List ℕ) → [] ≡ ended text → ⊥
 ended_some [] same = let never : ⊥ = cc in never
 ended_some (byte ∷ bytes) same = let never : ⊥ = cc in never
 
-abbrev IsDone : List (List ℕ) → Type 0
-IsDone replies = AllByRecursion (λ reply. reply ≢ refusal_text OutOfMemory) replies
-
 -- what was written for these exchanges is these lines; where none of them is the refusal for want of memory, no exchange has it
 pub record AreWritten (es : List Exchange) : Type 0 where
   pub replies : List (List ℕ)
   pub text : text_of es ≡ flat_map ended replies
   pub plain : All IsLine replies
-  pub done : IsDone replies → AllByRecursion (λ e. e.text ≢ ended (refusal_text OutOfMemory)) es
+  pub done : NoLineWants replies → NoneWants es
 
 -- a line is answered with nothing or with one line
 replied_one : (line text : List ℕ) → IsReplied line text → (text ≡ []) ⊎ ((reply : List ℕ) × IsLine reply × (text ≡ ended reply))
@@ -108,7 +105,7 @@ written_of step replied before after (e ∷ es) leads =
     ]
 
 -- none was refused for want of memory where no line that was written says so
-pub none_wants : (written : List ℕ) (es : List Exchange) → AreWritten es → written ≡ text_of es → NoneIsWant written → AllByRecursion (λ e. e.text ≢ ended (refusal_text OutOfMemory)) es
+pub none_wants : (written : List ℕ) (es : List Exchange) → AreWritten es → written ≡ text_of es → NoneIsWant written → NoneWants es
 none_wants written es are is none =
     are.done (none are.replies [] (record { joined = is ∙ are.text ∙ sym (append-nil (flat_map ended are.replies)); whole = are.plain; unended = IsLine-nil }))
 
@@ -146,12 +143,12 @@ pub record NoneYet (written rest : List ℕ) : Type 0 where
   pub lines : List (List ℕ)
   pub joined : written ≡ flat_map ended lines ++ rest
   pub plain : All IsLine lines
-  pub none : IsDone lines
+  pub none : NoLineWants lines
 
 pub none_first : (written : List ℕ) → NoneYet written written
 none_first written = record { lines = []; joined = refl; plain = All-nil IsLine; none = tt }
 
-done_push : (lines : List (List ℕ)) (line : List ℕ) → IsDone lines → line ≢ refusal_text OutOfMemory → IsDone (lines ++ line ∷ [])
+done_push : (lines : List (List ℕ)) (line : List ℕ) → NoLineWants lines → line ≢ refusal_text OutOfMemory → NoLineWants (lines ++ line ∷ [])
 done_push [] line none other = (other, tt)
 done_push (first ∷ lines) line none other = (none.0, done_push lines line none.1 other)
 
@@ -165,7 +162,7 @@ none_next written rest line behind yet plain cut other = record {
 
 pub none_last : (written rest : List ℕ) → NoneYet written rest → IsLine rest → NoneIsWant written
 none_last written rest yet unended = λ replies behind cut.
-    subst IsDone (sym (IsCut-unique written replies yet.lines behind rest cut (record { joined = yet.joined; whole = yet.plain; unended = unended })).0) yet.none
+    subst NoLineWants (sym (IsCut-unique written replies yet.lines behind rest cut (record { joined = yet.joined; whole = yet.plain; unended = unended })).0) yet.none
 
 lines_all : (lines : List (List ℕ)) → AllByRecursion IsLine lines → All IsLine lines
 lines_all [] each = All-nil IsLine

@@ -30,6 +30,10 @@ closing_of (Damaged name offset) = about_file (codes "damaged") name (decimal of
 closing_of (Full name length) = about_file (codes "full") name (limit_text length)
 closing_of NoMemory = []
 
+-- a file is full, or damaged
+abbrev pub IsOfFile : StepFault → Type 0
+IsOfFile fault = ((name : FileName) × (length : Option ℕ) × (fault ≡ Full name length)) ⊎ ((name : FileName) × (at : ℕ) × (fault ≡ Damaged name at))
+
 -- the sink gained the text and the last line, or it failed in the last line
 abbrev pub Closes : Option (List ℕ) → Option (List ℕ) → List ℕ → StepFault → ℕ → Type 0
 Closes before after text fault status = ((status ≡ fault_status fault) × Appends before after (text ++ closing_of fault))

@@ -27,7 +27,7 @@ use Rattle.view_model.specs.Rows.{view_rows}
 use Rattle.view_model.specs.Values.{builtin_text}
 use Rattle.view_engine.specs.declared.engine.Engine.{Engine}
 use Rattle.view_engine.specs.declared.halt.StepFault.{StepFault}
-use Rattle.view_engine.specs.declared.halt.StepFault.TheVariants.{Damaged, DiskFault, Full, NoMemory}
+use Rattle.view_engine.specs.declared.halt.StepFault.TheVariants.{DiskFault, Full, NoMemory}
 use Rattle.view_engine.specs.declared.refusal.Refusal.TheVariants.{NoMemory as OutOfMemory}
 use Rattle.view_engine.specs.Openings.{IsMovedByOpening}
 use Rattle.view_engine.specs.Refusals.{refusal_text}
@@ -36,7 +36,7 @@ use Rattle.view_engine.specs.World.{World}
 use Rattle.view_engine.specs.Worlds.{Holds, IsOpen, StandsFor}
 use Rattle.load_lines.specs.Documents.{load_map}
 use Rattle.load_lines.specs.Lines.{first_lines, info_line, second_lines, view_line}
-use Rattle.couchview_cli.specs.Closing.{Closes, fault_status}
+use Rattle.couchview_cli.specs.Closing.{Closes, fault_status, IsOfFile}
 use Rattle.couchview_cli.specs.Reading.{HasReplied, ReadsNothing, Told}
 use Rattle.couchview_cli.specs.Serving.{Finishes, IsCutShort, IsUnopened, Outside}
 
@@ -79,14 +79,14 @@ abbrev pub IsPrinted : Option (List ℕ) → Option (List ℕ) → List ℕ → 
 IsPrinted before after text status =
     ((status ≡ 0) × Appends before after text) ⊎ ((status ≡ 4) × ((part : List ℕ) × IsPrefixOf part text × Appends before after part))
 
+-- none of these lines was refused for want of memory
+abbrev pub NoneWants : List Exchange → Type 0
+NoneWants exchanges = AllByRecursion (λ e. e.text ≢ ended (refusal_text OutOfMemory)) exchanges
+
 module _ (functions : List ℕ → Functions) (honest : List ℕ → Type 0) (docs seed : ℕ) (opening : World) (before after : Outside) (AtEnd : List Call → Type 0) where
   -- what the ports tell of which the source has the lines of the load, and the sink nothing
   abbrev pub at_first : Outside
   at_first = record before { left = Some (flat_map ended (load_lines docs seed)); held = Some [] }
-
-  -- none of these lines was refused for want of memory
-  abbrev pub NoneWants : List Exchange → Type 0
-  NoneWants exchanges = AllByRecursion (λ e. e.text ≢ ended (refusal_text OutOfMemory)) exchanges
 
   -- Lines of the load were served as `serve` does it, to this end; what was written for them is `gained`. Then the documents were only
   -- read.
@@ -164,14 +164,13 @@ module _ (functions : List ℕ → Functions) (honest : List ℕ → Type 0) (do
 
   -- a file that is full cuts it short, or an index that is damaged
   abbrev pub LoadEndsAtFile : ℕ → Type 0
-  LoadEndsAtFile status = (cut : IsLoadCut status)
-      × (((name : FileName) × (length : Option ℕ) × (cut.fault ≡ Full name length)) ⊎ ((name : FileName) × (at : ℕ) × (cut.fault ≡ Damaged name at)))
+  LoadEndsAtFile status = (cut : IsLoadCut status) × IsOfFile cut.fault
 
 -- ---- whatever the folder holds
 
 module _ (docs seed : ℕ) (before after : Outside) where
   -- lines of the load were answered, from the folder as it was opened, and the run came to this end; then the documents were only read
-  pub record HasReplies (end : LoopEnd StepFault) : Type 0 where
+  pub record HasRunOver (end : LoopEnd StepFault) : Type 0 where
     pub opened : Told
     pub mid : Told
     pub left : Option (List ℕ)
@@ -188,7 +187,7 @@ module _ (docs seed : ℕ) (before after : Outside) where
 
   -- what it prints is made of replies and another line
   abbrev pub PrintsReplies : ℕ → Type 0
-  PrintsReplies status = (ran : HasReplies (loop_end.Run InputEnded)) × (fresh : List ℕ) × IsPrinted before.held after.held (load_text docs seed ((ran.replied).ends.run).exchanges fresh) status
+  PrintsReplies status = (ran : HasRunOver (loop_end.Run InputEnded)) × (fresh : List ℕ) × IsPrinted before.held after.held (load_text docs seed ((ran.replied).ends.run).exchanges fresh) status
 
   -- the folder was opened, and no line was served: it has writes, or memory ran out
   pub record IsOpened (status : ℕ) : Type 0 where
@@ -198,5 +197,5 @@ module _ (docs seed : ℕ) (before after : Outside) where
 
   abbrev pub AnswersLoad : ℕ → Type 0
   AnswersLoad status = PrintsReplies status
-      ⊎ (((end : LoopEnd StepFault) × (fault : StepFault) × HasReplies end × MayClose end fault × Closes before.held after.held [] fault status)
+      ⊎ (((end : LoopEnd StepFault) × (fault : StepFault) × HasRunOver end × MayClose end fault × Closes before.held after.held [] fault status)
       ⊎ (IsOpened status ⊎ ReadsNothing before after status))

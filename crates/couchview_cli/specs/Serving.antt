@@ -29,7 +29,7 @@ use Rattle.view_groups.specs.Cleans.{IsIndexFile}
 use Rattle.view_engine.specs.Refusals.{request_of}
 use Rattle.view_engine.specs.Steps.{Answers, Makes, MayHaveCalled}
 use Rattle.view_engine.specs.Accepted.{accepted, EachOk}
-use Rattle.couchview_cli.specs.Closing.{Closes}
+use Rattle.couchview_cli.specs.Closing.{Closes, IsOfFile}
 use Rattle.couchview_cli.specs.Replied.{IsReplied}
 
 -- what the ports tell at one moment: the bytes that the source has left, those that the sink holds, the disk, and how many
@@ -160,8 +160,7 @@ module _ (functions : List ℕ → Functions) (honest : List ℕ → Type 0) (la
 
   -- a file that is full cuts it short, or an index that is damaged
   abbrev pub EndsAtFile : Outside → Outside → (List Call → Type 0) → ℕ → Type 0
-  EndsAtFile before after AtEnd status = (cut : IsCutShort before after AtEnd status)
-      × (((name : FileName) × (length : Option ℕ) × (cut.fault ≡ Full name length)) ⊎ ((name : FileName) × (at : ℕ) × (cut.fault ≡ Damaged name at)))
+  EndsAtFile before after AtEnd status = (cut : IsCutShort before after AtEnd status) × IsOfFile cut.fault
 
   -- the folder could not be opened: nothing was read, and each image stands for the opening
   pub record IsUnopened (before after : Outside) (AtEnd : List Call → Type 0) (status : ℕ) : Type 0 where

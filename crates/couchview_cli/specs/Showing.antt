@@ -33,9 +33,13 @@ use Rattle.couchview_cli.specs.Session.{IsAtOrigin, Origin}
 abbrev pub reply_at : List (List ℕ) → ℕ → List ℕ
 reply_at replies place = slice_index_or (map ended replies) place []
 
--- none of the lines that were written is the refusal for want of memory
+-- none of these reply lines is the refusal for want of memory
+abbrev pub NoLineWants : List (List ℕ) → Type 0
+NoLineWants replies = AllByRecursion (λ reply. reply ≢ refusal_text OutOfMemory) replies
+
+-- none of the lines that were written is
 abbrev pub NoneIsWant : List ℕ → Type 0
-NoneIsWant written = (replies : List (List ℕ)) (rest : List ℕ) → IsCut written replies rest → AllByRecursion (λ reply. reply ≢ refusal_text OutOfMemory) replies
+NoneIsWant written = (replies : List (List ℕ)) (rest : List ℕ) → IsCut written replies rest → NoLineWants replies
 
 -- the text is two of the lines that were written, another one, and the line behind the second
 pub record IsShown (first second : ℕ) (written fresh text : List ℕ) : Type 0 where
@@ -61,7 +65,7 @@ module _ {F C : Type 0} (f : Folders F) (s : Servers C) (before : Scene F C) (te
     pub read : Tells (f.disk mid) (f.disk after.folder) MovesNone
 
   -- all lines were served, and none was refused for want of memory, but the documents could not be read
-  pub record IsUnread (after : Scene F C) (fault : StepFault) : Type 0 where
+  pub record HasNotRead (after : Scene F C) (fault : StepFault) : Type 0 where
     pub gained : List ℕ
     pub ran : HasRunTo after gained InputEnded
     pub done : NoneIsWant gained
@@ -69,9 +73,9 @@ module _ {F C : Type 0} (f : Folders F) (s : Servers C) (before : Scene F C) (te
 
   -- not all was done: a line was not answered, and none before it was refused for want of memory; or the documents could not be read behind
   -- all lines; or memory ran out, before any line or behind some
-  abbrev pub IsHalted : Scene F C → StepFault → Type 0
-  IsHalted after fault = ((gained : List ℕ) × HasComeTo after gained (Stopped fault) × NoneIsWant gained)
-      ⊎ (IsUnread after fault
+  abbrev pub StopsEarly : Scene F C → StepFault → Type 0
+  StopsEarly after fault = ((gained : List ℕ) × HasComeTo after gained (Stopped fault) × NoneIsWant gained)
+      ⊎ (HasNotRead after fault
       ⊎ ((fault ≡ NoMemory) × ((after ≡ before)
       ⊎ (((gained : List ℕ) × (end : RunEnd) × HasRunTo after gained end)
       ⊎ ((gained : List ℕ) × (other : StepFault) × HasComeTo after gained (Stopped other))))))
@@ -79,7 +83,7 @@ module _ {F C : Type 0} (f : Folders F) (s : Servers C) (before : Scene F C) (te
   -- lines were served to the end of the text, or not
   abbrev pub ServesText : Scene F C → Result SinkState StepFault → Type 0
   ServesText after (Ok sink) = HasComeTo after sink.held (Run InputEnded) × NoneIsWant sink.held
-  ServesText after (Err fault) = IsHalted after fault
+  ServesText after (Err fault) = StopsEarly after fault
 
   -- all lines were served, and this is what a load of them prints
   pub record HasShown (docs seed : ℕ) (after : Scene F C) (shown : List ℕ) : Type 0 where
@@ -94,4 +98,4 @@ module _ {F C : Type 0} (f : Folders F) (s : Servers C) (before : Scene F C) (te
   -- a load was shown, or not
   abbrev pub Shows : ℕ → ℕ → Scene F C → Result (Vec ℕ Global) StepFault → Type 0
   Shows docs seed after (Ok shown) = HasShown docs seed after shown.items
-  Shows docs seed after (Err fault) = IsHalted after fault
+  Shows docs seed after (Err fault) = StopsEarly after fault

@@ -20,6 +20,7 @@ pub fn advice(status: u8) -> Option<&'static str> {
             "a file is full, and the run ended; that of the documents can still be read: put them into a new folder; of an \
             index, whose files have names of 32 digits, both files may be removed, and the next view builds it anew",
         ),
+        10 => Some("the folder has had writes, so nothing was loaded: load in a new folder"),
         _ => None,
     }
 }

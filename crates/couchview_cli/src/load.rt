@@ -127,7 +127,7 @@ fn show<F: Folder, C: Servers>(
     let requests = requests_of(alloc, docs, number)?;
     let written = serve_lines(alloc, &requests.text, engine, folder, servers)?;
     let fresh = fresh_answer(alloc, engine, folder)?;
-    Ok(shown(alloc, &requests, written.held(), &fresh)?)
+    Ok(compose(alloc, &requests, written.held(), &fresh)?)
 }
 
 /// The lines of a load. The one error is want of memory.
@@ -206,6 +206,7 @@ fn serve_lines<F: Folder, C: Servers>(
     }
     match end {
         LoopEnd::Run(RunEnd::InputEnded) => Ok(sink),
+        // A source in memory doesn't fail, and a sink in memory only where it can't grow.
         LoopEnd::Run(_) => Err(StepFault::NoMemory),
         LoopEnd::Stopped(fault) => Err(fault),
     }
@@ -271,7 +272,7 @@ fn load_query(alloc: Global) -> Result<Query, NoMemory>
 }
 
 /// What is shown of what was written for the lines, with the answer that was made afresh. The one error is want of memory.
-fn shown(
+fn compose(
     alloc: Global,
     requests: &Requests,
     written: &[u8],

@@ -48,6 +48,7 @@ pub fn wrong_word(command: &Command) -> Option<WrongWord<'_>>
         Command::Serve { width, words } => {
             Some(wrong_language(words).unwrap_or(WrongWord::Width(*width)))
         }
+        // A load is built, so this isn't reached.
         Command::Load { docs: _, number: _ } => None,
     }
 }

@@ -4,16 +4,16 @@ ghost use Rattle.std.specs.Prelude.{◌≡◌, ◌/◌};
 ghost use Rattle.load_lines.specs.Numbers.{next_number};
 
 /// What a number is multiplied by, for the next.
-const FACTOR: u64 = 1_103_515_245;
+const MULTIPLIER: u64 = 1_103_515_245;
 
 /// What is added then.
-const SUMMAND: u64 = 12_345;
+const INCREMENT: u64 = 12_345;
 
 /// The numbers are below this.
 const MODULUS: u64 = 1 << 31;
 
 /// What a number is divided by: its lower bits take turns, so they aren't used.
-const LOWER_BITS: u32 = 65_536;
+const LOWER_PART: u32 = 65_536;
 
 /// A linear congruential generator.
 #[derive(Drop)]
@@ -34,8 +34,8 @@ impl Generator {
         ensures moves { self.new.last ≡ next_number self.old.last }
         ensures value { result ≡ self.new.last / 65536 }
     {
-        let number = (FACTOR * u64::from(self.last) + SUMMAND) % MODULUS;
+        let number = (MULTIPLIER * u64::from(self.last) + INCREMENT) % MODULUS;
         self.last = number as u32;
-        self.last / LOWER_BITS
+        self.last / LOWER_PART
     }
 }

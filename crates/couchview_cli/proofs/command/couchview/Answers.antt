@@ -1,4 +1,4 @@
--- What serving says, of the words that ask for it.
+-- What a command says, of the words that ask for it.
 use Rattle.std.specs.Prelude.{String, map, string_bytes}
 use Rattle.std.specs.declared.alloc.Global.{Global}
 use Rattle.std.proofs.Common.{◌≡◌, ◌∙◌, ℕ, List, [], inr, sym, ap, subst}
@@ -11,7 +11,7 @@ use Rattle.couchview_cli.specs.Serving.{outside, AreLeft, Serves}
 use Rattle.couchview_cli.proofs.Called.{found_as, is_serve, languages_of, not_both, one_load}
 use Rattle.couchview_cli.proofs.LoadStatus.{whole_load}
 use Rattle.couchview_cli.proofs.Statuses.{limited, Serves-complete}
-use Rattle.couchview_cli.proofs.Unread.{unread_folder, unread_lines, unread_nothing}
+use Rattle.couchview_cli.proofs.NoWords.{unread_folder, unread_lines, unread_nothing}
 use Rattle.couchview_cli.proofs.command.couchview.Goals as goal
 
 pub returns-in-Ok-None-clause-complete : goal.returns-in-Ok-None-clause-complete

@@ -6,7 +6,7 @@ use Rattle.view_ports.specs.declared.run_end.RunEnd.TheVariants.{InputEnded}
 use Rattle.line_loop.specs.declared.loop_end.LoopEnd.TheVariants.{Run}
 use Rattle.view_engine.specs.Calls.{scene}
 use Rattle.couchview_cli.specs.Loading.{load_lines, second_view}
-use Rattle.couchview_cli.specs.Showing.{HasComeTo, IsHalted, IsShown, Shows}
+use Rattle.couchview_cli.specs.Showing.{HasComeTo, StopsEarly, IsShown, Shows}
 use Rattle.couchview_cli.proofs.Pieces.{failed_as}
 use Rattle.couchview_cli.proofs.load.show.Goals as goal
 
@@ -17,7 +17,7 @@ returns-in_err-written-clause-shows g c =
     let served = scene c.serve_lines.new.engine c.serve_lines.new.folder c.serve_lines.new.servers in
     let same : c.deref.result.now ≡ lines = c.deref.ensures.value ∙ c.in_ok-requests.ensures.text in
     subst (Shows g.F.Folder g.C.Servers before lines c.args.docs c.args.number served) (sym (failed_as c.from_residual-in_err-written.result c.in_err-written.field-0.0 c.from_residual-in_err-written.ensures))
-    (subst (λ (t : List ℕ). IsHalted g.F.Folder g.C.Servers before t served c.in_err-written.field-0.0) same c.in_err-written.ensures.serves)
+    (subst (λ (t : List ℕ). StopsEarly g.F.Folder g.C.Servers before t served c.in_err-written.field-0.0) same c.in_err-written.ensures.serves)
 
 pub returns-in_err-fresh-clause-shows : goal.returns-in_err-fresh-clause-shows
 returns-in_err-fresh-clause-shows g c =
@@ -44,7 +44,7 @@ returns-clause-shows g c =
     let same : c.deref.result.now ≡ lines = c.deref.ensures.value ∙ c.in_ok-requests.ensures.text in
     let held = c.in_ok-written.written.held in
     let fresh = c.in_ok-fresh.fresh.items in
-    let text = c.in_ok-shown.field-0.items in
+    let text = c.in_ok-compose.field-0.items in
     let first = c.in_ok-requests.requests.first_view in
     let second = c.in_ok-requests.requests.second_view in
     let come = subst (λ (t : List ℕ). HasComeTo g.F.Folder g.C.Servers before t served held (Run InputEnded)) same c.in_ok-written.ensures.serves.0 in
@@ -58,5 +58,5 @@ returns-clause-shows g c =
       is = subst (λ (n : ℕ). IsShown n (second_view c.args.docs c.args.number) held fresh text) c.in_ok-requests.ensures.first
           (subst (λ (n : ℕ). IsShown first n held fresh text) c.in_ok-requests.ensures.second
           (subst (λ (t : List ℕ). IsShown first second t fresh text) c.held.ensures
-          (subst (λ (t : List ℕ). IsShown first second c.held.result.now t text) c.deref-2.ensures.value c.in_ok-shown.ensures)));
+          (subst (λ (t : List ℕ). IsShown first second c.held.result.now t text) c.deref-2.ensures.value c.in_ok-compose.ensures)));
     }

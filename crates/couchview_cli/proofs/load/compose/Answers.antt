@@ -3,7 +3,7 @@ use Rattle.std.proofs.Common.{◌+◌, ◌∙◌, ◌++◌, ℕ, List, map, ap, 
 use Rattle.view_ports.specs.Lines.{ended}
 use Rattle.couchview_cli.specs.Showing.{reply_at}
 use Rattle.couchview_cli.proofs.Shown.{four_texts}
-use Rattle.couchview_cli.proofs.load.shown.Goals as goal
+use Rattle.couchview_cli.proofs.load.compose.Goals as goal
 
 pub returns : goal.returns
 returns c =
