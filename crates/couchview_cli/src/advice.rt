@@ -5,11 +5,11 @@ pub fn advice(status: u8) -> Option<&'static str> {
     match status {
         3 => Some(
             "a call on the folder failed, and the run ended; all that was answered is kept: mend what is named above, and \
-            start again in the same folder",
+            start again in the same folder, or load in a new one",
         ),
         6 => Some(
             "memory ran out, and the run ended; all that was answered is kept: start again with more memory, or with \
-            shorter lines",
+            shorter lines, or load in a new folder",
         ),
         7 => Some(
             "a file is damaged, at the offset that the last line names, and the run ended: copy the whole folder before \
