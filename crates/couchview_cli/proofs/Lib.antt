@@ -10,10 +10,12 @@ pub mod Pieces
 pub mod NoWords
 pub mod Called
 pub mod Shown
+pub mod LoadCompiles
 pub mod LoadMeaning
 pub mod LoadRequests
 pub mod LoadSame
 pub mod LoadWhole
+pub mod LoadPuts
 pub mod FreshAnswer
 pub mod LoadServing
 pub mod Loaded

@@ -1,7 +1,8 @@
 -- What the requests of a load do to a world without writes.
 use Rattle.std.specs.Prelude.{if◌then◌else◌, Contains, bytes_eq, zero, suc}
-use Rattle.std.proofs.Common.{◌≡◌, ◌⊎◌, ◌∙◌, ◌++◌, ℕ, List, [], ◌∷◌, Bool, true, false, codes, Some, Result, Ok, inl, inr, refl, sym, ap, subst, arith}
+use Rattle.std.proofs.Common.{◌≡◌, ◌≢◌, ◌⊎◌, ◌∙◌, ◌++◌, ℕ, List, [], ◌∷◌, Bool, true, false, codes, Some, Result, Ok, inl, inr, refl, sym, ap, subst, arith}
 use Rattle.std.specs.List.{AllByRecursion}
+use Rattle.std.proofs.lemmas.Bool.{cases_Bool}
 use Rattle.std.proofs.lemmas.Slice.Eq.{bytes_eq-Decides}
 use Rattle.json_terms.specs.Json.{Json, members_of, object}
 use Rattle.design_docs.specs.Documents.{id_of, is_design_id}
@@ -80,17 +81,17 @@ has_at_first = record {
   ];
 }
 
+-- ids that differ
+pub unlike : (a b : List ℕ) → a ≢ b → bytes_eq a b ≡ false
+unlike a b differ = elim (cases_Bool (bytes_eq a b)) [
+  | inl same ↦ absurd (differ ((bytes_eq-Decides a b).0 same))
+  | inr other ↦ other
+]
+
 -- a write of another id leaves it
 module _ (write : Write) (history : List Write) (plain : is_design_id write.id ≡ false) where
   other_id : bytes_eq (codes "_design/load") write.id ≡ false
-  other_id = by_bool (bytes_eq (codes "_design/load") write.id) refl
-    where
-      by_bool : (b : Bool) → bytes_eq (codes "_design/load") write.id ≡ b → b ≡ false
-      by_bool false is = refl
-      by_bool true is =
-          let same : codes "_design/load" ≡ write.id = (bytes_eq-Decides (codes "_design/load") write.id).0 is in
-          let design : is_design_id write.id ≡ true = ap is_design_id (sym same) in
-          let never : true ≡ false = sym design ∙ plain in absurd (cc)
+  other_id = unlike (codes "_design/load") write.id (λ same. let never : true ≡ false = ap is_design_id same ∙ plain in absurd (cc))
 
   pub has_still : HasLoadDesign history → HasLoadDesign (write ∷ history)
   has_still has = record {

@@ -1,25 +1,31 @@
 -- What a load replied, whatever the folder holds, from what was shown of it.
 use Rattle.std.proofs.Common.{◌≡◌, ◌≤◌, ◌<◌, ◌^◌, ◌∙◌, ℕ, List, [], Option, Some, inl, inr, refl, sym, subst}
 use Rattle.std.specs.List.{flat_map}
-use Rattle.view_ports.specs.Disk.{MovesNone, Tells}
+use Rattle.view_ports.specs.Disk.{IfTold, MovesNone, Tells}
 use Rattle.view_ports.specs.Exchanges.{Exchange}
 use Rattle.view_ports.specs.Lines.{ended}
+use Rattle.view_ports.specs.declared.file_name.FileName.{FileName}
 use Rattle.view_ports.specs.declared.folder.Folder.{Ghosts as Folders}
 use Rattle.view_ports.specs.declared.run_end.RunEnd.TheVariants.{InputEnded}
 use Rattle.view_ports.specs.declared.servers.Servers.{Ghosts as Servers}
 use Rattle.line_loop.specs.declared.loop_end.LoopEnd.{LoopEnd}
 use Rattle.line_loop.specs.declared.loop_end.LoopEnd.TheVariants as loop_end
+use Rattle.view_engine.specs.declared.engine.Engine.{Engine}
 use Rattle.view_engine.specs.declared.halt.StepFault.{StepFault}
+use Rattle.view_engine.specs.declared.halt.StepFault.TheVariants.{Damaged, DiskFault, Full, NoMemory}
 use Rattle.view_engine.specs.Calls.{Scene, scene}
-use Rattle.view_engine.specs.Disks.{LiesOpen}
+use Rattle.view_engine.specs.Disks.{IsReadReasonOf, LiesOpen}
+use Rattle.view_engine.specs.Halts.{IsDamage}
 use Rattle.view_engine.specs.Openings.{IsMovedByOpening}
+use Rattle.view_engine.specs.Worlds.{HasBodyDamage, IsOpen}
+use Rattle.view_ports.proofs.Told.{told_all, told_pair}
 use Rattle.view_engine.proofs.Worlds.{stays_still}
 use Rattle.couchview_cli.specs.Closing.{Closes}
-use Rattle.couchview_cli.specs.Loading.{load_lines, load_text, AnswersLoad, HasRunOver, IsPrinted}
+use Rattle.couchview_cli.specs.Loading.{load_lines, load_text, AnswersLoad, HasRunOver, IsOfReading, IsOpenAt, IsPrinted}
 use Rattle.couchview_cli.specs.Reading.{Replies}
 use Rattle.couchview_cli.specs.Replied.{IsReplied}
 use Rattle.couchview_cli.specs.Serving.{Outside}
-use Rattle.couchview_cli.specs.Showing.{HasComeTo, HasShown, StopsEarly}
+use Rattle.couchview_cli.specs.Showing.{HasComeTo, HasNotRead, HasShown, StopsEarly}
 use Rattle.couchview_cli.proofs.Loaded.{read_room, shown_text}
 use Rattle.couchview_cli.proofs.LoadRequests.{each_line}
 use Rattle.couchview_cli.proofs.Shown.{run_lines}
@@ -37,7 +43,7 @@ module _ {F C : Type 0} (f : Folders F) (s : Servers C) (docs seed : ℕ) (ports
   abbrev after : Outside
   after = record { left = ports.left; held = held; disk = f.disk last.folder; disk_faults = f.faults last.folder; faults = s.faults stopped.servers }
 
-  module _ (moved : Tells before.disk (f.disk start.folder) IsMovedByOpening) where
+  module _ (moved : Tells before.disk (f.disk start.folder) IsMovedByOpening) (new : IsOpenAt (f.disk start.folder) 0) where
     abbrev has_replies : (gained : List ℕ) (end : LoopEnd StepFault) (mid : F) → HasComeTo f s start text (scene last.engine mid last.servers) gained end → Tells (f.disk mid) (f.disk last.folder) MovesNone → HasRunOver docs seed before after end
     has_replies gained end mid come read = record {
       opened = f.disk start.folder;
@@ -45,6 +51,7 @@ module _ {F C : Type 0} (f : Folders F) (s : Servers C) (docs seed : ℕ) (ports
       left = come.left;
       gained = Some gained;
       moved = moved;
+      new = new;
       faults = s.faults last.servers;
       counted = same;
       replied = come.replied;
@@ -60,18 +67,34 @@ module _ {F C : Type 0} (f : Folders F) (s : Servers C) (docs seed : ℕ) (ports
         let is : shown ≡ load_text docs seed run.exchanges has.fresh = shown_text Replies replied tt tt run.exchanges docs seed has.gained has.fresh shown run.leads lines (ended_.wrote ∙ run.written) has.is in
         inl (has_replies has.gained (loop_end.Run InputEnded) has.ran.mid come has.ran.read, has.fresh, subst (λ (t : List ℕ). IsPrinted before.held held t status) is prints)
 
-    pub answers_not : LiesOpen f start.engine start.folder → (fault : StepFault) (status : ℕ) → StopsEarly f s start text last fault → Closes before.held held [] fault status → AnswersLoad docs seed before after status
-    answers_not is_open fault status (inl (gained, came, done)) closes =
+    damaged_there : (engine : Engine) (mid : F) (fault : StepFault) → LiesOpen f engine mid → IsReadReasonOf f engine mid last.folder fault → IfTold (f.disk mid) (λ d. (name : FileName) (at : ℕ) → fault ≡ Damaged name at → HasBodyDamage d.now name at)
+    damaged_there engine mid (Damaged file place) is_open why =
+        told_pair (f.disk mid) (λ d. IsOpen engine d.now) (λ d. IsDamage engine.docs d.now file place) (λ d. (name : FileName) (at : ℕ) → Damaged file place ≡ Damaged name at → HasBodyDamage d.now name at)
+        (λ d here damage name at same. let one : file ≡ name = cc in let two : place ≡ at = cc in subst (λ (n : FileName). HasBodyDamage d.now n at) one
+        (subst (λ (a : ℕ). HasBodyDamage d.now file a) two (record { docs = engine.docs; is_open = here.documents; damage = damage }))) is_open why.0
+    damaged_there engine mid DiskFault is_open why = told_all (f.disk mid) _ (λ d name at same. absurd cc)
+    damaged_there engine mid (Full file size) is_open why = absurd why
+    damaged_there engine mid NoMemory is_open why = told_all (f.disk mid) _ (λ d name at same. absurd cc)
+
+    of_reading : (fault : StepFault) (unread : HasNotRead f s start text last fault) → IsOfReading (f.disk unread.ran.mid) fault
+    of_reading fault unread = record {
+      damaged = damaged_there last.engine unread.ran.mid fault unread.is_open unread.why;
+      room = read_room f last unread.ran.mid fault unread.why;
+    }
+
+    pub answers_not : (fault : StepFault) (status : ℕ) → StopsEarly f s start text last fault → Closes before.held held [] fault status → AnswersLoad docs seed before after status
+    answers_not fault status (inl (gained, came, done)) closes =
         inr (inl (loop_end.Stopped fault, fault, has_replies gained (loop_end.Stopped fault) last.folder came (stays_still (f.disk last.folder)), inl refl, closes))
-    answers_not is_open fault status (inr (inl unread)) closes =
-        inr (inl (loop_end.Run InputEnded, fault, has_replies unread.gained (loop_end.Run InputEnded) unread.ran.mid unread.ran.come unread.ran.read, inr (inr (refl, read_room f last unread.ran.mid fault unread.why)), closes))
-    answers_not is_open fault status (inr (inr (is, inl still))) closes =
+    answers_not fault status (inr (inl unread)) closes =
+        inr (inl (loop_end.Run InputEnded, fault, has_replies unread.gained (loop_end.Run InputEnded) unread.ran.mid unread.ran.come unread.ran.read, inr (inr (refl, of_reading fault unread)), closes))
+    answers_not fault status (inr (inr (is, inl still))) closes =
         inr (inr (inl (record {
           moved = subst (λ (x : Scene F C). Tells before.disk (f.disk x.folder) IsMovedByOpening) (sym still) moved;
-          opens = subst (λ (x : Scene F C). (engine : _) × LiesOpen f engine x.folder) (sym still) (start.engine, is_open);
-          ends = inr (subst (λ (x : StepFault). Closes before.held held [] x status) is closes);
+          seq = 0;
+          opens = subst (λ (x : Scene F C). IsOpenAt (f.disk x.folder) 0) (sym still) new;
+          ends = inr (refl, subst (λ (x : StepFault). Closes before.held held [] x status) is closes);
         })))
-    answers_not is_open fault status (inr (inr (is, inr (inl (gained, end, ran))))) closes =
+    answers_not fault status (inr (inr (is, inr (inl (gained, end, ran))))) closes =
         inr (inl (loop_end.Run end, fault, has_replies gained (loop_end.Run end) ran.mid ran.come ran.read, inr (inl is), closes))
-    answers_not is_open fault status (inr (inr (is, inr (inr (gained, other, came))))) closes =
+    answers_not fault status (inr (inr (is, inr (inr (gained, other, came))))) closes =
         inr (inl (loop_end.Stopped other, fault, has_replies gained (loop_end.Stopped other) last.folder came (stays_still (f.disk last.folder)), inr (inl is), closes))

@@ -17,6 +17,7 @@ use Rattle.load_lines.specs.Lines.{first_lines, second_lines, info_line, info_re
 use Rattle.load_lines.proofs.Each.{each_first, each_second}
 use Rattle.load_lines.proofs.Ids.{document_id-not_design}
 use Rattle.load_lines.proofs.Terms.{IsTerm-info_request, IsTerm-put_request, IsTerm-view_request, IsTerm-document, IsTerm-load_design, IsTerm-raised, depth-document, depth-load_design, depth-raised, reading-info_line, reading-put_line, reading-view_line, short-design_line, short-document_line, short-info_line, short-raised_line, short-view_line}
+use Rattle.load_lines.proofs.Writable.{id_of-document, id_of-raised}
 use Rattle.couchview_cli.specs.Loading.{load_lines}
 use Rattle.couchview_cli.proofs.LoadMeaning.{IsPlainPut, WritesNone}
 
@@ -27,38 +28,38 @@ read_as line term short is =
     let fits : nat_lt 2097152 (length line) ≡ false = le-ltb 2097152 (length line) (omega (arith, short)) in
     rw (fits, is) refl
 
-pub put_of : (ms : Members) → IsTerm (object ms) → depth (object ms) ≤ 99 → length (put_line (object ms)) ≤ 1000 → request_of (put_line (object ms)) ≡ Ok (Put (list_of_members ms))
-put_of ms term shallow short = read_as (put_line (object ms)) (put_request (object ms)) short (reading-put_line (object ms) term shallow)
+-- what a put of this document is read as
+abbrev pub AsksPut : Json → Type 0
+AsksPut doc = (members : List (List ℕ × Json)) × (request_of (put_line doc) ≡ Ok (Put members)) × (object (members_of members) ≡ doc)
 
-abbrev HasPlainId : Json → Type 0
-HasPlainId doc = is_design_id (id_of doc) ≡ false
+asks_of : (ms : Members) → IsTerm (object ms) → depth (object ms) ≤ 99 → length (put_line (object ms)) ≤ 1000 → AsksPut (object ms)
+asks_of ms term shallow short = (
+  list_of_members ms,
+  read_as (put_line (object ms)) (put_request (object ms)) short (reading-put_line (object ms) term shallow),
+  ap object (members_of-list_of_members ms),
+)
+
+pub design_asks : AsksPut load_design
+unfolding load_design
+design_asks = asks_of _ IsTerm-load_design (let shallow = depth-load_design in omega (arith, shallow)) short-design_line
+
+pub document_asks : (seed k : ℕ) → seed < 2 ^ 31 → k ≤ 20000 → AsksPut (document seed k)
+unfolding document
+document_asks seed k low small = asks_of _ (IsTerm-document seed k low (omega (arith, small))) (let shallow = depth-document seed k in omega (arith, shallow)) (short-document_line seed k low (omega (arith, small)))
+
+pub raised_asks : (seed k : ℕ) → seed < 2 ^ 31 → k ≤ 20000 → AsksPut (raised seed k)
+unfolding raised
+raised_asks seed k low small = asks_of _ (IsTerm-raised seed k low (omega (arith, small))) (let shallow = depth-raised seed k in omega (arith, shallow)) (short-raised_line seed k low (omega (arith, small)))
 
 -- a put of a document without a design's id
-plain_put : (ms : Members) → IsTerm (object ms) → depth (object ms) ≤ 99 → length (put_line (object ms)) ≤ 1000 → HasPlainId (object ms) → IsPlainPut (put_line (object ms))
-plain_put ms term shallow short plain = record {
-  members = list_of_members ms;
-  asks = put_of ms term shallow short;
-  plain = ap (λ (m : Members). is_design_id (id_of (object m))) (members_of-list_of_members ms) ∙ plain;
-}
+plain_put : (doc : Json) → AsksPut doc → is_design_id (id_of doc) ≡ false → IsPlainPut (put_line doc)
+plain_put doc asks plain = record { members = asks.0; asks = asks.1; plain = ap (λ (json : Json). is_design_id (id_of json)) asks.2 ∙ plain }
 
 pub document_plain : (seed k : ℕ) → seed < 2 ^ 31 → k ≤ 20000 → IsPlainPut (put_line (document seed k))
-unfolding document
-document_plain seed k low small =
-    plain_put _ (IsTerm-document seed k low (omega (arith, small))) (let shallow = depth-document seed k in omega (arith, shallow)) (short-document_line seed k low (omega (arith, small))) (document_id-not_design k)
+document_plain seed k low small = plain_put (document seed k) (document_asks seed k low small) (ap is_design_id (id_of-document seed k) ∙ document_id-not_design k)
 
 pub raised_plain : (seed k : ℕ) → seed < 2 ^ 31 → k ≤ 20000 → IsPlainPut (put_line (raised seed k))
-unfolding raised
-raised_plain seed k low small =
-    plain_put _ (IsTerm-raised seed k low (omega (arith, small))) (let shallow = depth-raised seed k in omega (arith, shallow)) (short-raised_line seed k low (omega (arith, small))) (document_id-not_design k)
-
--- the put of the design
-design_members : Json → List (List ℕ × Json)
-design_members (object ms) = list_of_members ms
-design_members other = []
-
-pub design_asks : (members : List (List ℕ × Json)) × (request_of (put_line load_design) ≡ Ok (Put members)) × (object (members_of members) ≡ load_design)
-unfolding load_design
-design_asks = (_, put_of _ IsTerm-load_design (let shallow = depth-load_design in omega (arith, shallow)) short-design_line, ap object (members_of-list_of_members _))
+raised_plain seed k low small = plain_put (raised seed k) (raised_asks seed k low small) (ap is_design_id (id_of-raised seed k) ∙ document_id-not_design k)
 
 -- the view and `info`
 pub view_asks : request_of view_line ≡ Ok (View (record { design = codes "load"; view = codes "by_group" }) (Some ((codes "group_level", number (pos 1)) ∷ [])))

@@ -15,9 +15,9 @@ use Rattle.map_server.specs.Pick.{pick}
 use Rattle.doc_file.specs.History.{Write, live_document}
 use Rattle.doc_file.specs.Accepted.{state_of, unseen}
 use Rattle.doc_file.specs.Content.{content}
-use Rattle.doc_file.specs.Incoming.{deletes, given_revision, IsWritable}
+use Rattle.doc_file.specs.Incoming.{deletes, given_revision}
 use Rattle.doc_file.specs.Stored.{next_revision, write_of}
-use Rattle.doc_file.specs.Writes.{content_of, write_refusal}
+use Rattle.doc_file.specs.Writes.{content_of, write_refusal, IsAcceptedPut}
 use Rattle.query_args.specs.declared.query.Query.{Query}
 use Rattle.view_model.specs.Answer.{answer}
 use Rattle.view_model.specs.Rows.{spoiled, view_rows}
@@ -31,7 +31,7 @@ use Rattle.view_engine.specs.Answer.{write_text}
 use Rattle.view_engine.specs.Moments.{Moment, with_world}
 use Rattle.view_engine.specs.Put.{put_write}
 use Rattle.view_engine.specs.Refusals.{refusal_text, request_of}
-use Rattle.view_engine.specs.Steps.{Answers, Does, DoesRequest, DoesRequestText, IsRefusedAs, Performs}
+use Rattle.view_engine.specs.Steps.{Answers, Does, DoesRequest, DoesRequestText, IsRefusedAs}
 use Rattle.view_engine.specs.Updating.{AreFit, IsSound}
 use Rattle.view_engine.specs.View.{view_refusal, DoesView}
 use Rattle.view_engine.specs.ViewQuery.{ViewQuery, query_for, reduce_named}
@@ -41,7 +41,8 @@ use Rattle.view_engine.proofs.Fresh.{replies_are_fresh}
 use Rattle.load_lines.specs.Documents.{load_design, load_map}
 use Rattle.load_lines.proofs.Writable.{IsWritable-load_design, deletes-load_design, given-load_design, id_of-load_design}
 use Rattle.couchview_cli.specs.Loading.{fresh_answer, load_query}
-use Rattle.couchview_cli.proofs.LoadMeaning.{design_write, has_at_first, stored_design, HasLoadDesign}
+use Rattle.couchview_cli.proofs.LoadCompiles.{load_map_compiles}
+use Rattle.couchview_cli.proofs.LoadMeaning.{design_write, stored_design, HasLoadDesign}
 
 -- ---- the view of the stored design
 
@@ -79,10 +80,10 @@ has_fit history has = record { apart = λ one other is_one is_other same. ap des
 has_live : (history : List Write) → HasLoadDesign history → live_document history (codes "_design/load") ≡ Some stored_design
 has_live history has = rw has.last refl
 
--- it can be answered where its source compiles
-answerable : (history : List Write) → pick.compiles load_map ≡ true → spoiled pick (views_of stored_design) history ≡ false
+-- it can be answered, since its source compiles
+answerable : (history : List Write) → spoiled pick (views_of stored_design) history ≡ false
 unfolding load_design
-answerable history compiles = rw compiles refl
+answerable history = rw load_map_compiles refl
 
 -- the first write of a load
 first_write : write_of [] (id_of load_design) (content_of load_design) ≡ design_write
@@ -101,45 +102,50 @@ module _ (functions : List ℕ → Functions) (honest : List ℕ → Type 0) whe
       by_line [] some_ does_ = absurd (some_ refl)
       by_line (byte ∷ bytes) some_ does_ = does_
 
-  -- ---- the put of the design
+  -- ---- puts
 
-  -- a put of the design to a history without writes stores it
-  pub first_put : (before : Moment) (e : Exchange) (after : Moment) (members : List (List ℕ × Json)) → request_of e.line ≡ Ok (Put members) → object (members_of members) ≡ load_design → (before.world).history ≡ []
-      → e.line ≢ [] → e.text ≢ ended (refusal_text OutOfMemory) → Answers functions honest [] before e after → HasLoadDesign (after.world).history
-  first_put before e after members asks is none some done answers =
+  -- a put that the documents accept adds its write
+  pub put_writes : (before : Moment) (e : Exchange) (after : Moment) (doc : Json) (members : List (List ℕ × Json)) → request_of e.line ≡ Ok (Put members) → object (members_of members) ≡ doc → IsAcceptedPut (state_of (before.world).history (id_of doc)) doc
+      → e.line ≢ [] → e.text ≢ ended (refusal_text OutOfMemory) → Answers functions honest [] before e after → (after.world).history ≡ put_write before.world doc ∷ (before.world).history
+  put_writes before e after doc members asks is accepted some done answers =
       let does = does_request before e after some done answers in
       let request : DoesRequest functions honest [] before (Ok (Put members)) does.0 after = subst (λ (r : Result Request Refusal). DoesRequest functions honest [] before r does.0 after) asks does.1 in
-      elim request [
-        | inl acts ↦ put_done does.0 acts
+      subst (λ (json : Json). (after.world).history ≡ put_write before.world json ∷ (before.world).history) is (elim request [
+        | inl acts ↦ ap (λ (m : Moment). (m.world).history) acts.2 ∙ ap (λ (w : World). w.history) (acts.1).wrote
         | inr refused ↦ absurd (never refused.0 refused.1)
-      ]
+      ])
     where
-      doc : Json
-      doc = object (members_of members)
-
-      put_done : (reply : List ℕ) → Performs functions honest [] before (Put members) reply after → HasLoadDesign (after.world).history
-      put_done reply acts =
-          let wrote : (after.world).history ≡ put_write before.world doc ∷ (before.world).history = ap (λ (m : Moment). (m.world).history) acts.2 ∙ ap (λ (w : World). w.history) (acts.1).wrote in
-          let first : put_write before.world doc ≡ design_write = ap (λ (h : List Write). write_of h (id_of doc) (content_of doc)) none ∙ ap (λ (json : Json). write_of [] (id_of json) (content_of json)) is ∙ first_write in
-          subst HasLoadDesign (sym (wrote ∙ ap (λ (h : List Write). put_write before.world doc ∷ h) none ∙ ap (λ (w : Write). w ∷ []) first)) has_at_first
-
-      accepts : write_refusal (state_of (before.world).history (id_of doc)) (deletes doc) (given_revision doc) ≡ None
-      accepts =
-          ap (λ (h : List Write). write_refusal (state_of h (id_of doc)) (deletes doc) (given_revision doc)) none
-          ∙ ap (λ (b : Bool). write_refusal unseen b (given_revision doc)) (ap deletes is ∙ deletes-load_design)
-          ∙ ap (λ (given : Option (List ℕ)). write_refusal unseen false given) (ap given_revision is ∙ given-load_design)
+      put : Json
+      put = object (members_of members)
 
       never : (refusal : Refusal) → IsRefusedAs functions honest [] before.world (Put members) refusal → ⊥
       never refusal refused =
-          is_not_refused_and_done functions honest [] before (with_world before (written before.world (put_write before.world doc))) (Put members) refusal (write_text (id_of doc) (next_revision (before.world).history (id_of doc))) refused
-          (written before.world (put_write before.world doc), record { accepted = record { writable = subst IsWritable (sym is) IsWritable-load_design; accepted = accepts }; prints = refl; wrote = refl }, refl)
+          is_not_refused_and_done functions honest [] before (with_world before (written before.world (put_write before.world put))) (Put members) refusal (write_text (id_of put) (next_revision (before.world).history (id_of put))) refused (
+            written before.world (put_write before.world put),
+            record { accepted = subst (λ (json : Json). IsAcceptedPut (state_of (before.world).history (id_of json)) json) (sym is) accepted; prints = refl; wrote = refl },
+            refl,
+          )
+
+  -- a put of the design to a history without writes stores it
+  pub first_put : (before : Moment) (e : Exchange) (after : Moment) (members : List (List ℕ × Json)) → request_of e.line ≡ Ok (Put members) → object (members_of members) ≡ load_design → (before.world).history ≡ []
+      → e.line ≢ [] → e.text ≢ ended (refusal_text OutOfMemory) → Answers functions honest [] before e after → (after.world).history ≡ design_write ∷ []
+  first_put before e after members asks is none some done answers =
+      put_writes before e after load_design members asks is (record { writable = IsWritable-load_design; accepted = accepts }) some done answers
+      ∙ ap (λ (h : List Write). write_of h (id_of load_design) (content_of load_design) ∷ h) none
+      ∙ ap (λ (w : Write). w ∷ []) first_write
+    where
+      accepts : write_refusal (state_of (before.world).history (id_of load_design)) (deletes load_design) (given_revision load_design) ≡ None
+      accepts =
+          ap (λ (h : List Write). write_refusal (state_of h (id_of load_design)) (deletes load_design) (given_revision load_design)) none
+          ∙ ap (λ (b : Bool). write_refusal unseen b (given_revision load_design)) deletes-load_design
+          ∙ ap (λ (given : Option (List ℕ)). write_refusal unseen false given) given-load_design
 
   -- ---- the second view
 
   pub second_fresh : (before : Moment) (e : Exchange) (after : Moment) → request_of e.line ≡ Ok load_view → e.line ≢ [] → e.text ≢ ended (refusal_text OutOfMemory) → Answers functions honest [] before e after
       → HasLoadDesign (before.world).history → IsSound functions honest [] before.world → honest (codes "builtin:pick") → functions (codes "builtin:pick") ≡ pick → (Rose before.faults after.faults → ⊥)
-      → pick.compiles load_map ≡ true → e.text ≡ ended (fresh_answer (before.world).history)
-  second_fresh before e after asks some done answers has sound is_honest is_pick calm compiles =
+      → e.text ≡ ended (fresh_answer (before.world).history)
+  second_fresh before e after asks some done answers has sound is_honest is_pick calm =
       let does = does_request before e after some done answers in
       let request : DoesRequest functions honest [] before (Ok load_view) does.0 after = subst (λ (r : Result Request Refusal). DoesRequest functions honest [] before r does.0 after) asks does.1 in
       elim request [
@@ -160,7 +166,7 @@ module _ (functions : List ℕ → Functions) (honest : List ℕ → Type 0) whe
         is_honest = is_honest;
         sound = sound;
         fit = has_fit history has;
-        answerable = ap (λ (f : Functions). spoiled f (views_of stored_design) history) is_pick ∙ answerable history compiles;
+        answerable = ap (λ (f : Functions). spoiled f (views_of stored_design) history) is_pick ∙ answerable history;
       }
 
       shown : (reply : List ℕ) → DoesView functions honest [] before asked reply after → reply ≡ fresh_answer history

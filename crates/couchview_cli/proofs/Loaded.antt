@@ -1,5 +1,5 @@
 -- What a load did, from what was shown of it.
-use Rattle.std.proofs.Common.{◌≡◌, ◌≢◌, ◌≤◌, ◌<◌, ◌^◌, ◌∙◌, ◌++◌, ℕ, List, [], Option, Some, None, inl, inr, refl, sym, ap, subst, true, codes, arith}
+use Rattle.std.proofs.Common.{◌≡◌, ◌≢◌, ◌≤◌, ◌<◌, ◌^◌, ◌∙◌, ◌++◌, ℕ, List, [], Option, Some, None, inl, inr, refl, sym, ap, subst, true, length, codes, arith}
 use Rattle.std.specs.List.{AllByRecursion, flat_map}
 use Rattle.view_ports.specs.Calls.{Call}
 use Rattle.view_ports.specs.Disk.{Disk, IfTold, LeavesOnly, Tells}
@@ -28,13 +28,14 @@ use Rattle.view_engine.specs.Updating.{IsSound}
 use Rattle.view_engine.specs.World.{World}
 use Rattle.view_engine.specs.Worlds.{at_start, Holds, IsAtWorld, StandsFor, width as width_of}
 use Rattle.view_engine.proofs.Worlds.{holds_at}
-use Rattle.load_lines.specs.Documents.{load_map}
+use Rattle.load_lines.specs.Lines.{first_lines, second_lines}
 use Rattle.couchview_cli.specs.Closing.{Closes, closing_of, fault_status}
 use Rattle.couchview_cli.specs.Loading.{first_view, fresh_answer, info_place, load_lines, load_text, reply_to, second_view, HasBegun, HasServed, IsIdle, IsPrinted, IsUnread, Loads, NoneWants}
 use Rattle.couchview_cli.specs.Replied.{IsReplied}
 use Rattle.couchview_cli.specs.Serving.{AreLeft, IsCutShort, Outside, Steps, width}
 use Rattle.couchview_cli.specs.Session.{IsAtOrigin, Origin}
 use Rattle.couchview_cli.specs.Showing.{HasComeTo, HasNotRead, HasRunTo, HasShown, StopsEarly, IsShown, NoneIsWant, reply_at}
+use Rattle.couchview_cli.proofs.LoadPuts.{each_put}
 use Rattle.couchview_cli.proofs.LoadRequests.{each_line, each_some}
 use Rattle.couchview_cli.proofs.LoadWhole.{second_is_fresh}
 use Rattle.couchview_cli.proofs.Moving.{told_first}
@@ -64,12 +65,19 @@ shown_text step replied start end es docs seed gained fresh shown leads lines wr
 
 -- where the disk is told, the reply to the second view is the answer afresh
 same_of : (functions : List ℕ → Functions) (honest : List ℕ → Type 0) (opening : World) (disk : Option (Disk FileName)) (docs seed faults faults' : ℕ) → seed < 2 ^ 31 → docs ≤ 20000 → (start end : Moment) (es : List Exchange)
-    (fresh : List ℕ) → lines_of es ≡ load_lines docs seed → NoneWants es → LeadsTo (Steps functions honest [] opening disk) start es end → pick.compiles load_map ≡ true
+    (fresh : List ℕ) → lines_of es ≡ load_lines docs seed → NoneWants es → LeadsTo (Steps functions honest [] opening disk) start es end
     → start.faults ≡ faults → faults' ≡ end.faults → IfTold disk (λ d. (start.world).history ≡ []) → IfTold disk (λ d. fresh ≡ fresh_answer (end.world).history)
     → IfTold disk (λ d. IsSound functions honest [] opening → honest (codes "builtin:pick") → functions (codes "builtin:pick") ≡ pick → (Rose faults faults' → ⊥) → reply_to es (second_view docs seed) ≡ ended fresh)
-same_of functions honest opening None docs seed faults faults' low few start end es fresh lines done leads compiles before after none afresh = tt
-same_of functions honest opening (Some d) docs seed faults faults' low few start end es fresh lines done leads compiles before after none afresh = λ sound is_honest is_pick calm.
-    second_is_fresh functions honest opening d docs seed low few sound is_honest is_pick compiles start end es lines done leads none (λ rose. calm (rw (sym before, after) rose)) ∙ ap ended (sym afresh)
+same_of functions honest opening None docs seed faults faults' low few start end es fresh lines done leads before after none afresh = tt
+same_of functions honest opening (Some d) docs seed faults faults' low few start end es fresh lines done leads before after none afresh = λ sound is_honest is_pick calm.
+    second_is_fresh functions honest opening d docs seed low few sound is_honest is_pick start end es lines done leads none (λ rose. calm (rw (sym before, after) rose)) ∙ ap ended (sym afresh)
+
+-- .. and the history has a write of each put
+puts_of : (functions : List ℕ → Functions) (honest : List ℕ → Type 0) (opening : World) (disk : Option (Disk FileName)) (docs seed : ℕ) → seed < 2 ^ 31 → docs ≤ 20000 → (start end : Moment) (es : List Exchange)
+    → lines_of es ≡ load_lines docs seed → NoneWants es → LeadsTo (Steps functions honest [] opening disk) start es end → IfTold disk (λ d. (start.world).history ≡ [])
+    → IfTold disk (λ d. length (end.world).history ≡ length (first_lines docs seed ++ second_lines docs seed))
+puts_of functions honest opening None docs seed low few start end es lines done leads none = tt
+puts_of functions honest opening (Some d) docs seed low few start end es lines done leads none = each_put functions honest opening d docs seed low few start end es lines done leads none
 
 -- reading documents fills no file
 pub read_room : {F C : Type 0} (f : Folders F) (last : Scene F C) (mid : F) (fault : StepFault) → IsReadReasonOf f last.engine mid last.folder fault → (name : FileName) (length : Option ℕ) → fault ≡ Full name length → ⊥
@@ -149,8 +157,9 @@ module _ {F C : Type 0} (f : Folders F) (s : Servers C) (docs seed : ℕ) (openi
             ran = ran;
             fresh = has.fresh;
             afresh = afresh;
+            puts = puts_of s.functions s.honest opening before.disk docs seed low few start_ moment run.exchanges lines done run.leads none;
             prints = subst (λ (t : List ℕ). IsPrinted before.held held t status) prints_text prints;
-            same = same_of s.functions s.honest opening before.disk docs seed before.faults after.faults low few start_ moment run.exchanges has.fresh lines done run.leads has.compiles refl ran.begun.served.faulted none afresh;
+            same = same_of s.functions s.honest opening before.disk docs seed before.faults after.faults low few start_ moment run.exchanges has.fresh lines done run.leads refl ran.begun.served.faulted none afresh;
           }),
         )
 

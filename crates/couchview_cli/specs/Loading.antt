@@ -21,19 +21,20 @@ use Rattle.map_server.specs.Pick.{pick}
 use Rattle.query_args.specs.Query.{query_of}
 use Rattle.query_args.specs.declared.query.Query.{Query}
 use Rattle.query_args.specs.declared.query.Target.TheVariants.{View}
+use Rattle.doc_file.specs.Docs.{seq_of}
 use Rattle.doc_file.specs.History.{Write}
 use Rattle.view_model.specs.Answer.{answer}
 use Rattle.view_model.specs.Rows.{view_rows}
 use Rattle.view_model.specs.Values.{builtin_text}
 use Rattle.view_engine.specs.declared.engine.Engine.{Engine}
 use Rattle.view_engine.specs.declared.halt.StepFault.{StepFault}
-use Rattle.view_engine.specs.declared.halt.StepFault.TheVariants.{DiskFault, Full, NoMemory}
+use Rattle.view_engine.specs.declared.halt.StepFault.TheVariants.{Damaged, DiskFault, Full, NoMemory}
 use Rattle.view_engine.specs.declared.refusal.Refusal.TheVariants.{NoMemory as OutOfMemory}
 use Rattle.view_engine.specs.Openings.{IsMovedByOpening}
 use Rattle.view_engine.specs.Refusals.{refusal_text}
 use Rattle.view_engine.specs.Updating.{IsSound}
 use Rattle.view_engine.specs.World.{World}
-use Rattle.view_engine.specs.Worlds.{Holds, IsOpen, StandsFor}
+use Rattle.view_engine.specs.Worlds.{HasBodyDamage, Holds, IsOpen, StandsFor}
 use Rattle.load_lines.specs.Documents.{load_map}
 use Rattle.load_lines.specs.Lines.{first_lines, info_line, second_lines, view_line}
 use Rattle.couchview_cli.specs.Closing.{Closes, fault_status, IsOfFile}
@@ -104,12 +105,14 @@ module _ (functions : List ℕ → Functions) (honest : List ℕ → Type 0) (do
     pub lines : lines_of ((begun.served).runs).exchanges ≡ load_lines docs seed
     pub done : NoneWants ((begun.served).runs).exchanges
 
-  -- Then what a load prints was written, or the sink failed in it. Where the pictures of the opening stand, `builtin:pick` is honest and no
-  -- fault of the servers is counted, the reply to the second view is the answer afresh.
+  -- Then the history has a write for each put: each was accepted, so the revision that each of the second puts names was the present one. What
+  -- a load prints was written, or the sink failed in it. Where the pictures of the opening stand, `builtin:pick` is honest and no fault of the
+  -- servers is counted, the reply to the second view is the answer afresh.
   pub record LoadsAll (status : ℕ) : Type 0 where
     pub ran : HasServed
     pub fresh : List ℕ
     pub afresh : IfTold before.disk (λ d. fresh ≡ fresh_answer (((ran.begun).served).moment.world).history)
+    pub puts : IfTold before.disk (λ d. length (((ran.begun).served).moment.world).history ≡ length (first_lines docs seed ++ second_lines docs seed))
     pub prints : IsPrinted before.held after.held (load_text docs seed (((ran.begun).served).runs).exchanges fresh) status
     pub same : IfTold before.disk (λ d. IsSound functions honest [] opening → honest (codes "builtin:pick") → functions (codes "builtin:pick") ≡ pick → (Rose before.faults after.faults → ⊥)
         → reply_to (((ran.begun).served).runs).exchanges (second_view docs seed) ≡ ended fresh)
@@ -168,34 +171,46 @@ module _ (functions : List ℕ → Functions) (honest : List ℕ → Type 0) (do
 
 -- ---- whatever the folder holds
 
+-- the documents could not be read on this disk: what is named as damaged is, and no file is full
+pub record IsOfReading (disk : Told) (fault : StepFault) : Type 0 where
+  pub damaged : IfTold disk (λ d. (name : FileName) (at : ℕ) → fault ≡ Damaged name at → HasBodyDamage d.now name at)
+  pub room : (name : FileName) (length : Option ℕ) → fault ≡ Full name length → ⊥
+
+-- a run that came to this end is closed by this fault: it met it in a line, or behind all lines, or memory ran out
+abbrev pub MayClose : Told → LoopEnd StepFault → StepFault → Type 0
+MayClose disk end fault = (end ≡ loop_end.Stopped fault) ⊎ ((fault ≡ NoMemory) ⊎ ((end ≡ loop_end.Run InputEnded) × IsOfReading disk fault))
+
+-- an engine was opened over this disk, whose update sequence this is
+abbrev pub IsOpenAt : Told → ℕ → Type 0
+IsOpenAt disk seq = (engine : Engine) × IfTold disk (λ d. IsOpen engine d.now) × (seq_of engine.docs ≡ seq)
+
 module _ (docs seed : ℕ) (before after : Outside) where
-  -- lines of the load were answered, from the folder as it was opened, and the run came to this end; then the documents were only read
+  -- Lines of the load were answered, from the folder as it was opened, whose update sequence was 0, and the run came to this end. Then
+  -- the documents were only read.
   pub record HasRunOver (end : LoopEnd StepFault) : Type 0 where
     pub opened : Told
     pub mid : Told
     pub left : Option (List ℕ)
     pub gained : Option (List ℕ)
     pub moved : Tells before.disk opened IsMovedByOpening
+    pub new : IsOpenAt opened 0
     pub faults : ℕ
     pub counted : after.faults ≡ faults
     pub replied : HasReplied (Some (flat_map ended (load_lines docs seed))) left (Some []) gained opened mid before.faults faults end
     pub read : Tells mid after.disk MovesNone
 
-  -- a run that came to this end is closed by this fault: it met it in a line, or behind all lines, or memory ran out
-  abbrev pub MayClose : LoopEnd StepFault → StepFault → Type 0
-  MayClose end fault = (end ≡ loop_end.Stopped fault) ⊎ ((fault ≡ NoMemory) ⊎ ((end ≡ loop_end.Run InputEnded) × ((name : FileName) (length : Option ℕ) → fault ≡ Full name length → ⊥)))
-
   -- what it prints is made of replies and another line
   abbrev pub PrintsReplies : ℕ → Type 0
   PrintsReplies status = (ran : HasRunOver (loop_end.Run InputEnded)) × (fresh : List ℕ) × IsPrinted before.held after.held (load_text docs seed ((ran.replied).ends.run).exchanges fresh) status
 
-  -- the folder was opened, and no line was served: it has writes, or memory ran out
+  -- the folder was opened, and no line was served: its update sequence isn't 0, or it is, and memory ran out
   pub record IsOpened (status : ℕ) : Type 0 where
     pub moved : Tells before.disk after.disk IsMovedByOpening
-    pub opens : (engine : Engine) × IfTold after.disk (λ d. IsOpen engine d.now)
-    pub ends : ((status ≡ 10) × (after.held ≡ before.held)) ⊎ Closes before.held after.held [] NoMemory status
+    pub seq : ℕ
+    pub opens : IsOpenAt after.disk seq
+    pub ends : ((seq ≢ 0) × (status ≡ 10) × (after.held ≡ before.held)) ⊎ ((seq ≡ 0) × Closes before.held after.held [] NoMemory status)
 
   abbrev pub AnswersLoad : ℕ → Type 0
   AnswersLoad status = PrintsReplies status
-      ⊎ (((end : LoopEnd StepFault) × (fault : StepFault) × HasRunOver end × MayClose end fault × Closes before.held after.held [] fault status)
+      ⊎ (((end : LoopEnd StepFault) × (fault : StepFault) × (ran : HasRunOver end) × MayClose ran.mid end fault × Closes before.held after.held [] fault status)
       ⊎ (IsOpened status ⊎ ReadsNothing before after status))

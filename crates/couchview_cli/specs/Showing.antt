@@ -1,5 +1,5 @@
 -- What a load has done before anything is printed: lines were served from a source in memory to a sink in memory.
-use Rattle.std.specs.Prelude.{◌≡◌, ◌≢◌, ◌⊎◌, ◌≤◌, ℕ, ◌+◌, List, [], ◌++◌, map, slice_index_or, true, Option, Some, Result, Ok, Err, Vec}
+use Rattle.std.specs.Prelude.{◌≡◌, ◌≢◌, ◌⊎◌, ◌≤◌, ℕ, ◌+◌, List, [], ◌++◌, map, slice_index_or, Option, Some, Result, Ok, Err, Vec}
 use Rattle.std.specs.declared.alloc.Global.{Global}
 use Rattle.std.specs.List.{AllByRecursion}
 use Rattle.std.specs.Io.KnownBytes.{IsAtEnd}
@@ -14,16 +14,14 @@ use Rattle.view_ports.specs.declared.servers.Servers.{Ghosts as Servers}
 use Rattle.line_loop.specs.declared.loop_end.LoopEnd.{LoopEnd}
 use Rattle.line_loop.specs.declared.loop_end.LoopEnd.TheVariants.{Run, Stopped}
 use Rattle.line_loop.specs.Loops.{HasEnded}
-use Rattle.map_server.specs.Pick.{pick}
 use Rattle.view_engine.specs.declared.halt.StepFault.{StepFault}
 use Rattle.view_engine.specs.declared.halt.StepFault.TheVariants.{DiskFault, NoMemory}
 use Rattle.view_engine.specs.declared.refusal.Refusal.TheVariants.{NoMemory as OutOfMemory}
 use Rattle.view_engine.specs.Calls.{Scene, scene}
-use Rattle.view_engine.specs.Disks.{IsReadReasonOf}
+use Rattle.view_engine.specs.Disks.{IsReadReasonOf, LiesOpen}
 use Rattle.view_engine.specs.Refusals.{refusal_text}
 use Rattle.view_engine.specs.World.{World}
 use Rattle.view_engine.specs.Worlds.{IsAtWorld}
-use Rattle.load_lines.specs.Documents.{load_map}
 use Rattle.couchview_cli.specs.Ends.{Comes}
 use Rattle.couchview_cli.specs.Loading.{first_view, fresh_answer, second_view}
 use Rattle.couchview_cli.specs.Reading.{HasReplied}
@@ -69,6 +67,7 @@ module _ {F C : Type 0} (f : Folders F) (s : Servers C) (before : Scene F C) (te
     pub gained : List ℕ
     pub ran : HasRunTo after gained InputEnded
     pub done : NoneIsWant gained
+    pub is_open : LiesOpen f after.engine ran.mid
     pub why : IsReadReasonOf f after.engine ran.mid after.folder fault
 
   -- not all was done: a line was not answered, and none before it was refused for want of memory; or the documents could not be read behind
@@ -92,7 +91,6 @@ module _ {F C : Type 0} (f : Folders F) (s : Servers C) (before : Scene F C) (te
     pub done : NoneIsWant gained
     pub fresh : List ℕ
     pub afresh : (world : World) → IfTold (f.disk ran.mid) (λ d. IsAtWorld after.engine d.now world → fresh ≡ fresh_answer world.history)
-    pub compiles : pick.compiles load_map ≡ true
     pub is : IsShown (first_view docs seed) (second_view docs seed) gained fresh shown
 
   -- a load was shown, or not

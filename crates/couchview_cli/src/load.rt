@@ -8,8 +8,6 @@ ghost use Rattle.std.specs.List.{flat_map};
 ghost use Rattle.view_ports.specs.Disk.{IfTold, MovesNone, Tells};
 ghost use Rattle.view_ports.specs.Faults.{Rose};
 ghost use Rattle.view_ports.specs.Lines.{ended};
-ghost use Rattle.map_server.specs.Pick.{pick};
-ghost use Rattle.load_lines.specs.Documents.{load_map as map_source};
 ghost use Rattle.view_engine.specs.Calls.{scene};
 ghost use Rattle.view_engine.specs.Disks.{IsReadReasonOf, LiesOpen};
 ghost use Rattle.view_engine.specs.Refusals.{refusal_text};
@@ -235,7 +233,6 @@ fn fresh_answer<F: Folder>(
     requires { LiesOpen F.Folder engine.now folder.old }
     ensures answer { (world : World) → IfTold (F.disk folder.old) (λ d. IsAtWorld engine.now d.now world
         → IfOk result (λ text. text.items ≡ spec.fresh_answer world.history)) }
-    ensures compiles { OnOk result (pick.compiles map_source ≡ true) }
     ensures disk { Tells (F.disk folder.old) (F.disk folder.new) MovesNone }
     ensures why { IfErr result (IsReadReasonOf F.Folder engine.now folder.old folder.new) }
     ensures later { F.faults folder.old ≤ F.faults folder.new }
@@ -253,8 +250,8 @@ fn fresh_answer<F: Folder>(
         &mut text,
     ) {
         Ok(()) => Ok(text),
-        // The source compiles.
-        Err(AfreshFault::NoMemory | AfreshFault::DoesNotCompile) => Err(StepFault::NoMemory),
+        Err(AfreshFault::NoMemory) => Err(StepFault::NoMemory),
+        Err(AfreshFault::DoesNotCompile) => unreachable!(),
     }
 }
 

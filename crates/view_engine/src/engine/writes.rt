@@ -5,6 +5,7 @@ ghost use Rattle.view_ports.specs.Disk.{IfTold, MovesNone, Tells};
 ghost use Rattle.view_ports.specs.File.{File};
 ghost use Rattle.view_ports.specs.declared.file_name.FileName.{FileName};
 ghost use Rattle.doc_file.specs.Changes.{numbered};
+ghost use Rattle.doc_file.specs.Docs.{seq_of};
 ghost use Rattle.doc_file.specs.History.{changes_after};
 ghost use Rattle.view_engine.specs.Disks.{IsReadReasonOf, LiesOpen};
 ghost use Rattle.view_engine.specs.World.{World};
@@ -20,7 +21,8 @@ use view_ports::Folder;
 impl Engine {
     /// The update sequence: how many writes were accepted.
     pub fn update_seq(&self) -> u64
-        ensures { (files : FileName → File) (world : World) → IsAtWorld self.now files world
+        ensures kept { result ≡ seq_of self.now.docs }
+        ensures counts { (files : FileName → File) (world : World) → IsAtWorld self.now files world
             → result ≡ length world.history }
     {
         self.docs.info().update_seq

@@ -1,5 +1,5 @@
 -- A load is what it showed.
-use Rattle.std.proofs.Common.{◌≡◌, ◌∙◌, ℕ, List, [], Err, Result, inl, inr, refl, ap, subst}
+use Rattle.std.proofs.Common.{◌≡◌, ◌∙◌, ℕ, List, [], Err, Result, inl, inr, refl, sym, ap, subst}
 use Rattle.view_ports.specs.Causes.{HasCauseIf}
 use Rattle.view_ports.specs.declared.file_name.FileName.{FileName}
 use Rattle.view_ports.proofs.Told.{told_now, told_pair}
@@ -52,11 +52,11 @@ returns-then-update_seq-ne0-clause-loads g c = λ left opening holds.
     let ports = beside left g.K.Sink g.F.Folder g.C.Servers c.args.sink.now c.args.folder.now c.args.servers.now in
     let here = made.documents opening holds in
     has_writes s.functions s.honest c.args.docs c.args.number opening ports new (f.faults c.open.new.folder) (s.may_follow c.args.servers.now) c.requires.follows
-    (some_writes c.in-Ok.engine c.update_seq.result c.update_seq.ensures old new opening here (made.moments opening holds) c.if-update_seq-ne0.true) (made.moments opening holds)
+    (some_writes c.in-Ok.engine c.update_seq.result c.update_seq.ensures.counts old new opening here (made.moments opening holds) c.if-update_seq-ne0.true) (made.moments opening holds)
     (told_now new (λ d. IsAtWorld c.in-Ok.engine d.now opening) (λ d. Holds d.now opening) (λ d at. world_held c.in-Ok.engine d.now opening at) here)
 
 pub returns-then-update_seq-ne0-clause-answers : goal.returns-then-update_seq-ne0-clause-answers
-returns-then-update_seq-ne0-clause-answers g c = λ left. inr (inr (inl (record { moved = c.open.ensures.moved; opens = (c.in-Ok.engine, c.in-Ok.ensures.open); ends = inl (refl, refl) })))
+returns-then-update_seq-ne0-clause-answers g c = λ left. inr (inr (inl (record { moved = c.open.ensures.moved; seq = c.update_seq.result; opens = (c.in-Ok.engine, c.in-Ok.ensures.open, sym c.update_seq.ensures.kept); ends = inl (c.if-update_seq-ne0.true, refl, refl) })))
 
 pub returns-in-Ok-shown-clause-loads : goal.returns-in-Ok-shown-clause-loads
 returns-in-Ok-shown-clause-loads g c = λ left opening holds.
@@ -72,7 +72,7 @@ returns-in-Ok-shown-clause-loads g c = λ left opening holds.
     let begun : Origin = origin_of [] opening ports in
     let at : IsAtOrigin f s begun start = come_opened f s begun start made.languages
     (starts_at new (s.may_follow c.args.servers.now) (s.faults c.args.servers.now) c.in-Ok.engine opening made.width (made.documents opening holds) made.childless c.requires.follows) (made.moments opening holds) in
-    let none = no_writes c.in-Ok.engine c.update_seq.result c.update_seq.ensures old new opening (made.documents opening holds) (made.moments opening holds) c.if-update_seq-ne0.false in
+    let none = no_writes c.in-Ok.engine c.update_seq.result c.update_seq.ensures.counts old new opening (made.documents opening holds) (made.moments opening holds) c.if-update_seq-ne0.false in
     let wide = c.finish.ensures.width ∙ c.show-shown.ensures.wide ∙ made.width in
     loads_all f s c.args.docs c.args.number opening ports left (g.K.Sink.held c.print.new.sink) start last stopped c.finish.ensures.stopped wide c.finish.ensures.faults c.requires.low c.requires.few none at c.in-Ok-shown.text.items c.print.result c.in-Ok-shown.ensures.shows
     (subst (λ (t : List ℕ). IsPrinted (g.K.Sink.held c.args.sink.now) (g.K.Sink.held c.print.new.sink) t c.print.result) c.deref.ensures.value c.print.ensures.printed)
@@ -88,7 +88,7 @@ returns-in-Ok-shown-clause-answers g c = λ left.
     let ports = beside left g.K.Sink g.F.Folder g.C.Servers c.args.sink.now c.args.folder.now c.args.servers.now in
     let last = scene c.show-shown.new.engine c.show-shown.new.folder c.show-shown.new.servers in
     let stopped = scene c.finish.new.self c.show-shown.new.folder c.finish.new.servers in
-    answers_all f s c.args.docs c.args.number ports (g.K.Sink.held c.print.new.sink) start last stopped c.finish.ensures.faults c.open.ensures.moved c.requires.low c.requires.few c.in-Ok-shown.text.items c.print.result c.in-Ok-shown.ensures.shows
+    answers_all f s c.args.docs c.args.number ports (g.K.Sink.held c.print.new.sink) start last stopped c.finish.ensures.faults c.open.ensures.moved (c.in-Ok.engine, c.in-Ok.ensures.open, sym c.update_seq.ensures.kept ∙ c.if-update_seq-ne0.false) c.requires.low c.requires.few c.in-Ok-shown.text.items c.print.result c.in-Ok-shown.ensures.shows
     (subst (λ (t : List ℕ). IsPrinted (g.K.Sink.held c.args.sink.now) (g.K.Sink.held c.print.new.sink) t c.print.result) c.deref.ensures.value c.print.ensures.printed)
 
 pub returns-clause-loads : goal.returns-clause-loads
@@ -105,7 +105,7 @@ returns-clause-loads g c = λ left opening holds.
     let begun : Origin = origin_of [] opening ports in
     let at : IsAtOrigin f s begun start = come_opened f s begun start made.languages
     (starts_at new (s.may_follow c.args.servers.now) (s.faults c.args.servers.now) c.in-Ok.engine opening made.width (made.documents opening holds) made.childless c.requires.follows) (made.moments opening holds) in
-    let none = no_writes c.in-Ok.engine c.update_seq.result c.update_seq.ensures old new opening (made.documents opening holds) (made.moments opening holds) c.if-update_seq-ne0.false in
+    let none = no_writes c.in-Ok.engine c.update_seq.result c.update_seq.ensures.counts old new opening (made.documents opening holds) (made.moments opening holds) c.if-update_seq-ne0.false in
     let wide = c.finish.ensures.width ∙ c.show-shown.ensures.wide ∙ made.width in
     loads_not f s c.args.docs c.args.number opening ports left (g.K.Sink.held c.close-in-Err-shown.new.sink) start last stopped c.finish.ensures.stopped wide c.finish.ensures.faults c.requires.low c.requires.few none at (made.moments opening holds) refl c.open.ensures.cause.later
     c.in-Err-shown.fault c.close-in-Err-shown.result c.in-Err-shown.ensures.shows c.close-in-Err-shown.ensures.closes
@@ -121,4 +121,4 @@ returns-clause-answers g c = λ left.
     let ports = beside left g.K.Sink g.F.Folder g.C.Servers c.args.sink.now c.args.folder.now c.args.servers.now in
     let last = scene c.show-shown.new.engine c.show-shown.new.folder c.show-shown.new.servers in
     let stopped = scene c.finish.new.self c.show-shown.new.folder c.finish.new.servers in
-    answers_not f s c.args.docs c.args.number ports (g.K.Sink.held c.close-in-Err-shown.new.sink) start last stopped c.finish.ensures.faults c.open.ensures.moved c.in-Ok.ensures.open c.in-Err-shown.fault c.close-in-Err-shown.result c.in-Err-shown.ensures.shows c.close-in-Err-shown.ensures.closes
+    answers_not f s c.args.docs c.args.number ports (g.K.Sink.held c.close-in-Err-shown.new.sink) start last stopped c.finish.ensures.faults c.open.ensures.moved (c.in-Ok.engine, c.in-Ok.ensures.open, sym c.update_seq.ensures.kept ∙ c.if-update_seq-ne0.false) c.in-Err-shown.fault c.close-in-Err-shown.result c.in-Err-shown.ensures.shows c.close-in-Err-shown.ensures.closes

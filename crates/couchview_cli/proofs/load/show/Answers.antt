@@ -33,6 +33,7 @@ returns-in_err-fresh-clause-shows g c =
       gained = held;
       ran = record { mid = c.serve_lines.new.folder; come = come; read = c.in_err-fresh.ensures.disk };
       done = c.in_ok-written.ensures.serves.1;
+      is_open = c.in_ok-written.ensures.ready;
       why = c.in_err-fresh.ensures.why;
     })))
 
@@ -54,7 +55,6 @@ returns-clause-shows g c =
       done = c.in_ok-written.ensures.serves.1;
       fresh = fresh;
       afresh = c.in_ok-fresh.ensures.answer;
-      compiles = c.in_ok-fresh.ensures.compiles;
       is = subst (λ (n : ℕ). IsShown n (second_view c.args.docs c.args.number) held fresh text) c.in_ok-requests.ensures.first
           (subst (λ (n : ℕ). IsShown first n held fresh text) c.in_ok-requests.ensures.second
           (subst (λ (t : List ℕ). IsShown first second t fresh text) c.held.ensures
