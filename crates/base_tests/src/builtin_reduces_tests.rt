@@ -241,6 +241,18 @@ const SUM_BYTES: &[(Builtin, &str, &[u8])] = &[
     ),
 ];
 
+/// A reduce, and the bytes of a value within its bounds: the shortest list, and the greatest sum of squares.
+const FITTING: &[(Builtin, &[u8])] = &[
+    (
+        Builtin::Sum,
+        b"\x02\x01\0\0\0\x05\0\0\0\0\0\0\0\0\0\0\0\0\0\0\0",
+    ),
+    (
+        Builtin::Stats,
+        b"\x03\xff\xff\xff\xff\xff\xff\xff\xff\xff\xff\xff\xff\xff\xff\xff\xff\x02\0\0\0\0\0\0\0\0\0\0\0\0\0\0\0\xfc\xff\xff\xff\xff\xff\xff\xff\xff\xff\xff\xff\xff\xff\xff\xff\x03\0\0\0\0\0\0\0\0\0\0\0\0\0\0\0\xfe\xff\xff\xff\xff\xff\xff\xff\xff\xff\xff\xff\xff\xff\xff\xff",
+    ),
+];
+
 /// The bytes of no value.
 const NO_SUMS: &[&[u8]] = &[
     b"",
@@ -252,12 +264,14 @@ const NO_SUMS: &[&[u8]] = &[
     b"\0\0\0\0\0\0\0\0\0\x01\0\0\0\0\0\0\0",
     b"\x01\x03\0\0\0\0\0\0\0\0\0\0\0\0\0\0",
     b"\x02\x02\0\0\0\x01\0\0\0\0\0\0\0\0\0\0\0\0\0\0\0",
+    b"\x02\0\0\0\0",
     b"\x02\0\0\0\0\0",
     b"\x02\xff\xff\xff\xff\x01\0\0\0\0\0\0\0\0\0\0\0\0\0\0\0",
     b"\x03\xff\xff\xff\xff\xff\xff\xff\xff\xff\xff\xff\xff\xff\xff\xff\xff\x02\0\0\0\0\0\0\0\0\0\0\0\0\0\0\0\xff\xff\xff\xff\xff\xff\xff\x7f\xff\xff\xff\xff\xff\xff\xff\xff\x03\0\0\0\0\0\0\0\0\0\0\0\0\0\0\0\x19\0\0\0\0\0\0\0\0\0\0\0\0\0\0\0",
     b"\x03\xff\xff\xff\xff\xff\xff\xff\xff\xff\xff\xff\xff\xff\xff\xff\xff\x02\0\0\0\0\0\0\0\0\0\0\0\0\0\0\0\xfc\xff\xff\xff\xff\xff\xff\xff\xff\xff\xff\xff\xff\xff\xff\xff\0\0\0\0\0\0\0\x80\0\0\0\0\0\0\0\0\x19\0\0\0\0\0\0\0\0\0\0\0\0\0\0\0",
     b"\x03\xff\xff\xff\xff\xff\xff\xff\xff\xff\xff\xff\xff\xff\xff\xff\xff\xff\xff\xff\xff\xff\xff\xff\xff\xff\xff\xff\xff\xff\xff\xff\xff\xfc\xff\xff\xff\xff\xff\xff\xff\xff\xff\xff\xff\xff\xff\xff\xff\x03\0\0\0\0\0\0\0\0\0\0\0\0\0\0\0\x19\0\0\0\0\0\0\0\0\0\0\0\0\0\0\0",
     b"\x03\xff\xff\xff\xff\xff\xff\xff\xff\xff\xff\xff\xff\xff\xff\xff\xff\x02\0\0\0\0\0\0\0\0\0\0\0\0\0\0\0\xfc\xff\xff\xff\xff\xff\xff\xff\xff\xff\xff\xff\xff\xff\xff\xff\x03\0\0\0\0\0\0\0\0\0\0\0\0\0\0\0\x19\0\0\0\0\0\0\0\0\0\0\0\0\0\0",
+    b"\x03\xff\xff\xff\xff\xff\xff\xff\xff\xff\xff\xff\xff\xff\xff\xff\xff\x02\0\0\0\0\0\0\0\0\0\0\0\0\0\0\0\xfc\xff\xff\xff\xff\xff\xff\xff\xff\xff\xff\xff\xff\xff\xff\xff\x03\0\0\0\0\0\0\0\0\0\0\0\0\0\0\0\xff\xff\xff\xff\xff\xff\xff\xff\xff\xff\xff\xff\xff\xff\xff\xff",
 ];
 
 fn row_of(alloc: Global, key: &str, id: &str, place: u32, value: &str) -> Result<Row, Fail> {
@@ -390,6 +404,9 @@ fn values_have_bytes(rt: HostRuntime) -> Result<(), Fail> {
         want.extend_from_slice(bytes)?;
         assert!(rt; sum_bytes(rt.alloc(), &summer, &sum)? == want, "{values}");
         assert!(rt; is_sum(rt.alloc(), &summer, bytes)?, "{values}");
+    }
+    for (kind, bytes) in FITTING {
+        assert!(rt; is_sum(rt.alloc(), &BuiltinSummer::new(*kind), bytes)?);
     }
     for bytes in NO_SUMS {
         for kind in [Builtin::Count, Builtin::Sum, Builtin::Stats] {

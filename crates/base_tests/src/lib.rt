@@ -1,5 +1,5 @@
 //! Tests of the public calls of the crates `json_terms`, `raw_collation`, `term_codec`, `index_record`, `view_ports` (query
-//! servers), `design_docs`, `view_signature`, `builtin_reduces`, `query_protocol` and `view_model`; nothing else.
+//! servers), `design_docs`, `tree_laws`, `view_signature`, `builtin_reduces`, `query_protocol` and `view_model`; nothing else.
 #![tactic(auto)]
 
 #[cfg(test)]
@@ -18,6 +18,8 @@ mod raw_collation_tests;
 mod server_tests;
 #[cfg(test)]
 mod term_codec_tests;
+#[cfg(test)]
+mod tree_laws_tests;
 #[cfg(test)]
 mod view_model_tests;
 #[cfg(test)]

@@ -1,5 +1,5 @@
 -- Two values that a reduce gives, added, are one that it gives, within bounds.
-use Rattle.std.proofs.Common.{◌≡◌, ◌≢◌, ℕ, ◌-◌, ◌^◌, ◌<◌, ℤ, pos, negsuc, ◌+ℤ◌, int_lt, nat_eq, nat_lt, List, [], ◌∷◌, length, Bool, true, false, cond, if◌then◌else◌, FitsSigned, w64, arith, All, get_or, refl, sym, subst}
+use Rattle.std.proofs.Common.{◌≡◌, ◌≢◌, ℕ, ◌-◌, ◌^◌, ◌<◌, ℤ, pos, negsuc, ◌+ℤ◌, int_lt, nat_eq, nat_lt, List, [], ◌∷◌, length, Bool, true, false, cond, if◌then◌else◌, FitsSigned, w64, arith, All, get_or, refl, sym, subst, ltb-true}
 use Rattle.std.specs.Int.{w128}
 use Rattle.std.specs.List.{AllByRecursion}
 use Rattle.design_docs.specs.declared.design.Builtin.{Builtin}
@@ -69,32 +69,36 @@ near_added_fits (x ∷ xs) [] f g = f
 near_added_fits (x ∷ xs) (y ∷ ys) f g = (near_fits (x +ℤ y), near_added_fits xs ys f.1 g.1)
 
 near_added_numbers : (xs ys : List ℤ) → AreNumbers xs → AreNumbers ys → AreNumbers (near_added xs ys)
-near_added_numbers xs ys f g = record { each = near_added_fits xs ys f.each g.each; few = let e = length-near_added xs ys in omega (arith, f.few, g.few) }
+near_added_numbers xs ys f g = let e = length-near_added xs ys in record { each = near_added_fits xs ys f.each g.each; some = omega (arith, f.some); few = omega (arith, f.few, g.few) }
 
 pub one_number : (z : ℤ) → FitsSigned w128 z → AreNumbers (z ∷ [])
-one_number z fits = record { each = (fits, tt); few = omega arith }
+one_number z fits = record { each = (fits, tt); some = omega arith; few = omega arith }
 
 one_fits_of : (first : Bool) (x y : ℤ) → FitsSigned w64 x → FitsSigned w64 y → FitsSigned w64 (cond first x y)
 one_fits_of true x y f g = f
 one_fits_of false x y f g = g
 
-both_fit : (a b : Told) → AreStats a → AreStats b → AreStats (both a b)
-both_fit a b f g = record {
+-- it has bytes, where the sum of its squares isn't too great
+abbrev FitsChecked : Told → Type 0
+FitsChecked s = nat_lt s.sumsqr (2 ^ 128 - 1) ≡ true → AreStats s
+
+both_fit : (a b : Told) → AreStats a → AreStats b → FitsChecked (both a b)
+both_fit a b f g small = record {
   sum = near_fits (a.sum +ℤ b.sum);
   count = omega arith;
   least = one_fits_of (int_lt b.min a.min) b.min a.min g.least f.least;
   greatest = one_fits_of (int_lt b.max a.max) a.max b.max f.greatest g.greatest;
-  squares = omega arith;
+  squares = omega (arith, ltb-true (both a b).sumsqr (2 ^ 128 - 1) small);
 }
 
-one_of_told : (first : Bool) (a b : Told) → AreStats a → AreStats b → AreStats (if first then a else b)
+one_of_told : (first : Bool) (a b : Told) → FitsChecked a → FitsChecked b → FitsChecked (if first then a else b)
 one_of_told true a b f g = f
 one_of_told false a b f g = g
 
-merged_fit : (a b : Told) → AreStats a → AreStats b → AreStats (merged a b)
+merged_fit : (a b : Told) → AreStats a → AreStats b → FitsChecked (merged a b)
 merged_fit a b f g =
     let behind : Told = if nat_eq b.count 0 then a else both a b in
-    one_of_told (nat_eq a.count 0) b behind g (one_of_told (nat_eq b.count 0) a (both a b) f (both_fit a b f g))
+    one_of_told (nat_eq a.count 0) b behind (λ small. g) (one_of_told (nat_eq b.count 0) a (both a b) (λ small. f) (both_fit a b f g))
 
 pub told_fits : (small : Bool) (s : Told) → (small ≡ true → AreStats s) → HasBytes (if small then value.Stats s else value.Overflow)
 told_fits true s f = f refl
@@ -122,7 +126,7 @@ bounds_added (value.Numbers ms) value.Overflow f g = tt
 bounds_added (value.Stats r) (value.Count n) f g = tt
 bounds_added (value.Stats r) (value.Number z) f g = tt
 bounds_added (value.Stats r) (value.Numbers ns) f g = tt
-bounds_added (value.Stats r) (value.Stats s) f g = let m = merged r s in told_fits (nat_lt m.sumsqr (2 ^ 128 - 1)) m (λ small. merged_fit r s f g)
+bounds_added (value.Stats r) (value.Stats s) f g = let m = merged r s in told_fits (nat_lt m.sumsqr (2 ^ 128 - 1)) m (merged_fit r s f g)
 bounds_added (value.Stats r) value.Refused f g = tt
 bounds_added (value.Stats r) value.Overflow f g = tt
 bounds_added value.Refused b f g = tt

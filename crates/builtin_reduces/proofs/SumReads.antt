@@ -16,8 +16,8 @@ use Rattle.builtin_reduces.specs.declared.sum.BuiltinSum.{BuiltinSum}
 use Rattle.builtin_reduces.specs.declared.sum.BuiltinSum.TheVariants as value
 use Rattle.builtin_reduces.specs.declared.sum.Stats.{Stats}
 use Rattle.builtin_reduces.specs.SumBytes.{u128_bytes, i128_bytes, numbers_bytes, stats_bytes, sum_bytes, place_limit, AreNumbers, AreStats, HasBytes}
-use Rattle.builtin_reduces.specs.SumReading.{u128_in, i128_in, is_i64, u64_in, i64_in, numbers_from, numbers_of_count, numbers_in, stats_in, kind_in, front_in, alone, sum_in}
-use Rattle.builtin_reduces.specs.SumSpelled.{numbers_counted, length-u128_bytes, i128_is_u128, i128_in-u128, passing, u64_in-u128, i64_in-i128, from_greatest, from_least, from_count, told_1, told_2, told_3, told_4, told_5, alone_of, sum_in-spelled}
+use Rattle.builtin_reduces.specs.SumReading.{u128_in, i128_in, is_i64, u64_in, i64_in, squares_in, is_place_count, numbers_from, numbers_of_count, numbers_in, stats_in, kind_in, front_in, alone, sum_in}
+use Rattle.builtin_reduces.specs.SumSpelled.{numbers_counted, length-u128_bytes, i128_is_u128, i128_in-u128, passing, u64_in-u128, squares_in-u128, i64_in-i128, from_greatest, from_least, from_count, told_1, told_2, told_3, told_4, told_5, alone_of, sum_in-spelled}
 
 -- ---- numbers
 
@@ -68,6 +68,15 @@ u64_in-read bytes n rest h =
     let read = u128_in-read bytes n rest (made.1 ∙ ap Some found.1) in
     (subst (λ k. k < 2 ^ 64) is small, read.1)
 
+pub squares_in-read : (bytes : List ℕ) (n : ℕ) (rest : List ℕ) → squares_in bytes ≡ Some (n, rest) → (suc n < 2 ^ 128) × (bytes ≡ u128_bytes n ++ rest)
+squares_in-read bytes n rest h =
+    let made = then_some (passing (λ n. nat_lt (suc n) (2 ^ 128))) (u128_in bytes) (n, rest) (sym (squares_in-u128 bytes) ∙ h) in
+    let found = cond_some (nat_lt (suc made.0.0) (2 ^ 128)) made.0 (n, rest) made.2 in
+    let is : made.0.0 ≡ n = ap (λ r. r.0) found.1 in
+    let small = ltb-true (suc made.0.0) (2 ^ 128) found.0 in
+    let read = u128_in-read bytes n rest (made.1 ∙ ap Some found.1) in
+    (subst (λ k. suc k < 2 ^ 128) is small, read.1)
+
 pub i64_in-read : (bytes : List ℕ) (z : ℤ) (rest : List ℕ) → i64_in bytes ≡ Some (z, rest) → FitsSigned w64 z × (bytes ≡ i128_bytes z ++ rest)
 i64_in-read bytes z rest h =
     let made = then_some (passing is_i64) (i128_in bytes) (z, rest) (sym (i64_in-i128 bytes) ∙ h) in
@@ -113,22 +122,22 @@ cond_same : {A : Type 0} (b : Bool) (x : Option A) (r : A) → cond b x None ≡
 cond_same true x r h = h
 cond_same false x r h = absurd cc
 
-limited : {A : Type 0} (n : ℕ) (x : Option A) (r : A) → cond (nat_le n place_limit) x None ≡ Some r → (n ≤ place_limit) × (x ≡ Some r)
-limited n x r h = by_test (nat_le n place_limit) x None r h (λ few is. (leb-true n place_limit few, is)) (λ none. absurd cc)
+limited : {A : Type 0} (n : ℕ) (x : Option A) (r : A) → cond (is_place_count n) x None ≡ Some r → (1 ≤ n) × (n ≤ place_limit) × (x ≡ Some r)
+limited n x r h = by_test (is_place_count n) x None r h (λ so is. let tests = and_parts _ _ so in (leb-true 1 n tests.0, leb-true n place_limit tests.1, is)) (λ none. absurd cc)
 
 numbers_in-read : (bytes : List ℕ) (ns : List ℤ) (rest : List ℕ) → numbers_in bytes ≡ Some (ns, rest) → AreNumbers ns × (bytes ≡ numbers_bytes ns ++ rest)
 numbers_in-read bytes ns rest h =
     let count = then_some numbers_counted (count_in bytes) (ns, rest) h in
     let n : ℕ = count.0.0 in
     let head = count_in-read bytes n count.0.1 count.1 in
-    let few = limited n (numbers_of_count n count.0.1) (ns, rest) count.2 in
-    let tested = cond_same (nat_le n (length count.0.1 / 16)) (numbers_from [] n count.0.1) (ns, rest) few.1 in
+    let counted = limited n (numbers_of_count n count.0.1) (ns, rest) count.2 in
+    let tested = cond_same (nat_le n (length count.0.1 / 16)) (numbers_from [] n count.0.1) (ns, rest) counted.2 in
     let read = numbers_from-read n [] count.0.1 ns rest tested in
     let many : List ℤ = read.0 in
     let same : many ≡ ns = sym read.1 in
     let long : n ≡ length many = sym read.2.counted in
     let is : bytes ≡ numbers_bytes many ++ rest = head.1 ∙ (λ i. count_bytes (long i) ++ read.2.is i) ∙ sym (append_assoc (count_bytes (length many)) (flat_map i128_bytes many) rest) in
-    let fit : AreNumbers many = record { each = read.2.each; few = subst (λ k. k ≤ place_limit) long few.0 } in
+    let fit : AreNumbers many = record { each = read.2.each; some = subst (λ k. 1 ≤ k) long counted.0; few = subst (λ k. k ≤ place_limit) long counted.1 } in
     subst (λ ms. AreNumbers ms × (bytes ≡ numbers_bytes ms ++ rest)) same (fit, is)
 
 -- ---- what `_stats` tells
@@ -155,10 +164,10 @@ pub record IsStatsRead (bytes : List ℕ) (sum : BuiltinSum) (rest : List ℕ) :
 last_read : (total : ℤ) (count : ℕ) (least greatest : ℤ) (bytes from_b from_c from_d from_e : List ℕ) (sum : BuiltinSum) (rest : List ℕ) → FitsSigned w128 total × (bytes ≡ i128_bytes total ++ from_b) → (count < 2 ^ 64) × (from_b ≡ u128_bytes count ++ from_c)
     → FitsSigned w64 least × (from_c ≡ i128_bytes least ++ from_d) → FitsSigned w64 greatest × (from_d ≡ i128_bytes greatest ++ from_e) → told_4 total count least (greatest, from_e) ≡ Some (sum, rest) → IsStatsRead bytes sum rest
 last_read total count least greatest bytes from_b from_c from_d from_e sum rest a b c d h =
-    let e = then_some (told_5 total count least greatest) (u128_in from_e) (sum, rest) h in
+    let e = then_some (told_5 total count least greatest) (squares_in from_e) (sum, rest) h in
     let s : Stats = record { sum = total; count = count; min = least; max = greatest; sumsqr = e.0.0 } in
     let same = some-pair (value.Stats s, e.0.1) (sum, rest) e.2 in
-    let read = u128_in-read from_e e.0.0 rest (e.1 ∙ ap (λ r. Some (e.0.0, r)) same.1) in record {
+    let read = squares_in-read from_e e.0.0 rest (e.1 ∙ ap (λ r. Some (e.0.0, r)) same.1) in record {
       stats = s;
       same = sym same.0;
       fit = record { sum = a.0; count = b.0; least = c.0; greatest = d.0; squares = read.0 };

@@ -65,7 +65,7 @@ small_fit (n ∷ ns) s = (fits_more n s.0, small_fit ns s.1)
 
 from_zero_fit : (ns : List ℤ) → AreSmall ns → length ns ≤ place_limit → AreNumbers (added (pos 0 ∷ []) ns)
 from_zero_fit [] s few = one_number (pos 0) (record { sfits = omega arith })
-from_zero_fit (n ∷ ns) s few = record { each = (from_zero n s.0, small_fit ns s.1); few = few }
+from_zero_fit (n ∷ ns) s few = record { each = (from_zero n s.0, small_fit ns s.1); some = omega arith; few = few }
 
 refused_fits : (kind : Builtin) → kind ≢ Count → FitsUnder kind value.Refused
 refused_fits kind other = record { under = other; bounds = tt }

@@ -1,6 +1,6 @@
 -- The value of a group in bytes: a byte for its kind, and behind it its numbers. Each number has 16 bytes, in two's complement
 -- where it may be negative; how many numbers a list has stands in 4 bytes. The low byte comes first.
-use Rattle.std.specs.Prelude.{ℕ, ℤ, ◌<◌, ◌≤◌, ◌^◌, List, [], ◌∷◌, ◌++◌, length, FitsSigned}
+use Rattle.std.specs.Prelude.{ℕ, suc, ℤ, ◌<◌, ◌≤◌, ◌^◌, List, [], ◌∷◌, ◌++◌, length, FitsSigned}
 use Rattle.std.specs.Int.{cast_unsigned, to_le_bytes, w64, w128}
 use Rattle.std.specs.List.{AllByRecursion, flat_map}
 use Rattle.term_codec.specs.Spelling.{count_bytes}
@@ -36,18 +36,19 @@ sum_bytes value.Overflow = 5 ∷ []
 abbrev pub place_limit : ℕ
 place_limit = 524287
 
--- the numbers are of their type, and there are no more of them
+-- the numbers are of their type, there is one at least, and there are no more of them
 pub record AreNumbers (ns : List ℤ) : Type 0 where
   pub each : AllByRecursion (FitsSigned w128) ns
+  pub some : 1 ≤ length ns
   pub few : length ns ≤ place_limit
 
--- each number is of its type
+-- each number is of its type, and the sum of the squares is less than 2^128 - 1
 pub record AreStats (s : Stats) : Type 0 where
   pub sum : FitsSigned w128 s.sum
   pub count : s.count < 2 ^ 64
   pub least : FitsSigned w64 s.min
   pub greatest : FitsSigned w64 s.max
-  pub squares : s.sumsqr < 2 ^ 128
+  pub squares : suc s.sumsqr < 2 ^ 128
 
 abbrev pub HasBytes : BuiltinSum → Type 0
 HasBytes (value.Count n) = n < 2 ^ 64

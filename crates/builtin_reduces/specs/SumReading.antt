@@ -38,6 +38,12 @@ i64_in bytes = do
   number ← i128_in bytes
   if is_i64 number.0 then Some number else None
 
+-- a sum of squares that isn't too great
+unfoldable pub squares_in : List ℕ → Option (ℕ × List ℕ)
+squares_in bytes = do
+  number ← u128_in bytes
+  if nat_lt (suc number.0) (2 ^ 128) then Some number else None
+
 -- so many numbers, behind those that are done
 abbrev pub numbers_from : List ℤ → ℕ → List ℕ → Option (List ℤ × List ℕ)
 numbers_from done zero bytes = Some (done, bytes)
@@ -49,10 +55,14 @@ numbers_from done (suc n) bytes = do
 abbrev pub numbers_of_count : ℕ → List ℕ → Option (List ℤ × List ℕ)
 numbers_of_count n bytes = if nat_le n (length bytes / 16) then numbers_from [] n bytes else None
 
+-- whether a list may have so many numbers
+abbrev pub is_place_count : ℕ → Bool
+is_place_count n = nat_le 1 n && nat_le n place_limit
+
 abbrev pub numbers_in : List ℕ → Option (List ℤ × List ℕ)
 numbers_in bytes = do
   count ← count_in bytes
-  if nat_le count.0 place_limit then numbers_of_count count.0 count.1 else None
+  if is_place_count count.0 then numbers_of_count count.0 count.1 else None
 
 abbrev pub stats_in : List ℕ → Option (BuiltinSum × List ℕ)
 stats_in bytes = do
@@ -60,7 +70,7 @@ stats_in bytes = do
   count ← u64_in sum.1
   least ← i64_in count.1
   greatest ← i64_in least.1
-  squares ← u128_in greatest.1
+  squares ← squares_in greatest.1
   Some (value.Stats (record { sum = sum.0; count = count.0; min = least.0; max = greatest.0; sumsqr = squares.0 }), squares.1)
 
 -- a value of this kind, behind the byte of its kind

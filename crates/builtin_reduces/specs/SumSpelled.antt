@@ -1,5 +1,5 @@
 -- What is spelled of the value of a group is read, so that no two values have the same bytes.
-use Rattle.std.proofs.Common.{◌≡◌, ◌^◌, ◌<◌, ◌≤◌, ◌*◌, ◌/◌, ℕ, ℤ, pos, negsuc, List, [], ◌∷◌, ◌++◌, length, take, drop, Bool, true, cond, nat_le, nat_lt, Option, Some, None, option_map, option_and_then, bytes_eq, refl, ap, sym, ◌∙◌, FitsSigned, w64, arith, length-append, append_assoc}
+use Rattle.std.proofs.Common.{◌≡◌, suc, ◌^◌, ◌<◌, ◌≤◌, ◌*◌, ◌/◌, ℕ, ℤ, pos, negsuc, List, [], ◌∷◌, ◌++◌, length, take, drop, Bool, true, cond, nat_lt, Option, Some, None, option_map, option_and_then, bytes_eq, refl, ap, sym, ◌∙◌, FitsSigned, w64, arith, length-append, append_assoc}
 use Rattle.std.specs.Int.{cast_signed, cast_unsigned, from_le_bytes, to_le_bytes, w128}
 use Rattle.std.specs.List.{AllByRecursion, flat_map}
 use Rattle.std.proofs.lemmas.Bool.{cond-true, and_from, lt-ltb, le-leb}
@@ -14,8 +14,8 @@ use Rattle.tree_laws.specs.Spelled.{IsSpelledOnce}
 use Rattle.builtin_reduces.specs.declared.sum.BuiltinSum.{BuiltinSum}
 use Rattle.builtin_reduces.specs.declared.sum.BuiltinSum.TheVariants as value
 use Rattle.builtin_reduces.specs.declared.sum.Stats.{Stats}
-use Rattle.builtin_reduces.specs.SumBytes.{u128_bytes, i128_bytes, numbers_bytes, stats_bytes, sum_bytes, place_limit, AreNumbers, AreStats, HasBytes}
-use Rattle.builtin_reduces.specs.SumReading.{u128_if, u128_in, i128_in, is_i64, u64_in, i64_in, numbers_from, numbers_of_count, numbers_in, stats_in, front_in, alone, sum_in}
+use Rattle.builtin_reduces.specs.SumBytes.{u128_bytes, i128_bytes, numbers_bytes, stats_bytes, sum_bytes, AreNumbers, AreStats, HasBytes}
+use Rattle.builtin_reduces.specs.SumReading.{u128_if, u128_in, i128_in, is_i64, u64_in, i64_in, squares_in, is_place_count, numbers_from, numbers_of_count, numbers_in, stats_in, front_in, alone, sum_in}
 use Rattle.builtin_reduces.specs.Wide.{from_le_bytes-to_le_bytes_16}
 
 -- ---- numbers
@@ -68,6 +68,10 @@ pub u64_in-u128 : (bytes : List ℕ) → u64_in bytes ≡ option_and_then (passi
 unfolding u64_in
 u64_in-u128 bytes = refl
 
+pub squares_in-u128 : (bytes : List ℕ) → squares_in bytes ≡ option_and_then (passing (λ n. nat_lt (suc n) (2 ^ 128))) (u128_in bytes)
+unfolding squares_in
+squares_in-u128 bytes = refl
+
 pub i64_in-i128 : (bytes : List ℕ) → i64_in bytes ≡ option_and_then (passing is_i64) (i128_in bytes)
 unfolding i64_in
 i64_in-i128 bytes = refl
@@ -76,6 +80,11 @@ pub u64_in-spelled : (n : ℕ) (rest : List ℕ) → n < 2 ^ 64 → u64_in (u128
 u64_in-spelled n rest small =
     u64_in-u128 (u128_bytes n ++ rest) ∙ ap (option_and_then (passing (λ n. nat_lt n (2 ^ 64)))) (u128_in-spelled n rest (omega arith))
     ∙ cond-true (nat_lt n (2 ^ 64)) (Some (n, rest)) None (lt-ltb n (2 ^ 64) small)
+
+pub squares_in-spelled : (n : ℕ) (rest : List ℕ) → suc n < 2 ^ 128 → squares_in (u128_bytes n ++ rest) ≡ Some (n, rest)
+squares_in-spelled n rest small =
+    squares_in-u128 (u128_bytes n ++ rest) ∙ ap (option_and_then (passing (λ n. nat_lt (suc n) (2 ^ 128)))) (u128_in-spelled n rest (omega arith))
+    ∙ cond-true (nat_lt (suc n) (2 ^ 128)) (Some (n, rest)) None (lt-ltb (suc n) (2 ^ 128) small)
 
 pub i64_in-spelled : (z : ℤ) (rest : List ℕ) → FitsSigned w64 z → i64_in (i128_bytes z ++ rest) ≡ Some (z, rest)
 i64_in-spelled z rest fits =
@@ -101,7 +110,7 @@ numbers_from-spelled (z ∷ ns) done rest fit =
 
 -- the numbers of a list that has so many
 abbrev pub numbers_counted : ℕ × List ℕ → Option (List ℤ × List ℕ)
-numbers_counted count = cond (nat_le count.0 place_limit) (numbers_of_count count.0 count.1) None
+numbers_counted count = cond (is_place_count count.0) (numbers_of_count count.0 count.1) None
 
 numbers_in-spelled : (ns : List ℤ) (rest : List ℕ) → AreNumbers ns → numbers_in (numbers_bytes ns ++ rest) ≡ Some (ns, rest)
 numbers_in-spelled ns rest fit =
@@ -110,7 +119,7 @@ numbers_in-spelled ns rest fit =
     let room : length ns ≤ length (flat_map i128_bytes ns ++ rest) / 16 = omega arith in
     ap (λ bs. option_and_then numbers_counted (count_in bs)) (append_assoc (count_bytes (length ns)) (flat_map i128_bytes ns) rest)
     ∙ ap (option_and_then numbers_counted) (count_in-spelled (length ns) (flat_map i128_bytes ns ++ rest) (omega (arith, fit.few)))
-    ∙ cond-true _ (numbers_of_count (length ns) (flat_map i128_bytes ns ++ rest)) None (le-leb _ _ fit.few)
+    ∙ cond-true _ (numbers_of_count (length ns) (flat_map i128_bytes ns ++ rest)) None (and_from _ _ (le-leb _ _ fit.some) (le-leb _ _ fit.few))
     ∙ cond-true _ (numbers_from [] (length ns) (flat_map i128_bytes ns ++ rest)) None (le-leb _ _ room)
     ∙ numbers_from-spelled ns [] rest fit.each
 
@@ -130,7 +139,7 @@ abbrev pub told_5 : ℤ → ℕ → ℤ → ℤ → ℕ × List ℕ → Option (
 told_5 sum count least greatest r = Some (value.Stats (record { sum = sum; count = count; min = least; max = greatest; sumsqr = r.0 }), r.1)
 
 abbrev pub told_4 : ℤ → ℕ → ℤ → ℤ × List ℕ → Option (BuiltinSum × List ℕ)
-told_4 sum count least r = option_and_then (told_5 sum count least r.0) (u128_in r.1)
+told_4 sum count least r = option_and_then (told_5 sum count least r.0) (squares_in r.1)
 
 abbrev pub told_3 : ℤ → ℕ → ℤ × List ℕ → Option (BuiltinSum × List ℕ)
 told_3 sum count r = option_and_then (told_4 sum count r.0) (i64_in r.1)
@@ -147,7 +156,7 @@ stats_in-spelled s rest fit =
     ∙ ap (option_and_then (told_2 s.sum)) (ap u64_in (append_assoc (u128_bytes s.count) (from_least s) rest) ∙ u64_in-spelled s.count (from_least s ++ rest) fit.count)
     ∙ ap (option_and_then (told_3 s.sum s.count)) (ap i64_in (append_assoc (i128_bytes s.min) (from_greatest s) rest) ∙ i64_in-spelled s.min (from_greatest s ++ rest) fit.least)
     ∙ ap (option_and_then (told_4 s.sum s.count s.min)) (ap i64_in (append_assoc (i128_bytes s.max) (u128_bytes s.sumsqr) rest) ∙ i64_in-spelled s.max (u128_bytes s.sumsqr ++ rest) fit.greatest)
-    ∙ ap (option_and_then (told_5 s.sum s.count s.min s.max)) (u128_in-spelled s.sumsqr rest fit.squares)
+    ∙ ap (option_and_then (told_5 s.sum s.count s.min s.max)) (squares_in-spelled s.sumsqr rest fit.squares)
 
 -- ---- values
 

@@ -29,8 +29,8 @@ same_keeps {A} means Lawful Usable Fits = record {
   fits = λ a b sum same. let P : A → Type 0 = λ x. Fits a sum ↔ Fits x sum in subst P (sym same) (λ h. h, λ h. h);
 }
 
-pub same_stays_caused : {A F : Type 0} (Fails : A → F → Type 0) → StaysCaused {A = A} {F = F} Same (λ a b fault. Fails a fault)
-same_stays_caused Fails = λ a b c fault before cause. subst (λ x. Fails x fault) before cause
+pub same_stays_caused : {A F : Type 0} (Fails : A → A → F → Type 0) → StaysCaused Same Fails
+same_stays_caused Fails = λ a b c fault before cause. subst (λ x. Fails x c fault) before cause
 
 -- ---- values
 

@@ -5,7 +5,7 @@ ghost use Rattle.std.specs.Int.{w128};
 ghost use Rattle.std.specs.List.{AllByRecursion, flat_map};
 ghost use Rattle.builtin_reduces.specs.Front.{read_of};
 ghost use Rattle.builtin_reduces.specs.SumBytes.{u128_bytes, i128_bytes, numbers_bytes, stats_bytes, sum_bytes, AreNumbers, AreStats, HasBytes};
-ghost use Rattle.builtin_reduces.specs.SumReading.{u128_in, i128_in, u64_in, i64_in, numbers_of_count, numbers_in, stats_in, kind_in, front_in, sum_in};
+ghost use Rattle.builtin_reduces.specs.SumReading.{u128_in, i128_in, u64_in, i64_in, squares_in, is_place_count, numbers_of_count, numbers_in, stats_in, kind_in, front_in, sum_in};
 
 use crate::sum::{BuiltinSum, Stats, Sums};
 use json_terms::NoMemory;
@@ -16,7 +16,7 @@ use term_codec::{put_count, read_count};
 const PLACE_LIMIT: usize = 524_287;
 
 /// Writes a value behind what `out` holds. Where memory runs out some of it may be written. Want of memory is also answered
-/// for a list of more than 524,287 numbers.
+/// for a list of no numbers or of more than 524,287, and for a sum of squares of 2^128 - 1.
 pub(crate) fn put_sum(sum: &BuiltinSum, out: &mut Vec<u8>) -> Result<(), NoMemory>
     ensures bytes { OnOk result (out.new.items ≡ out.old.items ++ sum_bytes sum.now) }
     ensures fits { OnOk result (HasBytes sum.now) }
@@ -62,7 +62,7 @@ fn put_numbers(numbers: &[i128], out: &mut Vec<u8>) -> Result<(), NoMemory>
     ensures bytes { OnOk result (out.new.items ≡ out.old.items ++ numbers_bytes numbers.now) }
     ensures fits { OnOk result (AreNumbers numbers.now) }
 {
-    if numbers.len() > PLACE_LIMIT {
+    if !is_place_count(numbers.len()) {
         return Err(NoMemory);
     }
     put_count(numbers.len(), out)?;
@@ -83,6 +83,9 @@ fn put_stats(stats: &Stats, out: &mut Vec<u8>) -> Result<(), NoMemory>
     ensures bytes { OnOk result (out.new.items ≡ out.old.items ++ stats_bytes stats.now) }
     ensures fits { OnOk result (AreStats stats.now) }
 {
+    if stats.sumsqr == u128::MAX {
+        return Err(NoMemory);
+    }
     put_i128(stats.sum, out)?;
     put_u128(u128::from(stats.count), out)?;
     put_i128(i128::from(stats.min), out)?;
@@ -90,8 +93,8 @@ fn put_stats(stats: &Stats, out: &mut Vec<u8>) -> Result<(), NoMemory>
     put_u128(stats.sumsqr, out)
 }
 
-/// The value of these bytes; none where they are those of none, or of a list of more than 524,287 numbers. A number of numbers
-/// is compared with the bytes that are left before memory is taken for it.
+/// The value of these bytes; none where they are those of none. How many numbers a list has is compared with the bytes that are
+/// left before memory is taken for them.
 pub(crate) fn read_sum(alloc: Global, bytes: &[u8]) -> Result<Option<BuiltinSum>, NoMemory>
     ensures { IfOk result (λ found. found ≡ sum_in bytes.now) }
 {
@@ -135,7 +138,7 @@ fn read_stats(bytes: &[u8]) -> Option<(BuiltinSum, &[u8])>
     let (count, rest) = read_u64(rest)?;
     let (min, rest) = read_i64(rest)?;
     let (max, rest) = read_i64(rest)?;
-    let (sumsqr, rest) = read_u128(rest)?;
+    let (sumsqr, rest) = read_squares(rest)?;
     let stats = Stats {
         sum,
         count,
@@ -150,9 +153,16 @@ fn read_numbers(alloc: Global, bytes: &[u8]) -> Result<Option<(Sums, &[u8])>, No
     ensures { IfOk result (λ found. read_of found ≡ numbers_in bytes.now) }
 {
     match read_count(bytes) {
-        Some((count, rest)) if count <= PLACE_LIMIT => read_each_number(alloc, count, rest),
+        Some((count, rest)) if is_place_count(count) => read_each_number(alloc, count, rest),
         _ => Ok(None),
     }
+}
+
+/// Whether a list may have so many numbers.
+fn is_place_count(count: usize) -> bool
+    ensures { result ≡ is_place_count count }
+{
+    count >= 1 && count <= PLACE_LIMIT
 }
 
 // So many numbers from the front.
@@ -216,6 +226,18 @@ fn read_u64(bytes: &[u8]) -> Option<(u64, &[u8])>
         return None;
     }
     Some((number as u64, rest))
+}
+
+/// A sum of squares that isn't too great.
+#[tactic(auto, unfolding(crate::specs::SumReading::squares_in))]
+fn read_squares(bytes: &[u8]) -> Option<(u128, &[u8])>
+    ensures { read_of result ≡ squares_in bytes.now }
+{
+    let (number, rest) = read_u128(bytes)?;
+    if number == u128::MAX {
+        return None;
+    }
+    Some((number, rest))
 }
 
 /// A whole number that fits 64 bits.

@@ -22,12 +22,12 @@ use tree_laws::{ItemFault, Summer};
 /// squares), 4 a value that is refused, 5 one that is too great. Each number has 16 bytes, in two's complement where it may
 /// be negative. The low byte comes first.
 ///
-/// Only what the reduce may give has bytes: `_count` gives a count; `_sum` a number, or a list of 524,287 numbers at most;
-/// `_stats` what it tells, or a value that is too great. The latter two also give one that is refused. `leaf` answers no
-/// other value, nor does `join` of parts that have bytes. For any other value `encode_sum` answers want of memory, and for
-/// its bytes `decode_sum` answers `ItemFault`.
+/// Only what the reduce may give has bytes: `_count` gives a count; `_sum` a number, or a list of one number at least and
+/// 524,287 at most; `_stats` what it tells, where the sum of the squares is less than 2^128 - 1, or a value that is too great.
+/// The latter two also give one that is refused. `leaf` answers no other value, nor does `join` of parts that have bytes. For
+/// any other value `encode_sum` answers want of memory, and for its bytes `decode_sum` answers `ItemFault`.
 ///
-/// `leaf` and `join` take memory under `_sum` alone.
+/// `leaf` and `join` take memory under `_sum` alone. No call changes the summer, even one that answers want of memory.
 #[derive(Clone, Copy, Debug)]
 pub struct BuiltinSummer {
     kind: Builtin,
@@ -61,7 +61,7 @@ impl Summer for BuiltinSummer {
 
     ghost goes = { λ a b. b ≡ a };
 
-    ghost fails = { λ a b fault. a.kind ≡ builtin.Sum };
+    ghost fails = { λ a b fault. (b ≡ a) × (a.kind ≡ builtin.Sum) };
 
     fn leaf(&mut self, alloc: Global, items: &[RowItem]) -> Result<BuiltinSum, NoMemory> {
         leaf_of_items(alloc, self.kind, items)
@@ -105,7 +105,7 @@ impl Summer for BuiltinSummer {
 
     ghost keeps = { same_keeps _ _ _ _ };
 
-    ghost stays_caused = { same_stays_caused (λ summer fault. summer.kind ≡ builtin.Sum) };
+    ghost stays_caused = { same_stays_caused (λ a b fault. (b ≡ a) × (a.kind ≡ builtin.Sum)) };
 
     ghost one_spelling = { λ summer. sums_spelled_once_under summer.kind };
 

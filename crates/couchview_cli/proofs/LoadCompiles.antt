@@ -1,5 +1,5 @@
 -- The map source of a load compiles.
-use Rattle.std.proofs.Common.{◌≡◌, ◌++◌, ℕ, List, [], ◌∷◌, true, codes, Some, refl, ap, arith}
+use Rattle.std.proofs.Common.{◌≡◌, ◌++◌, ℕ, List, [], ◌∷◌, true, codes, refl, ap, arith}
 use Rattle.std.specs.Prelude.{is_some}
 use Rattle.map_lang.specs.declared.syntax.Step.TheVariants.{Member}
 use Rattle.map_lang.specs.declared.token.Keyword.TheVariants.{Emit}

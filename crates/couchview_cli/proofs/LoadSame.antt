@@ -1,6 +1,6 @@
 -- The reply to the second view of a load is the answer afresh.
 use Rattle.std.specs.Prelude.{if◌then◌else◌, pos}
-use Rattle.std.proofs.Common.{◌≡◌, ◌≢◌, ◌∙◌, ℕ, List, [], ◌∷◌, Bool, true, false, length, codes, Option, Some, None, Result, Ok, inl, inr, refl, sym, ap, subst}
+use Rattle.std.proofs.Common.{◌≡◌, ◌≢◌, ◌∙◌, ℕ, List, [], ◌∷◌, Bool, false, length, codes, Option, Some, None, Result, Ok, inl, inr, refl, sym, ap, subst}
 use Rattle.json_terms.specs.Json.{Json, members_of, number, object}
 use Rattle.design_docs.specs.Design.{design_term, language_of, source_of, views_of}
 use Rattle.design_docs.specs.Documents.{id_of}

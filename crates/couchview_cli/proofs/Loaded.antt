@@ -1,5 +1,5 @@
 -- What a load did, from what was shown of it.
-use Rattle.std.proofs.Common.{◌≡◌, ◌≢◌, ◌≤◌, ◌<◌, ◌^◌, ◌∙◌, ◌++◌, ℕ, List, [], Option, Some, None, inl, inr, refl, sym, ap, subst, true, length, codes, arith}
+use Rattle.std.proofs.Common.{◌≡◌, ◌≢◌, ◌≤◌, ◌<◌, ◌^◌, ◌∙◌, ◌++◌, ℕ, List, [], Option, Some, None, inl, inr, refl, sym, ap, subst, length, codes, arith}
 use Rattle.std.specs.List.{AllByRecursion, flat_map}
 use Rattle.view_ports.specs.Calls.{Call}
 use Rattle.view_ports.specs.Disk.{Disk, IfTold, LeavesOnly, Tells}

@@ -1,2 +1,10 @@
 pub mod Spelled
 pub mod Meaning
+pub mod Nodes
+pub mod Reading
+pub mod Stores
+pub mod Trees
+pub mod Fitting
+pub mod Fetching
+pub mod Memory
+pub mod MemoryLaws

@@ -49,7 +49,7 @@ impl GroupValues for PlainValues {
 
     ghost keeps = { same_keeps_values _ };
 
-    ghost stays_caused = { same_stays_caused (λ values fault. Unit {0}) };
+    ghost stays_caused = { same_stays_caused (λ a b fault. Unit {0}) };
 }
 
 /// Appends the answer to a query of a view that has these rows, in any order, and whose index is at this sequence. The values of its

@@ -1,3 +1,4 @@
+use Rattle.std.proofs.Common.{refl}
 use Rattle.std.proofs.lemmas.Result.{IfOk-weaker}
 use Rattle.builtin_reduces.proofs.Caused.{caused}
 use Rattle.builtin_reduces.proofs.Joinable.{joined_value}
@@ -7,4 +8,4 @@ pub returns-clause-value : goal.returns-clause-value
 returns-clause-value c = IfOk-weaker c.join.result _ _ (joined_value c.args.self.now.kind c.args.parts.now) c.join.ensures.value
 
 pub returns-clause-cause : goal.returns-clause-cause
-returns-clause-cause c = caused c.args.self.now.kind c.join.result c.join.ensures.free
+returns-clause-cause c = caused c.args.self.now _ c.args.self.now.kind c.join.result refl c.join.ensures.free

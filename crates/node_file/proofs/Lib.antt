@@ -1,0 +1,4 @@
+pub mod Committing
+pub mod Found
+pub mod Putting
+pub mod Storing

@@ -1,0 +1,141 @@
+-- What the calls of a file as a store of nodes do.
+use Rattle.std.proofs.Common.{◌≡◌, ◌≢◌, inl, inr, ℕ, ◌+◌, ◌≤◌, List, length, Option, Some, None, Result, Ok, Err, refl, sym, ap, ◌∙◌, subst, arith}
+use Rattle.std.specs.Prelude.{IfErr, OnErr, OnOk, option_map}
+use Rattle.view_ports.specs.Disk.{Disk, MovesFile, MovesNone, Tells}
+use Rattle.view_ports.specs.File.{File}
+use Rattle.view_ports.specs.declared.file_name.FileName.{FileName}
+use Rattle.view_ports.specs.declared.folder.Folder.{Ghosts as Folders}
+use Rattle.view_ports.proofs.DiskRuns.{file_weaker, none_same}
+use Rattle.view_ports.proofs.Told.{told_after, told_map}
+use Rattle.gate_file.specs.declared.gate.GateFile.{GateFile}
+use Rattle.gate_file.specs.declared.fault.GateFault.{GateFault}
+use Rattle.gate_file.specs.declared.fault.GateFault.TheVariants.{DiskFault, Damaged, NoMemory}
+use Rattle.gate_file.specs.Calls.{too_long, Appends, IsCounted, IsReadFault, KeepsIn, Moved, Told}
+use Rattle.gate_file.specs.GateFile.{appended, name_of, root_of, IsAppended, Keeps}
+use Rattle.gate_file.specs.Shown.{Shows}
+use Rattle.tree_laws.specs.Nodes.{sized}
+use Rattle.node_file.specs.declared.file_nodes.FileNodes.{FileNodes}
+use Rattle.node_file.specs.FileNodes.{Adds, AddsNoMore, AddsSome, FileFails, FileGoes, HasSame, IsKept, MovesOn, Stays}
+use Rattle.node_file.specs.FileNodeLaws.{adds_none, adds_ready, adds_same, longer_itself}
+use Rattle.node_file.specs.Puts.{IsPutFault}
+use Rattle.node_file.specs.RecordLaws.{appended_stays, sized_long}
+use Rattle.node_file.specs.Records.{node_at}
+
+pub on_always : {T E : Type 0} (result : Result T E) (P : Type 0) → P → OnOk result P
+on_always (Ok value) P holds = holds
+on_always (Err fault) P holds = tt
+
+-- where no file changed the same nodes stand in each
+pub same_nodes : (name : FileName) (old new : Option (Disk FileName)) → Tells old new MovesNone → option_map (λ d. node_at (d.now name).seen) new ≡ option_map (λ d. node_at (d.now name).seen) old
+same_nodes name None None told = refl
+same_nodes name None (Some b) told = absurd told
+same_nodes name (Some a) None told = absurd told
+same_nodes name (Some a) (Some b) told = ap (λ (file : File). Some (node_at file.seen)) (none_same a b told name)
+
+module _ {F : Type 0} (f : Folders F) where
+  -- ---- a node is got
+
+  pub same_ready : (gate : GateFile) (old new : F) → Told f old (KeepsIn gate) → Moved f old new MovesNone → Told f new (KeepsIn gate)
+  same_ready gate old new ready none =
+      told_after (f.disk old) (f.disk new) (KeepsIn gate) (KeepsIn gate) MovesNone (λ a b keeps still. subst (Keeps gate) (sym (none_same a b still (name_of gate))) keeps) ready none
+
+  some_of : (gate gate' : GateFile) (old new : F) → Adds f gate gate' old new → AddsSome f gate gate' old new
+  some_of gate gate' old new adds = record {
+    file = adds.file;
+    disk = told_map (f.disk old) (f.disk new) (MovesOn gate (IsKept gate gate')) (MovesOn gate (λ file now. Unit {0}))
+        (λ a b moves keeps. unended gate (IsKept gate gate') a b (moves keeps)) adds.disk;
+    faults = adds.faults;
+  }
+    where
+      unended : (gate : GateFile) (ends : File → File → Type 0) (a b : Disk FileName) → MovesFile (name_of gate) (λ file image. Shows (root_of gate) file.durable image) ends a b
+          → MovesFile (name_of gate) (λ file image. Shows (root_of gate) file.durable image) (λ file now. Unit {0}) a b
+      unended gate ends a b moved =
+          file_weaker (name_of gate) (λ file image. Shows (root_of gate) file.durable image) (λ file image. Shows (root_of gate) file.durable image) ends (λ file now. Unit {0}) a b
+          (λ image left. left) (λ ended. tt) moved
+
+  -- why a node isn't got
+  get_cause : (gate : GateFile) (name : FileName) (at : ℕ) (old new : F) (fault : GateFault) → name ≡ name_of gate → IsReadFault name at fault
+      → (fault ≡ DiskFault → AddsNoMore f gate gate old new DiskFault)
+      → (fault ≡ Damaged name at → Told f new (λ d. node_at (d.now name).seen at ≡ None)) → Adds f gate gate old new → AddsNoMore f gate gate old new fault
+  get_cause gate name at old new fault own (inl disk) rose damaged adds = subst (AddsNoMore f gate gate old new) (sym disk) (rose disk)
+  get_cause gate name at old new fault own (inr (inl memory)) rose damaged adds = subst (AddsNoMore f gate gate old new) (sym memory) adds
+  get_cause gate name at old new fault own (inr (inr there)) rose damaged adds = subst (AddsNoMore f gate gate old new) (sym there) (adds, own, damaged there)
+
+  pub get_fails : {T : Type 0} (a b : FileNodes F) (name : FileName) (at : ℕ) (result : Result T GateFault) → HasSame a b → b.file.now ≡ a.file.now → name ≡ name_of a.file.now
+      → IfErr result (IsReadFault name at) → IsCounted f a.folder.now b.folder.now result
+      → Told f a.folder.now (λ d. result ≡ Err (Damaged name at) → node_at (d.now name).seen at ≡ None) → Moved f a.folder.now b.folder.now MovesNone
+      → IfErr result (λ fault. FileFails f a b fault)
+  get_fails a b name at (Ok value) lent same own faults counted damaged none = tt
+  get_fails a b name at (Err fault) lent same own faults counted damaged none =
+      let gate = a.file.now in
+      let adds = adds_same f gate a.folder.now b.folder.now none counted.later in
+      record {
+        lent = lent;
+        adds = subst (λ (g : GateFile). AddsSome f gate g a.folder.now b.folder.now) (sym same) (some_of gate gate a.folder.now b.folder.now adds);
+        cause = subst (λ (g : GateFile). AddsNoMore f gate g a.folder.now b.folder.now fault) (sym same)
+            (get_cause gate name at a.folder.now b.folder.now fault own faults (λ disk. counted.failed disk)
+            (λ there. told_after (f.disk a.folder.now) (f.disk b.folder.now) (λ d. Err fault ≡ Err (Damaged name at) → node_at (d.now name).seen at ≡ None) (λ d. node_at (d.now name).seen at ≡ None) MovesNone
+            (λ d e is still. subst (λ (file : File). node_at file.seen at ≡ None) (sym (none_same d e still name)) (is (ap Err there))) damaged none)
+            adds);
+      }
+
+  -- ---- a piece is put
+
+  module _ (gate : GateFile) (bytes : List ℕ) (old new : F) where
+    adds_appended : {T : Type 0} (E : Type 0) (value : T) → Tells (f.disk old) (f.disk new) (Appends {E = E} gate bytes (Ok value)) → f.faults old ≤ f.faults new → Adds f gate (appended gate (length bytes)) old new
+    adds_appended E value moved later = record {
+      file = record { same = refl; longer = omega arith };
+      stays = told_map (f.disk old) (f.disk new) (Appends {E = E} gate bytes (Ok value)) (Stays gate)
+          (λ a b moves. appended_stays gate (appended gate (length bytes)) bytes (a.now (name_of gate)) (b.now (name_of gate)) moves.ended) moved;
+      disk = told_map (f.disk old) (f.disk new) (Appends {E = E} gate bytes (Ok value)) (MovesOn gate (IsKept gate (appended gate (length bytes))))
+          (λ a b moves keeps.
+          file_weaker (name_of gate) (λ file image. Shows (root_of gate) file.durable image) (λ file image. Shows (root_of gate) file.durable image)
+          (IsAppended (appended gate (length bytes)) bytes) (IsKept gate (appended gate (length bytes))) a b
+          (λ image left. left) (λ ended. record { durable = ended.durable; keeps = ended.keeps }) moves) moved;
+      faults = later;
+    }
+
+    some_appended : {E : Type 0} (T : Type 0) (fault : E) → Tells (f.disk old) (f.disk new) (Appends {T = T} gate bytes (Err fault)) → f.faults old ≤ f.faults new → AddsSome f gate gate old new
+    some_appended T fault moved later = record {
+      file = longer_itself gate;
+      disk = told_map (f.disk old) (f.disk new) (Appends {T = T} gate bytes (Err fault)) (MovesOn gate (λ file now. Unit {0})) (λ a b moves keeps. moves) moved;
+      faults = later;
+    }
+
+  pub put_adds : {T E : Type 0} (gate gate' : GateFile) (piece : List ℕ) (old new : F) (result : Result T E) → OnOk result (gate' ≡ appended gate (length piece + 8))
+      → Moved f old new (Appends gate (sized piece) result) → f.faults old ≤ f.faults new → OnOk result (Adds f gate gate' old new)
+  put_adds {T} {E} gate gate' piece old new (Ok value) done moved later =
+      let same : appended gate (length (sized piece)) ≡ gate' = ap (appended gate) (sized_long piece) ∙ sym done in
+      subst (λ (g : GateFile). Adds f gate g old new) same (adds_appended gate (sized piece) old new E value moved later)
+  put_adds {T} {E} gate gate' piece old new (Err fault) done moved later = tt
+
+  pub put_ready : {T E : Type 0} (gate gate' : GateFile) (old new : F) (result : Result T E) → Told f old (KeepsIn gate) → OnOk result (Adds f gate gate' old new) → OnOk result (Told f new (KeepsIn gate'))
+  put_ready gate gate' old new (Ok value) ready adds = adds_ready f gate gate' old new adds ready
+  put_ready gate gate' old new (Err fault) ready adds = tt
+
+  pub put_goes : {T E : Type 0} (a b : FileNodes F) (result : Result T E) → HasSame a b → OnOk result (Adds f a.file.now b.file.now a.folder.now b.folder.now) → OnOk result (FileGoes f a b)
+  put_goes a b (Ok value) lent adds = record { lent = lent; adds = adds }
+  put_goes a b (Err fault) lent adds = tt
+
+  -- why a piece isn't put
+  put_cause : (gate : GateFile) (old new : F) (fault : GateFault) → IsPutFault gate fault → (fault ≡ DiskFault → AddsNoMore f gate gate old new DiskFault) → (fault ≢ DiskFault → new ≡ old) → AddsNoMore f gate gate old new fault
+  put_cause gate old new fault (inl disk) rose untouched = subst (AddsNoMore f gate gate old new) (sym disk) (rose disk)
+  put_cause gate old new fault (inr (inl full)) rose untouched =
+      let still : new ≡ old = untouched (λ disk. (let never : too_long gate ≡ DiskFault = sym full ∙ disk in cc)) in
+      subst (AddsNoMore f gate gate old new) (sym full) (subst (λ (n : F). Adds f gate gate old n) (sym still) (adds_none f gate old), refl)
+  put_cause gate old new fault (inr (inr memory)) rose untouched =
+      let still : new ≡ old = untouched (λ disk. (let never : NoMemory ≡ DiskFault = sym memory ∙ disk in cc)) in
+      subst (AddsNoMore f gate gate old new) (sym memory) (subst (λ (n : F). Adds f gate gate old n) (sym still) (adds_none f gate old))
+
+  pub put_fails : {T : Type 0} (a b : FileNodes F) (bytes : List ℕ) (result : Result T GateFault) → HasSame a b → OnErr result (b.file.now ≡ a.file.now)
+      → IfErr result (IsPutFault a.file.now) → IsCounted f a.folder.now b.folder.now result
+      → IfErr result (λ e. e ≢ DiskFault → b.folder.now ≡ a.folder.now) → Moved f a.folder.now b.folder.now (Appends a.file.now bytes result)
+      → IfErr result (λ fault. FileFails f a b fault)
+  put_fails {T} a b bytes (Ok value) lent same faults counted untouched moved = tt
+  put_fails {T} a b bytes (Err fault) lent same faults counted untouched moved =
+      let gate = a.file.now in
+      record {
+        lent = lent;
+        adds = subst (λ (g : GateFile). AddsSome f gate g a.folder.now b.folder.now) (sym same) (some_appended gate bytes a.folder.now b.folder.now T fault moved counted.later);
+        cause = subst (λ (g : GateFile). AddsNoMore f gate g a.folder.now b.folder.now fault) (sym same) (put_cause gate a.folder.now b.folder.now fault faults (λ disk. counted.failed disk) untouched);
+      }

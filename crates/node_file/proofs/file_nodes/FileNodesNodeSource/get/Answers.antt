@@ -1,0 +1,26 @@
+use Rattle.std.proofs.Common.{refl}
+use Rattle.gate_file.specs.Calls.{KeepsIn, Told}
+use Rattle.node_file.specs.FileNodeLaws.{adds_same}
+use Rattle.node_file.proofs.Storing.{get_fails, on_always, same_nodes, same_ready}
+use Rattle.node_file.proofs.file_nodes.FileNodesNodeSource.get.Goals as goal
+
+pub returns-clause-ready : goal.returns-clause-ready
+returns-clause-ready g c =
+    on_always c.get_node.result (Told g.F.Folder c.get_node.new.folder (KeepsIn c.args.self.now.file.now))
+    (same_ready g.F.Folder c.args.self.now.file.now c.args.self.now.folder.now c.get_node.new.folder c.requires c.get_node.ensures.disk)
+
+pub returns-clause-nodes : goal.returns-clause-nodes
+returns-clause-nodes g c = same_nodes c.args.self.now.file.now.name (g.F.Folder.disk c.args.self.now.folder.now) (g.F.Folder.disk c.get_node.new.folder) c.get_node.ensures.disk
+
+pub returns-clause-goes : goal.returns-clause-goes
+returns-clause-goes g c =
+    on_always c.get_node.result _
+    (record {
+      lent = record { cache = refl; folder = refl; file = refl };
+      adds = adds_same g.F.Folder c.args.self.now.file.now c.args.self.now.folder.now c.get_node.new.folder c.get_node.ensures.disk c.get_node.ensures.cause.later;
+    })
+
+pub returns-clause-cause : goal.returns-clause-cause
+returns-clause-cause g c =
+    get_fails g.F.Folder c.args.self.now _ c.name.result c.args.at c.get_node.result (record { cache = refl; folder = refl; file = refl }) refl c.name.ensures
+    c.get_node.ensures.faults c.get_node.ensures.cause c.get_node.ensures.damaged c.get_node.ensures.disk

@@ -1,0 +1,97 @@
+-- A file as a store of nodes: what stands in it, and what its calls do.
+use Rattle.std.specs.Prelude.{◌≡◌, ◌≤◌, Option, None, option_map}
+use Rattle.std.specs.Borrow.{MutBor}
+use Rattle.view_ports.specs.Disk.{Disk, MovesFile}
+use Rattle.view_ports.specs.Faults.{Rose}
+use Rattle.view_ports.specs.File.{File}
+use Rattle.view_ports.specs.declared.file_name.FileName.{FileName}
+use Rattle.view_ports.specs.declared.folder.Folder.{Ghosts as Folders}
+use Rattle.gate_file.specs.declared.gate.GateFile.{GateFile}
+use Rattle.gate_file.specs.declared.fault.GateFault.{GateFault}
+use Rattle.gate_file.specs.declared.fault.GateFault.TheVariants.{DiskFault, Damaged, Full, NoMemory}
+use Rattle.gate_file.specs.Calls.{too_long, KeepsIn, Moved, Told}
+use Rattle.gate_file.specs.GateFile.{length_of, name_of, root_of, Keeps}
+use Rattle.gate_file.specs.Shown.{HasAll, Shows}
+use Rattle.tree_laws.specs.Stores.{Places}
+use Rattle.node_file.specs.declared.cache.NodeCache.{NodeCache}
+use Rattle.node_file.specs.declared.file_nodes.FileNodes.{FileNodes}
+use Rattle.node_file.specs.Records.{node_at}
+
+-- ---- what is added to a file
+
+-- the object is as before but for the length, which hasn't fallen
+pub record IsLonger (old new : GateFile) : Type 0 where
+  pub same : new ≡ record old { length = length_of new }
+  pub longer : length_of old ≤ length_of new
+
+-- the object keeps what the file is, and of what was durable nothing was lost
+pub record IsKept (old new : GateFile) (file now : File) : Type 0 where
+  pub durable : Shows (root_of old) file.durable now.durable
+  pub keeps : Keeps new now
+
+-- all that stood behind the slots of the object's file stands there
+abbrev pub Stays : GateFile → Disk FileName → Disk FileName → Type 0
+Stays gate old new = HasAll (old.now (name_of gate)).seen (new.now (name_of gate)).seen
+
+-- Where the object kept what its file was, only this file changed. At each moment a crash leaves the root and what was durable,
+-- and in the end the file is as `ends` says.
+abbrev pub MovesOn : GateFile → (File → File → Type 0) → Disk FileName → Disk FileName → Type 0
+MovesOn gate ends old new = KeepsIn gate old → MovesFile (name_of gate) (λ file image. Shows (root_of gate) file.durable image) ends old new
+
+module _ {F : Type 0} (f : Folders F) where
+  -- records were added to the file of an object, and the object keeps what the file is
+  pub record Adds (gate gate' : GateFile) (old new : F) : Type 0 where
+    pub file : IsLonger gate gate'
+    pub stays : Moved f old new (Stays gate)
+    pub disk : Moved f old new (MovesOn gate (IsKept gate gate'))
+    pub faults : f.faults old ≤ f.faults new
+
+  -- so far as a fault let them
+  pub record AddsSome (gate gate' : GateFile) (old new : F) : Type 0 where
+    pub file : IsLonger gate gate'
+    pub disk : Moved f old new (MovesOn gate (λ file now. Unit {0}))
+    pub faults : f.faults old ≤ f.faults new
+
+  -- why no more were added, or one wasn't got
+  abbrev pub AddsNoMore : GateFile → GateFile → F → F → GateFault → Type 0
+  AddsNoMore gate gate' old new DiskFault = Rose (f.faults old) (f.faults new)
+  AddsNoMore gate gate' old new (Full name length) = Adds gate gate' old new × (Full name length ≡ too_long gate')
+  AddsNoMore gate gate' old new (Damaged name at) = Adds gate gate' old new × (name ≡ name_of gate') × Told f new (λ d. node_at (d.now name).seen at ≡ None)
+  AddsNoMore gate gate' old new NoMemory = Adds gate gate' old new
+
+-- ---- the store
+
+-- the references that the store was lent
+pub record HasSame {F : Type 0} (old new : FileNodes F) : Type 0 where
+  pub cache : new.cache.ghost_name ≡ old.cache.ghost_name
+  pub folder : new.folder.ghost_name ≡ old.folder.ghost_name
+  pub file : new.file.ghost_name ≡ old.file.ghost_name
+
+-- the store was lent these, and nothing was done yet
+pub record IsOver {F : Type 0} (cache : MutBor NodeCache) (folder : MutBor F) (file : MutBor GateFile) (nodes : FileNodes F) : Type 0 where
+  pub lent_cache : nodes.cache.ghost_name ≡ cache.ghost_name
+  pub same_cache : nodes.cache.now ≡ cache.now
+  pub lent_folder : nodes.folder.ghost_name ≡ folder.ghost_name
+  pub same_folder : nodes.folder.now ≡ folder.now
+  pub lent_file : nodes.file.ghost_name ≡ file.ghost_name
+  pub same_file : nodes.file.now ≡ file.now
+
+module _ {F : Type 0} (f : Folders F) where
+  -- the nodes of the file, where the folder tells its disk
+  abbrev pub nodes_of : FileNodes F → Option Places
+  nodes_of nodes = option_map (λ disk. node_at (disk.now (name_of nodes.file.now)).seen) (f.disk nodes.folder.now)
+
+  -- what the object keeps is what the folder holds
+  abbrev pub IsReady : FileNodes F → Type 0
+  IsReady nodes = Told f nodes.folder.now (KeepsIn nodes.file.now)
+
+  -- what calls that answer Ok do
+  pub record FileGoes (old new : FileNodes F) : Type 0 where
+    pub lent : HasSame old new
+    pub adds : Adds f old.file.now new.file.now old.folder.now new.folder.now
+
+  -- what calls do of which the last answered a fault, and why it did
+  pub record FileFails (old new : FileNodes F) (fault : GateFault) : Type 0 where
+    pub lent : HasSame old new
+    pub adds : AddsSome f old.file.now new.file.now old.folder.now new.folder.now
+    pub cause : AddsNoMore f old.file.now new.file.now old.folder.now new.folder.now fault

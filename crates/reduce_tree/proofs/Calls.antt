@@ -1,0 +1,109 @@
+-- How calls that come one after another are one.
+use Rattle.std.proofs.Common.{◌≡◌, ℕ, List, Option, Some, None, Result, Ok, Err, IfSome, refl, sym, ap, ◌∙◌, subst}
+use Rattle.tree_laws.specs.declared.item.Item.{Ghosts as Items}
+use Rattle.tree_laws.specs.declared.store.NodeSource.{Ghosts as Sources}
+use Rattle.tree_laws.specs.declared.summer.Summer.{Ghosts as Summers}
+use Rattle.tree_laws.specs.declared.tree.Fill.{Fill}
+use Rattle.tree_laws.specs.declared.tree.TreeFault.{TreeFault}
+use Rattle.tree_laws.specs.declared.tree.TreeFault.TheVariants as tree_fault
+use Rattle.tree_laws.specs.Fetching.{FetchFails}
+use Rattle.tree_laws.specs.Meaning.{AreSteps, KeepsMeaning, Meaning, StaysCaused}
+use Rattle.tree_laws.specs.Stores.{Extends, KeepsPlaces, Places}
+use Rattle.reduce_tree.specs.Calls.{places, unfit, unsummed, IsFaulty, KeepsBadSum, IsUnread, IsKnown, GoOn, Fails, Ran, Summed}
+
+-- the laws of a store and of a summer
+pub record Laws {T S F M Sum G : Type 0} (s : Sources S F) (m : Summers M T Sum G) : Type 0 where
+  pub store_steps : AreSteps s.goes
+  pub store_keeps : (a b : S) → s.goes a b → KeepsPlaces (s.nodes a) (s.nodes b)
+  pub store_caused : StaysCaused s.goes s.fails
+  pub summer_steps : AreSteps m.goes
+  pub summer_keeps : KeepsMeaning m.goes m.meaning m.lawful m.usable m.fits
+  pub summer_caused : StaysCaused m.goes m.fails
+
+pub told_on : (old new : Option Places) (there : Places) → old ≡ Some there → KeepsPlaces old new → (now : Places) × (new ≡ Some now)
+told_on None new there e k = absurd (cc)
+told_on (Some old) None there e k = absurd k
+told_on (Some old) (Some new) there e k = (new, refl)
+
+pub extends_places : (old new : Option Places) → KeepsPlaces old new → Extends (places old) (places new)
+extends_places None new k = λ at bytes h. absurd (cc)
+extends_places (Some old) None k = absurd k
+extends_places (Some old) (Some new) k = k
+
+pub told_at : (told : Option Places) (P : Places → Type 0) (there : Places) → IfSome told P → told ≡ Some there → P (places told)
+told_at None P there h e = absurd (cc)
+told_at (Some now) P there h e = h
+
+module _ {T S F M Sum G : Type 0} (i : Items T) (s : Sources S F) (m : Summers M T Sum G) (laws : Laws s m) where
+  pub goes_on : (a b c : S) (u v w : M) → GoOn i s m a b u v → GoOn i s m b c v w → GoOn i s m a c u w
+  goes_on a b c u v w h k = record { store = laws.store_steps.both a b c h.store k.store; summer = laws.summer_steps.both u v w h.summer k.summer }
+
+  -- a call on the store alone
+  pub goes_store : (a b : S) (u : M) → s.goes a b → GoOn i s m a b u u
+  goes_store a b u h = record { store = h; summer = laws.summer_steps.none u }
+
+  pub goes_none : (a : S) (u : M) → GoOn i s m a a u u
+  goes_none a u = record { store = laws.store_steps.none a; summer = laws.summer_steps.none u }
+
+  pub goes_summer : (a : S) (u v : M) → m.goes u v → GoOn i s m a a u v
+  goes_summer a u v h = record { store = laws.store_steps.none a; summer = h }
+
+  unread_on : (u v : M) (bytes : List ℕ) → m.goes u v → IsUnread i m v bytes → IsUnread i m u bytes
+  unread_on u v bytes g h sum fits is = h sum ((laws.summer_keeps.fits u v sum g).0 fits) (ap (λ (x : Meaning T Sum). x.spelled sum) (laws.summer_keeps.meaning u v g) ∙ is)
+
+  faulty_on : (u v : M) (there : Places) (at : ℕ) → m.goes u v → IsFaulty i m v there at → IsFaulty i m u there at
+  faulty_on u v there at g (unfit level count fill h) = unfit level count fill h
+  faulty_on u v there at g (unsummed h) = unsummed (record {
+    node = h.node;
+    fits = h.fits;
+    stand = h.stand;
+    keeps = record { children = h.keeps.children; inner = h.keeps.inner; child = h.keeps.child; inside = h.keeps.inside; unread = unread_on u v h.keeps.child.sum g h.keeps.unread };
+  })
+
+  faulty_told : (u v : M) (told : Option Places) (at : ℕ) → m.goes u v → IfSome told (λ there. IsFaulty i m v there at) → IfSome told (λ there. IsFaulty i m u there at)
+  faulty_told u v None at g h = tt
+  faulty_told u v (Some there) at g h = faulty_on u v there at g h
+
+  pub fails_on : (a b c : S) (u v w : M) → GoOn i s m a b u v → (fault : TreeFault F G) → Fails i s m b c v w fault → Fails i s m a c u w fault
+  fails_on a b c u v w g (tree_fault.Store fault) h = laws.store_caused a b c fault g.store h
+  fails_on a b c u v w g (tree_fault.BadNode at) h = faulty_told u v (s.nodes c) at g.summer h
+  fails_on a b c u v w g (tree_fault.Summer fault) h = laws.summer_caused u v w fault g.summer h
+  fails_on a b c u v w g tree_fault.NoMemory h = tt
+
+  pub ran_on : {X : Type 0} (a b c : S) (u v w : M) (result : Result X (TreeFault F G)) → GoOn i s m a b u v → Ran i s m b c v w result → Ran i s m a c u w result
+  ran_on a b c u v w (Ok value) g h = goes_on a b c u v w g h
+  ran_on a b c u v w (Err fault) g h = fails_on a b c u v w g fault h
+
+  -- a call on the summer alone that gave up
+  pub summed_fails : (X : Type 0) (a : S) (u v : M) (fault : TreeFault F G) → Summed m {X = X} {F = F} u v (Err fault) → Fails i s m a a u v fault
+  summed_fails X a u v (tree_fault.Store fault) h = absurd h
+  summed_fails X a u v (tree_fault.BadNode at) h = absurd h
+  summed_fails X a u v (tree_fault.Summer fault) h = h
+  summed_fails X a u v tree_fault.NoMemory h = tt
+
+  bad_told : (u : M) (level count : ℕ) (fill : Fill) (old new : Option Places) (at place : ℕ) → new ≡ old → place ≡ at → IfSome old (λ there. Rattle.tree_laws.specs.Fetching.IsBadAt i level count fill there at) → IfSome new (λ there. IsFaulty i m u there place)
+  bad_told u level count fill None new at place e p h = subst (λ o. IfSome o (λ there. IsFaulty i m u there place)) (sym e) tt
+  bad_told u level count fill (Some there) new at place e p h = subst (λ o. IfSome o (λ there. IsFaulty i m u there place)) (sym e) (subst (λ q. IsFaulty i m u there q) (sym p) (unfit level count fill h))
+
+  pub fetch_fails : (a b : S) (u : M) (level count : ℕ) (fill : Fill) (at : ℕ) (fault : TreeFault F G) → s.nodes b ≡ s.nodes a → FetchFails i level count fill s a b at fault → Fails i s m a b u u fault
+  fetch_fails a b u level count fill at (tree_fault.Store fault) e h = h
+  fetch_fails a b u level count fill at (tree_fault.BadNode place) e h = bad_told u level count fill (s.nodes a) (s.nodes b) at place e h.0 h.1
+  fetch_fails a b u level count fill at (tree_fault.Summer fault) e h = absurd h
+  fetch_fails a b u level count fill at tree_fault.NoMemory e h = tt
+
+  -- a node that keeps a bad summary
+  pub bad_sum : (a : S) (u : M) (told : Option Places) (at : ℕ) (node : _) → Rattle.tree_laws.specs.Nodes.FitsNode i.fits i.spelled node → IfSome told (λ there. there at ≡ Some (Rattle.tree_laws.specs.Nodes.spelled_node i.spelled node)) → KeepsBadSum i m u node → IfSome told (λ there. IsFaulty i m u there at)
+  bad_sum a u None at node fits stand h = tt
+  bad_sum a u (Some there) at node fits stand h = unsummed (record { node = node; fits = fits; stand = stand; keeps = h })
+
+  pub known_on : (first : M) (a b : S) (u v : M) → IsKnown i s m first u a → GoOn i s m a b u v → IsKnown i s m first v b
+  known_on first a b u v k g =
+      let t = told_on (s.nodes a) (s.nodes b) k.there k.told (laws.store_keeps a b g.store) in
+      record { goes = laws.summer_steps.both first u v k.goes g.summer; there = t.0; told = t.1 }
+
+  pub extends_on : (a b : S) (u v : M) → GoOn i s m a b u v → Extends (places (s.nodes a)) (places (s.nodes b))
+  extends_on a b u v g = extends_places (s.nodes a) (s.nodes b) (laws.store_keeps a b g.store)
+
+  -- what the exit of a `?` returns
+  pub ran_err : {X : Type 0} (a b : S) (u v : M) (q : Result X (TreeFault F G)) (fault y : TreeFault F G) → y ≡ fault → q ≡ Err y → Fails i s m a b u v fault → Ran i s m a b u v q
+  ran_err a b u v q fault y e is h = rw is (rw e h)

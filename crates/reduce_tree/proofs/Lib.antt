@@ -1,0 +1,13 @@
+pub mod Applied
+pub mod Calls
+pub mod Charge
+pub mod Lists
+pub mod Made
+pub mod Nodes
+pub mod Order
+pub mod Pieces
+pub mod Puts
+pub mod Quiet
+pub mod Sound
+pub mod Summaries
+pub mod Walk

@@ -1,0 +1,49 @@
+use Rattle.std.proofs.Common.{◌+◌, ◌∷◌, ◌++◌, [], ◌∙◌, ap, arith, sym, subst, length, length-append}
+use Rattle.tree_laws.specs.declared.node.Node.TheVariants.{Inner}
+use Rattle.tree_laws.specs.Fitting.{AreLarge, item_count}
+use Rattle.reduce_tree.specs.Calls.{places}
+use Rattle.reduce_tree.proofs.Calls.{Laws, extends_on}
+use Rattle.reduce_tree.proofs.Nodes.{count_append, count_one, large_append, large_one}
+use Rattle.reduce_tree.proofs.Walk.{kept_child}
+use Rattle.reduce_tree.proofs.batch.keep_child.Goals as goal
+
+pub returns-clause-items : goal.returns-clause-items
+returns-clause-items g c first items mid known h child =
+    let laws : Laws g.S.NodeSource g.M.Summer = record { store_steps = g.met.S.NodeSource.are_steps; store_keeps = g.met.S.NodeSource.keeps; store_caused = g.met.S.NodeSource.stays_caused; summer_steps = g.met.M.Summer.are_steps; summer_keeps = g.met.M.Summer.keeps; summer_caused = g.met.M.Summer.stays_caused } in
+    let s0 = c.args.store.now in
+    let s1 = c.settle.new.store in
+    let u0 = c.args.summer.now in
+    let u1 = c.settle.new.summer in
+    let n0 = places (g.S.NodeSource.nodes s0) in
+    let n1 = places (g.S.NodeSource.nodes s1) in
+    kept_child g.M.Unit.Item g.M.Summer first n0 n1 (extends_on g.M.Unit.Item g.S.NodeSource g.M.Summer laws s0 s1 u0 u1 c.in_ok-settle.ensures.ran) c.args.low c.empty.result.level c.args.child c.settle.new.done.items c.add_last.new.list.items c.empty.result.node items mid
+    (c.in_ok-settle.ensures.items first items known h) child c.in_ok-add_last.ensures c.empty.ensures.level c.empty.ensures.node
+
+pub returns-clause-done : goal.returns-clause-done
+returns-clause-done g c =
+    subst (λ ds. AreLarge (c.args.low + 1) (Inner ds)) (sym c.in_ok-add_last.ensures)
+    (large_append (c.args.low + 1) c.settle.new.done.items (c.args.child ∷ []) c.in_ok-settle.ensures.done (large_one (c.args.low + 1) c.args.child c.requires.child))
+
+pub returns-clause-count : goal.returns-clause-count
+returns-clause-count g c =
+    let l = ap (λ ds. item_count (Inner ds)) c.in_ok-add_last.ensures ∙ count_append c.settle.new.done.items (c.args.child ∷ []) in
+    omega (arith, l, count_one c.args.child, c.in_ok-settle.ensures.count)
+
+pub returns-clause-steps : goal.returns-clause-steps
+returns-clause-steps g c =
+    let one = ap length c.in_ok-add_last.ensures ∙ length-append c.settle.new.done.items (c.args.child ∷ []) in
+    omega (arith, one, c.in_ok-settle.ensures.steps)
+
+pub returns-clause-once : goal.returns-clause-once
+returns-clause-once g c =
+    let one = ap length c.in_ok-add_last.ensures ∙ length-append c.settle.new.done.items (c.args.child ∷ []) in
+    omega (arith, one, c.in_ok-settle.ensures.once)
+
+pub returns-clause-still : goal.returns-clause-still
+returns-clause-still g c e = c.in_ok-add_last.ensures ∙ ap (λ ds. ds ++ c.args.child ∷ []) (c.in_ok-settle.ensures.none (c.requires.still (sym c.empty.ensures.same ∙ e)))
+
+pub returns-clause-unput : goal.returns-clause-unput
+returns-clause-unput g c e = c.in_ok-settle.ensures.unput (c.requires.still (sym c.empty.ensures.same ∙ e))
+
+pub returns-clause-pieces : goal.returns-clause-pieces
+returns-clause-pieces g c first items among known h all = c.in_ok-settle.ensures.pieces first items among known h all

@@ -1,0 +1,84 @@
+use Rattle.std.proofs.Common.{◌+◌, ◌∙◌, ap, arith, sym, subst, refl, Contains}
+use Rattle.tree_laws.specs.declared.node.Node.TheVariants.{Inner}
+use Rattle.tree_laws.specs.Fitting.{AreLarge, item_count}
+use Rattle.tree_laws.specs.Nodes.{entries}
+use Rattle.tree_laws.specs.Trees.{AreChildren, Stands}
+use Rattle.reduce_tree.specs.Calls.{places}
+use Rattle.reduce_tree.proofs.Calls.{Laws, extends_on, goes_none}
+use Rattle.reduce_tree.proofs.Charge.{ready_level, ready_least, some_by_test}
+use Rattle.reduce_tree.proofs.Nodes.{count_append, large_append, none_counted, none_from_test}
+use Rattle.reduce_tree.proofs.Walk.{settled, settled_none}
+use Rattle.reduce_tree.proofs.Puts.{leaf_none, put_none, unput}
+use Rattle.reduce_tree.proofs.Pieces.{pieces_none}
+use Rattle.reduce_tree.proofs.Quiet.{all_back}
+use Rattle.reduce_tree.specs.Pieces.{AreAmong}
+use Rattle.tree_laws.specs.declared.tree.Fill.TheVariants.{Below}
+use Rattle.reduce_tree.proofs.batch.settle.Goals as goal
+
+pub place_row-requires-clause-least : goal.place_row-requires-clause-least
+place_row-requires-clause-least g c =
+    ready_least c.args.low c.args.row.level (entries c.args.row.node) c.requires.settled (some_by_test (entries c.args.row.node) c.is_empty.result c.is_empty.ensures c.if-is_empty.false)
+
+pub returns-then-is_empty-clause-items : goal.returns-then-is_empty-clause-items
+returns-then-is_empty-clause-items g c first items known h =
+    let none = none_from_test (entries c.args.row.node) c.is_empty.result c.is_empty.ensures c.if-is_empty.true in
+    settled_none g.M.Unit.Item g.M.Summer first (places (g.S.NodeSource.nodes c.args.store.now)) c.args.low c.args.row.level c.args.done.now.items c.args.row.node items none h
+
+pub returns-then-is_empty-clause-count : goal.returns-then-is_empty-clause-count
+returns-then-is_empty-clause-count g c =
+    let none = none_from_test (entries c.args.row.node) c.is_empty.result c.is_empty.ensures c.if-is_empty.true in
+    omega (arith, none_counted c.args.row.node none)
+
+pub returns-then-is_empty-clause-ran : goal.returns-then-is_empty-clause-ran
+returns-then-is_empty-clause-ran g c =
+    let laws : Laws g.S.NodeSource g.M.Summer = record { store_steps = g.met.S.NodeSource.are_steps; store_keeps = g.met.S.NodeSource.keeps; store_caused = g.met.S.NodeSource.stays_caused; summer_steps = g.met.M.Summer.are_steps; summer_keeps = g.met.M.Summer.keeps; summer_caused = g.met.M.Summer.stays_caused } in
+    goes_none g.M.Unit.Item g.S.NodeSource g.M.Summer laws c.args.store.now c.args.summer.now
+
+pub returns-clause-items : goal.returns-clause-items
+returns-clause-items g c first items known h =
+    let laws : Laws g.S.NodeSource g.M.Summer = record { store_steps = g.met.S.NodeSource.are_steps; store_keeps = g.met.S.NodeSource.keeps; store_caused = g.met.S.NodeSource.stays_caused; summer_steps = g.met.M.Summer.are_steps; summer_keeps = g.met.M.Summer.keeps; summer_caused = g.met.M.Summer.stays_caused } in
+    let s0 = c.args.store.now in
+    let s1 = c.place_row.new.store in
+    let u0 = c.args.summer.now in
+    let u1 = c.place_row.new.summer in
+    let n0 = places (g.S.NodeSource.nodes s0) in
+    let n1 = places (g.S.NodeSource.nodes s1) in
+    let some = some_by_test (entries c.args.row.node) c.is_empty.result c.is_empty.ensures c.if-is_empty.false in
+    let level = ready_level c.args.low c.args.row.level (entries c.args.row.node) c.requires.settled some in
+    subst (λ ds. AreChildren g.M.Unit.Item g.M.Summer first (Stands g.M.Unit.Item g.M.Summer first n1 c.args.low) ds items) (sym c.in_ok-add_all.ensures)
+    (settled g.M.Unit.Item g.M.Summer first n0 n1 (extends_on g.M.Unit.Item g.S.NodeSource g.M.Summer laws s0 s1 u0 u1 c.in_ok-placed.ensures.ran) c.args.low c.args.row.level c.args.done.now.items c.in_ok-placed.placed.items c.args.row.node items level h
+    (λ l zs k. c.in_ok-placed.ensures.children first l zs known k))
+
+pub returns-clause-done : goal.returns-clause-done
+returns-clause-done g c =
+    let some = some_by_test (entries c.args.row.node) c.is_empty.result c.is_empty.ensures c.if-is_empty.false in
+    let level = ready_level c.args.low c.args.row.level (entries c.args.row.node) c.requires.settled some in
+    let large = subst (λ l. AreLarge (l + 1) (Inner c.in_ok-placed.placed.items)) level (c.in_ok-placed.ensures.large c.args.row.level c.requires.kind c.requires.large) in
+    subst (λ ds. AreLarge (c.args.low + 1) (Inner ds)) (sym c.in_ok-add_all.ensures) (large_append (c.args.low + 1) c.args.done.now.items c.in_ok-placed.placed.items c.requires.done large)
+
+pub returns-clause-count : goal.returns-clause-count
+returns-clause-count g c =
+    let l = ap (λ ds. item_count (Inner ds)) c.in_ok-add_all.ensures ∙ count_append c.args.done.now.items c.in_ok-placed.placed.items in
+    omega (arith, l, c.in_ok-placed.ensures.count)
+
+pub returns-then-is_empty-clause-leaf : goal.returns-then-is_empty-clause-leaf
+returns-then-is_empty-clause-leaf g c =
+    let none = none_from_test (entries c.args.row.node) c.is_empty.result c.is_empty.ensures c.if-is_empty.true in
+    let z = leaf_none c.args.row.node none in
+    put_none (omega (arith, z))
+
+pub returns-then-is_empty-clause-unput : goal.returns-then-is_empty-clause-unput
+returns-then-is_empty-clause-unput g c e = unput g.S.NodeSource c.args.store.now
+
+pub returns-clause-unput : goal.returns-clause-unput
+returns-clause-unput g c e =
+    let some = some_by_test (entries c.args.row.node) c.is_empty.result c.is_empty.ensures c.if-is_empty.false in
+    absurd (omega (arith, e, some))
+
+pub returns-then-is_empty-clause-pieces : goal.returns-then-is_empty-clause-pieces
+returns-then-is_empty-clause-pieces g c first items among known h all =
+    pieces_none g.M.Unit.Item g.M.Summer first among (places (g.S.NodeSource.nodes c.args.store.now)) Below (g.S.NodeSource.puts c.args.store.now) (g.S.NodeSource.puts c.args.store.now) refl
+
+pub returns-clause-pieces : goal.returns-clause-pieces
+returns-clause-pieces g c first items among known h all =
+    c.in_ok-placed.ensures.pieces first c.args.row.level h.back among known h.at_back (all_back (Contains among) h.front h.back (subst (AreAmong among) h.whole all))

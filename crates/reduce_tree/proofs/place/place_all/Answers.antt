@@ -1,0 +1,125 @@
+use Rattle.std.proofs.Common.{arith, ◌≡◌, ◌+◌, ◌≤◌, ◌∙◌, ◌∷◌, [], ◌^◌, ap, sym, subst, Contains}
+use Rattle.tree_laws.specs.declared.node.Node.TheVariants.{Inner}
+use Rattle.tree_laws.specs.declared.tree.Fill.TheVariants.{Below}
+use Rattle.tree_laws.specs.Fitting.{IsFilled, item_count}
+use Rattle.tree_laws.specs.Trees.{Stands}
+use Rattle.tree_laws.proofs.Parts.{children_append, children_one}
+use Rattle.tree_laws.proofs.Structure.{child_stays, has_stays, stands_stays}
+use Rattle.reduce_tree.specs.Calls.{places}
+use Rattle.std.proofs.lemmas.Result.{err_from_is_err_and}
+use Rattle.reduce_tree.proofs.Calls.{Laws, ran_err, extends_on, fails_on, goes_on, known_on}
+use Rattle.reduce_tree.proofs.Nodes.{count_append, count_one, filled_large, has_split, large_append, large_one, split_count, split_kind, split_large}
+use Rattle.reduce_tree.proofs.Puts.{leaf_split, put_two}
+use Rattle.reduce_tree.proofs.Pieces.{pieces_on}
+use Rattle.reduce_tree.proofs.Quiet.{all_front, all_back}
+use Rattle.reduce_tree.specs.Pieces.{AreAmong}
+use Rattle.reduce_tree.proofs.place.place_all.Goals as goal
+
+pub returns-then-len-le32-clause-children : goal.returns-then-len-le32-clause-children
+returns-then-len-le32-clause-children g c first level items known has =
+    let new = places (g.S.NodeSource.nodes c.place.new.store) in
+    let full : IsFilled Below c.args.node = record { least = c.requires.least; most = omega (arith, c.len.ensures, c.if-len-le32.true) } in
+    rw c.in_ok-list_of_one.ensures (children_one g.M.Unit.Item g.M.Summer first (Stands g.M.Unit.Item g.M.Summer first new level) c.in_ok-child.child items (c.in_ok-child.ensures.child first level items known full has))
+
+pub returns-then-len-le32-clause-large : goal.returns-then-len-le32-clause-large
+returns-then-len-le32-clause-large g c level kind large =
+    let many = filled_large level c.args.node kind large c.requires.least in
+    rw c.in_ok-list_of_one.ensures (large_one (level + 1) c.in_ok-child.child (subst (λ n. 8 ^ (level + 1) ≤ n) (sym c.in_ok-child.ensures.count) many))
+
+pub returns-then-len-le32-clause-count : goal.returns-then-len-le32-clause-count
+returns-then-len-le32-clause-count g c = rw c.in_ok-list_of_one.ensures (count_one c.in_ok-child.child ∙ c.in_ok-child.ensures.count)
+
+pub returns-clause-children : goal.returns-clause-children
+returns-clause-children g c first level items known has =
+    let laws : Laws g.S.NodeSource g.M.Summer = record { store_steps = g.met.S.NodeSource.are_steps; store_keeps = g.met.S.NodeSource.keeps; store_caused = g.met.S.NodeSource.stays_caused; summer_steps = g.met.M.Summer.are_steps; summer_keeps = g.met.M.Summer.keeps; summer_caused = g.met.M.Summer.stays_caused } in
+    let i = g.M.Unit.Item in
+    let m = g.M.Summer in
+    let s0 = c.args.store.now in
+    let s1 = c.place-2.new.store in
+    let s2 = c.place-3.new.store in
+    let u0 = c.args.summer.now in
+    let u1 = c.place-2.new.summer in
+    let u2 = c.place-3.new.summer in
+    let old = places (g.S.NodeSource.nodes s0) in
+    let mid = places (g.S.NodeSource.nodes s1) in
+    let new = places (g.S.NodeSource.nodes s2) in
+    let left = c.in_ok-left.left in
+    let right = c.in_ok-left.right in
+    let j = has_split i m first old level c.args.node left right items c.in_ok-left.ensures.split has in
+    let full_left : IsFilled Below left = record { least = omega (arith, c.in_ok-left.ensures.left); most = omega (arith, c.in_ok-left.ensures.left) } in
+    let full_right : IsFilled Below right = record { least = omega (arith, c.in_ok-left.ensures.left, c.in_ok-left.ensures.right); most = omega (arith, c.in_ok-left.ensures.left, c.in_ok-left.ensures.right) } in
+    let done = c.in_ok-first.ensures.child first level j.front known full_left j.at_front in
+    let at_right = has_stays i m first old mid (extends_on g.M.Unit.Item g.S.NodeSource g.M.Summer laws s0 s1 u0 u1 c.in_ok-first.ensures.ran) level right j.back j.at_back in
+    let second = c.in_ok-second.ensures.child first level j.back (known_on g.M.Unit.Item g.S.NodeSource g.M.Summer laws first s0 s1 u0 u1 known c.in_ok-first.ensures.ran) full_right at_right in
+    let first_now = child_stays i m first (Stands i m first mid level) (Stands i m first new level) (stands_stays i m first mid new (extends_on g.M.Unit.Item g.S.NodeSource g.M.Summer laws s1 s2 u1 u2 c.in_ok-second.ensures.ran) level) c.in_ok-first.first j.front done in
+    rw (c.in_ok-list_of_two.ensures, j.whole)
+    (children_append i m first (Stands i m first new level) (c.in_ok-first.first ∷ []) (c.in_ok-second.second ∷ []) j.front j.back
+    (children_one i m first (Stands i m first new level) c.in_ok-first.first j.front first_now)
+    (children_one i m first (Stands i m first new level) c.in_ok-second.second j.back second))
+
+pub returns-clause-large : goal.returns-clause-large
+returns-clause-large g c level kind large =
+    let left = c.in_ok-left.left in
+    let right = c.in_ok-left.right in
+    let k = split_kind level c.args.node left right c.in_ok-left.ensures.split kind in
+    let l = split_large level c.args.node left right c.in_ok-left.ensures.split large in
+    let one = filled_large level left k.0 l.0 (omega (arith, c.in_ok-left.ensures.left)) in
+    let two = filled_large level right k.1 l.1 (omega (arith, c.in_ok-left.ensures.left, c.in_ok-left.ensures.right)) in
+    rw c.in_ok-list_of_two.ensures (large_append (level + 1) (c.in_ok-first.first ∷ []) (c.in_ok-second.second ∷ [])
+    (large_one (level + 1) c.in_ok-first.first (subst (λ n. 8 ^ (level + 1) ≤ n) (sym c.in_ok-first.ensures.count) one))
+    (large_one (level + 1) c.in_ok-second.second (subst (λ n. 8 ^ (level + 1) ≤ n) (sym c.in_ok-second.ensures.count) two)))
+
+pub returns-clause-count : goal.returns-clause-count
+returns-clause-count g c =
+    let s = split_count c.args.node c.in_ok-left.left c.in_ok-left.right c.in_ok-left.ensures.split in
+    let a : item_count (Inner c.in_ok-list_of_two.field-0.items) ≡ item_count (Inner (c.in_ok-first.first ∷ [])) + item_count (Inner (c.in_ok-second.second ∷ [])) =
+    ap (λ cs. item_count (Inner cs)) c.in_ok-list_of_two.ensures ∙ count_append (c.in_ok-first.first ∷ []) (c.in_ok-second.second ∷ []) in
+    omega (arith, s, a, count_one c.in_ok-first.first, count_one c.in_ok-second.second, c.in_ok-first.ensures.count, c.in_ok-second.ensures.count)
+
+pub returns-clause-ran : goal.returns-clause-ran
+returns-clause-ran g c =
+    let laws : Laws g.S.NodeSource g.M.Summer = record { store_steps = g.met.S.NodeSource.are_steps; store_keeps = g.met.S.NodeSource.keeps; store_caused = g.met.S.NodeSource.stays_caused; summer_steps = g.met.M.Summer.are_steps; summer_keeps = g.met.M.Summer.keeps; summer_caused = g.met.M.Summer.stays_caused } in
+    goes_on g.M.Unit.Item g.S.NodeSource g.M.Summer laws c.args.store.now c.place-2.new.store c.place-3.new.store c.args.summer.now c.place-2.new.summer c.place-3.new.summer c.in_ok-first.ensures.ran c.in_ok-second.ensures.ran
+
+pub returns-in_err-second-clause-ran : goal.returns-in_err-second-clause-ran
+returns-in_err-second-clause-ran g c =
+    let laws : Laws g.S.NodeSource g.M.Summer = record { store_steps = g.met.S.NodeSource.are_steps; store_keeps = g.met.S.NodeSource.keeps; store_caused = g.met.S.NodeSource.stays_caused; summer_steps = g.met.M.Summer.are_steps; summer_keeps = g.met.M.Summer.keeps; summer_caused = g.met.M.Summer.stays_caused } in
+    let p = err_from_is_err_and c.from_residual-in_err-second.result c.from_residual-in_err-second.ensures.1 in
+    ran_err g.M.Unit.Item g.S.NodeSource g.M.Summer laws _ _ _ _ c.from_residual-in_err-second.result c.in_err-second.field-0.0 p.0 p.2 p.1 (fails_on g.M.Unit.Item g.S.NodeSource g.M.Summer laws c.args.store.now c.place-2.new.store c.place-3.new.store c.args.summer.now c.place-2.new.summer c.place-3.new.summer c.in_ok-first.ensures.ran _ c.in_err-second.ensures.ran)
+
+pub returns-clause-leaf : goal.returns-clause-leaf
+returns-clause-leaf g c =
+    let s = leaf_split c.args.node c.in_ok-left.left c.in_ok-left.right c.in_ok-left.ensures.split in
+    put_two c.in_ok-first.ensures.leaf c.in_ok-second.ensures.leaf (omega arith) (omega arith) (omega arith) (λ u. u)
+    (λ u. g.met.M.Summer.keeps.usable c.args.summer.now c.place-2.new.summer c.in_ok-first.ensures.ran.summer u) (omega (arith, s))
+
+pub returns-then-len-le32-clause-pieces : goal.returns-then-len-le32-clause-pieces
+returns-then-len-le32-clause-pieces g c first level items among known has all =
+    let full : IsFilled Below c.args.node = record { least = c.requires.least; most = omega (arith, c.len.ensures, c.if-len-le32.true) } in
+    c.in_ok-child.ensures.pieces first level Below items among known full has all
+
+pub returns-clause-pieces : goal.returns-clause-pieces
+returns-clause-pieces g c first level items among known has all =
+    let laws : Laws g.S.NodeSource g.M.Summer = record { store_steps = g.met.S.NodeSource.are_steps; store_keeps = g.met.S.NodeSource.keeps; store_caused = g.met.S.NodeSource.stays_caused; summer_steps = g.met.M.Summer.are_steps; summer_keeps = g.met.M.Summer.keeps; summer_caused = g.met.M.Summer.stays_caused } in
+    let i = g.M.Unit.Item in
+    let m = g.M.Summer in
+    let s0 = c.args.store.now in
+    let s1 = c.place-2.new.store in
+    let s2 = c.place-3.new.store in
+    let u0 = c.args.summer.now in
+    let u1 = c.place-2.new.summer in
+    let u2 = c.place-3.new.summer in
+    let old = places (g.S.NodeSource.nodes s0) in
+    let mid = places (g.S.NodeSource.nodes s1) in
+    let new = places (g.S.NodeSource.nodes s2) in
+    let left = c.in_ok-left.left in
+    let right = c.in_ok-left.right in
+    let j = has_split i m first old level c.args.node left right items c.in_ok-left.ensures.split has in
+    let full_left : IsFilled Below left = record { least = omega (arith, c.in_ok-left.ensures.left); most = omega (arith, c.in_ok-left.ensures.left) } in
+    let full_right : IsFilled Below right = record { least = omega (arith, c.in_ok-left.ensures.left, c.in_ok-left.ensures.right); most = omega (arith, c.in_ok-left.ensures.left, c.in_ok-left.ensures.right) } in
+    let parts = subst (AreAmong among) j.whole all in
+    let e12 = extends_on g.M.Unit.Item g.S.NodeSource g.M.Summer laws s1 s2 u1 u2 c.in_ok-second.ensures.ran in
+    let at_right = has_stays i m first old mid (extends_on g.M.Unit.Item g.S.NodeSource g.M.Summer laws s0 s1 u0 u1 c.in_ok-first.ensures.ran) level right j.back j.at_back in
+    let done = c.in_ok-first.ensures.pieces first level Below j.front among known full_left j.at_front (all_front (Contains among) j.front j.back parts) in
+    let second = c.in_ok-second.ensures.pieces first level Below j.back among (known_on g.M.Unit.Item g.S.NodeSource g.M.Summer laws first s0 s1 u0 u1 known c.in_ok-first.ensures.ran) full_right at_right (all_back (Contains among) j.front j.back parts) in
+    pieces_on i m first among mid new e12 Below (g.S.NodeSource.puts s0) (g.S.NodeSource.puts s1) (g.S.NodeSource.puts s2) done second

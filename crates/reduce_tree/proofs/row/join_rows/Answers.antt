@@ -1,0 +1,87 @@
+use Rattle.std.proofs.Common.{◌≡◌, ◌++◌, [], sym, subst, ap, ◌∙◌, arith, refl}
+use Rattle.std.proofs.lemmas.List.{append-nil}
+use Rattle.tree_laws.specs.Nodes.{entries}
+use Rattle.tree_laws.specs.Fitting.{item_count}
+use Rattle.tree_laws.specs.Trees.{Has}
+use Rattle.reduce_tree.specs.Calls.{places}
+use Rattle.reduce_tree.proofs.Calls.{Laws, goes_none}
+use Rattle.reduce_tree.proofs.Nodes.{has_none, none_counted, none_from_test}
+use Rattle.reduce_tree.proofs.Puts.{leaf_none, put_none, put_on}
+use Rattle.reduce_tree.specs.Rows.{leaf_items}
+use Rattle.reduce_tree.proofs.Sound.{if_sound}
+use Rattle.std.proofs.lemmas.Result.{err_from_is_err_and}
+use Rattle.reduce_tree.proofs.Pieces.{pieces_none}
+use Rattle.tree_laws.specs.declared.tree.Fill.TheVariants.{Below}
+use Rattle.reduce_tree.proofs.row.join_rows.Goals as goal
+
+pub returns-then-is_empty-clause-items : goal.returns-then-is_empty-clause-items
+returns-then-is_empty-clause-items g c first xs ys known hx hy =
+    let there = places (g.S.NodeSource.nodes c.args.store.now) in
+    let none = none_from_test (entries c.args.front.node) c.is_empty.result c.is_empty.ensures c.if-is_empty.true in
+    let e : xs ≡ [] = has_none g.M.Unit.Item g.M.Summer first there c.args.front.level c.args.front.node xs none hx in
+    rw (c.changed.ensures.level, c.changed.ensures.node) (subst (λ t. Has g.M.Unit.Item g.M.Summer first there c.args.back.level c.args.back.node (t ++ ys)) (sym e) hy)
+
+pub returns-then-is_empty-clause-count : goal.returns-then-is_empty-clause-count
+returns-then-is_empty-clause-count g c =
+    let none = none_from_test (entries c.args.front.node) c.is_empty.result c.is_empty.ensures c.if-is_empty.true in
+    omega (arith, none_counted c.args.front.node none, ap item_count c.changed.ensures.node)
+
+pub returns-then-is_empty-clause-ran : goal.returns-then-is_empty-clause-ran
+returns-then-is_empty-clause-ran g c =
+    let laws : Laws g.S.NodeSource g.M.Summer = record { store_steps = g.met.S.NodeSource.are_steps; store_keeps = g.met.S.NodeSource.keeps; store_caused = g.met.S.NodeSource.stays_caused; summer_steps = g.met.M.Summer.are_steps; summer_keeps = g.met.M.Summer.keeps; summer_caused = g.met.M.Summer.stays_caused } in
+    goes_none g.M.Unit.Item g.S.NodeSource g.M.Summer laws c.args.store.now c.args.summer.now
+
+pub returns-then-is_empty-2-clause-items : goal.returns-then-is_empty-2-clause-items
+returns-then-is_empty-2-clause-items g c first xs ys known hx hy =
+    let there = places (g.S.NodeSource.nodes c.args.store.now) in
+    let none = none_from_test (entries c.args.back.node) c.is_empty-2.result c.is_empty-2.ensures c.if-is_empty-2.true in
+    let e : ys ≡ [] = has_none g.M.Unit.Item g.M.Summer first there c.args.back.level c.args.back.node ys none hy in
+    rw (c.changed-then-is_empty-2.ensures.level, c.changed-then-is_empty-2.ensures.node) (subst (λ t. Has g.M.Unit.Item g.M.Summer first there c.args.front.level c.args.front.node t) (sym (ap (λ t. xs ++ t) e ∙ append-nil xs)) hx)
+
+pub returns-then-is_empty-2-clause-count : goal.returns-then-is_empty-2-clause-count
+returns-then-is_empty-2-clause-count g c =
+    let none = none_from_test (entries c.args.back.node) c.is_empty-2.result c.is_empty-2.ensures c.if-is_empty-2.true in
+    omega (arith, none_counted c.args.back.node none, ap item_count c.changed-then-is_empty-2.ensures.node)
+
+pub returns-then-is_empty-2-clause-ran : goal.returns-then-is_empty-2-clause-ran
+returns-then-is_empty-2-clause-ran g c =
+    let laws : Laws g.S.NodeSource g.M.Summer = record { store_steps = g.met.S.NodeSource.are_steps; store_keeps = g.met.S.NodeSource.keeps; store_caused = g.met.S.NodeSource.stays_caused; summer_steps = g.met.M.Summer.are_steps; summer_keeps = g.met.M.Summer.keeps; summer_caused = g.met.M.Summer.stays_caused } in
+    goes_none g.M.Unit.Item g.S.NodeSource g.M.Summer laws c.args.store.now c.args.summer.now
+
+pub returns-then-is_empty-clause-leaf : goal.returns-then-is_empty-clause-leaf
+returns-then-is_empty-clause-leaf g c =
+    let none = none_from_test (entries c.args.front.node) c.is_empty.result c.is_empty.ensures c.if-is_empty.true in
+    let z = leaf_none c.args.front.node none in
+    let n = ap leaf_items c.changed.ensures.node in
+    put_none (omega (arith, z, n))
+
+pub returns-then-is_empty-2-clause-leaf : goal.returns-then-is_empty-2-clause-leaf
+returns-then-is_empty-2-clause-leaf g c =
+    let none = none_from_test (entries c.args.back.node) c.is_empty-2.result c.is_empty-2.ensures c.if-is_empty-2.true in
+    let z = leaf_none c.args.back.node none in
+    let n = ap leaf_items c.changed-then-is_empty-2.ensures.node in
+    put_none (omega (arith, z, n))
+
+pub returns-in_err-node-clause-items : goal.returns-in_err-node-clause-items
+returns-in_err-node-clause-items g c first xs ys known hx hy =
+    let p = err_from_is_err_and c.from_residual.result c.from_residual.ensures.1 in
+    if_sound _ c.from_residual.result c.in_err-node.field-0.0 p.0 p.2 p.1 (c.in_err-node.ensures.items first xs ys known hx hy)
+
+pub returns-in_err-node-2-clause-items : goal.returns-in_err-node-2-clause-items
+returns-in_err-node-2-clause-items g c first xs ys known hx hy =
+    let p = err_from_is_err_and c.from_residual-in_err-node-2.result c.from_residual-in_err-node-2.ensures.1 in
+    if_sound _ c.from_residual-in_err-node-2.result c.in_err-node-2.field-0.0 p.0 p.2 p.1 (c.in_err-node-2.ensures.items first ys xs known hy hx)
+
+pub returns-clause-leaf : goal.returns-clause-leaf
+returns-clause-leaf g c = put_on c.in_ok-node-2.ensures.leaf (omega arith) (omega arith) (λ u. u) (omega arith)
+
+pub returns-then-is_empty-clause-pieces : goal.returns-then-is_empty-clause-pieces
+returns-then-is_empty-clause-pieces g c first xs ys among known hx hy ax ay =
+    pieces_none g.M.Unit.Item g.M.Summer first among (places (g.S.NodeSource.nodes c.args.store.now)) Below (g.S.NodeSource.puts c.args.store.now) (g.S.NodeSource.puts c.args.store.now) refl
+
+pub returns-then-is_empty-2-clause-pieces : goal.returns-then-is_empty-2-clause-pieces
+returns-then-is_empty-2-clause-pieces g c first xs ys among known hx hy ax ay =
+    pieces_none g.M.Unit.Item g.M.Summer first among (places (g.S.NodeSource.nodes c.args.store.now)) Below (g.S.NodeSource.puts c.args.store.now) (g.S.NodeSource.puts c.args.store.now) refl
+
+pub returns-clause-pieces : goal.returns-clause-pieces
+returns-clause-pieces g c first xs ys among known hx hy ax ay = c.in_ok-node-2.ensures.pieces first ys xs among known hy hx ay ax

@@ -1,0 +1,24 @@
+use Rattle.std.proofs.Common.{◌≡◌, ◌∙◌, ◌≤◌, ◌^◌, length, ap, sym, subst, arith}
+use Rattle.tree_laws.specs.Fitting.{item_count}
+use Rattle.tree_laws.proofs.Parts.{items_fit}
+use Rattle.reduce_tree.specs.Rows.{Tells}
+use Rattle.reduce_tree.proofs.Nodes.{has_leaf, has_inner}
+use Rattle.reduce_tree.proofs.tell.tell.Goals as goal
+
+pub returns-in_ok-told-in-Leaf-clause-tells : goal.returns-in_ok-told-in-Leaf-clause-tells
+returns-in_ok-told-in-Leaf-clause-tells g c first there level items goes fits has =
+    let i = g.M.Unit.Item in
+    let m = g.M.Summer in
+    let told = c.in_ok-told-in-Leaf.told in
+    let e : items ≡ c.as_slice.result.now = has_leaf i m first there level c.in-Leaf.items items (rw c.in-Leaf.is at has) ∙ sym c.as_slice.ensures in
+    let n : item_count c.args.node.now ≡ length c.in-Leaf.items = ap item_count c.in-Leaf.is in
+    let few : length c.as_slice.result.now ≤ 2 ^ 63 = omega (arith, n, c.requires.few, ap length c.as_slice.ensures) in
+    subst (λ xs. Tells i m first told.count told.last told.sum xs) (sym e) (c.in_ok-told-in-Leaf.ensures.tells first goes few)
+
+pub returns-in_ok-told-in-Inner-clause-tells : goal.returns-in_ok-told-in-Inner-clause-tells
+returns-in_ok-told-in-Inner-clause-tells g c first there level items goes fits has =
+    let i = g.M.Unit.Item in
+    let m = g.M.Summer in
+    let fit = items_fit i m first there level c.args.node.now items fits has in
+    let k = has_inner i m first there level c.in-Inner.children items (rw c.in-Inner.is at has) in
+    c.in_ok-told-in-Inner.ensures.tells first there k.0 items goes fit (rw c.as_slice-in-Inner.ensures k.2)

@@ -1,0 +1,5 @@
+use Rattle.tree_laws.proofs.Sizes.{tree_size}
+use Rattle.tree_laws.proofs.laws.trees_have_sizes.Goals as goal
+
+pub returns : goal.returns
+returns g c first there tree items h few = tree_size g.M.Unit.Item g.M.Summer first there tree items h few

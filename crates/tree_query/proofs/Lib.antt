@@ -1,0 +1,9 @@
+pub mod Before
+pub mod Calls
+pub mod Lists
+pub mod Order
+pub mod Ranges
+pub mod Reached
+pub mod Sums
+pub mod Unsummed
+pub mod Walks

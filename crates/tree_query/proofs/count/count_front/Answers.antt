@@ -1,0 +1,9 @@
+use Rattle.std.proofs.Common.{◌≡◌, ◌∙◌, true, sym, subst, arith}
+use Rattle.std.proofs.lemmas.List.Elements.{All-more}
+use Rattle.tree_query.proofs.count.count_front.Goals as goal
+
+pub loop-i-preserved : goal.loop-i-preserved
+loop-i-preserved g c =
+    let p = g.B.Bound.front c.args.bound.now in
+    let passes = subst (λ x. p x ≡ true) c.index-items-i.is (sym c.before-in-loop-i.ensures ∙ c.if-not-before.false) in
+    All-more (λ x. p x ≡ true) c.args.items.now c.loop-i.i c.index-items-i.result (omega arith) c.loop-i.invariant passes

@@ -1,0 +1,180 @@
+use Rattle.std.proofs.Common.{◌≡◌, ◌≤◌, ◌∷◌, ◌++◌, ◌==◌, ◌-◌, zero, suc, [], IfOk, drop, length, sym, ap, subst, ◌∙◌, arith, append_assoc}
+use Rattle.std.proofs.lemmas.List.{drop-append-le}
+use Rattle.std.proofs.lemmas.Result.{err_from_is_err_and}
+use Rattle.tree_laws.specs.declared.node.Node.TheVariants.{Inner}
+use Rattle.tree_laws.specs.declared.tree.Fill.TheVariants.{Below}
+use Rattle.tree_laws.specs.Nodes.{is_leaf}
+use Rattle.tree_laws.specs.Trees.{AreChildren, Has, Stands}
+use Rattle.tree_query.specs.Ranges.{Gathered}
+use Rattle.tree_query.specs.Reaching.{IsFaulty}
+use Rattle.tree_query.proofs.Lists.{level_above}
+use Rattle.tree_query.proofs.Ranges.{cutting}
+use Rattle.tree_query.proofs.Reached.{has_got, node_met}
+use Rattle.tree_query.proofs.Sums.{BothLaws, all_of, back_of, first_of, got_fails, reached_of, read_ran, sum_fails_on, sum_ran_err, sum_ran_on, summed_ran}
+use Rattle.tree_query.proofs.range.+tail.Goals as goal
+
+pub tail-returns-in-Inner-clause-items : goal.tail-returns-in-Inner-clause-items
+tail-returns-in-Inner-clause-items g t c first there done items is-told goes long has h =
+    let i = g.M.Unit.Item in
+    let m = g.M.Summer in
+    let cs = c.in-Inner.children in
+    let low = c.args.level - 1 in
+    let kind : is_leaf (Inner cs) ≡ (c.args.level == 0) = subst (λ x. is_leaf x ≡ (c.args.level == 0)) c.in-Inner.is c.requires.kind in
+    let up : c.args.level ≡ suc low = level_above c.args.level kind in
+    let P = Stands i m first there low in
+    let has0 : Has i m first there c.args.level (Inner cs) items = subst (λ x. Has i m first there c.args.level x items) c.in-Inner.is has in
+    let has1 : AreChildren i m first P cs items = subst (λ l. Has i m first there l (Inner cs) items) up has0 in
+    let e : cs ≡ c.cut-offset.result.0.now ++ c.cut-offset.result.1.now = sym c.as_slice.ensures ∙ c.cut-offset.ensures.whole in
+    let k = cutting i m first P c.cut-offset.result.0.now c.cut-offset.result.1.now c.args.from c.cut-offset.result.2 items (subst (λ ds. AreChildren i m first P ds items) e has1) c.cut-offset.ensures.count in
+    let r = c.tail_row.ensures.items first there done k.ys is-told goes c.cut-offset.ensures.inside k.at_back h in
+    subst (λ zs. IfOk c.tail_row.result (λ _. Gathered m first c.tail_row.new.parts.items (done ++ zs))) (sym k.dropped) r
+
+pub tail-returns-in-Inner-clause-ran : goal.tail-returns-in-Inner-clause-ran
+tail-returns-in-Inner-clause-ran g t c first tree goes met =
+    let i = g.M.Unit.Item in
+    let m = g.M.Summer in
+    let s = g.S.NodeSource in
+    let laws : BothLaws s m = record { steps = g.met.S.NodeSource.are_steps; caused = g.met.S.NodeSource.stays_caused; sum_steps = g.met.M.Summer.are_steps; sum_caused = g.met.M.Summer.stays_caused; sum_keeps = g.met.M.Summer.keeps } in
+    let s0 = c.args.store.now in
+    let u0 = c.args.summer.now in
+    let told = s.nodes s0 in
+    let cs = c.in-Inner.children in
+    let low = c.args.level - 1 in
+    let kind : is_leaf (Inner cs) ≡ (c.args.level == 0) = subst (λ x. is_leaf x ≡ (c.args.level == 0)) c.in-Inner.is c.requires.kind in
+    let up : c.args.level ≡ suc low = level_above c.args.level kind in
+    let e : cs ≡ c.cut-offset.result.0.now ++ c.cut-offset.result.1.now = sym c.as_slice.ensures ∙ c.cut-offset.ensures.whole in
+    let of = all_of i s m laws first tree told c.args.at c.args.level low c.args.node cs met c.in-Inner.is up in
+    c.tail_row.ensures.ran first tree goes (back_of i s m laws first tree told c.args.at low cs c.cut-offset.result.0.now c.cut-offset.result.1.now e of)
+
+pub tail-returns-in-Leaf-clause-ran : goal.tail-returns-in-Leaf-clause-ran
+tail-returns-in-Leaf-clause-ran g t c first tree goes met =
+    let i = g.M.Unit.Item in
+    let m = g.M.Summer in
+    let s = g.S.NodeSource in
+    let laws : BothLaws s m = record { steps = g.met.S.NodeSource.are_steps; caused = g.met.S.NodeSource.stays_caused; sum_steps = g.met.M.Summer.are_steps; sum_caused = g.met.M.Summer.stays_caused; sum_keeps = g.met.M.Summer.keeps } in
+    let s0 = c.args.store.now in
+    let u0 = c.args.summer.now in
+    let told = s.nodes s0 in
+    summed_ran s m laws (λ there. IsFaulty i m first there tree) _ s0 u0 c.add_leaf.new.summer c.add_leaf.result c.add_leaf.ensures.ran
+
+pub tail_row-returns-then-from-eq0-clause-items : goal.tail_row-returns-then-from-eq0-clause-items
+tail_row-returns-then-from-eq0-clause-items g t c first there done items is-told goes inside are h =
+    let m = g.M.Summer in
+    let z : c.args.from ≡ zero = omega (arith, c.if-from-eq0.true) in
+    subst (λ n. IfOk c.add_whole.result (λ _. Gathered m first c.add_whole.new.parts.items (done ++ drop n items))) (sym z) (c.add_whole.ensures.items first there c.args.low done items goes are h)
+
+pub tail_row-returns-then-from-eq0-clause-ran : goal.tail_row-returns-then-from-eq0-clause-ran
+tail_row-returns-then-from-eq0-clause-ran g t c first tree goes of =
+    let i = g.M.Unit.Item in
+    let m = g.M.Summer in
+    let s = g.S.NodeSource in
+    let laws : BothLaws s m = record { steps = g.met.S.NodeSource.are_steps; caused = g.met.S.NodeSource.stays_caused; sum_steps = g.met.M.Summer.are_steps; sum_caused = g.met.M.Summer.stays_caused; sum_keeps = g.met.M.Summer.keeps } in
+    let s0 = c.args.store.now in
+    let u0 = c.args.summer.now in
+    let told = s.nodes s0 in
+    read_ran i s m laws first tree _ s0 u0 c.args.at c.args.low c.args.children.now c.add_whole.result goes of c.add_whole.ensures.cause
+
+pub tail_row-returns-clause-items : goal.tail_row-returns-clause-items
+tail_row-returns-clause-items g t c first there done items is-told goes inside are h =
+    let i = g.M.Unit.Item in
+    let m = g.M.Summer in
+    let s = g.S.NodeSource in
+    let laws : BothLaws s m = record { steps = g.met.S.NodeSource.are_steps; caused = g.met.S.NodeSource.stays_caused; sum_steps = g.met.M.Summer.are_steps; sum_caused = g.met.M.Summer.stays_caused; sum_keeps = g.met.M.Summer.keeps } in
+    let s0 = c.args.store.now in
+    let u0 = c.args.summer.now in
+    let told = s.nodes s0 in
+    let low = c.args.low in
+    let child = c.in-Some.pair.0.now in
+    let after = c.in-Some.pair.1.now in
+    let e : c.args.children.now ≡ child ∷ after = c.in-Some.ensures.cases.0 in
+    let P = Stands i m first there low in
+    let from = c.args.from in
+    let k : AreChildren i m first P (child ∷ after) items = subst (λ ds. AreChildren i m first P ds items) e are in
+    let small : from ≤ length k.front = omega (arith, inside child after e, k.at_front.count) in
+    let has : Has i m first there low c.in_ok-node.node k.front = has_got i m first g.met.M.Unit.Item.one_spelling there (Has i m first there low) child.at low child.count Below Below k.front c.in_ok-node.node (c.in_ok-node.ensures.stands there is-told) k.at_front.stands in
+    let r = c.in_ok-tail.ensures.items first there done k.front (c.in_ok-node.ensures.reads.nodes ∙ is-told) goes small has h in
+    let later = laws.sum_steps.both first u0 c.tail.new.summer goes c.in_ok-tail.ensures.goes in
+    let all = c.add_whole-2.ensures.items first there low (done ++ drop from k.front) k.back later k.at_back r in
+    let whole : (done ++ drop from k.front) ++ k.back ≡ done ++ drop from items =
+    append_assoc done (drop from k.front) k.back ∙ ap (λ t. done ++ t) (sym (drop-append-le from k.front k.back small) ∙ ap (drop from) (sym k.whole)) in
+    subst (λ zs. IfOk c.add_whole-2.result (λ _. Gathered m first c.add_whole-2.new.parts.items zs)) whole all
+
+pub tail_row-returns-in_err-node-clause-ran : goal.tail_row-returns-in_err-node-clause-ran
+tail_row-returns-in_err-node-clause-ran g t c first tree goes of =
+    let i = g.M.Unit.Item in
+    let m = g.M.Summer in
+    let s = g.S.NodeSource in
+    let laws : BothLaws s m = record { steps = g.met.S.NodeSource.are_steps; caused = g.met.S.NodeSource.stays_caused; sum_steps = g.met.M.Summer.are_steps; sum_caused = g.met.M.Summer.stays_caused; sum_keeps = g.met.M.Summer.keeps } in
+    let s0 = c.args.store.now in
+    let u0 = c.args.summer.now in
+    let told = s.nodes s0 in
+    let low = c.args.low in
+    let child = c.in-Some.pair.0.now in
+    let after = c.in-Some.pair.1.now in
+    let e : c.args.children.now ≡ child ∷ after = c.in-Some.ensures.cases.0 in
+    let reached = first_of i s m laws first tree told low c.args.children.now child after e (reached_of i s m laws first tree told c.args.at low c.args.children.now of) in
+    let q = c.from_residual in
+    let p = err_from_is_err_and q.result q.ensures.1 in
+    sum_ran_err s m laws (λ there. IsFaulty i m first there tree) _ s0 c.fetch.new.store u0 u0 q.result c.in_err-node.field-0.0 p.0 p.2 p.1 (got_fails i s m laws first tree s0 c.fetch.new.store u0 _ (c.in_err-node.ensures.ran tree reached))
+
+pub tail_row-returns-in_err-tail-clause-ran : goal.tail_row-returns-in_err-tail-clause-ran
+tail_row-returns-in_err-tail-clause-ran g t c first tree goes of =
+    let i = g.M.Unit.Item in
+    let m = g.M.Summer in
+    let s = g.S.NodeSource in
+    let laws : BothLaws s m = record { steps = g.met.S.NodeSource.are_steps; caused = g.met.S.NodeSource.stays_caused; sum_steps = g.met.M.Summer.are_steps; sum_caused = g.met.M.Summer.stays_caused; sum_keeps = g.met.M.Summer.keeps } in
+    let s0 = c.args.store.now in
+    let u0 = c.args.summer.now in
+    let told = s.nodes s0 in
+    let low = c.args.low in
+    let child = c.in-Some.pair.0.now in
+    let after = c.in-Some.pair.1.now in
+    let e : c.args.children.now ≡ child ∷ after = c.in-Some.ensures.cases.0 in
+    let reached = first_of i s m laws first tree told low c.args.children.now child after e (reached_of i s m laws first tree told c.args.at low c.args.children.now of) in
+    let same = c.in_ok-node.ensures.reads.nodes in
+    let met = node_met i tree told child.at low child.count Below c.in_ok-node.node reached c.in_ok-node.ensures.stands in
+    let first_goes = c.in_ok-node.ensures.ran tree reached in
+    let q = c.from_residual-in_err-tail in
+    let p = err_from_is_err_and q.result q.ensures.1 in
+    let fails = c.in_err-tail.ensures.ran first tree goes (λ there is. met there (sym same ∙ is)) in
+    sum_ran_err s m laws (λ there. IsFaulty i m first there tree) _ s0 c.tail.new.store u0 c.tail.new.summer q.result c.in_err-tail.field-0.0 p.0 p.2 p.1 (sum_fails_on s m laws (λ there. IsFaulty i m first there tree) s0 c.fetch.new.store c.tail.new.store u0 u0 c.tail.new.summer _ same first_goes (laws.sum_steps.none u0) fails)
+
+pub tail_row-returns-clause-ran : goal.tail_row-returns-clause-ran
+tail_row-returns-clause-ran g t c first tree goes of =
+    let i = g.M.Unit.Item in
+    let m = g.M.Summer in
+    let s = g.S.NodeSource in
+    let laws : BothLaws s m = record { steps = g.met.S.NodeSource.are_steps; caused = g.met.S.NodeSource.stays_caused; sum_steps = g.met.M.Summer.are_steps; sum_caused = g.met.M.Summer.stays_caused; sum_keeps = g.met.M.Summer.keeps } in
+    let s0 = c.args.store.now in
+    let u0 = c.args.summer.now in
+    let told = s.nodes s0 in
+    let low = c.args.low in
+    let child = c.in-Some.pair.0.now in
+    let after = c.in-Some.pair.1.now in
+    let e : c.args.children.now ≡ child ∷ after = c.in-Some.ensures.cases.0 in
+    let reached = first_of i s m laws first tree told low c.args.children.now child after e (reached_of i s m laws first tree told c.args.at low c.args.children.now of) in
+    let same = c.in_ok-node.ensures.reads.nodes in
+    let met = node_met i tree told child.at low child.count Below c.in_ok-node.node reached c.in_ok-node.ensures.stands in
+    let first_goes = c.in_ok-node.ensures.ran tree reached in
+    let ran = c.in_ok-tail.ensures.ran first tree goes (λ there is. met there (sym same ∙ is)) in
+    let s2 = c.tail.new.store in
+    let u1 = c.tail.new.summer in
+    let same2 = c.in_ok-tail.ensures.reads.nodes ∙ same in
+    let rest = back_of i s m laws first tree told c.args.at low c.args.children.now (child ∷ []) after e of in
+    let read = read_ran i s m laws first tree _ s2 u1 c.args.at low after c.add_whole-2.result (laws.sum_steps.both first u0 u1 goes ran.1) (λ there is. rest there (sym same2 ∙ is)) c.add_whole-2.ensures.cause in
+    sum_ran_on s m laws (λ there. IsFaulty i m first there tree) _ s0 s2 s2 u0 u1 u1 c.add_whole-2.result same2 (laws.steps.both s0 c.fetch.new.store s2 first_goes ran.0) ran.1 read
+
+pub tail_row-returns-in-None-clause-ran : goal.tail_row-returns-in-None-clause-ran
+tail_row-returns-in-None-clause-ran g t c first tree goes of =
+    let i = g.M.Unit.Item in
+    let m = g.M.Summer in
+    let s = g.S.NodeSource in
+    let laws : BothLaws s m = record { steps = g.met.S.NodeSource.are_steps; caused = g.met.S.NodeSource.stays_caused; sum_steps = g.met.M.Summer.are_steps; sum_caused = g.met.M.Summer.stays_caused; sum_keeps = g.met.M.Summer.keeps } in
+    let s0 = c.args.store.now in
+    let u0 = c.args.summer.now in
+    let told = s.nodes s0 in
+    (laws.steps.none s0, laws.sum_steps.none u0)
+
+pub tail_row-returns-in-None-clause-goes : goal.tail_row-returns-in-None-clause-goes
+tail_row-returns-in-None-clause-goes g t c =
+    g.met.M.Summer.are_steps.none c.args.summer.now

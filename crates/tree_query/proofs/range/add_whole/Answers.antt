@@ -1,0 +1,10 @@
+use Rattle.tree_laws.specs.Trees.{Stands}
+use Rattle.tree_query.proofs.Ranges.{gathered_all}
+use Rattle.tree_query.proofs.range.add_whole.Goals as goal
+
+pub returns-clause-items : goal.returns-clause-items
+returns-clause-items g c first there low done items goes are h =
+    let i = g.M.Unit.Item in
+    let m = g.M.Summer in
+    gathered_all i m first g.met.M.Summer.keeps (g.met.M.Summer.one_spelling first) (Stands i m first there low) c.args.summer.now c.args.children.now c.args.parts.now.items c.append_sums.new.sums.items c.in_ok-sums.sums.items done items
+    goes are c.in_ok-sums.ensures.spelled c.in_ok-sums.ensures.fits c.in_ok-append_sums.ensures h

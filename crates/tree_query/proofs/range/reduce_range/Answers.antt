@@ -1,0 +1,201 @@
+use Rattle.std.proofs.Common.{◌≡◌, ◌≢◌, ◌<◌, ◌≤◌, ◌-◌, ◌^◌, [], take, length, sym, ap, subst, ◌∙◌, arith}
+use Rattle.std.proofs.lemmas.Result.{err_from_is_err_and}
+use Rattle.tree_laws.specs.declared.tree.Fill.TheVariants.{Root}
+use Rattle.tree_laws.specs.Trees.{Has}
+use Rattle.tree_query.specs.Ranges.{Gathered, numbered}
+use Rattle.tree_query.specs.Reaching.{IsFaulty, root}
+use Rattle.tree_query.proofs.Ranges.{gathered_none, numbered_length, numbered_none}
+use Rattle.tree_query.proofs.Reached.{has_got, node_met, root_at}
+use Rattle.tree_query.proofs.Sums.{BothLaws, got_fails, none_faulty, sum_bad, sum_fails_on, sum_ran_err, summed_fails}
+use Rattle.std.proofs.lemmas.List.Elements.{All-drop, All-take}
+use Rattle.tree_laws.proofs.Parts.{items_fit}
+use Rattle.tree_query.proofs.Lists.{some_height}
+use Rattle.tree_query.proofs.range.reduce_range.Goals as goal
+
+pub overflow_sub-level : goal.overflow_sub-level
+overflow_sub-level g c = some_height c.args.tree.height c.args.tree.count c.requires.size.empty (omega (arith, c.requires.range, c.requires.within, c.if-from-to.false))
+
+pub returns-then-from-to-clause-value : goal.returns-then-from-to-clause-value
+returns-then-from-to-clause-value g c first there items is-told goes is =
+    let same : c.args.from ≡ c.args.to = omega (arith, c.if-from-to.true) in
+    subst (λ n. numbered c.args.from n items ≡ []) same (numbered_none c.args.from items)
+
+pub returns-then-from-to-clause-ran : goal.returns-then-from-to-clause-ran
+returns-then-from-to-clause-ran g c =
+    let i = g.M.Unit.Item in
+    let m = g.M.Summer in
+    let s = g.S.NodeSource in
+    let laws : BothLaws s m = record { steps = g.met.S.NodeSource.are_steps; caused = g.met.S.NodeSource.stays_caused; sum_steps = g.met.M.Summer.are_steps; sum_caused = g.met.M.Summer.stays_caused; sum_keeps = g.met.M.Summer.keeps } in
+    let s0 = c.args.store.now in
+    let u0 = c.args.summer.now in
+    let told = s.nodes s0 in
+    (laws.steps.none s0, laws.sum_steps.none u0)
+
+pub returns-clause-value : goal.returns-clause-value
+returns-clause-value g c first there items is-told goes is =
+    let i = g.M.Unit.Item in
+    let m = g.M.Summer in
+    let tree = c.args.tree in
+    let level = tree.height - 1 in
+    let some : 0 < tree.height = some_height tree.height tree.count c.requires.size.empty (omega (arith, c.requires.range, c.requires.within, c.if-from-to.false)) in
+    let from = c.args.from in
+    let to = c.args.to in
+    let range = numbered from to items in
+    let stands = c.in_ok-root.ensures.stands there is-told in
+    let has : Has i m first there level c.in_ok-root.root items = has_got i m first g.met.M.Unit.Item.one_spelling there (Has i m first there level) tree.root level tree.count Root Root items c.in_ok-root.root stands (root_at i m first g.met.M.Unit.Item.one_spelling there tree.root tree.height items some is.root) in
+    let long : to ≤ length items = omega (arith, c.requires.within, is.count) in
+    let count = numbered_length from to items long in
+    let full : range ≢ [] = λ none. omega (arith, count, ap length none, c.requires.range, c.if-from-to.false) in
+    let few : length range ≤ 2 ^ 63 = omega (arith, count, c.requires.within, c.requires.size.most) in
+    let fit = All-drop i.fits from (take to items) (All-take i.fits to items (items_fit i m first there level c.in_ok-root.root items stands.fits has)) in
+    let begun : Gathered m first c.new-parts.result.items [] = subst (λ sums. Gathered m first sums []) (sym c.new-parts.ensures.items) (gathered_none i m first) in
+    let r = c.in_ok-inside.ensures.items first there [] items (c.in_ok-root.ensures.reads.nodes ∙ is-told) goes long has begun in
+    let later = g.met.M.Summer.are_steps.both first c.args.summer.now c.inside.new.summer goes c.in_ok-inside.ensures.goes in
+    (full, c.in_ok-sum.ensures.value first range later full fit few (subst (λ sums. Gathered m first sums range) (sym c.as_slice.ensures.value) r))
+
+pub returns-in_err-root-clause-ran : goal.returns-in_err-root-clause-ran
+returns-in_err-root-clause-ran g c =
+    let i = g.M.Unit.Item in
+    let m = g.M.Summer in
+    let s = g.S.NodeSource in
+    let laws : BothLaws s m = record { steps = g.met.S.NodeSource.are_steps; caused = g.met.S.NodeSource.stays_caused; sum_steps = g.met.M.Summer.are_steps; sum_caused = g.met.M.Summer.stays_caused; sum_keeps = g.met.M.Summer.keeps } in
+    let s0 = c.args.store.now in
+    let u0 = c.args.summer.now in
+    let told = s.nodes s0 in
+    let tree = c.args.tree in
+    let level = tree.height - 1 in
+    let some : 0 < tree.height = some_height tree.height tree.count c.requires.size.empty (omega (arith, c.requires.range, c.requires.within, c.if-from-to.false)) in
+    let first = u0 in
+    let goes = laws.sum_steps.none u0 in
+    let q = c.from_residual in
+    let p = err_from_is_err_and q.result q.ensures.1 in
+    sum_ran_err s m laws (λ there. IsFaulty i m first there tree) _ s0 c.fetch.new.store u0 u0 q.result c.in_err-root.field-0.0 p.0 p.2 p.1 (got_fails i s m laws first tree s0 c.fetch.new.store u0 _ (c.in_err-root.ensures.ran tree (λ there is. root some)))
+
+pub returns-in_err-root-clause-sound : goal.returns-in_err-root-clause-sound
+returns-in_err-root-clause-sound g c first there items at is-told goes is e =
+    let i = g.M.Unit.Item in
+    let m = g.M.Summer in
+    let s = g.S.NodeSource in
+    let laws : BothLaws s m = record { steps = g.met.S.NodeSource.are_steps; caused = g.met.S.NodeSource.stays_caused; sum_steps = g.met.M.Summer.are_steps; sum_caused = g.met.M.Summer.stays_caused; sum_keeps = g.met.M.Summer.keeps } in
+    let s0 = c.args.store.now in
+    let u0 = c.args.summer.now in
+    let told = s.nodes s0 in
+    let tree = c.args.tree in
+    let level = tree.height - 1 in
+    let some : 0 < tree.height = some_height tree.height tree.count c.requires.size.empty (omega (arith, c.requires.range, c.requires.within, c.if-from-to.false)) in
+    let q = c.from_residual in
+    let p = err_from_is_err_and q.result q.ensures.1 in
+    let ran = sum_ran_err s m laws (λ there. IsFaulty i m first there tree) _ s0 c.fetch.new.store u0 u0 q.result c.in_err-root.field-0.0 p.0 p.2 p.1 (got_fails i s m laws first tree s0 c.fetch.new.store u0 _ (c.in_err-root.ensures.ran tree (λ there is. root some))) in
+    none_faulty i m first g.met.M.Unit.Item.one_spelling there tree items is at (sum_bad s m laws (λ there. IsFaulty i m first there tree) _ s0 c.fetch.new.store u0 u0 there q.result at ran is-told e)
+
+pub returns-in_err-inside-clause-ran : goal.returns-in_err-inside-clause-ran
+returns-in_err-inside-clause-ran g c =
+    let i = g.M.Unit.Item in
+    let m = g.M.Summer in
+    let s = g.S.NodeSource in
+    let laws : BothLaws s m = record { steps = g.met.S.NodeSource.are_steps; caused = g.met.S.NodeSource.stays_caused; sum_steps = g.met.M.Summer.are_steps; sum_caused = g.met.M.Summer.stays_caused; sum_keeps = g.met.M.Summer.keeps } in
+    let s0 = c.args.store.now in
+    let u0 = c.args.summer.now in
+    let told = s.nodes s0 in
+    let tree = c.args.tree in
+    let level = tree.height - 1 in
+    let some : 0 < tree.height = some_height tree.height tree.count c.requires.size.empty (omega (arith, c.requires.range, c.requires.within, c.if-from-to.false)) in
+    let first = u0 in
+    let goes = laws.sum_steps.none u0 in
+    let q = c.from_residual-in_err-inside in
+    let p = err_from_is_err_and q.result q.ensures.1 in
+    let same = c.in_ok-root.ensures.reads.nodes in
+    let met = node_met i tree told tree.root level tree.count Root c.in_ok-root.root (λ there is. root some) c.in_ok-root.ensures.stands in
+    let got = c.in_ok-root.ensures.ran tree (λ there is. root some) in
+    sum_ran_err s m laws (λ there. IsFaulty i m first there tree) _ s0 c.inside.new.store u0 c.inside.new.summer q.result c.in_err-inside.field-0.0 p.0 p.2 p.1 (sum_fails_on s m laws (λ there. IsFaulty i m first there tree) s0 c.fetch.new.store c.inside.new.store u0 u0 c.inside.new.summer _ same got (laws.sum_steps.none u0) (c.in_err-inside.ensures.ran first tree goes (λ there is. met there (sym same ∙ is))))
+
+pub returns-in_err-inside-clause-sound : goal.returns-in_err-inside-clause-sound
+returns-in_err-inside-clause-sound g c first there items at is-told goes is e =
+    let i = g.M.Unit.Item in
+    let m = g.M.Summer in
+    let s = g.S.NodeSource in
+    let laws : BothLaws s m = record { steps = g.met.S.NodeSource.are_steps; caused = g.met.S.NodeSource.stays_caused; sum_steps = g.met.M.Summer.are_steps; sum_caused = g.met.M.Summer.stays_caused; sum_keeps = g.met.M.Summer.keeps } in
+    let s0 = c.args.store.now in
+    let u0 = c.args.summer.now in
+    let told = s.nodes s0 in
+    let tree = c.args.tree in
+    let level = tree.height - 1 in
+    let some : 0 < tree.height = some_height tree.height tree.count c.requires.size.empty (omega (arith, c.requires.range, c.requires.within, c.if-from-to.false)) in
+    let q = c.from_residual-in_err-inside in
+    let p = err_from_is_err_and q.result q.ensures.1 in
+    let same = c.in_ok-root.ensures.reads.nodes in
+    let met = node_met i tree told tree.root level tree.count Root c.in_ok-root.root (λ there is. root some) c.in_ok-root.ensures.stands in
+    let got = c.in_ok-root.ensures.ran tree (λ there is. root some) in
+    let ran = sum_ran_err s m laws (λ there. IsFaulty i m first there tree) _ s0 c.inside.new.store u0 c.inside.new.summer q.result c.in_err-inside.field-0.0 p.0 p.2 p.1 (sum_fails_on s m laws (λ there. IsFaulty i m first there tree) s0 c.fetch.new.store c.inside.new.store u0 u0 c.inside.new.summer _ same got (laws.sum_steps.none u0) (c.in_err-inside.ensures.ran first tree goes (λ there is. met there (sym same ∙ is)))) in
+    none_faulty i m first g.met.M.Unit.Item.one_spelling there tree items is at (sum_bad s m laws (λ there. IsFaulty i m first there tree) _ s0 c.inside.new.store u0 c.inside.new.summer there q.result at ran is-told e)
+
+pub returns-in_err-sum-clause-ran : goal.returns-in_err-sum-clause-ran
+returns-in_err-sum-clause-ran g c =
+    let i = g.M.Unit.Item in
+    let m = g.M.Summer in
+    let s = g.S.NodeSource in
+    let laws : BothLaws s m = record { steps = g.met.S.NodeSource.are_steps; caused = g.met.S.NodeSource.stays_caused; sum_steps = g.met.M.Summer.are_steps; sum_caused = g.met.M.Summer.stays_caused; sum_keeps = g.met.M.Summer.keeps } in
+    let s0 = c.args.store.now in
+    let u0 = c.args.summer.now in
+    let told = s.nodes s0 in
+    let tree = c.args.tree in
+    let level = tree.height - 1 in
+    let some : 0 < tree.height = some_height tree.height tree.count c.requires.size.empty (omega (arith, c.requires.range, c.requires.within, c.if-from-to.false)) in
+    let first = u0 in
+    let goes = laws.sum_steps.none u0 in
+    let q = c.from_residual-in_err-sum in
+    let p = err_from_is_err_and q.result q.ensures.1 in
+    let same = c.in_ok-root.ensures.reads.nodes in
+    let met = node_met i tree told tree.root level tree.count Root c.in_ok-root.root (λ there is. root some) c.in_ok-root.ensures.stands in
+    let got = c.in_ok-root.ensures.ran tree (λ there is. root some) in
+    let ran1 = c.in_ok-inside.ensures.ran first tree goes (λ there is. met there (sym same ∙ is)) in
+    let same2 = c.in_ok-inside.ensures.reads.nodes ∙ same in
+    let s2 = c.inside.new.store in
+    let u1 = c.inside.new.summer in
+    let u2 = c.join_parts.new.summer in
+    sum_ran_err s m laws (λ there. IsFaulty i m first there tree) _ s0 s2 u0 u2 q.result c.in_err-sum.field-0.0 p.0 p.2 p.1 (sum_fails_on s m laws (λ there. IsFaulty i m first there tree) s0 s2 s2 u0 u1 u2 _ same2 (laws.steps.both s0 c.fetch.new.store s2 got ran1.0) ran1.1 (summed_fails s m laws (λ there. IsFaulty i m first there tree) g.row.M-Sum.Denot s2 u1 u2 _ c.in_err-sum.ensures.ran))
+
+pub returns-in_err-sum-clause-sound : goal.returns-in_err-sum-clause-sound
+returns-in_err-sum-clause-sound g c first there items at is-told goes is e =
+    let i = g.M.Unit.Item in
+    let m = g.M.Summer in
+    let s = g.S.NodeSource in
+    let laws : BothLaws s m = record { steps = g.met.S.NodeSource.are_steps; caused = g.met.S.NodeSource.stays_caused; sum_steps = g.met.M.Summer.are_steps; sum_caused = g.met.M.Summer.stays_caused; sum_keeps = g.met.M.Summer.keeps } in
+    let s0 = c.args.store.now in
+    let u0 = c.args.summer.now in
+    let told = s.nodes s0 in
+    let tree = c.args.tree in
+    let level = tree.height - 1 in
+    let some : 0 < tree.height = some_height tree.height tree.count c.requires.size.empty (omega (arith, c.requires.range, c.requires.within, c.if-from-to.false)) in
+    let q = c.from_residual-in_err-sum in
+    let p = err_from_is_err_and q.result q.ensures.1 in
+    let same = c.in_ok-root.ensures.reads.nodes in
+    let met = node_met i tree told tree.root level tree.count Root c.in_ok-root.root (λ there is. root some) c.in_ok-root.ensures.stands in
+    let got = c.in_ok-root.ensures.ran tree (λ there is. root some) in
+    let ran1 = c.in_ok-inside.ensures.ran first tree goes (λ there is. met there (sym same ∙ is)) in
+    let same2 = c.in_ok-inside.ensures.reads.nodes ∙ same in
+    let s2 = c.inside.new.store in
+    let u1 = c.inside.new.summer in
+    let u2 = c.join_parts.new.summer in
+    let ran = sum_ran_err s m laws (λ there. IsFaulty i m first there tree) _ s0 s2 u0 u2 q.result c.in_err-sum.field-0.0 p.0 p.2 p.1 (sum_fails_on s m laws (λ there. IsFaulty i m first there tree) s0 s2 s2 u0 u1 u2 _ same2 (laws.steps.both s0 c.fetch.new.store s2 got ran1.0) ran1.1 (summed_fails s m laws (λ there. IsFaulty i m first there tree) g.row.M-Sum.Denot s2 u1 u2 _ c.in_err-sum.ensures.ran)) in
+    none_faulty i m first g.met.M.Unit.Item.one_spelling there tree items is at (sum_bad s m laws (λ there. IsFaulty i m first there tree) _ s0 s2 u0 u2 there q.result at ran is-told e)
+
+pub returns-clause-ran : goal.returns-clause-ran
+returns-clause-ran g c =
+    let i = g.M.Unit.Item in
+    let m = g.M.Summer in
+    let s = g.S.NodeSource in
+    let laws : BothLaws s m = record { steps = g.met.S.NodeSource.are_steps; caused = g.met.S.NodeSource.stays_caused; sum_steps = g.met.M.Summer.are_steps; sum_caused = g.met.M.Summer.stays_caused; sum_keeps = g.met.M.Summer.keeps } in
+    let s0 = c.args.store.now in
+    let u0 = c.args.summer.now in
+    let told = s.nodes s0 in
+    let tree = c.args.tree in
+    let level = tree.height - 1 in
+    let some : 0 < tree.height = some_height tree.height tree.count c.requires.size.empty (omega (arith, c.requires.range, c.requires.within, c.if-from-to.false)) in
+    let first = u0 in
+    let goes = laws.sum_steps.none u0 in
+    let same = c.in_ok-root.ensures.reads.nodes in
+    let met = node_met i tree told tree.root level tree.count Root c.in_ok-root.root (λ there is. root some) c.in_ok-root.ensures.stands in
+    let got = c.in_ok-root.ensures.ran tree (λ there is. root some) in
+    let ran1 = c.in_ok-inside.ensures.ran first tree goes (λ there is. met there (sym same ∙ is)) in
+    (laws.steps.both s0 c.fetch.new.store c.inside.new.store got ran1.0, laws.sum_steps.both u0 c.inside.new.summer c.join_parts.new.summer ran1.1 c.in_ok-sum.ensures.ran)

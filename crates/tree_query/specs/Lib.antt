@@ -1,0 +1,5 @@
+pub mod Calls
+pub mod Ranges
+pub mod Reaching
+pub mod Unsummed
+pub mod Walking
