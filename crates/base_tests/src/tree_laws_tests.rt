@@ -3,7 +3,7 @@
 
 ghost use Rattle.std.specs.Prelude.{◌≡◌, ◌<◌};
 
-use builtin_reduces::RowItem;
+use builtin_reduces::{BuiltinSummer, RowItem};
 use json_terms::{Chars, NoMemory, Row, Term};
 use std::alloc::Global;
 use std::marker::Brand;
@@ -12,7 +12,10 @@ use std::test::Fail;
 use test_tools::same_text;
 use tree_laws::{
     Child, Children, Fill, Items, MemoryFault, MemoryNodes, Node, NodeSource, NodeStore, Steps,
-    SumBytes, TreeFault, decode_node, encode_node, fetch_node, nodes_are_spelled_once,
+    SumBytes, TreeFault, bare_trees_have_sizes, bare_trees_stay, decode_node, encode_node,
+    fetch_node, nodes_are_prefix_free, nodes_are_spelled_once, nodes_of_bare_trees_are_fetched,
+    nodes_of_bare_trees_fit, nodes_of_trees_are_fetched, nodes_of_trees_fit, sums_of_trees_fit,
+    trees_are_bare, trees_have_sizes, trees_pass, trees_stay,
 };
 
 /// A leaf with the items 5 and 6.
@@ -115,6 +118,7 @@ fn is_node(alloc: Global, bytes: &[u8], entries: usize) -> Result<bool, Fail> {
 #[test]
 fn nodes_have_bytes(rt: HostRuntime) -> Result<(), Fail> {
     nodes_are_spelled_once::<RowItem>();
+    nodes_are_prefix_free::<RowItem>();
     let alloc = rt.alloc();
     assert!(rt; bytes_of(alloc, &leaf_of(alloc, &[5, 6])?)?.as_slice() == LEAF);
     assert!(rt; bytes_of(alloc, &inner_of(alloc, &[5], 9)?)?.as_slice() == INNER);
@@ -244,4 +248,28 @@ fn fetch_all<L: Ledger>(alloc: Global, blank: Blank) -> Result<(), Fail>
 #[test]
 fn nodes_that_fit_are_fetched(rt: HostRuntime) -> Result<(), Fail> {
     fetch_all::<Brand>(rt.alloc(), Blank::new(1))
+}
+
+#[test]
+fn laws_hold_of_trees_of_rows(_rt: HostRuntime) -> Result<(), Fail> {
+    trees_stay::<BuiltinSummer>();
+    trees_pass::<BuiltinSummer, BuiltinSummer>();
+    trees_are_bare::<BuiltinSummer>();
+    nodes_of_trees_fit::<BuiltinSummer>();
+    sums_of_trees_fit::<BuiltinSummer>();
+    nodes_of_trees_are_fetched::<BuiltinSummer>();
+    trees_have_sizes::<BuiltinSummer>();
+    bare_trees_stay::<RowItem>();
+    nodes_of_bare_trees_fit::<RowItem>();
+    nodes_of_bare_trees_are_fetched::<RowItem>();
+    bare_trees_have_sizes::<RowItem>();
+    Ok(())
+}
+
+#[test]
+fn bytes_of_summaries_are_given_back(rt: HostRuntime) -> Result<(), Fail> {
+    let alloc = rt.alloc();
+    let bytes = SumBytes::from_vec(b"ab".to_vec(alloc)?);
+    assert!(rt; bytes.into_vec().as_slice() == b"ab".as_slice());
+    Ok(())
 }

@@ -1,5 +1,6 @@
 -- What the calls of a file as a store of nodes do.
-use Rattle.std.proofs.Common.{◌≡◌, ◌≢◌, inl, inr, ℕ, ◌+◌, ◌≤◌, List, length, Option, Some, None, Result, Ok, Err, refl, sym, ap, ◌∙◌, subst, arith}
+use Rattle.std.proofs.Common.{◌≡◌, ◌≢◌, inl, inr, ℕ, ◌+◌, ◌≤◌, List, [], ◌∷◌, length, Option, Some, None, Result, Ok, Err, refl, sym, ap, ◌∙◌, subst, arith}
+use Rattle.std.proofs.lemmas.List.Sums.{sum_by-cons}
 use Rattle.std.specs.Prelude.{IfErr, OnErr, OnOk, option_map}
 use Rattle.view_ports.specs.Disk.{Disk, MovesFile, MovesNone, Tells}
 use Rattle.view_ports.specs.File.{File}
@@ -11,11 +12,14 @@ use Rattle.gate_file.specs.declared.gate.GateFile.{GateFile}
 use Rattle.gate_file.specs.declared.fault.GateFault.{GateFault}
 use Rattle.gate_file.specs.declared.fault.GateFault.TheVariants.{DiskFault, Damaged, NoMemory}
 use Rattle.gate_file.specs.Calls.{too_long, Appends, IsCounted, IsReadFault, KeepsIn, Moved, Told}
-use Rattle.gate_file.specs.GateFile.{appended, name_of, root_of, IsAppended, Keeps}
+use Rattle.gate_file.specs.GateFile.{appended, name_of, root_of, start_of, IsAppended, Keeps}
+use Rattle.gate_file.specs.Publish.{IsTooLong}
 use Rattle.gate_file.specs.Shown.{Shows}
 use Rattle.tree_laws.specs.Nodes.{sized}
+use Rattle.tree_laws.specs.Stores.{pieces_size}
+use Rattle.node_file.specs.Cache.{puts_of, NotesGet, NotesPut}
 use Rattle.node_file.specs.declared.file_nodes.FileNodes.{FileNodes}
-use Rattle.node_file.specs.FileNodes.{Adds, AddsNoMore, AddsSome, FileFails, FileGoes, HasSame, IsKept, MovesOn, Stays}
+use Rattle.node_file.specs.FileNodes.{Adds, AddsNoMore, AddsSome, FileFails, FileGoes, Grows, HasSame, IsKept, MovesOn, Stays, WasAsked, record_size}
 use Rattle.node_file.specs.FileNodeLaws.{adds_none, adds_ready, adds_same, longer_itself}
 use Rattle.node_file.specs.Puts.{IsPutFault}
 use Rattle.node_file.specs.RecordLaws.{appended_stays, sized_long}
@@ -31,6 +35,18 @@ same_nodes name None None told = refl
 same_nodes name None (Some b) told = absurd told
 same_nodes name (Some a) None told = absurd told
 same_nodes name (Some a) (Some b) told = ap (λ (file : File). Some (node_at file.seen)) (none_same a b told name)
+
+-- ---- how long the file gets
+
+-- nothing was put
+pub grows_none : {F : Type 0} (a b : FileNodes F) → puts_of b.cache.now ≡ puts_of a.cache.now → b.file.now ≡ a.file.now → Grows a b
+grows_none a b none same = let size = ap pieces_size none in let start = ap start_of same in omega (arith, size, start)
+
+-- a piece was put, or wasn't
+pub grows_piece : {F : Type 0} (a b : FileNodes F) (piece : List ℕ) → puts_of b.cache.now ≡ piece ∷ puts_of a.cache.now → start_of b.file.now ≤ start_of a.file.now + (length piece + 8) → Grows a b
+grows_piece a b piece put within =
+    let size : pieces_size (puts_of b.cache.now) ≡ (length piece + 8) + pieces_size (puts_of a.cache.now) = ap pieces_size put ∙ sum_by-cons (λ p. length p + 8) piece (puts_of a.cache.now) in
+    omega (arith, size, within)
 
 module _ {F : Type 0} (f : Folders F) where
   -- ---- a node is got
@@ -61,12 +77,18 @@ module _ {F : Type 0} (f : Folders F) where
   get_cause gate name at old new fault own (inr (inl memory)) rose damaged adds = subst (AddsNoMore f gate gate old new) (sym memory) adds
   get_cause gate name at old new fault own (inr (inr there)) rose damaged adds = subst (AddsNoMore f gate gate old new) (sym there) (adds, own, damaged there)
 
-  pub get_fails : {T : Type 0} (a b : FileNodes F) (name : FileName) (at : ℕ) (result : Result T GateFault) → HasSame a b → b.file.now ≡ a.file.now → name ≡ name_of a.file.now
+  -- what was asked for where a node isn't got
+  get_asked : (a b : FileNodes F) (name : FileName) (at : ℕ) (fault : GateFault) → NotesGet at a.cache.now b.cache.now → IsReadFault name at fault → WasAsked a b fault
+  get_asked a b name at fault notes (inl disk) = subst (WasAsked a b) (sym disk) tt
+  get_asked a b name at fault notes (inr (inl memory)) = subst (WasAsked a b) (sym memory) tt
+  get_asked a b name at fault notes (inr (inr there)) = subst (WasAsked a b) (sym there) ([], notes.gets)
+
+  pub get_fails : {T : Type 0} (a b : FileNodes F) (name : FileName) (at : ℕ) (result : Result T GateFault) → HasSame a b → NotesGet at a.cache.now b.cache.now → b.file.now ≡ a.file.now → name ≡ name_of a.file.now
       → IfErr result (IsReadFault name at) → IsCounted f a.folder.now b.folder.now result
       → Told f a.folder.now (λ d. result ≡ Err (Damaged name at) → node_at (d.now name).seen at ≡ None) → Moved f a.folder.now b.folder.now MovesNone
       → IfErr result (λ fault. FileFails f a b fault)
-  get_fails a b name at (Ok value) lent same own faults counted damaged none = tt
-  get_fails a b name at (Err fault) lent same own faults counted damaged none =
+  get_fails a b name at (Ok value) lent notes same own faults counted damaged none = tt
+  get_fails a b name at (Err fault) lent notes same own faults counted damaged none =
       let gate = a.file.now in
       let adds = adds_same f gate a.folder.now b.folder.now none counted.later in
       record {
@@ -77,6 +99,8 @@ module _ {F : Type 0} (f : Folders F) where
             (λ there. told_after (f.disk a.folder.now) (f.disk b.folder.now) (λ d. Err fault ≡ Err (Damaged name at) → node_at (d.now name).seen at ≡ None) (λ d. node_at (d.now name).seen at ≡ None) MovesNone
             (λ d e is still. subst (λ (file : File). node_at file.seen at ≡ None) (sym (none_same d e still name)) (is (ap Err there))) damaged none)
             adds);
+        asked = get_asked a b name at fault notes faults;
+        grows = grows_none a b notes.puts same;
       }
 
   -- ---- a piece is put
@@ -113,9 +137,12 @@ module _ {F : Type 0} (f : Folders F) where
   put_ready gate gate' old new (Ok value) ready adds = adds_ready f gate gate' old new adds ready
   put_ready gate gate' old new (Err fault) ready adds = tt
 
-  pub put_goes : {T E : Type 0} (a b : FileNodes F) (result : Result T E) → HasSame a b → OnOk result (Adds f a.file.now b.file.now a.folder.now b.folder.now) → OnOk result (FileGoes f a b)
-  put_goes a b (Ok value) lent adds = record { lent = lent; adds = adds }
-  put_goes a b (Err fault) lent adds = tt
+  pub put_goes : {T E : Type 0} (a b : FileNodes F) (piece : List ℕ) (result : Result T E) → HasSame a b → NotesPut piece a.cache.now b.cache.now
+      → OnOk result (b.file.now ≡ appended a.file.now (length piece + 8)) → OnOk result (Adds f a.file.now b.file.now a.folder.now b.folder.now) → OnOk result (FileGoes f a b)
+  put_goes a b piece (Ok value) lent notes done adds =
+      let start : start_of b.file.now ≡ start_of (appended a.file.now (length piece + 8)) = ap start_of done in
+      record { lent = lent; adds = adds; grows = grows_piece a b piece notes.puts (omega (arith, start)); gets = ([], notes.gets); puts = (piece ∷ [], notes.puts) }
+  put_goes a b piece (Err fault) lent notes done adds = tt
 
   -- why a piece isn't put
   put_cause : (gate : GateFile) (old new : F) (fault : GateFault) → IsPutFault gate fault → (fault ≡ DiskFault → AddsNoMore f gate gate old new DiskFault) → (fault ≢ DiskFault → new ≡ old) → AddsNoMore f gate gate old new fault
@@ -127,15 +154,26 @@ module _ {F : Type 0} (f : Folders F) where
       let still : new ≡ old = untouched (λ disk. (let never : NoMemory ≡ DiskFault = sym memory ∙ disk in cc)) in
       subst (AddsNoMore f gate gate old new) (sym memory) (subst (λ (n : F). Adds f gate gate old n) (sym still) (adds_none f gate old))
 
-  pub put_fails : {T : Type 0} (a b : FileNodes F) (bytes : List ℕ) (result : Result T GateFault) → HasSame a b → OnErr result (b.file.now ≡ a.file.now)
+  -- what was asked for where a piece isn't put
+  put_asked : (a b : FileNodes F) (piece : List ℕ) (fault : GateFault) → NotesPut piece a.cache.now b.cache.now → b.file.now ≡ a.file.now
+      → (fault ≡ too_long a.file.now → IsTooLong a.file.now (record_size piece)) → IsPutFault a.file.now fault → WasAsked a b fault
+  put_asked a b piece fault notes same full (inl disk) = subst (WasAsked a b) (sym disk) tt
+  put_asked a b piece fault notes same full (inr (inl long)) =
+      subst (WasAsked a b) (sym long) (piece, [], notes.puts, subst (λ (g : GateFile). IsTooLong g (record_size piece)) (sym same) (full long))
+  put_asked a b piece fault notes same full (inr (inr memory)) = subst (WasAsked a b) (sym memory) tt
+
+  pub put_fails : {T : Type 0} (a b : FileNodes F) (piece bytes : List ℕ) (result : Result T GateFault) → HasSame a b → NotesPut piece a.cache.now b.cache.now → OnErr result (b.file.now ≡ a.file.now)
+      → (result ≡ Err (too_long a.file.now) → IsTooLong a.file.now (record_size piece))
       → IfErr result (IsPutFault a.file.now) → IsCounted f a.folder.now b.folder.now result
       → IfErr result (λ e. e ≢ DiskFault → b.folder.now ≡ a.folder.now) → Moved f a.folder.now b.folder.now (Appends a.file.now bytes result)
       → IfErr result (λ fault. FileFails f a b fault)
-  put_fails {T} a b bytes (Ok value) lent same faults counted untouched moved = tt
-  put_fails {T} a b bytes (Err fault) lent same faults counted untouched moved =
+  put_fails {T} a b piece bytes (Ok value) lent notes same full faults counted untouched moved = tt
+  put_fails {T} a b piece bytes (Err fault) lent notes same full faults counted untouched moved =
       let gate = a.file.now in
       record {
         lent = lent;
         adds = subst (λ (g : GateFile). AddsSome f gate g a.folder.now b.folder.now) (sym same) (some_appended gate bytes a.folder.now b.folder.now T fault moved counted.later);
         cause = subst (λ (g : GateFile). AddsNoMore f gate g a.folder.now b.folder.now fault) (sym same) (put_cause gate a.folder.now b.folder.now fault faults (λ disk. counted.failed disk) untouched);
+        asked = put_asked a b piece fault notes same (λ is. full (ap Err is)) faults;
+        grows = (let start = ap start_of same in grows_piece a b piece notes.puts (omega (arith, start)));
       }

@@ -1,7 +1,8 @@
 -- The laws of a file as a store of nodes.
-use Rattle.std.proofs.Common.{◌≡◌, inl, inr, ℕ, ◌≤◌, [], length, Option, Some, None, refl, sym, ap, ◌∙◌, subst, arith}
+use Rattle.std.proofs.Common.{◌≡◌, inl, inr, ℕ, ◌≤◌, List, [], ◌∷◌, ◌++◌, length, Option, Some, None, refl, sym, ap, ◌∙◌, subst, arith}
 use Rattle.std.specs.Prelude.{option_map}
 use Rattle.std.proofs.lemmas.Bool.{cases_eq}
+use Rattle.std.proofs.lemmas.List.{append_assoc}
 use Rattle.view_ports.specs.Disk.{Disk, IfTold, MovesNone, Tells}
 use Rattle.view_ports.specs.File.{File}
 use Rattle.view_ports.specs.declared.file_name.FileName.{FileName}
@@ -20,9 +21,19 @@ use Rattle.gate_file.proofs.Appends.{has_all_then, made_already, shows_then, sti
 use Rattle.tree_laws.specs.Meaning.{AreSteps, StaysCaused}
 use Rattle.tree_laws.specs.Stores.{Extends, KeepsPlaces}
 use Rattle.node_file.specs.declared.file_nodes.FileNodes.{FileNodes}
-use Rattle.node_file.specs.FileNodes.{Adds, AddsNoMore, AddsSome, FileFails, FileGoes, HasSame, IsKept, IsLonger, IsReady, MovesOn, Stays, nodes_of}
+use Rattle.node_file.specs.Cache.{gets_of, puts_of}
+use Rattle.node_file.specs.FileNodes.{Adds, AddsNoMore, AddsSome, FileFails, FileGoes, GoesOn, Grows, HasSame, IsKept, IsLonger, IsReady, MovesOn, Stays, WasAsked, nodes_of}
 use Rattle.node_file.specs.RecordLaws.{carried, has_itself}
 use Rattle.node_file.specs.Records.{node_at}
+
+-- ---- lists that go on
+
+goes_on_both : {X : Type 0} (a b c : List X) → GoesOn a b → GoesOn b c → GoesOn a c
+goes_on_both {X} a b c on later = (later.0 ++ on.0, later.1 ∙ ap (λ list. later.0 ++ list) on.1 ∙ sym (append_assoc later.0 on.0 a))
+
+newest_both : {X : Type 0} (a b c : List X) (x : X) → GoesOn a b → ((more : List X) × (c ≡ x ∷ (more ++ b))) → (more : List X) × (c ≡ x ∷ (more ++ a))
+newest_both {X} a b c x on newest =
+    (newest.0 ++ on.0, newest.1 ∙ ap (λ list. x ∷ list) (ap (λ list. newest.0 ++ list) on.1 ∙ sym (append_assoc newest.0 on.0 a)))
 
 -- ---- one file
 
@@ -138,15 +149,26 @@ module _ {F : Type 0} (f : Folders F) where
 
   -- ---- the store
 
+  asked_both : (a b c : FileNodes F) (fault : GateFault) → FileGoes f a b → WasAsked b c fault → WasAsked a c fault
+  asked_both a b c DiskFault goes asked = tt
+  asked_both a b c (Full name length) goes asked =
+      let newest = newest_both (puts_of a.cache.now) (puts_of b.cache.now) (puts_of c.cache.now) asked.0 goes.puts (asked.1, asked.2) in
+      (asked.0, newest.0, newest.1, asked.3)
+  asked_both a b c (Damaged name at) goes asked = newest_both (gets_of a.cache.now) (gets_of b.cache.now) (gets_of c.cache.now) at goes.gets asked
+  asked_both a b c NoMemory goes asked = tt
+
   same_both : (a b c : FileNodes F) → HasSame a b → HasSame b c → HasSame a c
   same_both a b c first second = record { cache = second.cache ∙ first.cache; folder = second.folder ∙ first.folder; file = second.file ∙ first.file }
 
   pub file_steps : AreSteps (FileGoes f)
   file_steps = record {
-    none = λ a. record { lent = record { cache = refl; folder = refl; file = refl }; adds = adds_none a.file.now a.folder.now };
+    none = λ a. record { lent = record { cache = refl; folder = refl; file = refl }; adds = adds_none a.file.now a.folder.now; grows = omega arith; gets = ([], refl); puts = ([], refl) };
     both = λ a b c first second. record {
       lent = same_both a b c first.lent second.lent;
       adds = adds_both a.file.now b.file.now c.file.now a.folder.now b.folder.now c.folder.now first.adds second.adds;
+      grows = omega (arith, first.grows, second.grows);
+      gets = goes_on_both (gets_of a.cache.now) (gets_of b.cache.now) (gets_of c.cache.now) first.gets second.gets;
+      puts = goes_on_both (puts_of a.cache.now) (puts_of b.cache.now) (puts_of c.cache.now) first.puts second.puts;
     };
   }
 
@@ -155,6 +177,8 @@ module _ {F : Type 0} (f : Folders F) where
     lent = same_both a b c goes.lent fails.lent;
     adds = some_both a.file.now b.file.now c.file.now a.folder.now b.folder.now c.folder.now goes.adds fails.adds;
     cause = cause_both a.file.now b.file.now c.file.now a.folder.now b.folder.now c.folder.now goes.adds fault fails.cause;
+    asked = asked_both a b c fault goes fails.asked;
+    grows = omega (arith, goes.grows, fails.grows);
   }
 
   places_kept : (name name' : FileName) → name' ≡ name → (old new : Option (Disk FileName)) → Tells old new (λ a b. HasAll (a.now name).seen (b.now name).seen)
@@ -178,3 +202,9 @@ module _ {F : Type 0} (f : Folders F) where
 
   pub file_ready : (a b : FileNodes F) → FileGoes f a b → IsReady f a → IsReady f b
   file_ready a b goes ready = adds_ready a.file.now b.file.now a.folder.now b.folder.now goes.adds ready
+
+  pub file_grows : (a b : FileNodes F) → FileGoes f a b → Grows a b
+  file_grows a b goes = goes.grows
+
+  pub file_grew : (a b : FileNodes F) (fault : GateFault) → FileFails f a b fault → Grows a b
+  file_grew a b fault fails = fails.grows

@@ -1,5 +1,5 @@
 -- A file as a store of nodes: what stands in it, and what its calls do.
-use Rattle.std.specs.Prelude.{◌≡◌, ◌≤◌, Option, None, option_map}
+use Rattle.std.specs.Prelude.{◌≡◌, ◌≤◌, ◌+◌, ℕ, List, ◌∷◌, ◌++◌, length, Option, None, option_map}
 use Rattle.std.specs.Borrow.{MutBor}
 use Rattle.view_ports.specs.Disk.{Disk, MovesFile}
 use Rattle.view_ports.specs.Faults.{Rose}
@@ -10,10 +10,12 @@ use Rattle.gate_file.specs.declared.gate.GateFile.{GateFile}
 use Rattle.gate_file.specs.declared.fault.GateFault.{GateFault}
 use Rattle.gate_file.specs.declared.fault.GateFault.TheVariants.{DiskFault, Damaged, Full, NoMemory}
 use Rattle.gate_file.specs.Calls.{too_long, KeepsIn, Moved, Told}
-use Rattle.gate_file.specs.GateFile.{length_of, name_of, root_of, Keeps}
+use Rattle.gate_file.specs.GateFile.{length_of, name_of, root_of, start_of, Keeps}
+use Rattle.gate_file.specs.Publish.{IsTooLong}
 use Rattle.gate_file.specs.Shown.{HasAll, Shows}
-use Rattle.tree_laws.specs.Stores.{Places}
+use Rattle.tree_laws.specs.Stores.{Growing, Places}
 use Rattle.node_file.specs.declared.cache.NodeCache.{NodeCache}
+use Rattle.node_file.specs.Cache.{gets_of, puts_of}
 use Rattle.node_file.specs.declared.file_nodes.FileNodes.{FileNodes}
 use Rattle.node_file.specs.Records.{node_at}
 
@@ -61,11 +63,19 @@ module _ {F : Type 0} (f : Folders F) where
 
 -- ---- the store
 
+-- how many bytes the record of a piece takes
+abbrev pub record_size : List ℕ → ℕ
+record_size piece = length piece + 8
+
 -- the references that the store was lent
 pub record HasSame {F : Type 0} (old new : FileNodes F) : Type 0 where
   pub cache : new.cache.ghost_name ≡ old.cache.ghost_name
   pub folder : new.folder.ghost_name ≡ old.folder.ghost_name
   pub file : new.file.ghost_name ≡ old.file.ghost_name
+
+-- the file got no longer than by the pieces that were put
+abbrev pub Grows : {F : Type 0} → FileNodes F → FileNodes F → Type 0
+Grows old new = Growing (puts_of old.cache.now) (puts_of new.cache.now) (start_of old.file.now) (start_of new.file.now)
 
 -- the store was lent these, and nothing was done yet
 pub record IsOver {F : Type 0} (cache : MutBor NodeCache) (folder : MutBor F) (file : MutBor GateFile) (nodes : FileNodes F) : Type 0 where
@@ -75,6 +85,19 @@ pub record IsOver {F : Type 0} (cache : MutBor NodeCache) (folder : MutBor F) (f
   pub same_folder : nodes.folder.now ≡ folder.now
   pub lent_file : nodes.file.ghost_name ≡ file.ghost_name
   pub same_file : nodes.file.now ≡ file.now
+
+-- the one list is the other with more before it
+abbrev pub GoesOn : {X : Type 0} → List X → List X → Type 0
+GoesOn {X} old new = (more : List X) × (new ≡ more ++ old)
+
+-- what was asked for last where a call failed that way: the node that is damaged was got, or a piece was put that the file has no room
+-- for
+abbrev pub WasAsked : {F : Type 0} → FileNodes F → FileNodes F → GateFault → Type 0
+WasAsked old new DiskFault = Unit {0}
+WasAsked old new (Full name length) =
+    (piece : List ℕ) × (more : List (List ℕ)) × (puts_of new.cache.now ≡ piece ∷ (more ++ puts_of old.cache.now)) × IsTooLong new.file.now (record_size piece)
+WasAsked old new (Damaged name at) = (more : List ℕ) × (gets_of new.cache.now ≡ at ∷ (more ++ gets_of old.cache.now))
+WasAsked old new NoMemory = Unit {0}
 
 module _ {F : Type 0} (f : Folders F) where
   -- the nodes of the file, where the folder tells its disk
@@ -89,9 +112,14 @@ module _ {F : Type 0} (f : Folders F) where
   pub record FileGoes (old new : FileNodes F) : Type 0 where
     pub lent : HasSame old new
     pub adds : Adds f old.file.now new.file.now old.folder.now new.folder.now
+    pub grows : Grows old new
+    pub gets : GoesOn (gets_of old.cache.now) (gets_of new.cache.now)
+    pub puts : GoesOn (puts_of old.cache.now) (puts_of new.cache.now)
 
   -- what calls do of which the last answered a fault, and why it did
   pub record FileFails (old new : FileNodes F) (fault : GateFault) : Type 0 where
     pub lent : HasSame old new
     pub adds : AddsSome f old.file.now new.file.now old.folder.now new.folder.now
     pub cause : AddsNoMore f old.file.now new.file.now old.folder.now new.folder.now fault
+    pub asked : WasAsked old new fault
+    pub grows : Grows old new

@@ -1,15 +1,18 @@
 //! Nodes that were read before.
 
 ghost use Rattle.std.specs.Prelude.{◌≡◌, ◌≤◌, IfOk};
-ghost use Rattle.node_file.specs.Cache.{capacity_of};
+ghost use Rattle.node_file.specs.Cache.{capacity_of, NotesGet, NotesNone, NotesPut};
 
 use json_terms::NoMemory;
 use std::alloc::Global;
+use tree_laws::NodeLog;
 
-/// Nodes that were read before, so many at most. It keeps none yet: each node is read from its file.
+/// Nodes that were read before, so many at most. It keeps none yet: each node is read from its file. What was got and put through
+/// it is noted for contracts alone.
 #[derive(Debug, Drop)]
 pub struct NodeCache {
     capacity: u32,
+    log: NodeLog,
 }
 
 impl NodeCache {
@@ -18,11 +21,28 @@ impl NodeCache {
         requires { (1 ≤ capacity) × (capacity ≤ 256) }
         ensures { IfOk result (λ cache. capacity_of cache ≡ capacity) }
     {
-        Ok(NodeCache { capacity })
+        Ok(NodeCache {
+            capacity,
+            log: NodeLog::new(),
+        })
     }
 
     /// Empties the cache.
     pub fn forget(&mut self)
-        ensures { capacity_of self.new ≡ capacity_of self.old }
+        ensures { NotesNone self.old self.new }
     {}
+
+    /// A node is asked for.
+    pub(crate) fn note_get(&mut self, at: u64)
+        ensures { NotesGet at self.old self.new }
+    {
+        self.log = self.log.got(&at);
+    }
+
+    /// A piece is put.
+    pub(crate) fn note_put(&mut self, bytes: &[u8])
+        ensures { NotesPut bytes.now self.old self.new }
+    {
+        self.log = self.log.put(bytes);
+    }
 }

@@ -10,7 +10,7 @@ use tree_laws::{NodeSource, NodeStore};
 use view_ports::Folder;
 
 /// A file as a store of nodes, each at the place of its record. Its size is the file's length, where a new file counts 8,192
-/// bytes. The folder tells what stands in it, and the pieces that were put aren't told.
+/// bytes. The folder tells what stands in it, and the cache what was got and put.
 #[derive(Drop)]
 pub struct FileNodes<'a, F> {
     pub cache: &'a mut NodeCache,
@@ -38,10 +38,10 @@ impl<'a, F: Folder> FileNodes<'a, F> {
 }
 
 impl<'a, F: Folder> NodeSource for FileNodes<'a, F> {
-    ghost use Rattle.std.specs.Prelude.{None};
     ghost use Rattle.gate_file.specs.GateFile.{start_of};
+    ghost use Rattle.node_file.specs.Cache.{gets_of, puts_of};
     ghost use Rattle.node_file.specs.FileNodes.{FileFails, FileGoes, IsReady, nodes_of};
-    ghost use Rattle.node_file.specs.FileNodeLaws.{file_causes, file_keeps, file_ready, file_steps};
+    ghost use Rattle.node_file.specs.FileNodeLaws.{file_causes, file_grew, file_grows, file_keeps, file_ready, file_steps};
 
     type Fault = GateFault;
 
@@ -51,7 +51,9 @@ impl<'a, F: Folder> NodeSource for FileNodes<'a, F> {
 
     ghost size = { λ nodes. start_of nodes.file.now };
 
-    ghost puts = { λ nodes. None };
+    ghost puts = { λ nodes. puts_of nodes.cache.now };
+
+    ghost gets = { λ nodes. gets_of nodes.cache.now };
 
     ghost reads = { λ nodes. F.reads nodes.folder.now };
 
@@ -76,6 +78,10 @@ impl<'a, F: Folder> NodeSource for FileNodes<'a, F> {
     ghost keeps = { file_keeps _ };
 
     ghost stays_ready = { file_ready _ };
+
+    ghost grows = { file_grows _ };
+
+    ghost grew = { file_grew _ };
 }
 
 impl<'a, F: Folder> NodeStore for FileNodes<'a, F> {

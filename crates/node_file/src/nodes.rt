@@ -6,7 +6,7 @@ ghost use Rattle.gate_file.specs.GateFile.{appended, start_of};
 ghost use Rattle.gate_file.specs.Publish.{IsTooLong};
 ghost use Rattle.view_ports.specs.Disk.{MovesNone};
 ghost use Rattle.tree_laws.specs.Nodes.{sized};
-ghost use Rattle.node_file.specs.Cache.{capacity_of};
+ghost use Rattle.node_file.specs.Cache.{NotesGet, NotesPut};
 ghost use Rattle.node_file.specs.Puts.{IsPutFault, Puts};
 ghost use Rattle.node_file.specs.Records.{node_at};
 
@@ -44,8 +44,9 @@ pub fn put_node<F: Folder>(
     ensures err { OnErr result (file.new ≡ file.old) }
     ensures untouched { IfErr result (λ e. e ≢ GateFault.DiskFault → folder.new ≡ folder.old) }
     ensures reads { F.reads folder.new ≡ F.reads folder.old }
-    ensures cache { capacity_of cache.new ≡ capacity_of cache.old }
+    ensures cache { NotesPut bytes.now cache.old cache.new }
 {
+    cache.note_put(bytes);
     if !has_room(file, bytes.len() as u64) {
         return Err(GateFault::Full {
             name: file.name(),
@@ -84,8 +85,9 @@ pub fn get_node<F: Folder>(
     ensures disk { Moved F.Folder folder.old folder.new MovesNone }
     ensures cause { IsCounted F.Folder folder.old folder.new result }
     ensures reads { ReadsUpTo F.Folder 2 folder.old folder.new }
-    ensures cache { capacity_of cache.new ≡ capacity_of cache.old }
+    ensures cache { NotesGet at cache.old cache.new }
 {
+    cache.note_get(at);
     match find_record(alloc, folder, name, at)? {
         Some(bytes) => Ok(bytes),
         None => Err(GateFault::Damaged { name, offset: at }),

@@ -1,15 +1,19 @@
 -- How calls that come one after another are one.
-use Rattle.std.proofs.Common.{◌≡◌, ℕ, List, Option, Some, None, Result, Ok, Err, IfSome, refl, sym, ap, ◌∙◌, subst}
+use Rattle.std.proofs.Common.{◌≡◌, ℕ, List, ◌∷◌, Option, Some, None, Result, Ok, Err, OnErr, IfSome, ◌≤◌, refl, sym, ap, ◌∙◌, subst}
 use Rattle.tree_laws.specs.declared.item.Item.{Ghosts as Items}
 use Rattle.tree_laws.specs.declared.store.NodeSource.{Ghosts as Sources}
 use Rattle.tree_laws.specs.declared.summer.Summer.{Ghosts as Summers}
+use Rattle.tree_laws.specs.declared.node.Node.{Node}
 use Rattle.tree_laws.specs.declared.tree.Fill.{Fill}
 use Rattle.tree_laws.specs.declared.tree.TreeFault.{TreeFault}
 use Rattle.tree_laws.specs.declared.tree.TreeFault.TheVariants as tree_fault
 use Rattle.tree_laws.specs.Fetching.{FetchFails}
 use Rattle.tree_laws.specs.Meaning.{AreSteps, KeepsMeaning, Meaning, StaysCaused}
-use Rattle.tree_laws.specs.Stores.{Extends, KeepsPlaces, Places}
-use Rattle.reduce_tree.specs.Calls.{places, unfit, unsummed, IsFaulty, KeepsBadSum, IsUnread, IsKnown, GoOn, Fails, Ran, Summed}
+use Rattle.tree_laws.specs.Nodes.{entries, FitsNode, spelled_node}
+use Rattle.tree_laws.specs.Stores.{EachSince, Extends, KeepsPlaces, Places}
+use Rattle.reduce_tree.specs.Calls.{places, unfit, unsummed, IsFaulty, KeepsBadSum, IsUnread, IsKnown, GoOn, Fails, Ran, Summed, UnlessStore}
+use Rattle.reduce_tree.specs.Pieces.{IsNodePiece, IsSummed}
+use Rattle.reduce_tree.proofs.Since.{node_back, since_none, since_on, since_one}
 
 -- the laws of a store and of a summer
 pub record Laws {T S F M Sum G : Type 0} (s : Sources S F) (m : Summers M T Sum G) : Type 0 where
@@ -35,18 +39,43 @@ told_at None P there h e = absurd (cc)
 told_at (Some now) P there h e = h
 
 module _ {T S F M Sum G : Type 0} (i : Items T) (s : Sources S F) (m : Summers M T Sum G) (laws : Laws s m) where
+  -- c is the store after more calls, when the summer was v
+  nodes_on : (a b c : S) (u v : M) → m.goes u v → EachSince (IsNodePiece i m u) (s.puts a) (s.puts b) → EachSince (IsNodePiece i m v) (s.puts b) (s.puts c) → EachSince (IsNodePiece i m u) (s.puts a) (s.puts c)
+  nodes_on a b c u v g h k = since_on (IsNodePiece i m v) (IsNodePiece i m u) (node_back i m laws.summer_keeps u v g) (s.puts a) (s.puts b) (s.puts c) h k
+
   pub goes_on : (a b c : S) (u v w : M) → GoOn i s m a b u v → GoOn i s m b c v w → GoOn i s m a c u w
-  goes_on a b c u v w h k = record { store = laws.store_steps.both a b c h.store k.store; summer = laws.summer_steps.both u v w h.summer k.summer }
+  goes_on a b c u v w h k = record { store = laws.store_steps.both a b c h.store k.store; summer = laws.summer_steps.both u v w h.summer k.summer; puts = nodes_on a b c u v h.summer h.puts k.puts }
 
-  -- a call on the store alone
-  pub goes_store : (a b : S) (u : M) → s.goes a b → GoOn i s m a b u u
-  goes_store a b u h = record { store = h; summer = laws.summer_steps.none u }
-
-  pub goes_none : (a : S) (u : M) → GoOn i s m a a u u
-  goes_none a u = record { store = laws.store_steps.none a; summer = laws.summer_steps.none u }
+  -- a call on the store alone, of which nothing was put
+  pub goes_store : (a b : S) (u : M) → s.goes a b → s.puts b ≡ s.puts a → GoOn i s m a b u u
+  goes_store a b u h e = record { store = h; summer = laws.summer_steps.none u; puts = since_none (IsNodePiece i m u) (s.puts a) (s.puts b) e }
 
   pub goes_summer : (a : S) (u v : M) → m.goes u v → GoOn i s m a a u v
-  goes_summer a u v h = record { store = laws.store_steps.none a; summer = h }
+  goes_summer a u v h = record { store = laws.store_steps.none a; summer = h; puts = since_none (IsNodePiece i m u) (s.puts a) (s.puts a) refl }
+
+  pub goes_none : (a : S) (u : M) → GoOn i s m a a u u
+  goes_none a u = goes_summer a u u (laws.summer_steps.none u)
+
+  -- a node was put
+  pub goes_put : (a b : S) (u v : M) (piece : List ℕ) (node : Node T) → s.goes a b → m.goes u v → s.puts b ≡ piece ∷ s.puts a → piece ≡ spelled_node i.spelled node → FitsNode i.fits i.spelled node → entries node ≤ 32 → IsSummed i m u node → GoOn i s m a b u v
+  goes_put a b u v piece node h g e is fits most summed = record {
+    store = h;
+    summer = g;
+    puts = since_one (IsNodePiece i m u) piece (s.puts a) (s.puts b) e (record { node = node; fits = fits; bytes_are = is; most = most; summed = summed });
+  }
+
+  -- and a put failed
+  pub fails_put : (a b : S) (u v : M) (fault : F) (piece : List ℕ) (node : Node T) → s.fails a b fault → m.goes u v → s.puts b ≡ piece ∷ s.puts a → piece ≡ spelled_node i.spelled node → FitsNode i.fits i.spelled node → entries node ≤ 32 → IsSummed i m u node
+      → Fails i s m a b u v (tree_fault.Store fault)
+  fails_put a b u v fault piece node h g e is fits most summed = record {
+    store = h;
+    summer = g;
+    puts = since_one (IsNodePiece i m u) piece (s.puts a) (s.puts b) e (record { node = node; fits = fits; bytes_are = is; most = most; summed = summed });
+  }
+
+  -- or a get did
+  fails_get : (a b : S) (u : M) (fault : F) → s.fails a b fault → s.puts b ≡ s.puts a → Fails i s m a b u u (tree_fault.Store fault)
+  fails_get a b u fault h e = record { store = h; summer = laws.summer_steps.none u; puts = since_none (IsNodePiece i m u) (s.puts a) (s.puts b) e }
 
   unread_on : (u v : M) (bytes : List ℕ) → m.goes u v → IsUnread i m v bytes → IsUnread i m u bytes
   unread_on u v bytes g h sum fits is = h sum ((laws.summer_keeps.fits u v sum g).0 fits) (ap (λ (x : Meaning T Sum). x.spelled sum) (laws.summer_keeps.meaning u v g) ∙ is)
@@ -65,10 +94,10 @@ module _ {T S F M Sum G : Type 0} (i : Items T) (s : Sources S F) (m : Summers M
   faulty_told u v (Some there) at g h = faulty_on u v there at g h
 
   pub fails_on : (a b c : S) (u v w : M) → GoOn i s m a b u v → (fault : TreeFault F G) → Fails i s m b c v w fault → Fails i s m a c u w fault
-  fails_on a b c u v w g (tree_fault.Store fault) h = laws.store_caused a b c fault g.store h
-  fails_on a b c u v w g (tree_fault.BadNode at) h = faulty_told u v (s.nodes c) at g.summer h
-  fails_on a b c u v w g (tree_fault.Summer fault) h = laws.summer_caused u v w fault g.summer h
-  fails_on a b c u v w g tree_fault.NoMemory h = tt
+  fails_on a b c u v w g (tree_fault.Store fault) h = record { store = laws.store_caused a b c fault g.store h.store; summer = laws.summer_steps.both u v w g.summer h.summer; puts = nodes_on a b c u v g.summer g.puts h.puts }
+  fails_on a b c u v w g (tree_fault.BadNode at) h = (faulty_told u v (s.nodes c) at g.summer h.0, goes_on a b c u v w g h.1)
+  fails_on a b c u v w g (tree_fault.Summer fault) h = record { store = laws.store_steps.both a b c g.store h.store; summer = laws.summer_caused u v w fault g.summer h.summer; puts = nodes_on a b c u v g.summer g.puts h.puts }
+  fails_on a b c u v w g tree_fault.NoMemory h = goes_on a b c u v w g h
 
   pub ran_on : {X : Type 0} (a b c : S) (u v w : M) (result : Result X (TreeFault F G)) → GoOn i s m a b u v → Ran i s m b c v w result → Ran i s m a c u w result
   ran_on a b c u v w (Ok value) g h = goes_on a b c u v w g h
@@ -78,21 +107,21 @@ module _ {T S F M Sum G : Type 0} (i : Items T) (s : Sources S F) (m : Summers M
   pub summed_fails : (X : Type 0) (a : S) (u v : M) (fault : TreeFault F G) → Summed m {X = X} {F = F} u v (Err fault) → Fails i s m a a u v fault
   summed_fails X a u v (tree_fault.Store fault) h = absurd h
   summed_fails X a u v (tree_fault.BadNode at) h = absurd h
-  summed_fails X a u v (tree_fault.Summer fault) h = h
-  summed_fails X a u v tree_fault.NoMemory h = tt
+  summed_fails X a u v (tree_fault.Summer fault) h = record { store = laws.store_steps.none a; summer = h; puts = since_none (IsNodePiece i m u) (s.puts a) (s.puts a) refl }
+  summed_fails X a u v tree_fault.NoMemory h = goes_summer a u v h
 
   bad_told : (u : M) (level count : ℕ) (fill : Fill) (old new : Option Places) (at place : ℕ) → new ≡ old → place ≡ at → IfSome old (λ there. Rattle.tree_laws.specs.Fetching.IsBadAt i level count fill there at) → IfSome new (λ there. IsFaulty i m u there place)
   bad_told u level count fill None new at place e p h = subst (λ o. IfSome o (λ there. IsFaulty i m u there place)) (sym e) tt
   bad_told u level count fill (Some there) new at place e p h = subst (λ o. IfSome o (λ there. IsFaulty i m u there place)) (sym e) (subst (λ q. IsFaulty i m u there q) (sym p) (unfit level count fill h))
 
-  pub fetch_fails : (a b : S) (u : M) (level count : ℕ) (fill : Fill) (at : ℕ) (fault : TreeFault F G) → s.nodes b ≡ s.nodes a → FetchFails i level count fill s a b at fault → Fails i s m a b u u fault
-  fetch_fails a b u level count fill at (tree_fault.Store fault) e h = h
-  fetch_fails a b u level count fill at (tree_fault.BadNode place) e h = bad_told u level count fill (s.nodes a) (s.nodes b) at place e h.0 h.1
-  fetch_fails a b u level count fill at (tree_fault.Summer fault) e h = absurd h
-  fetch_fails a b u level count fill at tree_fault.NoMemory e h = tt
+  pub fetch_fails : (a b : S) (u : M) (level count : ℕ) (fill : Fill) (at : ℕ) (fault : TreeFault F G) → s.nodes b ≡ s.nodes a → s.puts b ≡ s.puts a → FetchFails i level count fill s a b at fault → Fails i s m a b u u fault
+  fetch_fails a b u level count fill at (tree_fault.Store fault) e f h = fails_get a b u fault h f
+  fetch_fails a b u level count fill at (tree_fault.BadNode place) e f h = (bad_told u level count fill (s.nodes a) (s.nodes b) at place e h.0 h.1, goes_store a b u h.2 f)
+  fetch_fails a b u level count fill at (tree_fault.Summer fault) e f h = absurd h
+  fetch_fails a b u level count fill at tree_fault.NoMemory e f h = goes_store a b u h f
 
   -- a node that keeps a bad summary
-  pub bad_sum : (a : S) (u : M) (told : Option Places) (at : ℕ) (node : _) → Rattle.tree_laws.specs.Nodes.FitsNode i.fits i.spelled node → IfSome told (λ there. there at ≡ Some (Rattle.tree_laws.specs.Nodes.spelled_node i.spelled node)) → KeepsBadSum i m u node → IfSome told (λ there. IsFaulty i m u there at)
+  pub bad_sum : (a : S) (u : M) (told : Option Places) (at : ℕ) (node : Node T) → FitsNode i.fits i.spelled node → IfSome told (λ there. there at ≡ Some (spelled_node i.spelled node)) → KeepsBadSum i m u node → IfSome told (λ there. IsFaulty i m u there at)
   bad_sum a u None at node fits stand h = tt
   bad_sum a u (Some there) at node fits stand h = unsummed (record { node = node; fits = fits; stand = stand; keeps = h })
 
@@ -107,3 +136,27 @@ module _ {T S F M Sum G : Type 0} (i : Items T) (s : Sources S F) (m : Summers M
   -- what the exit of a `?` returns
   pub ran_err : {X : Type 0} (a b : S) (u v : M) (q : Result X (TreeFault F G)) (fault y : TreeFault F G) → y ≡ fault → q ≡ Err y → Fails i s m a b u v fault → Ran i s m a b u v q
   ran_err a b u v q fault y e is h = rw is (rw e h)
+
+  -- where no call on the store failed, it went on
+  pub ran_goes : {X : Type 0} (a b : S) (u v : M) (q : Result X (TreeFault F G)) → Ran i s m a b u v q → UnlessStore q (s.goes a b)
+  ran_goes a b u v (Ok value) h = h.store
+  ran_goes a b u v (Err (tree_fault.Store fault)) h = tt
+  ran_goes a b u v (Err (tree_fault.BadNode at)) h = h.1.store
+  ran_goes a b u v (Err (tree_fault.Summer fault)) h = h.store
+  ran_goes a b u v (Err tree_fault.NoMemory) h = h.store
+
+module _ {X F G : Type 0} where
+  pub unless_on : (P Q : Type 0) (q : Result X (TreeFault F G)) → (P → Q) → UnlessStore q P → UnlessStore q Q
+  unless_on P Q (Ok value) f h = f h
+  unless_on P Q (Err (tree_fault.Store fault)) f h = tt
+  unless_on P Q (Err (tree_fault.BadNode at)) f h = f h
+  unless_on P Q (Err (tree_fault.Summer fault)) f h = f h
+  unless_on P Q (Err tree_fault.NoMemory) f h = f h
+
+-- a summer's call that found no memory
+pub summed_none : {T M Sum F G : Type 0} {X : Type 0} (m : Summers M T Sum G) (u v : M) (q : Result X (TreeFault F G)) (y : TreeFault F G) → y ≡ tree_fault.NoMemory → q ≡ Err y → m.goes u v → Summed m u v q
+summed_none m u v q y e is h = rw is (rw e h)
+
+pub on_err : {X E : Type 0} (q : Result X E) (P : Type 0) → P → OnErr q P
+on_err (Ok value) P h = tt
+on_err (Err fault) P h = h

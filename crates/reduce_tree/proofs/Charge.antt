@@ -1,5 +1,5 @@
 -- Sums of what is charged.
-use Rattle.std.proofs.Common.{◌≡◌, ℕ, zero, suc, ◌-◌, ◌+◌, ◌*◌, ◌<◌, ◌≤◌, ◌==◌, Bool, true, false, refl, ap, ◌∙◌, arith}
+use Rattle.std.proofs.Common.{◌≡◌, ◌⊎◌, inl, inr, ℕ, zero, suc, ◌-◌, ◌+◌, ◌*◌, ◌<◌, ◌≤◌, ◌==◌, Bool, true, false, refl, ap, ◌∙◌, arith}
 use Rattle.std.proofs.lemmas.Bool.Decides.{nat_tests}
 use Rattle.reduce_tree.specs.Bounds.{slack, ready, pending, rounding}
 
@@ -119,6 +119,20 @@ pub steps_step : (k t0 t t1 done now rest0 rest cn nn rc rn pc pn children e own
     → 31 * t1 + (now + (rest + (nn + (rn + (93 * pn + (others + 186 * (k * others))))))) ≤ 31 * t0 + (children + (e + 186 * (k * e)))
 steps_step k t0 t t1 done now rest0 rest cn nn rc rn pc pn children e own others left l r a b = omega (arith, product_parts k own others left l)
 
+-- a child is fetched where it has edits, or where the entries carried can't be put yet
+pub paid : (low e cl cn : ℕ) → cl ≤ low → (0 < e) ⊎ (ready low cl cn ≡ false) → 63 + (93 * slack low cl cn + 186 * (low * e)) ≤ 93 * pending low cl cn + 186 * ((low + 1) * e)
+paid low e cl cn c (inl some) = let out : (low + 1) * e ≡ low * e + e = omega arith in omega (arith, out, slack_within low cl cn c)
+paid low e cl cn c (inr n) =
+    let out : (low + 1) * e ≡ low * e + e = omega arith in
+    omega (arith, out, pending_not low cl cn n, slack_some low cl cn (ready_some low cl cn n))
+
+-- an edit of a child gave up
+pub steps_fault : (k t0 t t1 done rest0 rest cn rc pc children e own others left : ℕ) → left ≡ own + others → rest0 ≡ suc rest
+    → 31 * t + (done + (rest0 + (cn + (rc + (93 * pc + (left + 186 * (k * left))))))) ≤ 31 * t0 + (children + (e + 186 * (k * e)))
+    → 31 * t1 ≤ 31 * t + (done + (1 + (cn + (rc + (93 * pc + (own + 186 * (k * own)))))))
+    → 31 * t1 ≤ 31 * t0 + (children + (e + 186 * (k * e)))
+steps_fault k t0 t t1 done rest0 rest cn rc pc children e own others left l r a b = omega (arith, product_parts k own others left l)
+
 -- the bounds: low is the root's level, high the greater height
 all_counts : (low high h e r n x y z s d t0 t1 t2 p0 p1 p2 : ℕ) → 0 < e → low ≤ high → h ≤ high → r ≤ low → (n ≡ 0 → h ≡ 0) → (0 < n → s ≡ low - r)
     → high + 1 ≡ low + d → 1 ≤ d → z ≡ x + y → e + d ≤ y + 1
@@ -158,3 +172,16 @@ few_puts low high e t0 t1 n s p0 p1 some le a b =
     let w4 = w.4 in
     let out4 : e * (4 * (high + 1)) ≡ 4 * (e * (high + 1)) = omega arith in
     omega (arith, out4, w3, w4, w.2)
+
+-- the bounds by a height that is enough for all items, whatever is answered
+pub top_bounds : (low high e r n t0 t1 t2 p0 p1 p2 : ℕ) → 0 < e → low ≤ high → r ≤ low
+    → 31 * t1 + (n + 93 * slack low r n) ≤ 31 * t0 + (63 + (e + 186 * (low * e))) → 93 * p1 + (n + 62 * t0) ≤ 93 * p0 + (62 * t1 + (32 + e))
+    → 31 * t2 ≤ 31 * t1 + (n + 31 * slack high r n) → 93 * p2 + 62 * t1 ≤ 93 * p1 + (62 * t2 + (n + 31 * slack high r n))
+    → (t2 ≤ t0 + e * (8 * (high + 1))) × (p2 ≤ p0 + e * (4 * (high + 1)))
+top_bounds low high e r zero t0 t1 t2 p0 p1 p2 some le rl a b q v = all_bounds low high 0 e r zero t0 t1 t2 p0 p1 p2 some le (omega arith) rl (λ z. refl) a b (omega (arith, q)) (omega (arith, v))
+top_bounds low high e r (suc n) t0 t1 t2 p0 p1 p2 some le rl a b q v = all_bounds low high high e r (suc n) t0 t1 t2 p0 p1 p2 some le (omega arith) rl (λ z. absurd (omega (arith, z))) a b q v
+
+-- the root's edit gave up
+pub fault_bounds : (low high e t0 t1 p0 p1 : ℕ) → 0 < e → low ≤ high → 31 * t1 ≤ 31 * t0 + (63 + (e + 186 * (low * e))) → 93 * p1 + 62 * t0 ≤ 93 * p0 + (62 * t1 + (32 + e))
+    → (t1 ≤ t0 + e * (8 * (high + 1))) × (p1 ≤ p0 + e * (4 * (high + 1)))
+fault_bounds low high e t0 t1 p0 p1 some le a b = (few_steps low high e t0 t1 0 0 some le (omega (arith, a)), few_puts low high e t0 t1 0 0 p0 p1 some le (omega (arith, a)) (omega (arith, b)))

@@ -1,6 +1,9 @@
+pub mod Alike
 pub mod Applied
 pub mod Calls
 pub mod Charge
+pub mod Climb
+pub mod Fills
 pub mod Lists
 pub mod Made
 pub mod Nodes
@@ -8,6 +11,10 @@ pub mod Order
 pub mod Pieces
 pub mod Puts
 pub mod Quiet
+pub mod Since
 pub mod Sound
+pub mod Stacks
 pub mod Summaries
 pub mod Walk
+pub mod Working
+mod Passing

@@ -17,9 +17,9 @@ use Rattle.tree_laws.specs.Fitting.{AreLarge, IsFilled, item_count}
 use Rattle.tree_laws.specs.Nodes.{entries, is_leaf}
 use Rattle.tree_laws.specs.Spelled.{IsSpelledOnce}
 use Rattle.tree_laws.specs.Stores.{Places}
-use Rattle.tree_laws.specs.Trees.{AreChildren, Has, HasRoot, IsAt, IsChild, IsTreeSize, Joins, Stands}
-use Rattle.tree_laws.proofs.Parts.{children_append, children_split, same_node}
-use Rattle.tree_laws.proofs.Sizes.{counts_add}
+use Rattle.tree_laws.specs.SummerTrees.{AreChildren, Has, HasRoot, IsAt, IsChild, IsTreeSize, Joins, Stands}
+use Rattle.tree_laws.proofs.SummerTrees.{children_append, children_split, same_node}
+use Rattle.tree_laws.proofs.SummerTrees.{counts_add}
 use Rattle.reduce_tree.specs.Rows.{IsAtLevel, IsSplit, Tells, lone}
 
 -- ---- numbers of items
@@ -82,6 +82,14 @@ module _ {T : Type 0} where
   many_items (suc level) n (Inner cs) kind h some =
       let least = 8 ^ suc level in
       omega (arith, large_sum (suc level) cs h, mul-le-mul_right {m = n} {n = length cs} least some)
+
+  -- so few items that a level is too high for one entry
+  pub level_below : (level top : ℕ) (node : Node T) → IsAtLevel level node → AreLarge level node → 0 < entries node → item_count node < 8 ^ top → level < top
+  level_below level top node kind large some few =
+      let many = many_items level 1 node kind large some in
+      let least : 8 ^ level ≤ item_count node = omega (arith, many) in
+      let f : top ≤ level → 8 ^ top ≤ 8 ^ level = λ e. pow-le-pow_right (omega arith) e in
+      grind (arith, f, least, few)
 
   pub filled_large : (level : ℕ) (node : Node T) → IsAtLevel level node → AreLarge level node → 8 ≤ entries node → 8 ^ (level + 1) ≤ item_count node
   filled_large level node kind h some = omega (arith, many_items level 8 node kind h some, pow-succ' 8 level, ap (λ n. 8 ^ n) (let up : level + 1 ≡ suc level = omega arith in up))

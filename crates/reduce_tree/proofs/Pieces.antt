@@ -1,5 +1,5 @@
 -- What was put, over calls one after another.
-use Rattle.std.proofs.Common.{◌≡◌, ℕ, Option, Some, None, List, [], ◌∷◌, ◌++◌, Contains, sym, ap, ◌∙◌, append_assoc, subst}
+use Rattle.std.proofs.Common.{Result, Err, MatchResult, ◌≡◌, ℕ, List, [], ◌∷◌, ◌++◌, Contains, length, ◌+◌, ◌≤◌, arith, refl, sym, ap, ◌∙◌, subst}
 use Rattle.std.proofs.lemmas.List.Elements.{All-append, All-cons, All-filter, All-head, All-nil, All-tail, All-weaker}
 use Rattle.std.specs.declared.cmp.Ordering.{Ordering}
 use Rattle.std.specs.List.Sorted.{IsStrictlySortedBy}
@@ -8,14 +8,18 @@ use Rattle.tree_laws.specs.declared.item.Item.{Ghosts as Items}
 use Rattle.tree_laws.specs.declared.summer.Summer.{Ghosts as Summers}
 use Rattle.tree_laws.specs.declared.node.Child.{Child}
 use Rattle.tree_laws.specs.declared.tree.Fill.{Fill}
-use Rattle.tree_laws.specs.Stores.{Extends, Places, one_piece_more}
-use Rattle.tree_laws.specs.Trees.{AreChildren, IsChild, Stands}
-use Rattle.tree_laws.proofs.Structure.{children_stay, has_stays, stands_stays}
+use Rattle.tree_laws.specs.declared.tree.Fill.TheVariants.{Below}
+use Rattle.tree_laws.specs.declared.tree.TreeFault.{TreeFault}
+use Rattle.tree_laws.specs.declared.tree.TreeFault.TheVariants as tree_fault
+use Rattle.tree_laws.specs.Stores.{Extends, Places}
+use Rattle.reduce_tree.proofs.Since.{since_both, since_none, since_one}
+use Rattle.tree_laws.specs.SummerTrees.{AreChildren, IsChild, Stands}
+use Rattle.tree_laws.proofs.SummerTrees.{children_stay, has_stays, stands_stays}
 use Rattle.reduce_tree.specs.declared.edit.Edit.{Edit}
 use Rattle.reduce_tree.specs.Applied.{applied, edit_key, placed_of}
 use Rattle.reduce_tree.proofs.Order.{sorted_back, sorted_front}
 use Rattle.reduce_tree.proofs.Quiet.{all_back, all_front}
-use Rattle.reduce_tree.specs.Pieces.{AreAmong, ArePieces, InsertAmong, IsPiece}
+use Rattle.reduce_tree.specs.Pieces.{AreAmong, ArePieces, InsertAmong, IsPiece, WerePieces, EndsIn, IsTried}
 
 module _ {T : Type 0} (order : T → T → Ordering) (among : List T) where
   pub applied_among : (es : List (Edit T)) (xs : List T) → InsertAmong among es → AreAmong among xs → AreAmong among (applied order es xs)
@@ -40,24 +44,45 @@ module _ {T M Sum Fault : Type 0} (i : Items T) (m : Summers M T Sum Fault) (fir
     }
 
     -- a is before, b between, where n0 stands, and c after, where n1 does
-    pub pieces_on : (fill : Fill) (a b c : Option (List (List ℕ))) → ArePieces i m first among n0 fill a b → ArePieces i m first among n1 fill b c → ArePieces i m first among n1 fill a c
-    pieces_on fill None b c h k = tt
-    pieces_on fill (Some old) None c h k = let e = h.1 in absurd (cc)
-    pieces_on fill (Some old) (Some mid) c h k =
-        let e : mid ≡ h.0 ++ old = let f = h.1 in cc in (
-          k.0 ++ h.0,
-          k.1 ∙ ap (λ t. Some (k.0 ++ t)) e ∙ ap Some (sym (append_assoc k.0 h.0 old)),
-          All-append (IsPiece i m first among n1 fill) k.0 h.0 k.2 (All-weaker (IsPiece i m first among n0 fill) (IsPiece i m first among n1 fill) (λ bytes p. piece_stays fill bytes p) h.0 h.2),
-        )
+    pub pieces_on : (fill : Fill) (a b c : List (List ℕ)) → ArePieces i m first among n0 fill a b → ArePieces i m first among n1 fill b c → ArePieces i m first among n1 fill a c
+    pieces_on fill a b c h k = since_both (IsPiece i m first among n0 fill) (IsPiece i m first among n1 fill) (IsPiece i m first among n1 fill) (λ bytes p. piece_stays fill bytes p) (λ bytes p. p) a b c h k
 
   module _ (there : Places) where
-    pub pieces_none : (fill : Fill) (old new : Option (List (List ℕ))) → new ≡ old → ArePieces i m first among there fill old new
-    pieces_none fill None new e = tt
-    pieces_none fill (Some old) new e = ([], e, All-nil (IsPiece i m first among there fill))
+    pub pieces_none : (fill : Fill) (old new : List (List ℕ)) → new ≡ old → ArePieces i m first among there fill old new
+    pieces_none fill old new e = since_none (IsPiece i m first among there fill) old new e
 
-    pub pieces_one : (fill : Fill) (piece : List ℕ) (old new : Option (List (List ℕ))) → new ≡ one_piece_more piece old → IsPiece i m first among there fill piece → ArePieces i m first among there fill old new
-    pieces_one fill piece None new e p = tt
-    pieces_one fill piece (Some old) new e p = (piece ∷ [], e, All-cons (IsPiece i m first among there fill) piece [] p (All-nil (IsPiece i m first among there fill)))
+    pub pieces_one : (fill : Fill) (piece : List ℕ) (old new : List (List ℕ)) → new ≡ piece ∷ old → IsPiece i m first among there fill piece → ArePieces i m first among there fill old new
+    pieces_one fill piece old new e p = since_one (IsPiece i m first among there fill) piece old new e p
+
+  module _ {F G : Type 0} where
+    ends_here : (there : Places) (fault : TreeFault F G) (pieces : List (List ℕ)) → EndsIn i m first among there fault pieces pieces
+    ends_here there (tree_fault.Store fault) pieces = (since_none (IsTried i m first among there) pieces pieces refl, omega arith)
+    ends_here there (tree_fault.BadNode at) pieces = refl
+    ends_here there (tree_fault.Summer fault) pieces = refl
+    ends_here there tree_fault.NoMemory pieces = refl
+
+    -- before is what stood at first
+    pub were_none : (before : Places) (fault : TreeFault F G) (old new : List (List ℕ)) → new ≡ old → WerePieces i m first among before fault old new
+    were_none before fault old new e = record { held = before; kept = λ at bytes s. s; stood = new; pieces = pieces_none before Below old new e; last = ends_here before fault new }
+
+    -- the store failed at its first put
+    pub were_tried : (before : Places) (fault : F) (piece : List ℕ) (old new : List (List ℕ)) → new ≡ piece ∷ old → IsTried i m first among before piece → WerePieces i m first among before {F = F} {G = G} (tree_fault.Store fault) old new
+    were_tried before fault piece old new e h = record {
+      held = before;
+      kept = λ at bytes s. s;
+      stood = old;
+      pieces = pieces_none before Below old old refl;
+      last = (since_one (IsTried i m first among before) piece old new e h, omega (arith, ap length e));
+    }
+
+    module _ (n0 n1 : Places) (e01 : Extends n0 n1) (fault : TreeFault F G) where
+      -- all calls on the store went on
+      pub were_done : (a b : List (List ℕ)) → ArePieces i m first among n1 Below a b → WerePieces i m first among n0 fault a b
+      were_done a b h = record { held = n1; kept = e01; stood = b; pieces = h; last = ends_here n1 fault b }
+
+      -- and then a call gave up
+      pub were_on : (a b c : List (List ℕ)) → ArePieces i m first among n1 Below a b → WerePieces i m first among n1 fault b c → WerePieces i m first among n0 fault a c
+      were_on a b c h k = record { held = k.held; kept = λ at bytes s. k.kept at bytes (e01 at bytes s); stood = k.stood; pieces = pieces_on n1 k.held k.kept Below a b k.stood h k.pieces; last = k.last }
 
   -- the items of the children left, which rise, and those that the edits left insert
   pub record Left (there : Places) (low : ℕ) (rest : List (Child T)) (left : List (Edit T)) : Type 0 where
@@ -99,3 +124,7 @@ module _ {T M Sum Fault : Type 0} (i : Items T) (m : Summers M T Sum Fault) (fir
           inserts = all_back I own others es;
         };
       }
+
+-- what the exit of a `?` returns
+pub on_match : {X E : Type 0} (q : Result X E) (P : X → Type 0) (Q : E → Type 0) (fault y : E) → y ≡ fault → q ≡ Err y → Q fault → MatchResult q P Q
+on_match q P Q fault y e is h = rw is (rw e h)

@@ -8,8 +8,8 @@ use Rattle.tree_laws.specs.declared.item.Item.{Ghosts as Items}
 use Rattle.tree_laws.specs.declared.summer.Summer.{Ghosts as Summers}
 use Rattle.tree_laws.specs.declared.node.Child.{Child}
 use Rattle.tree_laws.specs.Stores.{Extends, Places}
-use Rattle.tree_laws.specs.Trees.{AreChildren, IsChild, Stands}
-use Rattle.tree_laws.proofs.Structure.{children_stay, stands_stays}
+use Rattle.tree_laws.specs.SummerTrees.{AreChildren, IsChild, Stands}
+use Rattle.tree_laws.proofs.SummerTrees.{children_stay, stands_stays}
 use Rattle.reduce_tree.specs.declared.edit.Edit.{Edit}
 use Rattle.reduce_tree.specs.declared.edit.Edit.TheVariants.{Remove, Insert}
 use Rattle.reduce_tree.specs.Applied.{edit_key, placed_of, RemoveNone, RemovesNone}

@@ -6,8 +6,8 @@ use Rattle.tree_laws.specs.declared.summer.Summer.{Ghosts as Summers}
 use Rattle.tree_laws.specs.declared.node.Child.{Child}
 use Rattle.tree_laws.specs.Meaning.{IsJoinValue, IsLeafValue, KeepsMeaning, Meaning, joined}
 use Rattle.tree_laws.specs.Spelled.{IsSpelledOnce}
-use Rattle.tree_laws.specs.Trees.{AreChildren, IsSummary}
-use Rattle.tree_laws.proofs.Parts.{AreParts, parts_of}
+use Rattle.tree_laws.specs.SummerTrees.{AreChildren, IsSummary}
+use Rattle.tree_laws.proofs.SummerTrees.{AreParts, parts_of}
 
 module _ {S : Type 0} (fits : S → Type 0) (spelled : S → List ℕ) (once : IsSpelledOnce fits spelled) where
   sums_once : (xs ys : List S) → All fits xs → All fits ys → map spelled xs ≡ map spelled ys → xs ≡ ys

@@ -12,9 +12,9 @@ use Rattle.tree_laws.specs.declared.node.Node.{Node}
 use Rattle.tree_laws.specs.declared.node.Node.TheVariants.{Leaf}
 use Rattle.tree_laws.specs.Nodes.{entries}
 use Rattle.tree_laws.specs.Stores.{Extends, Places}
-use Rattle.tree_laws.specs.Trees.{AreChildren, Has, IsChild, Joins, Stands}
-use Rattle.tree_laws.proofs.Parts.{children_append, children_split, children_one}
-use Rattle.tree_laws.proofs.Structure.{child_stays, children_stay, has_stays, stands_stays}
+use Rattle.tree_laws.specs.SummerTrees.{AreChildren, Has, IsChild, Joins, Stands}
+use Rattle.tree_laws.proofs.SummerTrees.{children_append, children_split, children_one}
+use Rattle.tree_laws.proofs.SummerTrees.{child_stays, children_stay, has_stays, stands_stays}
 use Rattle.reduce_tree.specs.declared.edit.Edit.{Edit}
 use Rattle.reduce_tree.specs.Applied.{applied, edit_key}
 use Rattle.reduce_tree.specs.Rows.{Carries}

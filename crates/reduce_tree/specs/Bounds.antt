@@ -1,5 +1,5 @@
 -- What is charged for the nodes that an edit gets and puts.
-use Rattle.std.specs.Prelude.{ℕ, zero, suc, ◌-◌, ◌+◌, ◌*◌, ◌<◌, ◌≤◌, ◌==◌, ◌&&◌, ◌||◌, Bool, nat_le, if◌then◌else◌, Option, Some, None, List, length}
+use Rattle.std.specs.Prelude.{ℕ, zero, suc, ◌-◌, ◌+◌, ◌*◌, ◌<◌, ◌≤◌, ◌==◌, ◌&&◌, ◌||◌, Bool, nat_le, if◌then◌else◌}
 
 -- how far a row that isn't empty lies below a level
 abbrev pub slack : ℕ → ℕ → ℕ → ℕ
@@ -19,17 +19,14 @@ abbrev pub rounding : ℕ → ℕ
 rounding zero = 0
 rounding (suc n) = 31
 
--- how many pieces were put, where that is told, and else 0
-abbrev pub put_count : Option (List (List ℕ)) → ℕ
-put_count None = 0
-put_count (Some pieces) = length pieces
-
--- the reads never fall, and rise by two for each step at most
-abbrev pub ReadsFor : ℕ → ℕ → ℕ → ℕ → Type 0
-ReadsFor before now old new = (before ≤ now) × (now + 2 * old ≤ before + 2 * new)
-
 -- Of the items that come in, so many go out in a leaf again. For each of the others 8 bytes were put at least, and they were given
 -- to a summer that was usable.
 pub record ArePut (before now : ℕ) (Usable : Type 0) (come go : ℕ) : Type 0 where
   pub size : before + 8 * come ≤ now + 8 * go
   pub usable : go < come → Usable
+
+-- What a call that gave up may have cost: 31 is charged for a step, and 93 for a put, of which a step gives back 62. The levels and
+-- the rows are what is kept back for them.
+pub record Spent (old new before now levels rows : ℕ) : Type 0 where
+  pub steps : 31 * new ≤ 31 * old + levels
+  pub puts : 93 * now + 62 * old ≤ 93 * before + (62 * new + rows)

@@ -1,14 +1,19 @@
 -- What a call puts.
-use Rattle.std.specs.Prelude.{◌≡◌, ◌+◌, ◌≤◌, ℕ, Option, Some, None, List, ◌++◌, All, Contains}
+use Rattle.std.specs.Prelude.{◌≡◌, ◌+◌, ◌≤◌, ℕ, Some, List, ◌++◌, All, Contains, length}
 use Rattle.tree_laws.specs.declared.item.Item.{Ghosts as Items}
 use Rattle.tree_laws.specs.declared.summer.Summer.{Ghosts as Summers}
+use Rattle.tree_laws.specs.declared.node.Node.{Node}
+use Rattle.tree_laws.specs.declared.node.Node.TheVariants.{Leaf, Inner}
 use Rattle.tree_laws.specs.declared.tree.Fill.{Fill}
 use Rattle.tree_laws.specs.declared.tree.Fill.TheVariants.{Root, Below}
-use Rattle.tree_laws.specs.Stores.{Places}
-use Rattle.tree_laws.specs.Trees.{Has, IsAt}
+use Rattle.tree_laws.specs.declared.tree.TreeFault.{TreeFault}
+use Rattle.tree_laws.specs.declared.tree.TreeFault.TheVariants as tree_fault
+use Rattle.tree_laws.specs.Nodes.{entries, FitsNode, spelled_node}
+use Rattle.tree_laws.specs.Fitting.{IsFilled}
+use Rattle.tree_laws.specs.Stores.{EachSince, Extends, Places}
+use Rattle.tree_laws.specs.SummerTrees.{Has, IsAt}
 use Rattle.reduce_tree.specs.declared.edit.Edit.{Edit}
 use Rattle.reduce_tree.specs.Applied.{placed_of}
-use Rattle.reduce_tree.specs.Bounds.{put_count}
 
 -- each of the items is one of these
 abbrev pub AreAmong : {T : Type 0} → List T → List T → Type 0
@@ -17,6 +22,26 @@ AreAmong among items = All (Contains among) items
 -- and so is each item that the edits insert
 abbrev pub InsertAmong : {T : Type 0} → List T → List (Edit T) → Type 0
 InsertAmong among edits = All (λ e. AreAmong among (placed_of e)) edits
+
+module _ {T M Sum Fault : Type 0} (i : Items T) (m : Summers M T Sum Fault) (summer : M) where
+  -- the bytes of a value that fits
+  pub record IsSumSpelled (bytes : List ℕ) : Type 0 where
+    pub sum : Sum
+    pub fits : m.fits summer sum
+    pub bytes_are : bytes ≡ (m.meaning summer).spelled sum
+
+  -- a leaf is there only where the summer is usable; the summaries of an inner node are those of values that fit
+  abbrev pub IsSummed : Node T → Type 0
+  IsSummed (Leaf items) = m.usable summer
+  IsSummed (Inner children) = All (λ child. IsSumSpelled child.sum) children
+
+  -- the bytes of such a node, of 32 entries at most
+  pub record IsNodePiece (bytes : List ℕ) : Type 0 where
+    pub node : Node T
+    pub fits : FitsNode i.fits i.spelled node
+    pub bytes_are : bytes ≡ spelled_node i.spelled node
+    pub most : entries node ≤ 32
+    pub summed : IsSummed node
 
 module _ {T M Sum Fault : Type 0} (i : Items T) (m : Summers M T Sum Fault) (first : M) (among : List T) (there : Places) where
   -- the bytes of a node that stands there, is filled so, and has items of these alone
@@ -28,14 +53,42 @@ module _ {T M Sum Fault : Type 0} (i : Items T) (m : Summers M T Sum Fault) (fir
     pub stand : there at ≡ Some bytes
     pub items : AreAmong among own
 
-  -- the pieces that were put since are such; a store that doesn't tell them may have put any
-  abbrev pub ArePieces : Fill → Option (List (List ℕ)) → Option (List (List ℕ)) → Type 0
-  ArePieces fill None new = Unit {0}
-  ArePieces fill (Some old) new = (more : List (List ℕ)) × (new ≡ Some (more ++ old)) × All (IsPiece fill) more
+  -- the bytes of a node with items of these alone, filled so or so, whose children stand there; it may stand nowhere itself
+  pub record IsTried (bytes : List ℕ) : Type 0 where
+    pub level : ℕ
+    pub fill : Fill
+    pub own : List T
+    pub node : Node T
+    pub fits : FitsNode i.fits i.spelled node
+    pub bytes_are : bytes ≡ spelled_node i.spelled node
+    pub filled : IsFilled fill node
+    pub has : Has i m first there level node own
+    pub items : AreAmong among own
+
+  -- a store that failed may have been given one such node at last
+  abbrev pub EndsIn : {F G : Type 0} → TreeFault F G → List (List ℕ) → List (List ℕ) → Type 0
+  EndsIn (tree_fault.Store fault) old new = EachSince IsTried old new × (length new ≤ length old + 1)
+  EndsIn (tree_fault.BadNode at) old new = new ≡ old
+  EndsIn (tree_fault.Summer fault) old new = new ≡ old
+  EndsIn tree_fault.NoMemory old new = new ≡ old
+
+  -- the pieces that were put since are such
+  abbrev pub ArePieces : Fill → List (List ℕ) → List (List ℕ) → Type 0
+  ArePieces fill = EachSince (IsPiece fill)
 
   -- all of them are nodes below a root, but for the newest, which may be the root
-  pub record AreTreePieces (old new : Option (List (List ℕ))) : Type 0 where
-    pub mid : Option (List (List ℕ))
+  pub record AreTreePieces (old new : List (List ℕ)) : Type 0 where
+    pub mid : List (List ℕ)
     pub below : ArePieces Below old mid
     pub root : ArePieces Root mid new
-    pub one : put_count new ≤ put_count mid + 1
+    pub one : length new ≤ length mid + 1
+
+module _ {T M Sum Fault : Type 0} (i : Items T) (m : Summers M T Sum Fault) (first : M) (among : List T) (before : Places) where
+  -- what a call put that gave up: nodes below a root, which stood, with all that stood before, when the last of them was put, and
+  -- behind them the node that the store may have failed at
+  pub record WerePieces {F G : Type 0} (fault : TreeFault F G) (old new : List (List ℕ)) : Type 0 where
+    pub held : Places
+    pub kept : Extends before held
+    pub stood : List (List ℕ)
+    pub pieces : ArePieces i m first among held Below old stood
+    pub last : EndsIn i m first among held fault stood new

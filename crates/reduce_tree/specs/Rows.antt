@@ -7,7 +7,7 @@ use Rattle.tree_laws.specs.declared.node.Node.{Node}
 use Rattle.tree_laws.specs.declared.node.Node.TheVariants.{Leaf, Inner}
 use Rattle.tree_laws.specs.Nodes.{is_leaf}
 use Rattle.tree_laws.specs.Stores.{Places}
-use Rattle.tree_laws.specs.Trees.{AreChildren, Has, IsSummary, Joins, Stands}
+use Rattle.tree_laws.specs.SummerTrees.{AreChildren, Has, IsSummary, Joins, Stands}
 
 -- leaves stand at level 0, and only there
 abbrev pub IsAtLevel : {T : Type 0} → ℕ → Node T → Type 0

@@ -1,12 +1,12 @@
 //! Edits of a tree.
 
-ghost use Rattle.reduce_tree.specs.Pieces.{AreAmong, InsertAmong, AreTreePieces};
+ghost use Rattle.reduce_tree.specs.Pieces.{AreAmong, InsertAmong, AreTreePieces, WerePieces};
 ghost use Rattle.reduce_tree.specs.Applied.{applied, AreEdits, insertions, RemoveNone};
-ghost use Rattle.reduce_tree.specs.Bounds.{put_count, ReadsFor};
-ghost use Rattle.reduce_tree.specs.Calls.{places, Ran, PutNone, BlamesNone};
-ghost use Rattle.std.specs.Prelude.{◌≡◌, ◌+◌, ◌*◌, ◌≤◌, ◌^◌, List, IfOk, OnOk, length, max, Some, ◌<◌, IfErr};
+ghost use Rattle.reduce_tree.specs.Counts.{ReadsFor};
+ghost use Rattle.reduce_tree.specs.Calls.{places, Ran, PutNone, BlamesNone, UnlessStore};
+ghost use Rattle.std.specs.Prelude.{ℕ, ◌≡◌, ◌+◌, ◌*◌, ◌≤◌, ◌^◌, List, IfOk, OnOk, length, max, Some, ◌<◌, IfErr, MatchResult};
 ghost use Rattle.tree_laws.specs.Stores.{KeepsPlaces, Places};
-ghost use Rattle.tree_laws.specs.Trees.{IsTree, IsTreeSize};
+ghost use Rattle.tree_laws.specs.SummerTrees.{IsTree, IsTreeSize};
 
 use crate::edit::Edit;
 use crate::root::{edit_root, raise};
@@ -18,12 +18,19 @@ use tree_laws::{Item, NodeStore, Steps, Summer, Tree, TreeFault};
 /// that is inserted takes the place of the one that compares equal to it, if there is one. Nodes are put into the store, and the
 /// old tree stays as it is. Where each edit removes an item that is not there nothing is put, and the answer is the tree itself.
 ///
-/// A step makes two reads of the store at most, whatever is answered. The store grows by 8 bytes at least for each item inserted,
-/// and items are inserted only where the summer is usable. Each piece put is a node of 32 entries at most, and of 8 at least but
-/// for the root, and its items are those of the old tree and those inserted.
+/// A step makes two reads of the store at most, whatever is answered. Where `h` levels are enough, which are the tree's height at
+/// least and take all its items and those inserted below `8^h`, each edit takes `8 * (h + 1)` steps and `4 * (h + 1)` puts at most,
+/// whatever is answered; a put at which the store fails counts too. The store grows by 8 bytes at least for each item inserted, and
+/// items are inserted only where the summer is usable.
 ///
-/// `Store` and `Summer` hand on what the store and the summer answered in this call. `BadNode` names the place of a node that does
-/// not fit in a tree, or keeps a summary that has the bytes of no value: over a tree none is found.
+/// Each piece put, before a refusal too, is a node of 32 entries at most, and of 8 at least but for the root. Its items are those
+/// of the old tree and those inserted. A leaf is put only where the summer was usable, and each summary in an inner node is that
+/// of a value that fits. All this holds too of a piece at which the store fails; every other stands in the store.
+///
+/// `Store` and `Summer` hand on what the store and the summer answered in this call, and the other of the two went on. `BadNode`
+/// names the place of a node that does not fit in a tree, or keeps a summary that has the bytes of no value: over a tree none is
+/// found. `NoMemory` is answered where memory runs out. After each refusal but `Store` the store is ready and keeps what stood in
+/// it, and after `BadNode` and `NoMemory` both went on.
 pub fn apply<S: NodeStore, M: Summer, L: Ledger>(
     alloc: Global,
     store: &mut S,
@@ -38,14 +45,15 @@ pub fn apply<S: NodeStore, M: Summer, L: Ledger>(
     ensures tree { (first : M) (there : Places) (items : List M.Unit) → S.nodes store.old ≡ Some there → M.goes first summer.old
         → AreEdits M.Unit.order edits.now → IsTree M.Unit.Item M.Summer first there tree items
         → IfOk result (λ after. IsTree M.Unit.Item M.Summer first (places (S.nodes store.new)) after (applied M.Unit.order edits.now items)) }
-    ensures kept { OnOk result (KeepsPlaces (S.nodes store.old) (S.nodes store.new)) }
+    ensures kept { UnlessStore result (KeepsPlaces (S.nodes store.old) (S.nodes store.new)) }
     ensures size { IfOk result IsTreeSize }
     ensures count { IfOk result (λ after. after.count ≤ tree.count + insertions edits.now) }
-    ensures puts { IfOk result (λ after. put_count (S.puts store.new) ≤ put_count (S.puts store.old) + length edits.now * (4 * (max tree.height after.height + 1))) }
+    ensures puts { IfOk result (λ after. length (S.puts store.new) ≤ length (S.puts store.old) + length edits.now * (4 * (max tree.height after.height + 1))) }
     ensures steps { IfOk result (λ after. steps.new ≤ steps.old + length edits.now * (8 * (max tree.height after.height + 1))) }
-    ensures once { IfOk result (λ after. 93 * put_count (S.puts store.new) + 62 * steps.old ≤ 93 * put_count (S.puts store.old) + (62 * steps.new + (32 + (length edits.now + 31 * after.height)))) }
+    ensures most_puts { (h : ℕ) → tree.height ≤ h → tree.count + insertions edits.now < 8 ^ h → length (S.puts store.new) ≤ length (S.puts store.old) + length edits.now * (4 * (h + 1)) }
+    ensures most_steps { (h : ℕ) → tree.height ≤ h → tree.count + insertions edits.now < 8 ^ h → steps.new ≤ steps.old + length edits.now * (8 * (h + 1)) }
     ensures pieces { (first : M) (there : Places) (items among : List M.Unit) → S.nodes store.old ≡ Some there → M.goes first summer.old → IsTree M.Unit.Item M.Summer first there tree items
-        → AreAmong among items → InsertAmong among edits.now → OnOk result (AreTreePieces M.Unit.Item M.Summer first among (places (S.nodes store.new)) (S.puts store.old) (S.puts store.new)) }
+        → AreAmong among items → InsertAmong among edits.now → MatchResult result (λ _. AreTreePieces M.Unit.Item M.Summer first among (places (S.nodes store.new)) (S.puts store.old) (S.puts store.new)) (λ fault. WerePieces M.Unit.Item M.Summer first among there fault (S.puts store.old) (S.puts store.new)) }
     ensures grows { OnOk result (S.size store.old + 8 * insertions edits.now ≤ S.size store.new) }
     ensures usable { 0 < insertions edits.now → OnOk result (M.usable summer.old) }
     ensures none { (first : M) (there : Places) (items : List M.Unit) → S.nodes store.old ≡ Some there → M.goes first summer.old → IsTree M.Unit.Item M.Summer first there tree items
@@ -53,7 +61,7 @@ pub fn apply<S: NodeStore, M: Summer, L: Ledger>(
     ensures reads { ReadsFor (S.reads store.old) (S.reads store.new) steps.old steps.new }
     ensures sound { (first : M) (there : Places) (items : List M.Unit) → S.nodes store.old ≡ Some there → M.goes first summer.old → IsTree M.Unit.Item M.Summer first there tree items → IfErr result BlamesNone }
     ensures ran { Ran M.Unit.Item S.NodeSource M.Summer store.old store.new summer.old summer.new result }
-    ensures ready { OnOk result (S.is_ready store.new) }
+    ensures ready { UnlessStore result (S.is_ready store.new) }
 {
     if edits.is_empty() {
         return Ok(tree);

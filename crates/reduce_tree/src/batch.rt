@@ -1,18 +1,19 @@
 //! Edits of the nodes of a tree in one pass.
 
 ghost use Rattle.tree_laws.specs.declared.tree.Fill.TheVariants.{Below};
-ghost use Rattle.reduce_tree.specs.Pieces.{ArePieces, AreAmong, InsertAmong};
+ghost use Rattle.reduce_tree.specs.Pieces.{ArePieces, AreAmong, InsertAmong, WerePieces};
 ghost use Rattle.reduce_tree.specs.Applied.{applied, edit_key, insertions, RemoveNone};
-ghost use Rattle.reduce_tree.specs.Bounds.{slack, ready, pending, rounding, put_count, ReadsFor, ArePut};
+ghost use Rattle.reduce_tree.specs.Bounds.{slack, ready, pending, rounding, ArePut, Spent};
+ghost use Rattle.reduce_tree.specs.Counts.{ReadsFor};
 ghost use Rattle.reduce_tree.specs.Calls.{places, IsKnown, Ran, PutNone, BlamesNone, IfSound};
 ghost use Rattle.reduce_tree.specs.Rows.{IsAtLevel, Carries, leaf_items};
 ghost use Rattle.reduce_tree.specs.declared.edit.Edit.{Edit};
 ghost use Rattle.std.specs.List.Sorted.{IsStrictlySortedBy};
-ghost use Rattle.std.specs.Prelude.{true, false, ◌≡◌, ◌≢◌, ◌+◌, ◌*◌, ◌<◌, ◌≤◌, ◌^◌, ◌∷◌, ◌++◌, List, [], IfOk, OnOk, All, length, vec_len, take, slice_index_or, IfErr};
+ghost use Rattle.std.specs.Prelude.{true, false, ◌≡◌, ◌≢◌, ◌+◌, ◌*◌, ◌<◌, ◌≤◌, ◌^◌, ◌∷◌, ◌++◌, List, [], IfOk, OnOk, All, length, vec_len, take, slice_index_or, IfErr, OnErr, MatchResult};
 ghost use Rattle.std.specs.declared.cmp.Ordering.TheVariants.{Less};
 ghost use Rattle.tree_laws.specs.Fitting.{AreLarge, item_count};
 ghost use Rattle.tree_laws.specs.Nodes.{entries};
-ghost use Rattle.tree_laws.specs.Trees.{Has, IsChild, AreChildren, Stands};
+ghost use Rattle.tree_laws.specs.SummerTrees.{Has, IsChild, AreChildren, Stands};
 ghost use Rattle.tree_laws.specs.declared.node.Node.TheVariants.{Leaf, Inner};
 
 use crate::edit::Edit;
@@ -89,8 +90,9 @@ fn settle<S: NodeStore, M: Summer, L: Ledger>(
     ensures count { OnOk result (item_count (Inner done.new.items) ≡ item_count (Inner done.old.items) + item_count row.node) }
     ensures none { entries row.node ≡ 0 → OnOk result (done.new.items ≡ done.old.items) }
     ensures steps { OnOk result (31 * steps.new + vec_len done.new ≤ 31 * steps.old + (vec_len done.old + (entries row.node + rounding (entries row.node)))) }
-    ensures once { OnOk result (93 * put_count (S.puts store.new) + (vec_len done.new + 62 * steps.old) ≤ 93 * put_count (S.puts store.old) + (62 * steps.new + (vec_len done.old + (entries row.node + rounding (entries row.node))))) }
-    ensures pieces { (first : M) (items among : List M.Unit) → IsKnown M.Unit.Item S.NodeSource M.Summer first summer.old store.old → Carries M.Unit.Item M.Summer first (places (S.nodes store.old)) low done.old.items row.level row.node items → AreAmong among items → OnOk result (ArePieces M.Unit.Item M.Summer first among (places (S.nodes store.new)) Below (S.puts store.old) (S.puts store.new)) }
+    ensures once { OnOk result (93 * length (S.puts store.new) + (vec_len done.new + 62 * steps.old) ≤ 93 * length (S.puts store.old) + (62 * steps.new + (vec_len done.old + (entries row.node + rounding (entries row.node))))) }
+    ensures spent { OnErr result (Spent steps.old steps.new (length (S.puts store.old)) (length (S.puts store.new)) (vec_len done.old + (entries row.node + rounding (entries row.node))) (vec_len done.old + (entries row.node + rounding (entries row.node)))) }
+    ensures pieces { (first : M) (items among : List M.Unit) → IsKnown M.Unit.Item S.NodeSource M.Summer first summer.old store.old → Carries M.Unit.Item M.Summer first (places (S.nodes store.old)) low done.old.items row.level row.node items → AreAmong among items → MatchResult result (λ _. ArePieces M.Unit.Item M.Summer first among (places (S.nodes store.new)) Below (S.puts store.old) (S.puts store.new)) (λ fault. WerePieces M.Unit.Item M.Summer first among (places (S.nodes store.old)) fault (S.puts store.old) (S.puts store.new)) }
     ensures leaf { OnOk result (ArePut (S.size store.old) (S.size store.new) (M.usable summer.old) (leaf_items row.node) 0) }
     ensures unput { entries row.node ≡ 0 → OnOk result (PutNone S.NodeSource store.old store.new) }
     ensures reads { ReadsFor (S.reads store.old) (S.reads store.new) steps.old steps.new }
@@ -134,8 +136,9 @@ fn keep_child<S: NodeStore, M: Summer, L: Ledger>(
     ensures same { IfOk result (λ row. row.same ≡ carry.same) }
     ensures still { IfOk result (λ row. row.same ≡ true → done.new.items ≡ done.old.items ++ child ∷ []) }
     ensures steps { OnOk result (31 * steps.new + vec_len done.new ≤ 31 * steps.old + (vec_len done.old + (1 + (entries carry.node + rounding (entries carry.node))))) }
-    ensures once { OnOk result (93 * put_count (S.puts store.new) + (vec_len done.new + 62 * steps.old) ≤ 93 * put_count (S.puts store.old) + (62 * steps.new + (vec_len done.old + (1 + (entries carry.node + rounding (entries carry.node)))))) }
-    ensures pieces { (first : M) (items among : List M.Unit) → IsKnown M.Unit.Item S.NodeSource M.Summer first summer.old store.old → Carries M.Unit.Item M.Summer first (places (S.nodes store.old)) low done.old.items carry.level carry.node items → AreAmong among items → OnOk result (ArePieces M.Unit.Item M.Summer first among (places (S.nodes store.new)) Below (S.puts store.old) (S.puts store.new)) }
+    ensures once { OnOk result (93 * length (S.puts store.new) + (vec_len done.new + 62 * steps.old) ≤ 93 * length (S.puts store.old) + (62 * steps.new + (vec_len done.old + (1 + (entries carry.node + rounding (entries carry.node)))))) }
+    ensures spent { OnErr result (Spent steps.old steps.new (length (S.puts store.old)) (length (S.puts store.new)) (vec_len done.old + (1 + (entries carry.node + rounding (entries carry.node)))) (vec_len done.old + (1 + (entries carry.node + rounding (entries carry.node))))) }
+    ensures pieces { (first : M) (items among : List M.Unit) → IsKnown M.Unit.Item S.NodeSource M.Summer first summer.old store.old → Carries M.Unit.Item M.Summer first (places (S.nodes store.old)) low done.old.items carry.level carry.node items → AreAmong among items → MatchResult result (λ _. ArePieces M.Unit.Item M.Summer first among (places (S.nodes store.new)) Below (S.puts store.old) (S.puts store.new)) (λ fault. WerePieces M.Unit.Item M.Summer first among (places (S.nodes store.old)) fault (S.puts store.old) (S.puts store.new)) }
     ensures leaf { OnOk result (ArePut (S.size store.old) (S.size store.new) (M.usable summer.old) (leaf_items carry.node) 0) }
     ensures unput { IfOk result (λ row. row.same ≡ true → PutNone S.NodeSource store.old store.new) }
     ensures reads { ReadsFor (S.reads store.old) (S.reads store.new) steps.old steps.new }
@@ -183,9 +186,10 @@ fn edit_child<S: NodeStore, M: Summer, L: Ledger>(
     ensures kept { IfOk result (λ row. row.same ≡ true → done.new.items ≡ done.old.items ++ child ∷ []) }
     ensures empty { IfOk result (λ row. row.same ≡ true → entries row.node ≡ 0) }
     ensures steps { IfOk result (λ row. 31 * steps.new + (vec_len done.new + (entries row.node + (rounding (entries row.node) + 93 * pending low row.level (entries row.node)))) ≤ 31 * steps.old + (vec_len done.old + (1 + (entries carry.node + (rounding (entries carry.node) + (93 * pending low carry.level (entries carry.node) + (length edits.now + 186 * ((low + 1) * length edits.now)))))))) }
-    ensures once { IfOk result (λ row. 93 * put_count (S.puts store.new) + (vec_len done.new + (entries row.node + (rounding (entries row.node) + 62 * steps.old))) ≤ 93 * put_count (S.puts store.old) + (vec_len done.old + (1 + (entries carry.node + (rounding (entries carry.node) + (62 * steps.new + length edits.now)))))) }
+    ensures once { IfOk result (λ row. 93 * length (S.puts store.new) + (vec_len done.new + (entries row.node + (rounding (entries row.node) + 62 * steps.old))) ≤ 93 * length (S.puts store.old) + (vec_len done.old + (1 + (entries carry.node + (rounding (entries carry.node) + (62 * steps.new + length edits.now)))))) }
+    ensures spent { OnErr result (Spent steps.old steps.new (length (S.puts store.old)) (length (S.puts store.new)) (vec_len done.old + (1 + (entries carry.node + (rounding (entries carry.node) + (93 * pending low carry.level (entries carry.node) + (length edits.now + 186 * ((low + 1) * length edits.now))))))) (vec_len done.old + (1 + (entries carry.node + (rounding (entries carry.node) + length edits.now))))) }
     ensures pieces { (first : M) (items mid among : List M.Unit) → IsKnown M.Unit.Item S.NodeSource M.Summer first summer.old store.old → IsStrictlySortedBy M.Unit.order mid → Carries M.Unit.Item M.Summer first (places (S.nodes store.old)) low done.old.items carry.level carry.node items
-        → IsChild M.Unit.Item M.Summer first (Stands M.Unit.Item M.Summer first (places (S.nodes store.old)) low) child mid → AreAmong among items → AreAmong among mid → InsertAmong among edits.now → OnOk result (ArePieces M.Unit.Item M.Summer first among (places (S.nodes store.new)) Below (S.puts store.old) (S.puts store.new)) }
+        → IsChild M.Unit.Item M.Summer first (Stands M.Unit.Item M.Summer first (places (S.nodes store.old)) low) child mid → AreAmong among items → AreAmong among mid → InsertAmong among edits.now → MatchResult result (λ _. ArePieces M.Unit.Item M.Summer first among (places (S.nodes store.new)) Below (S.puts store.old) (S.puts store.new)) (λ fault. WerePieces M.Unit.Item M.Summer first among (places (S.nodes store.old)) fault (S.puts store.old) (S.puts store.new)) }
     ensures leaf { IfOk result (λ row. ArePut (S.size store.old) (S.size store.new) (M.usable summer.old) (leaf_items carry.node + insertions edits.now) (leaf_items row.node)) }
     ensures unput { IfOk result (λ row. row.same ≡ true → PutNone S.NodeSource store.old store.new) }
     ensures inserts { IfOk result (λ row. row.same ≡ true → insertions edits.now ≡ 0) }
@@ -244,9 +248,10 @@ fn edit_children<S: NodeStore, M: Summer, L: Ledger>(
     ensures level { IfOk result (λ row. row.same ≡ true → row.level ≡ low + 1) }
     ensures node { IfOk result (λ row. row.same ≡ true → row.node ≡ Inner children.items) }
     ensures steps { IfOk result (λ row. 31 * steps.new + (entries row.node + 93 * slack (low + 1) row.level (entries row.node)) ≤ 31 * steps.old + (vec_len children + (length edits.now + 186 * ((low + 1) * length edits.now)))) }
-    ensures once { IfOk result (λ row. 93 * put_count (S.puts store.new) + (entries row.node + 62 * steps.old) ≤ 93 * put_count (S.puts store.old) + (62 * steps.new + (vec_len children + length edits.now))) }
+    ensures once { IfOk result (λ row. 93 * length (S.puts store.new) + (entries row.node + 62 * steps.old) ≤ 93 * length (S.puts store.old) + (62 * steps.new + (vec_len children + length edits.now))) }
+    ensures spent { OnErr result (Spent steps.old steps.new (length (S.puts store.old)) (length (S.puts store.new)) (vec_len children + (length edits.now + 186 * ((low + 1) * length edits.now))) (vec_len children + length edits.now)) }
     ensures pieces { (first : M) (items among : List M.Unit) → IsKnown M.Unit.Item S.NodeSource M.Summer first summer.old store.old → IsStrictlySortedBy M.Unit.order items → AreChildren M.Unit.Item M.Summer first (Stands M.Unit.Item M.Summer first (places (S.nodes store.old)) low) children.items items
-        → AreAmong among items → InsertAmong among edits.now → OnOk result (ArePieces M.Unit.Item M.Summer first among (places (S.nodes store.new)) Below (S.puts store.old) (S.puts store.new)) }
+        → AreAmong among items → InsertAmong among edits.now → MatchResult result (λ _. ArePieces M.Unit.Item M.Summer first among (places (S.nodes store.new)) Below (S.puts store.old) (S.puts store.new)) (λ fault. WerePieces M.Unit.Item M.Summer first among (places (S.nodes store.old)) fault (S.puts store.old) (S.puts store.new)) }
     ensures leaf { IfOk result (λ row. ArePut (S.size store.old) (S.size store.new) (M.usable summer.old) (insertions edits.now) (leaf_items row.node)) }
     ensures unput { IfOk result (λ row. row.same ≡ true → PutNone S.NodeSource store.old store.new) }
     ensures inserts { IfOk result (λ row. row.same ≡ true → insertions edits.now ≡ 0) }
@@ -301,8 +306,9 @@ fn finish<S: NodeStore, M: Summer, L: Ledger>(
     ensures level { IfOk result (λ row. row.same ≡ true → row.level ≡ low + 1) }
     ensures node { IfOk result (λ row. row.same ≡ true → row.node ≡ Inner done.items) }
     ensures steps { IfOk result (λ row. 31 * steps.new + (entries row.node + 93 * slack (low + 1) row.level (entries row.node)) ≤ 31 * steps.old + (vec_len done + (entries carry.node + (rounding (entries carry.node) + 93 * pending low carry.level (entries carry.node))))) }
-    ensures once { IfOk result (λ row. 93 * put_count (S.puts store.new) + (entries row.node + 62 * steps.old) ≤ 93 * put_count (S.puts store.old) + (62 * steps.new + (vec_len done + (entries carry.node + rounding (entries carry.node))))) }
-    ensures pieces { (first : M) (items among : List M.Unit) → IsKnown M.Unit.Item S.NodeSource M.Summer first summer.old store.old → Carries M.Unit.Item M.Summer first (places (S.nodes store.old)) low done.items carry.level carry.node items → AreAmong among items → OnOk result (ArePieces M.Unit.Item M.Summer first among (places (S.nodes store.new)) Below (S.puts store.old) (S.puts store.new)) }
+    ensures once { IfOk result (λ row. 93 * length (S.puts store.new) + (entries row.node + 62 * steps.old) ≤ 93 * length (S.puts store.old) + (62 * steps.new + (vec_len done + (entries carry.node + rounding (entries carry.node))))) }
+    ensures spent { OnErr result (Spent steps.old steps.new (length (S.puts store.old)) (length (S.puts store.new)) (vec_len done + (entries carry.node + (rounding (entries carry.node) + 93 * pending low carry.level (entries carry.node)))) (vec_len done + (entries carry.node + rounding (entries carry.node)))) }
+    ensures pieces { (first : M) (items among : List M.Unit) → IsKnown M.Unit.Item S.NodeSource M.Summer first summer.old store.old → Carries M.Unit.Item M.Summer first (places (S.nodes store.old)) low done.items carry.level carry.node items → AreAmong among items → MatchResult result (λ _. ArePieces M.Unit.Item M.Summer first among (places (S.nodes store.new)) Below (S.puts store.old) (S.puts store.new)) (λ fault. WerePieces M.Unit.Item M.Summer first among (places (S.nodes store.old)) fault (S.puts store.old) (S.puts store.new)) }
     ensures leaf { IfOk result (λ row. ArePut (S.size store.old) (S.size store.new) (M.usable summer.old) (leaf_items carry.node) (leaf_items row.node)) }
     ensures unput { IfOk result (λ row. row.same ≡ true → PutNone S.NodeSource store.old store.new) }
     ensures quiet { carry.same ≡ true → IfOk result (λ row. row.same ≡ true) }
@@ -355,8 +361,9 @@ pub(crate) fn edit_row<S: NodeStore, M: Summer, L: Ledger>(
     ensures level { IfOk result (λ row. row.same ≡ true → row.level ≡ level) }
     ensures node { IfOk result (λ row. row.same ≡ true → row.node ≡ node) }
     ensures steps { IfOk result (λ row. 31 * steps.new + (entries row.node + 93 * slack level row.level (entries row.node)) ≤ 31 * steps.old + (entries node + (length edits.now + 186 * (level * length edits.now)))) }
-    ensures once { IfOk result (λ row. 93 * put_count (S.puts store.new) + (entries row.node + 62 * steps.old) ≤ 93 * put_count (S.puts store.old) + (62 * steps.new + (entries node + length edits.now))) }
-    ensures pieces { (first : M) (items among : List M.Unit) → IsKnown M.Unit.Item S.NodeSource M.Summer first summer.old store.old → IsStrictlySortedBy M.Unit.order items → Has M.Unit.Item M.Summer first (places (S.nodes store.old)) level node items → AreAmong among items → InsertAmong among edits.now → OnOk result (ArePieces M.Unit.Item M.Summer first among (places (S.nodes store.new)) Below (S.puts store.old) (S.puts store.new)) }
+    ensures once { IfOk result (λ row. 93 * length (S.puts store.new) + (entries row.node + 62 * steps.old) ≤ 93 * length (S.puts store.old) + (62 * steps.new + (entries node + length edits.now))) }
+    ensures spent { OnErr result (Spent steps.old steps.new (length (S.puts store.old)) (length (S.puts store.new)) (entries node + (length edits.now + 186 * (level * length edits.now))) (entries node + length edits.now)) }
+    ensures pieces { (first : M) (items among : List M.Unit) → IsKnown M.Unit.Item S.NodeSource M.Summer first summer.old store.old → IsStrictlySortedBy M.Unit.order items → Has M.Unit.Item M.Summer first (places (S.nodes store.old)) level node items → AreAmong among items → InsertAmong among edits.now → MatchResult result (λ _. ArePieces M.Unit.Item M.Summer first among (places (S.nodes store.new)) Below (S.puts store.old) (S.puts store.new)) (λ fault. WerePieces M.Unit.Item M.Summer first among (places (S.nodes store.old)) fault (S.puts store.old) (S.puts store.new)) }
     ensures leaf { IfOk result (λ row. ArePut (S.size store.old) (S.size store.new) (M.usable summer.old) (insertions edits.now) (leaf_items row.node)) }
     ensures unput { IfOk result (λ row. row.same ≡ true → PutNone S.NodeSource store.old store.new) }
     ensures inserts { IfOk result (λ row. row.same ≡ true → insertions edits.now ≡ 0) }

@@ -1,10 +1,10 @@
 //! Getting a node and looking at the summaries that it keeps.
 
-ghost use Rattle.reduce_tree.specs.Bounds.{ReadsFor};
+ghost use Rattle.reduce_tree.specs.Counts.{ReadsFor};
 ghost use Rattle.reduce_tree.specs.Calls.{places, IsKnown, Ran, IsUnread, KeepsBadSum, BlamesNone};
 ghost use Rattle.std.specs.Prelude.{true, false, ◌≡◌, ◌+◌, List, IfOk, OnOk, IfErr, length};
 ghost use Rattle.tree_laws.specs.Fitting.{IsFitFor};
-ghost use Rattle.tree_laws.specs.Trees.{Has, IsAt};
+ghost use Rattle.tree_laws.specs.SummerTrees.{Has, IsAt};
 ghost use Rattle.tree_laws.specs.declared.node.Node.TheVariants.{Inner};
 ghost use Rattle.tree_laws.specs.declared.tree.Fill.{Fill};
 

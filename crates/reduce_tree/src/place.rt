@@ -1,13 +1,14 @@
 //! Putting the entries of a level in nodes.
 
-ghost use Rattle.reduce_tree.specs.Pieces.{ArePieces, AreAmong};
-ghost use Rattle.reduce_tree.specs.Bounds.{put_count, ReadsFor, ArePut};
+ghost use Rattle.reduce_tree.specs.Pieces.{ArePieces, AreAmong, WerePieces};
+ghost use Rattle.reduce_tree.specs.Bounds.{ArePut, Spent};
+ghost use Rattle.reduce_tree.specs.Counts.{ReadsFor};
 ghost use Rattle.reduce_tree.specs.Calls.{places, IsKnown, Ran, BlamesNone};
 ghost use Rattle.reduce_tree.specs.Rows.{IsAtLevel, leaf_items};
-ghost use Rattle.std.specs.Prelude.{ℕ, ◌≡◌, ◌+◌, ◌*◌, ◌<◌, ◌≤◌, ◌^◌, List, IfOk, OnOk, vec_len, IfErr};
+ghost use Rattle.std.specs.Prelude.{ℕ, ◌≡◌, ◌+◌, ◌*◌, ◌<◌, ◌≤◌, ◌^◌, List, IfOk, OnOk, vec_len, IfErr, OnErr, MatchResult, length};
 ghost use Rattle.tree_laws.specs.Fitting.{IsFilled, AreLarge, item_count};
 ghost use Rattle.tree_laws.specs.Nodes.{entries, FitsNode, spelled_node};
-ghost use Rattle.tree_laws.specs.Trees.{Has, IsAt, IsChild, AreChildren, Stands};
+ghost use Rattle.tree_laws.specs.SummerTrees.{Has, IsAt, IsChild, AreChildren, Stands};
 ghost use Rattle.tree_laws.specs.declared.node.Node.TheVariants.{Inner};
 ghost use Rattle.tree_laws.specs.declared.tree.Fill.{Fill};
 ghost use Rattle.tree_laws.specs.declared.tree.Fill.TheVariants.{Below};
@@ -20,7 +21,7 @@ use std::sync::ledger::Ledger;
 use tree_laws::{Child, Item, Node, NodeStore, Steps, Summer, TreeFault, encode_node};
 
 /// The bytes of a node.
-fn spell_node<T: Item>(alloc: Global, node: &Node<T>) -> Result<Vec<u8>, NoMemory>
+pub(crate) fn spell_node<T: Item>(alloc: Global, node: &Node<T>) -> Result<Vec<u8>, NoMemory>
     requires { entries node.now ≤ 32 }
     ensures bytes { IfOk result (λ bytes. bytes.items ≡ spelled_node T.spelled node.now) }
     ensures fits { OnOk result (FitsNode T.fits T.spelled node.now) }
@@ -47,9 +48,10 @@ pub(crate) fn place<S: NodeStore, M: Summer, L: Ledger>(
     ensures child { (first : M) (level : ℕ) (items : List M.Unit) → IsKnown M.Unit.Item S.NodeSource M.Summer first summer.old store.old → IsFilled Below node
         → Has M.Unit.Item M.Summer first (places (S.nodes store.old)) level node items → IfOk result (λ child. IsChild M.Unit.Item M.Summer first (Stands M.Unit.Item M.Summer first (places (S.nodes store.new)) level) child items) }
     ensures count { IfOk result (λ child. child.count ≡ item_count node) }
-    ensures puts { OnOk result (put_count (S.puts store.new) ≤ put_count (S.puts store.old) + 1) }
+    ensures puts { OnOk result (length (S.puts store.new) ≤ length (S.puts store.old) + 1) }
     ensures steps { OnOk result (steps.new ≡ steps.old + 1) }
-    ensures pieces { (first : M) (level : ℕ) (fill : Fill) (items among : List M.Unit) → IsKnown M.Unit.Item S.NodeSource M.Summer first summer.old store.old → IsFilled fill node → Has M.Unit.Item M.Summer first (places (S.nodes store.old)) level node items → AreAmong among items → OnOk result (ArePieces M.Unit.Item M.Summer first among (places (S.nodes store.new)) fill (S.puts store.old) (S.puts store.new)) }
+    ensures spent { OnErr result (Spent steps.old steps.new (length (S.puts store.old)) (length (S.puts store.new)) 31 31) }
+    ensures pieces { (first : M) (level : ℕ) (fill : Fill) (items among : List M.Unit) → IsKnown M.Unit.Item S.NodeSource M.Summer first summer.old store.old → IsFilled fill node → Has M.Unit.Item M.Summer first (places (S.nodes store.old)) level node items → AreAmong among items → MatchResult result (λ _. ArePieces M.Unit.Item M.Summer first among (places (S.nodes store.new)) fill (S.puts store.old) (S.puts store.new)) (λ fault. WerePieces M.Unit.Item M.Summer first among (places (S.nodes store.old)) fault (S.puts store.old) (S.puts store.new)) }
     ensures leaf { OnOk result (ArePut (S.size store.old) (S.size store.new) (M.usable summer.old) (leaf_items node) 0) }
     ensures reads { ReadsFor (S.reads store.old) (S.reads store.new) steps.old steps.new }
     ensures sound { IfErr result BlamesNone }
@@ -88,9 +90,10 @@ fn place_all<S: NodeStore, M: Summer, L: Ledger>(
     ensures count { IfOk result (λ children. item_count (Inner children.items) ≡ item_count node) }
     ensures some { IfOk result (λ children. 0 < vec_len children) }
     ensures packed { IfOk result (λ children. 32 * vec_len children ≤ entries node + 31) }
-    ensures puts { IfOk result (λ children. put_count (S.puts store.new) ≤ put_count (S.puts store.old) + vec_len children) }
+    ensures puts { IfOk result (λ children. length (S.puts store.new) ≤ length (S.puts store.old) + vec_len children) }
     ensures steps { IfOk result (λ children. steps.new ≡ steps.old + vec_len children) }
-    ensures pieces { (first : M) (level : ℕ) (items among : List M.Unit) → IsKnown M.Unit.Item S.NodeSource M.Summer first summer.old store.old → Has M.Unit.Item M.Summer first (places (S.nodes store.old)) level node items → AreAmong among items → OnOk result (ArePieces M.Unit.Item M.Summer first among (places (S.nodes store.new)) Below (S.puts store.old) (S.puts store.new)) }
+    ensures spent { OnErr result (Spent steps.old steps.new (length (S.puts store.old)) (length (S.puts store.new)) (entries node + 31) (entries node + 31)) }
+    ensures pieces { (first : M) (level : ℕ) (items among : List M.Unit) → IsKnown M.Unit.Item S.NodeSource M.Summer first summer.old store.old → Has M.Unit.Item M.Summer first (places (S.nodes store.old)) level node items → AreAmong among items → MatchResult result (λ _. ArePieces M.Unit.Item M.Summer first among (places (S.nodes store.new)) Below (S.puts store.old) (S.puts store.new)) (λ fault. WerePieces M.Unit.Item M.Summer first among (places (S.nodes store.old)) fault (S.puts store.old) (S.puts store.new)) }
     ensures leaf { OnOk result (ArePut (S.size store.old) (S.size store.new) (M.usable summer.old) (leaf_items node) 0) }
     ensures reads { ReadsFor (S.reads store.old) (S.reads store.new) steps.old steps.new }
     ensures sound { IfErr result BlamesNone }
@@ -125,9 +128,10 @@ pub(crate) fn place_row<S: NodeStore, M: Summer, L: Ledger>(
     ensures count { IfOk result (λ children. item_count (Inner children.items) ≡ item_count node) }
     ensures some { IfOk result (λ children. 0 < vec_len children) }
     ensures packed { IfOk result (λ children. 32 * vec_len children ≤ entries node + 31) }
-    ensures puts { IfOk result (λ children. put_count (S.puts store.new) ≤ put_count (S.puts store.old) + vec_len children) }
+    ensures puts { IfOk result (λ children. length (S.puts store.new) ≤ length (S.puts store.old) + vec_len children) }
     ensures steps { IfOk result (λ children. steps.new ≡ steps.old + vec_len children) }
-    ensures pieces { (first : M) (level : ℕ) (items among : List M.Unit) → IsKnown M.Unit.Item S.NodeSource M.Summer first summer.old store.old → Has M.Unit.Item M.Summer first (places (S.nodes store.old)) level node items → AreAmong among items → OnOk result (ArePieces M.Unit.Item M.Summer first among (places (S.nodes store.new)) Below (S.puts store.old) (S.puts store.new)) }
+    ensures spent { OnErr result (Spent steps.old steps.new (length (S.puts store.old)) (length (S.puts store.new)) (entries node + 31) (entries node + 31)) }
+    ensures pieces { (first : M) (level : ℕ) (items among : List M.Unit) → IsKnown M.Unit.Item S.NodeSource M.Summer first summer.old store.old → Has M.Unit.Item M.Summer first (places (S.nodes store.old)) level node items → AreAmong among items → MatchResult result (λ _. ArePieces M.Unit.Item M.Summer first among (places (S.nodes store.new)) Below (S.puts store.old) (S.puts store.new)) (λ fault. WerePieces M.Unit.Item M.Summer first among (places (S.nodes store.old)) fault (S.puts store.old) (S.puts store.new)) }
     ensures leaf { OnOk result (ArePut (S.size store.old) (S.size store.new) (M.usable summer.old) (leaf_items node) 0) }
     ensures reads { ReadsFor (S.reads store.old) (S.reads store.new) steps.old steps.new }
     ensures sound { IfErr result BlamesNone }

@@ -1,16 +1,17 @@
 //! The root of a tree: the row that edits leave of it, and the tree of a row.
 
 ghost use Rattle.tree_laws.specs.declared.tree.Fill.TheVariants.{Below, Root};
-ghost use Rattle.reduce_tree.specs.Pieces.{ArePieces, AreAmong, InsertAmong, AreTreePieces};
+ghost use Rattle.reduce_tree.specs.Pieces.{ArePieces, AreAmong, InsertAmong, AreTreePieces, WerePieces};
 ghost use Rattle.reduce_tree.specs.Applied.{applied, insertions, RemoveNone};
-ghost use Rattle.reduce_tree.specs.Bounds.{slack, put_count, ReadsFor, ArePut};
+ghost use Rattle.reduce_tree.specs.Bounds.{slack, ArePut, Spent};
+ghost use Rattle.reduce_tree.specs.Counts.{ReadsFor};
 ghost use Rattle.reduce_tree.specs.Calls.{places, IsKnown, Ran, PutNone, BlamesNone};
 ghost use Rattle.reduce_tree.specs.Rows.{IsAtLevel, leaf_items};
 ghost use Rattle.std.specs.List.Sorted.{IsStrictlySortedBy};
-ghost use Rattle.std.specs.Prelude.{true, ◌≡◌, ◌+◌, ◌-◌, ◌*◌, ◌<◌, ◌≤◌, ◌^◌, List, IfOk, OnOk, length, IfErr};
+ghost use Rattle.std.specs.Prelude.{ℕ, true, ◌≡◌, ◌+◌, ◌-◌, ◌*◌, ◌<◌, ◌≤◌, ◌^◌, List, IfOk, OnOk, length, IfErr, OnErr, MatchResult};
 ghost use Rattle.tree_laws.specs.Fitting.{AreLarge, item_count};
 ghost use Rattle.tree_laws.specs.Nodes.{entries};
-ghost use Rattle.tree_laws.specs.Trees.{Has, HasRoot, IsTreeSize};
+ghost use Rattle.tree_laws.specs.SummerTrees.{Has, HasRoot, IsTreeSize};
 
 use crate::batch::edit_row;
 use crate::edit::Edit;
@@ -43,9 +44,10 @@ fn put_root<S: NodeStore, M: Summer, L: Ledger>(
     ensures low { 0 < entries node → IfOk result (λ tree. level ≤ tree.height) }
     ensures none { entries node ≡ 0 → IfOk result (λ tree. tree.height ≡ 0) }
     ensures steps { IfOk result (λ tree. 31 * steps.new ≤ 31 * steps.old + (entries node + 31 * (tree.height - level))) }
-    ensures once { IfOk result (λ tree. 93 * put_count (S.puts store.new) + 62 * steps.old ≤ 93 * put_count (S.puts store.old) + (62 * steps.new + (entries node + 31 * (tree.height - level)))) }
-    ensures pieces { (first : M) (items among : List M.Unit) → IsKnown M.Unit.Item S.NodeSource M.Summer first summer.old store.old → Has M.Unit.Item M.Summer first (places (S.nodes store.old)) level node items → AreAmong among items → OnOk result (ArePieces M.Unit.Item M.Summer first among (places (S.nodes store.new)) Root (S.puts store.old) (S.puts store.new)) }
-    ensures one { OnOk result (put_count (S.puts store.new) ≤ put_count (S.puts store.old) + 1) }
+    ensures once { IfOk result (λ tree. 93 * length (S.puts store.new) + 62 * steps.old ≤ 93 * length (S.puts store.old) + (62 * steps.new + (entries node + 31 * (tree.height - level)))) }
+    ensures within { (top : ℕ) → item_count node < 8 ^ top → Spent steps.old steps.new (length (S.puts store.old)) (length (S.puts store.new)) (entries node + 31 * slack top level (entries node)) (entries node + 31 * slack top level (entries node)) }
+    ensures pieces { (first : M) (items among : List M.Unit) → IsKnown M.Unit.Item S.NodeSource M.Summer first summer.old store.old → Has M.Unit.Item M.Summer first (places (S.nodes store.old)) level node items → AreAmong among items → MatchResult result (λ _. ArePieces M.Unit.Item M.Summer first among (places (S.nodes store.new)) Root (S.puts store.old) (S.puts store.new)) (λ fault. WerePieces M.Unit.Item M.Summer first among (places (S.nodes store.old)) fault (S.puts store.old) (S.puts store.new)) }
+    ensures one { OnOk result (length (S.puts store.new) ≤ length (S.puts store.old) + 1) }
     ensures leaf { OnOk result (ArePut (S.size store.old) (S.size store.new) (M.usable summer.old) (leaf_items node) 0) }
     ensures reads { ReadsFor (S.reads store.old) (S.reads store.new) steps.old steps.new }
     ensures sound { IfErr result BlamesNone }
@@ -94,8 +96,9 @@ pub(crate) fn raise<S: NodeStore, M: Summer, L: Ledger>(
     ensures low { 0 < entries node → IfOk result (λ tree. level ≤ tree.height) }
     ensures none { entries node ≡ 0 → IfOk result (λ tree. tree.height ≡ 0) }
     ensures steps { IfOk result (λ tree. 31 * steps.new ≤ 31 * steps.old + (entries node + 31 * (tree.height - level))) }
-    ensures once { IfOk result (λ tree. 93 * put_count (S.puts store.new) + 62 * steps.old ≤ 93 * put_count (S.puts store.old) + (62 * steps.new + (entries node + 31 * (tree.height - level)))) }
-    ensures pieces { (first : M) (items among : List M.Unit) → IsKnown M.Unit.Item S.NodeSource M.Summer first summer.old store.old → Has M.Unit.Item M.Summer first (places (S.nodes store.old)) level node items → AreAmong among items → OnOk result (AreTreePieces M.Unit.Item M.Summer first among (places (S.nodes store.new)) (S.puts store.old) (S.puts store.new)) }
+    ensures once { IfOk result (λ tree. 93 * length (S.puts store.new) + 62 * steps.old ≤ 93 * length (S.puts store.old) + (62 * steps.new + (entries node + 31 * (tree.height - level)))) }
+    ensures within { (top : ℕ) → item_count node < 8 ^ top → Spent steps.old steps.new (length (S.puts store.old)) (length (S.puts store.new)) (entries node + 31 * slack top level (entries node)) (entries node + 31 * slack top level (entries node)) }
+    ensures pieces { (first : M) (items among : List M.Unit) → IsKnown M.Unit.Item S.NodeSource M.Summer first summer.old store.old → Has M.Unit.Item M.Summer first (places (S.nodes store.old)) level node items → AreAmong among items → MatchResult result (λ _. AreTreePieces M.Unit.Item M.Summer first among (places (S.nodes store.new)) (S.puts store.old) (S.puts store.new)) (λ fault. WerePieces M.Unit.Item M.Summer first among (places (S.nodes store.old)) fault (S.puts store.old) (S.puts store.new)) }
     ensures leaf { OnOk result (ArePut (S.size store.old) (S.size store.new) (M.usable summer.old) (leaf_items node) 0) }
     ensures reads { ReadsFor (S.reads store.old) (S.reads store.new) steps.old steps.new }
     ensures sound { IfErr result BlamesNone }
@@ -133,9 +136,10 @@ pub(crate) fn edit_root<S: NodeStore, M: Summer, L: Ledger>(
         → IfOk result (λ row. row.same ≡ true → applied M.Unit.order edits.now items ≡ items) }
     ensures most { IfOk result (λ row. row.level ≤ tree.height - 1) }
     ensures steps { IfOk result (λ row. 31 * steps.new + (entries row.node + 93 * slack (tree.height - 1) row.level (entries row.node)) ≤ 31 * steps.old + (63 + (length edits.now + 186 * ((tree.height - 1) * length edits.now)))) }
-    ensures once { IfOk result (λ row. 93 * put_count (S.puts store.new) + (entries row.node + 62 * steps.old) ≤ 93 * put_count (S.puts store.old) + (62 * steps.new + (32 + length edits.now))) }
+    ensures once { IfOk result (λ row. 93 * length (S.puts store.new) + (entries row.node + 62 * steps.old) ≤ 93 * length (S.puts store.old) + (62 * steps.new + (32 + length edits.now))) }
+    ensures spent { OnErr result (Spent steps.old steps.new (length (S.puts store.old)) (length (S.puts store.new)) (63 + (length edits.now + 186 * ((tree.height - 1) * length edits.now))) (32 + length edits.now)) }
     ensures pieces { (first : M) (items among : List M.Unit) → IsKnown M.Unit.Item S.NodeSource M.Summer first summer.old store.old → IsStrictlySortedBy M.Unit.order items → HasRoot M.Unit.Item M.Summer first (places (S.nodes store.old)) tree.root tree.height items
-        → AreAmong among items → InsertAmong among edits.now → OnOk result (ArePieces M.Unit.Item M.Summer first among (places (S.nodes store.new)) Below (S.puts store.old) (S.puts store.new)) }
+        → AreAmong among items → InsertAmong among edits.now → MatchResult result (λ _. ArePieces M.Unit.Item M.Summer first among (places (S.nodes store.new)) Below (S.puts store.old) (S.puts store.new)) (λ fault. WerePieces M.Unit.Item M.Summer first among (places (S.nodes store.old)) fault (S.puts store.old) (S.puts store.new)) }
     ensures leaf { IfOk result (λ row. ArePut (S.size store.old) (S.size store.new) (M.usable summer.old) (insertions edits.now) (leaf_items row.node)) }
     ensures unput { IfOk result (λ row. row.same ≡ true → PutNone S.NodeSource store.old store.new) }
     ensures inserts { IfOk result (λ row. row.same ≡ true → insertions edits.now ≡ 0) }

@@ -1,14 +1,15 @@
 //! Rows of entries, and how they are joined.
 
 ghost use Rattle.tree_laws.specs.declared.tree.Fill.TheVariants.{Below};
-ghost use Rattle.reduce_tree.specs.Pieces.{ArePieces, AreAmong};
-ghost use Rattle.reduce_tree.specs.Bounds.{slack, put_count, ReadsFor, ArePut};
+ghost use Rattle.reduce_tree.specs.Pieces.{ArePieces, AreAmong, WerePieces};
+ghost use Rattle.reduce_tree.specs.Bounds.{slack, ArePut, Spent};
+ghost use Rattle.reduce_tree.specs.Counts.{ReadsFor};
 ghost use Rattle.reduce_tree.specs.Calls.{places, IsKnown, Ran, IfSound};
 ghost use Rattle.reduce_tree.specs.Rows.{IsAtLevel, leaf_items};
-ghost use Rattle.std.specs.Prelude.{false, ℕ, ◌≡◌, ◌+◌, ◌*◌, ◌<◌, ◌≤◌, ◌^◌, ◌++◌, List, [], IfOk, OnOk};
+ghost use Rattle.std.specs.Prelude.{false, ℕ, ◌≡◌, ◌+◌, ◌*◌, ◌<◌, ◌≤◌, ◌^◌, ◌++◌, List, [], IfOk, OnOk, OnErr, ◌-◌, MatchResult, length};
 ghost use Rattle.tree_laws.specs.Fitting.{AreLarge, item_count};
 ghost use Rattle.tree_laws.specs.Nodes.{entries};
-ghost use Rattle.tree_laws.specs.Trees.{Has};
+ghost use Rattle.tree_laws.specs.SummerTrees.{Has};
 ghost use Rattle.tree_laws.specs.declared.node.Node.TheVariants.{Leaf};
 
 use crate::fetch::fetch;
@@ -67,8 +68,9 @@ fn join_front<S: NodeStore, M: Summer, L: Ledger>(
     ensures items { (first : M) (xs ys : List M.Unit) → IsKnown M.Unit.Item S.NodeSource M.Summer first summer.old store.old → Has M.Unit.Item M.Summer first (places (S.nodes store.old)) low row xs → Has M.Unit.Item M.Summer first (places (S.nodes store.old)) level node ys
         → IfSound result (λ after. Has M.Unit.Item M.Summer first (places (S.nodes store.new)) level after (xs ++ ys)) }
     ensures steps { IfOk result (λ after. 31 * steps.new + (entries after + 93 * low) ≤ 31 * steps.old + (entries node + (entries row + 93 * level))) }
-    ensures once { IfOk result (λ after. 93 * put_count (S.puts store.new) + (entries after + 62 * steps.old) ≤ 93 * put_count (S.puts store.old) + (62 * steps.new + (entries node + entries row))) }
-    ensures pieces { (first : M) (xs ys among : List M.Unit) → IsKnown M.Unit.Item S.NodeSource M.Summer first summer.old store.old → Has M.Unit.Item M.Summer first (places (S.nodes store.old)) low row xs → Has M.Unit.Item M.Summer first (places (S.nodes store.old)) level node ys → AreAmong among xs → AreAmong among ys → OnOk result (ArePieces M.Unit.Item M.Summer first among (places (S.nodes store.new)) Below (S.puts store.old) (S.puts store.new)) }
+    ensures once { IfOk result (λ after. 93 * length (S.puts store.new) + (entries after + 62 * steps.old) ≤ 93 * length (S.puts store.old) + (62 * steps.new + (entries node + entries row))) }
+    ensures spent { OnErr result (Spent steps.old steps.new (length (S.puts store.old)) (length (S.puts store.new)) (entries node + (entries row + 93 * (level - low))) (entries node + entries row)) }
+    ensures pieces { (first : M) (xs ys among : List M.Unit) → IsKnown M.Unit.Item S.NodeSource M.Summer first summer.old store.old → Has M.Unit.Item M.Summer first (places (S.nodes store.old)) low row xs → Has M.Unit.Item M.Summer first (places (S.nodes store.old)) level node ys → AreAmong among xs → AreAmong among ys → MatchResult result (λ _. ArePieces M.Unit.Item M.Summer first among (places (S.nodes store.new)) Below (S.puts store.old) (S.puts store.new)) (λ fault. WerePieces M.Unit.Item M.Summer first among (places (S.nodes store.old)) fault (S.puts store.old) (S.puts store.new)) }
     ensures leaf { IfOk result (λ after. ArePut (S.size store.old) (S.size store.new) (M.usable summer.old) (leaf_items row + leaf_items node) (leaf_items after)) }
     ensures reads { ReadsFor (S.reads store.old) (S.reads store.new) steps.old steps.new }
     ensures ran { Ran M.Unit.Item S.NodeSource M.Summer store.old store.new summer.old summer.new result }
@@ -126,8 +128,9 @@ fn join_back<S: NodeStore, M: Summer, L: Ledger>(
     ensures items { (first : M) (xs ys : List M.Unit) → IsKnown M.Unit.Item S.NodeSource M.Summer first summer.old store.old → Has M.Unit.Item M.Summer first (places (S.nodes store.old)) low row xs → Has M.Unit.Item M.Summer first (places (S.nodes store.old)) level node ys
         → IfSound result (λ after. Has M.Unit.Item M.Summer first (places (S.nodes store.new)) level after (ys ++ xs)) }
     ensures steps { IfOk result (λ after. 31 * steps.new + (entries after + 93 * low) ≤ 31 * steps.old + (entries node + (entries row + 93 * level))) }
-    ensures once { IfOk result (λ after. 93 * put_count (S.puts store.new) + (entries after + 62 * steps.old) ≤ 93 * put_count (S.puts store.old) + (62 * steps.new + (entries node + entries row))) }
-    ensures pieces { (first : M) (xs ys among : List M.Unit) → IsKnown M.Unit.Item S.NodeSource M.Summer first summer.old store.old → Has M.Unit.Item M.Summer first (places (S.nodes store.old)) low row xs → Has M.Unit.Item M.Summer first (places (S.nodes store.old)) level node ys → AreAmong among xs → AreAmong among ys → OnOk result (ArePieces M.Unit.Item M.Summer first among (places (S.nodes store.new)) Below (S.puts store.old) (S.puts store.new)) }
+    ensures once { IfOk result (λ after. 93 * length (S.puts store.new) + (entries after + 62 * steps.old) ≤ 93 * length (S.puts store.old) + (62 * steps.new + (entries node + entries row))) }
+    ensures spent { OnErr result (Spent steps.old steps.new (length (S.puts store.old)) (length (S.puts store.new)) (entries node + (entries row + 93 * (level - low))) (entries node + entries row)) }
+    ensures pieces { (first : M) (xs ys among : List M.Unit) → IsKnown M.Unit.Item S.NodeSource M.Summer first summer.old store.old → Has M.Unit.Item M.Summer first (places (S.nodes store.old)) low row xs → Has M.Unit.Item M.Summer first (places (S.nodes store.old)) level node ys → AreAmong among xs → AreAmong among ys → MatchResult result (λ _. ArePieces M.Unit.Item M.Summer first among (places (S.nodes store.new)) Below (S.puts store.old) (S.puts store.new)) (λ fault. WerePieces M.Unit.Item M.Summer first among (places (S.nodes store.old)) fault (S.puts store.old) (S.puts store.new)) }
     ensures leaf { IfOk result (λ after. ArePut (S.size store.old) (S.size store.new) (M.usable summer.old) (leaf_items row + leaf_items node) (leaf_items after)) }
     ensures reads { ReadsFor (S.reads store.old) (S.reads store.new) steps.old steps.new }
     ensures ran { Ran M.Unit.Item S.NodeSource M.Summer store.old store.new summer.old summer.new result }
@@ -182,10 +185,11 @@ pub(crate) fn join_rows<S: NodeStore, M: Summer, L: Ledger>(
         → IfSound result (λ row. Has M.Unit.Item M.Summer first (places (S.nodes store.new)) row.level row.node (xs ++ ys)) }
     ensures most { (top : ℕ) → front.level ≤ top → back.level ≤ top → IfOk result (λ row. row.level ≤ top) }
     ensures steps { (top : ℕ) → front.level ≤ top → back.level ≤ top → IfOk result (λ row. 31 * steps.new + (entries row.node + 93 * slack top row.level (entries row.node)) ≤ 31 * steps.old + (entries front.node + (entries back.node + (93 * slack top front.level (entries front.node) + 93 * slack top back.level (entries back.node))))) }
-    ensures once { IfOk result (λ row. 93 * put_count (S.puts store.new) + (entries row.node + 62 * steps.old) ≤ 93 * put_count (S.puts store.old) + (62 * steps.new + (entries front.node + entries back.node))) }
+    ensures once { IfOk result (λ row. 93 * length (S.puts store.new) + (entries row.node + 62 * steps.old) ≤ 93 * length (S.puts store.old) + (62 * steps.new + (entries front.node + entries back.node))) }
     ensures high { front.level ≤ back.level → 0 < entries back.node → IfOk result (λ row. row.level ≡ back.level) }
     ensures least { front.level ≤ back.level → 0 < entries back.node → IfOk result (λ row. entries back.node ≤ entries row.node) }
-    ensures pieces { (first : M) (xs ys among : List M.Unit) → IsKnown M.Unit.Item S.NodeSource M.Summer first summer.old store.old → Has M.Unit.Item M.Summer first (places (S.nodes store.old)) front.level front.node xs → Has M.Unit.Item M.Summer first (places (S.nodes store.old)) back.level back.node ys → AreAmong among xs → AreAmong among ys → OnOk result (ArePieces M.Unit.Item M.Summer first among (places (S.nodes store.new)) Below (S.puts store.old) (S.puts store.new)) }
+    ensures spent { (top : ℕ) → front.level ≤ top → back.level ≤ top → OnErr result (Spent steps.old steps.new (length (S.puts store.old)) (length (S.puts store.new)) (entries front.node + (entries back.node + (93 * slack top front.level (entries front.node) + 93 * slack top back.level (entries back.node)))) (entries front.node + entries back.node)) }
+    ensures pieces { (first : M) (xs ys among : List M.Unit) → IsKnown M.Unit.Item S.NodeSource M.Summer first summer.old store.old → Has M.Unit.Item M.Summer first (places (S.nodes store.old)) front.level front.node xs → Has M.Unit.Item M.Summer first (places (S.nodes store.old)) back.level back.node ys → AreAmong among xs → AreAmong among ys → MatchResult result (λ _. ArePieces M.Unit.Item M.Summer first among (places (S.nodes store.new)) Below (S.puts store.old) (S.puts store.new)) (λ fault. WerePieces M.Unit.Item M.Summer first among (places (S.nodes store.old)) fault (S.puts store.old) (S.puts store.new)) }
     ensures leaf { IfOk result (λ row. ArePut (S.size store.old) (S.size store.new) (M.usable summer.old) (leaf_items front.node + leaf_items back.node) (leaf_items row.node)) }
     ensures reads { ReadsFor (S.reads store.old) (S.reads store.new) steps.old steps.new }
     ensures ran { Ran M.Unit.Item S.NodeSource M.Summer store.old store.new summer.old summer.new result }

@@ -1,5 +1,6 @@
 //! What the entry for a node says of the items below it.
 
+ghost use Rattle.reduce_tree.specs.Pieces.{IsSummed, IsSumSpelled};
 ghost use Rattle.reduce_tree.specs.Calls.{Summed};
 ghost use Rattle.reduce_tree.specs.Rows.{Tells, leaf_items};
 ghost use Rattle.std.specs.List.{sum_by};
@@ -7,7 +8,7 @@ ghost use Rattle.std.specs.Prelude.{ℕ, ◌≡◌, ◌<◌, ◌≤◌, ◌^◌,
 ghost use Rattle.tree_laws.specs.Fitting.{item_count};
 ghost use Rattle.tree_laws.specs.Nodes.{entries, FitsNode};
 ghost use Rattle.tree_laws.specs.Stores.{Places};
-ghost use Rattle.tree_laws.specs.Trees.{Has, AreChildren, Stands};
+ghost use Rattle.tree_laws.specs.SummerTrees.{Has, AreChildren, Stands};
 
 use json_terms::NoMemory;
 use std::alloc::Global;
@@ -34,6 +35,7 @@ pub(crate) fn tell<F, M: Summer>(
         → FitsNode M.Unit.fits M.Unit.spelled node.now → Has M.Unit.Item M.Summer first there level node.now items
         → IfOk result (λ told. Tells M.Unit.Item M.Summer first told.count told.last told.sum items) }
     ensures usable { 0 < leaf_items node.now → OnOk result (M.usable summer.old) }
+    ensures summed { OnOk result (IsSummed M.Unit.Item M.Summer summer.old node.now) }
     ensures ran { Summed M.Summer summer.old summer.new result }
 {
     match node {
@@ -83,6 +85,7 @@ fn tell_inner<F, M: Summer>(
     ensures tells { (first : M) (there : Places) (level : ℕ) (items : List M.Unit) → M.goes first summer.old
         → All M.Unit.fits items → AreChildren M.Unit.Item M.Summer first (Stands M.Unit.Item M.Summer first there level) children.now items
         → IfOk result (λ told. Tells M.Unit.Item M.Summer first told.count told.last told.sum items) }
+    ensures summed { OnOk result (All (λ child. IsSumSpelled M.Unit.Item M.Summer summer.old child.sum) children.now) }
     ensures ran { Summed M.Summer summer.old summer.new result }
 {
     let sums = read_sums(alloc, summer, children)?;

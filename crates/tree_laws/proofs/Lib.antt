@@ -3,4 +3,6 @@ pub mod Parts
 pub mod Prefixes
 pub mod Sizes
 pub mod Structure
+pub mod SummerTrees
 mod Taking
+mod NoFields

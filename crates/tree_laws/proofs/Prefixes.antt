@@ -8,11 +8,7 @@ use Rattle.std.proofs.lemmas.Nat.{from_le_bytes-to_le_bytes_8}
 use Rattle.tree_laws.specs.declared.node.Child.{Child}
 use Rattle.tree_laws.specs.declared.node.Node.TheVariants.{Leaf, Inner}
 use Rattle.tree_laws.specs.Nodes.{FitsChild, FitsItem, FitsNode, IsNumber, IsSized, child_entry, item_entry, number_bytes, sized, spelled_node}
-use Rattle.tree_laws.specs.Spelled.{IsSpelledOnce}
-
--- of two values whose bytes begin the same bytes, each is the other, and the same bytes are left
-abbrev pub IsPrefixFree : {T : Type 0} → (T → Type 0) → (T → List ℕ) → Type 0
-IsPrefixFree {T} fits spelled = (x y : T) (more rest : List ℕ) → fits x → fits y → spelled x ++ more ≡ spelled y ++ rest → (x ≡ y) × (more ≡ rest)
+use Rattle.tree_laws.specs.Spelled.{IsPrefixFree, IsSpelledOnce}
 
 pub spelled_once : {T : Type 0} (fits : T → Type 0) (spelled : T → List ℕ) → IsPrefixFree fits spelled → IsSpelledOnce fits spelled
 spelled_once fits spelled free x y fx fy same = (free x y [] [] fx fy (ap (λ bs. bs ++ []) same)).0

@@ -10,8 +10,8 @@ use Rattle.tree_laws.specs.declared.node.Child.{Child}
 use Rattle.tree_laws.specs.declared.node.Node.{Node}
 use Rattle.tree_laws.specs.Nodes.{FitsChild, FitsItem, FitsNode, IsNumber, IsSized, child_entry, item_entry, number_bytes, sized, spelled_node}
 use Rattle.tree_laws.specs.Reading.{AreCounted, IsTaken}
-use Rattle.tree_laws.specs.Spelled.{IsSpelledOnce}
-use Rattle.tree_laws.proofs.Prefixes.{IsPrefixFree, child_parts, item_prefix_free, node_prefix_free, number_long, number_prefix_free, one_more, sized_prefix_free}
+use Rattle.tree_laws.specs.Spelled.{IsPrefixFree, IsSpelledOnce}
+use Rattle.tree_laws.proofs.Prefixes.{child_parts, item_prefix_free, node_prefix_free, number_long, number_prefix_free, one_more, sized_prefix_free}
 
 -- the bytes begin with no value of this kind
 abbrev pub BeginsNone : {T : Type 0} → (T → Type 0) → (T → List ℕ) → List ℕ → Type 0

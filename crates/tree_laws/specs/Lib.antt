@@ -1,10 +1,13 @@
 pub mod Spelled
 pub mod Meaning
+pub mod Values
 pub mod Nodes
 pub mod Reading
 pub mod Stores
 pub mod Trees
+pub mod SummerTrees
 pub mod Fitting
 pub mod Fetching
+pub mod Reaching
 pub mod Memory
 pub mod MemoryLaws

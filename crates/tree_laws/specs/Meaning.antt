@@ -7,6 +7,12 @@ pub record Meaning (T S : Type 0) : Type 0 where
   pub value : List T → S
   pub spelled : S → List ℕ
 
+-- what values mean, which of them there are, and whether what is kept of items is the value of exactly these
+pub record Values (T S : Type 0) : Type 1 where
+  pub meaning : Meaning T S
+  pub fits : S → Type 0
+  pub lawful : Type 0
+
 -- so many items have a value at most: as many as a list in memory may have
 abbrev pub item_limit : ℕ
 item_limit = 2 ^ 63

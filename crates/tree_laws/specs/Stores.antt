@@ -1,5 +1,6 @@
 -- What stands in a store of nodes, and what is kept of it.
-use Rattle.std.specs.Prelude.{◌≡◌, ℕ, ◌+◌, ◌≤◌, List, ◌∷◌, Option, Some, None, option_map}
+use Rattle.std.specs.Prelude.{◌≡◌, ℕ, ◌+◌, ◌≤◌, List, ◌++◌, Option, Some, None, All, Contains, length}
+use Rattle.std.specs.List.{sum_by}
 
 -- the bytes at each place, where something stands there
 abbrev pub Places : Type 0
@@ -15,9 +16,25 @@ KeepsPlaces None new = new ≡ None
 KeepsPlaces (Some old) None = ⊥
 KeepsPlaces (Some old) (Some new) = Extends old new
 
--- the pieces that were put, the newest first, after one more, where they are told
-abbrev pub one_piece_more : List ℕ → Option (List (List ℕ)) → Option (List (List ℕ))
-one_piece_more piece puts = option_map (λ pieces. piece ∷ pieces) puts
+-- of what stands in a store, where it tells that
+abbrev pub WhereTold : Option Places → (Places → Type 0) → Type 0
+WhereTold told P = (there : Places) → told ≡ Some there → P there
+
+-- what pieces take in a store: the bytes of each, and 8 more
+abbrev pub pieces_size : List (List ℕ) → ℕ
+pieces_size pieces = sum_by (λ piece. length piece + 8) pieces
+
+-- from one size to another no more bytes come than the pieces take that were put between
+abbrev pub Growing : List (List ℕ) → List (List ℕ) → ℕ → ℕ → Type 0
+Growing before after old new = new + pieces_size before ≤ old + pieces_size after
+
+-- each entry that a list with the newest first got since is such
+abbrev pub EachSince : {X : Type 0} → (X → Type 0) → List X → List X → Type 0
+EachSince {X} P old new = (more : List X) × (new ≡ more ++ old) × All P more
+
+-- it is one of those
+abbrev pub IsSince : {X : Type 0} → X → List X → List X → Type 0
+IsSince {X} x old new = (more : List X) × (new ≡ more ++ old) × Contains more x
 
 -- a number doesn't fall, and rises by so much at most
 pub record RisesBy (most before now : ℕ) : Type 0 where

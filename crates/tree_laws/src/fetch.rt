@@ -1,6 +1,6 @@
 //! Getting a node that fits its place in a tree.
 
-ghost use Rattle.std.specs.Prelude.{◌≡◌, ◌+◌, ◌^◌, ◌≤◌, ◌↔◌, All, Some, IfErr, IfOk, IfSome, IsTrue, OnOk};
+ghost use Rattle.std.specs.Prelude.{◌≡◌, ◌+◌, ◌∷◌, ◌^◌, ◌≤◌, ◌↔◌, All, Some, IfErr, IfOk, IfSome, IsTrue, OnOk};
 ghost use Rattle.std.specs.List.{sum_by};
 ghost use Rattle.tree_laws.specs.Fetching.{FetchFails};
 ghost use Rattle.tree_laws.specs.Fitting.{AreLarge, IsFilled, IsFitFor, item_count, least_entries};
@@ -42,6 +42,7 @@ pub fn fetch_node<S: NodeSource, T: Item, M, L: Ledger>(
     ensures nodes { S.nodes store.new ≡ S.nodes store.old }
     ensures size { S.size store.new ≡ S.size store.old }
     ensures puts { S.puts store.new ≡ S.puts store.old }
+    ensures gets { S.gets store.new ≡ at ∷ S.gets store.old }
     ensures reads { RisesBy 2 (S.reads store.old) (S.reads store.new) }
     ensures steps { steps.new ≡ steps.old + 1 }
     ensures goes { OnOk result (S.goes store.old store.new) }

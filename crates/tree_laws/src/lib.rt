@@ -15,6 +15,7 @@ mod encode;
 mod fetch;
 mod item;
 mod laws;
+mod log;
 mod memory;
 mod node;
 mod reader;
@@ -28,7 +29,13 @@ pub use decode::decode_node;
 pub use encode::encode_node;
 pub use fetch::fetch_node;
 pub use item::{Item, ItemFault};
-pub use laws::{nodes_are_spelled_once, nodes_of_trees_fit, trees_have_sizes, trees_stay};
+pub use laws::{
+    bare_trees_have_sizes, bare_trees_stay, nodes_are_prefix_free, nodes_are_spelled_once,
+    nodes_of_bare_trees_are_fetched, nodes_of_bare_trees_fit, nodes_of_trees_are_fetched,
+    nodes_of_trees_fit, sums_of_trees_fit, trees_are_bare, trees_have_sizes, trees_pass,
+    trees_stay,
+};
+pub use log::NodeLog;
 pub use memory::{MemoryFault, MemoryNodes};
 pub use node::{Child, Children, Items, Node, SumBytes};
 pub use steps::Steps;

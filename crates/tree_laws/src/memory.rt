@@ -1,10 +1,11 @@
 //! A store in memory.
 
-ghost use Rattle.std.specs.Prelude.{◌≡◌, ◌+◌, ◌≤◌, ◌↔◌, [], ◌++◌, ◌∷◌, IfErr, IfOk, IsErr, IsTrue, OnErr, OnOk, Some, is_err, length, reverse};
+ghost use Rattle.std.specs.Prelude.{◌≡◌, ◌+◌, ◌≤◌, ◌↔◌, ◌⊎◌, [], ◌++◌, ◌∷◌, IfErr, IfOk, IsErr, IsTrue, OnErr, OnOk, Some, is_err, length};
 ghost use Rattle.tree_laws.specs.Memory.{Fails, Goes, IsMissing, MemoryState, is_listed, next_count, nodes_size, places};
 ghost use Rattle.tree_laws.specs.declared.memory.MemoryFault.TheVariants.{NoMemory as OutOfMemory};
 ghost use Rattle.tree_laws.specs.Stores.{Extends, RisesBy};
 
+use crate::log::NodeLog;
 use crate::store::{NodeSource, NodeStore};
 use json_terms::NoMemory;
 use std::alloc::{AllocError, AllocFailed, Global};
@@ -44,6 +45,7 @@ pub struct MemoryNodes {
     fail: Vec<u64>,
     calls: u64,
     reads: u64,
+    log: NodeLog,
 }
 
 impl Model for MemoryNodes {
@@ -52,19 +54,20 @@ impl Model for MemoryNodes {
 
     ghost Value = { MemoryState };
 
-    ghost view = { λ s. record { nodes = map (λ node. node.items) s.nodes.items; fail = s.fail.items; calls = s.calls; reads = s.reads } };
+    ghost view = { λ s. record { nodes = map (λ node. node.items) s.nodes.items; fail = s.fail.items; calls = s.calls; reads = s.reads; gets = s.log.gets; puts = s.log.puts } };
 }
 
 impl MemoryNodes {
     /// An empty store. The calls of `get` and `put` whose numbers are in `fail`, counted from 0 together, fail and do nothing.
     pub fn new(alloc: Global, fail: Vec<u64>) -> MemoryNodes
-        ensures { result ≡ record { nodes = []; fail = fail.items; calls = 0; reads = 0 } }
+        ensures { result ≡ record { nodes = []; fail = fail.items; calls = 0; reads = 0; gets = []; puts = [] } }
     {
         MemoryNodes {
             nodes: Vec::new(alloc),
             fail,
             calls: 0,
             reads: 0,
+            log: NodeLog::new(),
         }
     }
 
@@ -104,11 +107,12 @@ impl MemoryNodes {
         Ok(())
     }
 
-    fn count_read(&mut self)
-        ensures counted { self.new ≡ record self.old { reads = next_count self.old.reads } }
+    fn count_read(&mut self, at: u64)
+        ensures counted { self.new ≡ record self.old { reads = next_count self.old.reads; gets = at ∷ self.old.gets } }
         ensures later { self.old.reads ≤ self.new.reads }
     {
         self.reads = self.reads.saturating_add(1);
+        self.log = self.log.got(&at);
     }
 
     fn bytes_at(&self, alloc: Global, at: u64) -> Result<Vec<u8>, MemoryFault>
@@ -141,9 +145,9 @@ fn copy_bytes(alloc: Global, bytes: &[u8]) -> Result<Vec<u8>, MemoryFault>
 }
 
 impl NodeSource for MemoryNodes {
-    ghost use Rattle.std.specs.Prelude.{Some, reverse};
+    ghost use Rattle.std.specs.Prelude.{Some};
     ghost use Rattle.tree_laws.specs.Memory.{Fails, Goes, nodes_size, places};
-    ghost use Rattle.tree_laws.specs.MemoryLaws.{memory_steps, memory_causes, memory_keeps};
+    ghost use Rattle.tree_laws.specs.MemoryLaws.{memory_steps, memory_causes, memory_grew, memory_grows, memory_keeps};
 
     type Fault = MemoryFault;
 
@@ -153,7 +157,9 @@ impl NodeSource for MemoryNodes {
 
     ghost size = { λ s. nodes_size s.nodes };
 
-    ghost puts = { λ s. Some (reverse s.nodes) };
+    ghost puts = { λ s. s.puts };
+
+    ghost gets = { λ s. s.gets };
 
     ghost reads = { λ s. s.reads };
 
@@ -166,16 +172,18 @@ impl NodeSource for MemoryNodes {
         ensures bytes { IfOk result (λ bytes. places self.old at ≡ Some bytes.items) }
         ensures nodes { Some (places self.new) ≡ Some (places self.old) }
         ensures size { nodes_size self.new.nodes ≡ nodes_size self.old.nodes }
-        ensures puts { Some (reverse self.new.nodes) ≡ Some (reverse self.old.nodes) }
+        ensures puts { self.new.puts ≡ self.old.puts }
+        ensures gets { self.new.gets ≡ at ∷ self.old.gets }
         ensures reads { RisesBy 2 self.old.reads self.new.reads }
         ensures goes { OnOk result (Goes self.old self.new) }
         ensures cause { IfErr result (Fails self.old self.new) }
 
-        // It fails exactly where its number is listed.
-        ensures counted { self.new ≡ record self.old { calls = next_count self.old.calls; reads = next_count self.old.reads } }
+        // It fails exactly where its number is listed. Else a fault is of this place.
+        ensures place { IfErr result (λ fault. (fault ≡ MemoryFault.Failed) ⊎ IsMissing (places self.old) at fault) }
+        ensures counted { self.new ≡ record self.old { calls = next_count self.old.calls; reads = next_count self.old.reads; gets = at ∷ self.old.gets } }
         ensures listed { IsTrue (is_listed self.old.fail self.old.calls) ↔ (result ≡ Err MemoryFault.Failed) }
     {
-        self.count_read();
+        self.count_read(at);
         self.count_call()?;
         self.bytes_at(alloc, at)
     }
@@ -187,6 +195,10 @@ impl NodeSource for MemoryNodes {
     ghost keeps = { memory_keeps };
 
     ghost stays_ready = { λ a b goes ready. ready };
+
+    ghost grows = { memory_grows };
+
+    ghost grew = { memory_grew };
 }
 
 impl NodeStore for MemoryNodes {
@@ -196,18 +208,21 @@ impl NodeStore for MemoryNodes {
         ensures kept { Extends (places self.old) (places self.new) }
         ensures size { OnOk result (nodes_size self.new.nodes ≡ nodes_size self.old.nodes + (length bytes.now + 8)) }
         ensures no_more { RisesBy (length bytes.now + 8) (nodes_size self.old.nodes) (nodes_size self.new.nodes) }
-        ensures puts { OnOk result (Some (reverse self.new.nodes) ≡ Some (bytes.now ∷ reverse self.old.nodes)) }
-        ensures none_put { OnErr result (Some (reverse self.new.nodes) ≡ Some (reverse self.old.nodes)) }
+        ensures puts { self.new.puts ≡ bytes.now ∷ self.old.puts }
+        ensures gets { self.new.gets ≡ self.old.gets }
         ensures reads { RisesBy 2 self.old.reads self.new.reads }
         ensures goes { OnOk result (Goes self.old self.new) }
         ensures cause { IfErr result (Fails self.old self.new) }
 
         // It fails exactly where its number is listed.
+        ensures fault { IfErr result (λ fault. (fault ≡ MemoryFault.Failed) ⊎ (fault ≡ MemoryFault.NoMemory)) }
         ensures listed { IsTrue (is_listed self.old.fail self.old.calls) ↔ (result ≡ Err MemoryFault.Failed) }
-        ensures added { OnOk result (self.new ≡ record self.old { nodes = self.old.nodes ++ bytes.now ∷ []; calls = next_count self.old.calls }) }
-        ensures err { OnErr result (self.new ≡ record self.old { calls = next_count self.old.calls }) }
+        ensures added { OnOk result (self.new ≡ record self.old { nodes = self.old.nodes ++ bytes.now ∷ []; calls = next_count self.old.calls; puts = bytes.now ∷ self.old.puts }) }
+        ensures err { OnErr result (self.new ≡ record self.old { calls = next_count self.old.calls; puts = bytes.now ∷ self.old.puts }) }
     {
+        self.log = self.log.put(bytes);
         self.count_call()?;
-        self.add(alloc, bytes)
+        let at = self.add(alloc, bytes)?;
+        Ok(at)
     }
 }

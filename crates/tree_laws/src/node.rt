@@ -65,6 +65,14 @@ impl SumBytes {
         SumBytes { list }
     }
 
+    /// The bytes as a list of their own, which takes no memory.
+    pub fn into_vec(self) -> Vec<u8>
+        ensures { result.items ≡ self }
+    {
+        let SumBytes { list } = self;
+        list
+    }
+
     /// The bytes.
     pub fn as_slice(&self) -> &[u8]
         ensures { result.now ≡ self.now }

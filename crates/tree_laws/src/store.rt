@@ -1,8 +1,8 @@
 //! Where the nodes of trees are kept.
 
-ghost use Rattle.std.specs.Prelude.{◌≡◌, ◌+◌, ℕ, List, Option, Some, IfErr, IfOk, IfSome, OnErr, OnOk, length};
+ghost use Rattle.std.specs.Prelude.{◌≡◌, ◌+◌, ◌∷◌, ℕ, List, Option, Some, IfErr, IfOk, IfSome, OnOk, length};
 ghost use Rattle.tree_laws.specs.Meaning.{AreSteps, StaysCaused};
-ghost use Rattle.tree_laws.specs.Stores.{KeepsPlaces, Places, RisesBy, one_piece_more};
+ghost use Rattle.tree_laws.specs.Stores.{Growing, KeepsPlaces, Places, RisesBy};
 
 use std::alloc::Global;
 
@@ -12,7 +12,7 @@ use std::alloc::Global;
 /// `is_ready` holds: after a fault a file may not be what the object over it keeps of it. `goes` says what a call that answers
 /// Ok may do: what is told stays told, each node stays as it is, and the source stays ready. `fails` says why a call answered a
 /// fault, and what it did. `size` and `puts` are those of a store; a source to which nothing can be put may have any that no
-/// `get` changes.
+/// `get` changes. No more bytes come than those of the pieces that were put, with 8 more for each.
 pub trait NodeSource {
     type Fault: Drop;
 
@@ -23,8 +23,11 @@ pub trait NodeSource {
     /// How many bytes the nodes take.
     ghost size: { Self → ℕ };
 
-    /// The pieces that were put, the newest first, where the source tells them.
-    ghost puts: { Self → Option (List (List ℕ)) };
+    /// The pieces that `put` was called with, whatever it answered, the newest first.
+    ghost puts: { Self → List (List ℕ) };
+
+    /// The places that `get` was called with, whatever it answered, the newest first.
+    ghost gets: { Self → List ℕ };
 
     /// How many reads were made.
     ghost reads: { Self → ℕ };
@@ -41,6 +44,7 @@ pub trait NodeSource {
         ensures nodes { nodes self.new ≡ nodes self.old }
         ensures size { size self.new ≡ size self.old }
         ensures puts { puts self.new ≡ puts self.old }
+        ensures gets { gets self.new ≡ at ∷ gets self.old }
         ensures reads { RisesBy 2 (reads self.old) (reads self.new) }
         ensures goes { OnOk result (goes self.old self.new) }
         ensures cause { IfErr result (fails self.old self.new) };
@@ -52,6 +56,10 @@ pub trait NodeSource {
     ghost keeps: { (a b : Self) → goes a b → KeepsPlaces (nodes a) (nodes b) };
 
     ghost stays_ready: { (a b : Self) → goes a b → is_ready a → is_ready b };
+
+    ghost grows: { (a b : Self) → goes a b → Growing (puts a) (puts b) (size a) (size b) };
+
+    ghost grew: { (a b : Self) (fault : Self.Fault) → fails a b fault → Growing (puts a) (puts b) (size a) (size b) };
 }
 
 /// Nodes in bytes by their places, to which more can be put.
@@ -65,8 +73,8 @@ pub trait NodeStore: NodeSource {
         ensures kept { OnOk result (KeepsPlaces (Self.nodes self.old) (Self.nodes self.new)) }
         ensures size { OnOk result (Self.size self.new ≡ Self.size self.old + (length bytes.now + 8)) }
         ensures no_more { RisesBy (length bytes.now + 8) (Self.size self.old) (Self.size self.new) }
-        ensures puts { OnOk result (Self.puts self.new ≡ one_piece_more bytes.now (Self.puts self.old)) }
-        ensures none_put { OnErr result (Self.puts self.new ≡ Self.puts self.old) }
+        ensures puts { Self.puts self.new ≡ bytes.now ∷ Self.puts self.old }
+        ensures gets { Self.gets self.new ≡ Self.gets self.old }
         ensures reads { RisesBy 2 (Self.reads self.old) (Self.reads self.new) }
         ensures goes { OnOk result (Self.goes self.old self.new) }
         ensures cause { IfErr result (Self.fails self.old self.new) };

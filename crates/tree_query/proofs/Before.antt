@@ -9,9 +9,9 @@ use Rattle.std.specs.declared.cmp.Ordering.TheVariants.{Less}
 use Rattle.tree_laws.specs.declared.item.Item.{Ghosts as Items}
 use Rattle.tree_laws.specs.declared.summer.Summer.{Ghosts as Summers}
 use Rattle.tree_laws.specs.declared.node.Child.{Child}
-use Rattle.tree_laws.specs.Trees.{AreChildren, IsChild, Joins}
-use Rattle.tree_laws.proofs.Parts.{children_split}
-use Rattle.tree_laws.proofs.Sizes.{counts_add}
+use Rattle.tree_laws.specs.SummerTrees.{AreChildren, IsChild, Joins}
+use Rattle.tree_laws.proofs.SummerTrees.{children_split}
+use Rattle.tree_laws.proofs.SummerTrees.{counts_add}
 use Rattle.tree_query.proofs.Lists.{false_unless}
 use Rattle.tree_query.proofs.Order.{filter_all, filter_none, sorted_across, sorted_back, sorted_front, sorted_upto}
 

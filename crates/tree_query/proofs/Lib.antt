@@ -4,6 +4,7 @@ pub mod Lists
 pub mod Order
 pub mod Ranges
 pub mod Reached
+pub mod Since
 pub mod Sums
 pub mod Unsummed
 pub mod Walks

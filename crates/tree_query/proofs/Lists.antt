@@ -1,5 +1,6 @@
 -- Lists taken apart, and what tests say of numbers.
-use Rattle.std.proofs.Common.{◌≡◌, ◌↔◌, ◌==◌, ◌-◌, ℕ, zero, suc, Bool, true, false, List, [], ◌∷◌, ◌++◌, length, length-append, get_or, ◌<◌, remove, refl, ap, arith}
+use Rattle.std.specs.Prelude.{IsOk, is_ok, if◌then◌else◌}
+use Rattle.std.proofs.Common.{◌≡◌, ◌↔◌, ◌==◌, ◌-◌, ℕ, zero, suc, Bool, true, false, Result, Ok, Err, List, [], ◌∷◌, length, get_or, ◌<◌, remove, refl, arith}
 use Rattle.std.proofs.lemmas.Bool.Decides.{nat_tests}
 
 pub first_taken : {X : Type 0} (xs ys : List X) (x : X) → 0 < length xs → x ≡ get_or xs 0 x → ys ≡ remove xs 0 → xs ≡ x ∷ ys
@@ -28,5 +29,7 @@ pub some_height : (h n : ℕ) → ((h ≡ 0) ↔ (n ≡ 0)) → 0 < n → 0 < h
 some_height zero n e some = absurd (omega (arith, e.0 refl, some))
 some_height (suc h) n e some = omega arith
 
-pub no_push : {X : Type 0} (xs : List X) (x : X) → [] ≡ xs ++ x ∷ [] → ⊥
-no_push xs x e = omega (arith, ap length e, length-append xs (x ∷ []))
+-- what a call that can't fail leaves
+pub taken_ok : {A E : Type 0} {X : Type 0} (result : Result A E) (new done undone : X) → IsOk result → new ≡ (if is_ok result then done else undone) → new ≡ done
+taken_ok (Ok value) new done undone h e = e
+taken_ok (Err fault) new done undone h e = let b : false ≡ true = h in absurd (cc)

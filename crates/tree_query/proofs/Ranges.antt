@@ -10,9 +10,9 @@ use Rattle.tree_laws.specs.declared.summer.Summer.{Ghosts as Summers}
 use Rattle.tree_laws.specs.declared.node.Child.{Child}
 use Rattle.tree_laws.specs.Meaning.{IsJoinValue, IsLeafValue, KeepsMeaning, Meaning, joined}
 use Rattle.tree_laws.specs.Spelled.{IsSpelledOnce}
-use Rattle.tree_laws.specs.Trees.{AreChildren}
-use Rattle.tree_laws.proofs.Parts.{AreParts, children_split, parts_of}
-use Rattle.tree_laws.proofs.Sizes.{counts_add}
+use Rattle.tree_laws.specs.SummerTrees.{AreChildren}
+use Rattle.tree_laws.proofs.SummerTrees.{AreParts, children_split, parts_of}
+use Rattle.tree_laws.proofs.SummerTrees.{counts_add}
 use Rattle.tree_query.specs.Ranges.{Gathered, numbered}
 
 pub numbered_none : {T : Type 0} (n : ℕ) (xs : List T) → numbered n n xs ≡ []

@@ -11,12 +11,12 @@ use Rattle.tree_laws.specs.declared.tree.Fill.TheVariants.{Root, Below}
 use Rattle.tree_laws.specs.declared.tree.Tree.{Tree}
 use Rattle.tree_laws.specs.Fetching.{IsBadAt}
 use Rattle.tree_laws.specs.Spelled.{IsSpelledOnce}
-use Rattle.tree_laws.specs.Stores.{Places}
-use Rattle.tree_laws.specs.Trees.{AreChildren, Has, HasRoot, IsAt, IsChild, IsTree, Stands}
-use Rattle.tree_laws.proofs.Parts.{same_node}
-use Rattle.tree_laws.proofs.Sizes.{below_not_bad, root_not_bad}
-use Rattle.tree_query.specs.Calls.{WhereTold}
-use Rattle.tree_query.specs.Reaching.{AreReached, IsMet, IsUnfit, Reaches, StandsFit, below, root}
+use Rattle.tree_laws.specs.Stores.{Places, WhereTold}
+use Rattle.tree_laws.specs.SummerTrees.{AreChildren, Has, HasRoot, IsAt, IsChild, IsTree, Stands}
+use Rattle.tree_laws.proofs.SummerTrees.{same_node}
+use Rattle.tree_laws.proofs.SummerTrees.{below_not_bad, root_not_bad}
+use Rattle.tree_laws.specs.Reaching.{IsMet, IsUnfit, Reaches, StandsFit, below, root}
+use Rattle.tree_query.specs.Reaching.{AreReached}
 
 module _ {T : Type 0} (i : Items T) (there : Places) (tree : Tree) where
   pub children_reached : (at level : ℕ) (children : List (Child T)) → IsMet i there tree at (suc level) (Inner children) → AreReached i there tree level children

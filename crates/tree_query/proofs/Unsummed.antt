@@ -7,7 +7,7 @@ use Rattle.tree_laws.specs.declared.node.Node.{Node}
 use Rattle.tree_laws.specs.declared.node.Node.TheVariants.{Leaf, Inner}
 use Rattle.tree_laws.specs.declared.tree.Tree.{Tree}
 use Rattle.tree_laws.specs.Stores.{Places}
-use Rattle.tree_laws.specs.Trees.{AreChildren, Has, HasRoot, IsChild, IsTree, Stands}
+use Rattle.tree_laws.specs.SummerTrees.{AreChildren, Has, HasRoot, IsChild, IsTree, Stands}
 use Rattle.tree_query.specs.Unsummed.{HasItems, HoldsItems, StandItems, unsummed}
 
 module _ {T M Sum Fault : Type 0} (i : Items T) (m : Summers M T Sum Fault) (first : M) where

@@ -1,5 +1,5 @@
 -- The rows of a walk.
-use Rattle.std.proofs.Common.{◌≡◌, ℕ, zero, suc, Bool, true, false, List, [], ◌∷◌, ◌++◌, All, length, reverse, min, ◌+◌, ◌-◌, ◌<◌, ◌≤◌, take, drop, refl, sym, ap, subst, ◌∙◌, append_assoc, length-append, take-append-drop, arith, if◌then◌else◌}
+use Rattle.std.proofs.Common.{◌≡◌, ℕ, zero, suc, Bool, true, false, Option, Some, None, List, [], ◌∷◌, ◌++◌, All, length, reverse, min, ◌+◌, ◌-◌, ◌<◌, ◌≤◌, take, drop, refl, sym, ap, subst, ◌∙◌, append_assoc, length-append, take-append-drop, arith, if◌then◌else◌}
 use Rattle.std.proofs.lemmas.List.{append-nil, reverse-append, reverse-reverse, length-reverse, length-take-le, length-drop, take_all}
 use Rattle.std.proofs.Math.Seq.{drop-append-add, take-append_seam, drop-append_seam}
 use Rattle.std.specs.List.{sum_by}
@@ -10,14 +10,16 @@ use Rattle.tree_laws.specs.declared.node.Child.{Child}
 use Rattle.tree_laws.specs.declared.tree.Fill.TheVariants.{Below}
 use Rattle.tree_laws.specs.declared.tree.Tree.{Tree}
 use Rattle.tree_laws.specs.Stores.{Extends, Places}
-use Rattle.tree_laws.specs.Trees.{AreChildren, IsChild, Joins}
-use Rattle.tree_laws.proofs.Structure.{child_stays, stands_stays}
+use Rattle.tree_laws.specs.SummerTrees.{AreChildren, IsChild, Joins}
+use Rattle.tree_laws.proofs.SummerTrees.{child_stays, stands_stays}
+use Rattle.tree_query.specs.declared.walk.NextChild.{NextChild}
 use Rattle.tree_query.specs.declared.walk.WalkRow.{WalkRow}
 use Rattle.tree_query.specs.declared.walk.Walk.{Walk}
 use Rattle.tree_query.specs.Ranges.{numbered}
-use Rattle.tree_query.specs.Reaching.{AreReached, Reaches, below, root}
+use Rattle.tree_laws.specs.Reaching.{Reaches, below, root}
+use Rattle.tree_query.specs.Reaching.{AreReached}
 use Rattle.tree_query.specs.Unsummed.{StandItems, unsummed}
-use Rattle.tree_query.specs.Walking.{Ahead, AreTurned, IsAt, IsOver, IsRest, turned}
+use Rattle.tree_query.specs.Walking.{Ahead, AreOver, AreTurned, Finds, FindsReached, IsAt, IsOver, IsRest, turned}
 
 pub turned_twice : {X : Type 0} (flag : Bool) (xs : List X) → turned flag (turned flag xs) ≡ xs
 turned_twice false xs = refl
@@ -87,6 +89,16 @@ module _ {T : Type 0} (i : Items T) (flag : Bool) (there : Places) where
     back = k.back;
     whole = ap (λ t. xs ++ t) k.whole ∙ sym (append_assoc xs k.front k.back);
     at_front = ahead_push rows row xs k.front h k.at_front;
+    at_back = k.at_back;
+  }
+
+  pub ahead_append : (rows fresh : List (WalkRow T)) (xs ys : List T) → Ahead i flag there fresh xs → Ahead i flag there rows ys → Ahead i flag there (rows ++ fresh) (xs ++ ys)
+  ahead_append [] fresh xs ys h k = subst (Ahead i flag there fresh) (sym (ap (λ t. xs ++ t) k ∙ append-nil xs)) h
+  ahead_append (r ∷ rows) fresh xs ys h k = record {
+    front = xs ++ k.front;
+    back = k.back;
+    whole = ap (λ t. xs ++ t) k.whole ∙ sym (append_assoc xs k.front k.back);
+    at_front = ahead_append rows fresh xs k.front h k.at_front;
     at_back = k.at_back;
   }
 
@@ -228,10 +240,20 @@ module _ {T : Type 0} (i : Items T) (old new : Places) (e : Extends old new) whe
   ahead_stays flag [] xs h = h
   ahead_stays flag (row ∷ rows) xs h = record { front = h.front; back = h.back; whole = h.whole; at_front = ahead_stays flag rows h.front h.at_front; at_back = turned_stay flag row.level row.children h.back h.at_back }
 
+  finds_stays : (flag : Bool) (next : Option (NextChild T)) (rows : List (WalkRow T)) (xs : List T) → Finds i flag old next rows xs → Finds i flag new next rows xs
+  finds_stays flag None rows xs h = h
+  finds_stays flag (Some next) rows xs h = record {
+    front = h.front;
+    back = h.back;
+    whole = h.whole;
+    at_front = child_stays i unsummed tt (StandItems i old next.level) (StandItems i new next.level) (stands_stays i unsummed tt old new e next.level) next.child (turned flag h.front) h.at_front;
+    at_back = ahead_stays flag rows h.back h.at_back;
+  }
+
   pub walk_stays : (walk : Walk T) (items : List T) → IsAt i old walk items → IsAt i new walk items
   walk_stays walk items h = record {
     all = h.all;
-    leads = record { front = h.leads.front; back = h.leads.back; whole = h.leads.whole; at_front = h.leads.at_front; at_back = ahead_stays walk.descending walk.rows.items h.leads.back h.leads.at_back };
+    leads = record { front = h.leads.front; back = h.leads.back; whole = h.leads.whole; at_front = h.leads.at_front; at_back = finds_stays walk.descending walk.next walk.rows.items h.leads.back h.leads.at_back };
     whole = h.whole;
     count = h.count;
   }
@@ -241,7 +263,14 @@ module _ {T : Type 0} (i : Items T) (old new : Places) (e : Extends old new) whe
   reaches_stays tree at level count fill (below up low n place children child r s inside) =
       below up low n place children child (reaches_stays tree up (suc low) n place r) (record { fits = s.fits; bytes = e up _ s.bytes; place = s.place }) inside
 
-  pub over_stays : (tree : Tree) (walk : Walk T) → IsOver i old tree walk → IsOver i new tree walk
-  over_stays tree walk h =
+  rows_stay : (tree : Tree) (rows : List (WalkRow T)) → AreOver i old tree rows → AreOver i new tree rows
+  rows_stay tree rows h =
       All-weaker (λ (row : WalkRow T). AreReached i old tree row.level row.children) (λ (row : WalkRow T). AreReached i new tree row.level row.children)
-      (λ row r. All-weaker (λ (c : Child T). Reaches i old tree c.at row.level c.count Below) (λ (c : Child T). Reaches i new tree c.at row.level c.count Below) (λ c h. reaches_stays tree c.at row.level c.count Below h) row.children r) walk.rows.items h
+      (λ row r. All-weaker (λ (c : Child T). Reaches i old tree c.at row.level c.count Below) (λ (c : Child T). Reaches i new tree c.at row.level c.count Below) (λ c h. reaches_stays tree c.at row.level c.count Below h) row.children r) rows h
+
+  found_stays : (tree : Tree) (next : Option (NextChild T)) (rows : List (WalkRow T)) → FindsReached i old tree next rows → FindsReached i new tree next rows
+  found_stays tree None rows h = rows_stay tree rows h
+  found_stays tree (Some next) rows h = (reaches_stays tree next.child.at next.level next.child.count Below h.0, rows_stay tree rows h.1)
+
+  pub over_stays : (tree : Tree) (walk : Walk T) → IsOver i old tree walk → IsOver i new tree walk
+  over_stays tree walk h = found_stays tree walk.next walk.rows.items h

@@ -5,7 +5,7 @@ use Rattle.tree_laws.specs.declared.summer.Summer.{Ghosts as Summers}
 use Rattle.tree_laws.specs.declared.node.Node.{Node}
 use Rattle.tree_laws.specs.declared.tree.Tree.{Tree}
 use Rattle.tree_laws.specs.Stores.{Places}
-use Rattle.tree_laws.specs.Trees.{Has, IsTree, Stands}
+use Rattle.tree_laws.specs.SummerTrees.{Has, IsTree, Stands}
 
 -- a summer that promises nothing: any bytes are those of a value
 abbrev pub unsummed : {T : Type 0} → Summers (Unit {0}) T (List ℕ) (Unit {0})

@@ -1,15 +1,17 @@
 -- What a walk still has to answer, and where it may go.
-use Rattle.std.specs.Prelude.{◌≡◌, ◌+◌, ◌<◌, ℕ, Bool, true, false, Option, Some, None, List, [], ◌∷◌, ◌++◌, All, length, take, reverse}
+use Rattle.std.specs.Prelude.{◌≡◌, ◌+◌, ◌<◌, ℕ, Bool, true, false, Option, Some, None, List, [], ◌∷◌, ◌++◌, All, length, take, reverse, vec_len}
 use Rattle.std.specs.List.{sum_by}
 use Rattle.tree_laws.specs.declared.item.Item.{Ghosts as Items}
 use Rattle.tree_laws.specs.declared.node.Child.{Child}
 use Rattle.tree_laws.specs.declared.tree.Fill.TheVariants.{Below}
 use Rattle.tree_laws.specs.declared.tree.Tree.{Tree}
+use Rattle.tree_laws.specs.Reaching.{Reaches}
 use Rattle.tree_laws.specs.Stores.{Places}
-use Rattle.tree_laws.specs.Trees.{IsChild, Joins}
+use Rattle.tree_laws.specs.SummerTrees.{IsChild, Joins}
+use Rattle.tree_query.specs.declared.walk.NextChild.{NextChild}
 use Rattle.tree_query.specs.declared.walk.WalkRow.{WalkRow}
 use Rattle.tree_query.specs.declared.walk.Walk.{Walk}
-use Rattle.tree_query.specs.Reaching.{AreReached, Reaches}
+use Rattle.tree_query.specs.Reaching.{AreReached}
 use Rattle.tree_query.specs.Unsummed.{StandItems, unsummed}
 
 -- a list in the order of a walk
@@ -17,11 +19,17 @@ abbrev pub turned : {X : Type 0} → Bool → List X → List X
 turned false xs = xs
 turned true xs = reverse xs
 
--- a walk that gave up before its end
-pub record IsSpent {T : Type 0} (walk : Walk T) : Type 0 where
-  pub leaf : walk.leaf.items ≡ []
-  pub rows : walk.rows.items ≡ []
-  pub left : 0 < walk.left
+-- how many items a walk has still to answer
+abbrev pub left_of : {T : Type 0} → Walk T → ℕ
+left_of walk = walk.left
+
+-- how many items are at hand, which a walk answers without getting a node
+abbrev pub count_at_hand : {T : Type 0} → Walk T → ℕ
+count_at_hand walk = vec_len walk.leaf
+
+-- how many nodes a walk gets at most for one item
+abbrev pub height_of : {T : Type 0} → Walk T → ℕ
+height_of walk = walk.height
 
 -- the children left after the first n items
 pub record IsRest {T : Type 0} (list : List (Child T)) (n : ℕ) (rest : List (Child T)) (offset : ℕ) : Type 0 where
@@ -42,20 +50,24 @@ module _ {T : Type 0} (i : Items T) (flag : Bool) where
     Ahead [] items = items ≡ []
     Ahead (row ∷ rows) items = Joins (Ahead rows) (AreTurned (StandItems i there row.level) row.children) items
 
-    -- the items at hand, and those of the rows
+    -- the items of a leaf, and those of the rows
     abbrev pub Leads : List T → List (WalkRow T) → List T → Type 0
     Leads leaf rows items = Joins (λ xs. xs ≡ leaf) (Ahead rows) items
 
-    -- the first child of the rows, and what comes after it
-    abbrev pub Finds : Option (ℕ × Child T) → List (WalkRow T) → List T → Type 0
+    -- the items of the next child, and those of the rows
+    abbrev pub Finds : Option (NextChild T) → List (WalkRow T) → List T → Type 0
     Finds None rows items = items ≡ []
-    Finds (Some found) rows items = Joins (λ xs. IsChild i unsummed tt (StandItems i there found.0) found.1 (turned flag xs)) (Ahead rows) items
+    Finds (Some next) rows items = Joins (λ xs. IsChild i unsummed tt (StandItems i there next.level) next.child (turned flag xs)) (Ahead rows) items
+
+    -- the items at hand, those of the next child, and those of the rows
+    abbrev pub LeadsOn : List T → Option (NextChild T) → List (WalkRow T) → List T → Type 0
+    LeadsOn leaf next rows items = Joins (λ xs. xs ≡ leaf) (Finds next rows) items
 
 module _ {T : Type 0} (i : Items T) (there : Places) where
   -- a walk has these items still to answer, in this order
   pub record IsAt (walk : Walk T) (items : List T) : Type 0 where
     pub all : List T
-    pub leads : Leads i walk.descending there walk.leaf.items walk.rows.items all
+    pub leads : LeadsOn i walk.descending there walk.leaf.items walk.next walk.rows.items all
     pub whole : items ≡ take walk.left all
     pub count : walk.left ≡ length items
 
@@ -64,11 +76,11 @@ module _ {T : Type 0} (i : Items T) (there : Places) where
     abbrev pub AreOver : List (WalkRow T) → Type 0
     AreOver rows = All (λ row. AreReached i there tree row.level row.children) rows
 
+    -- the next child is reached, and so are those of the rows
+    abbrev pub FindsReached : Option (NextChild T) → List (WalkRow T) → Type 0
+    FindsReached None rows = AreOver rows
+    FindsReached (Some next) rows = Reaches i there tree next.child.at next.level next.child.count Below × AreOver rows
+
     -- a walk goes on only to places that are reached from the root of the tree
     abbrev pub IsOver : Walk T → Type 0
-    IsOver walk = AreOver walk.rows.items
-
-    -- the child that was found is reached, and so are those of the rows
-    abbrev pub FindsReached : Option (ℕ × Child T) → List (WalkRow T) → Type 0
-    FindsReached None rows = AreOver rows
-    FindsReached (Some found) rows = Reaches i there tree found.1.at found.0 found.1.count Below × AreOver rows
+    IsOver walk = FindsReached walk.next walk.rows.items

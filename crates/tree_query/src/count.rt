@@ -5,12 +5,12 @@ ghost use Rattle.std.specs.List.{filter, sum_by};
 ghost use Rattle.std.specs.Prelude.{true, false, ◌≡◌, ℕ, ◌-◌, ◌+◌, ◌==◌, ◌<◌, ◌≤◌, ◌^◌, ◌∷◌, ◌++◌, List, Some, IfOk, OnOk, All, length, take, slice_index_or};
 ghost use Rattle.tree_laws.specs.Fitting.{item_count};
 ghost use Rattle.tree_laws.specs.Nodes.{is_leaf};
-ghost use Rattle.tree_laws.specs.Stores.{Places};
-ghost use Rattle.tree_laws.specs.Trees.{IsTree, IsTreeSize};
+ghost use Rattle.tree_laws.specs.Reaching.{IsMet};
+ghost use Rattle.tree_laws.specs.Stores.{Places, WhereTold};
+ghost use Rattle.tree_laws.specs.SummerTrees.{IsTree, IsTreeSize};
 ghost use Rattle.tree_laws.specs.declared.node.Child.{Child};
 ghost use Rattle.tree_laws.specs.declared.tree.Tree.{Tree};
-ghost use Rattle.tree_query.specs.Calls.{OnlyReads, Ran, WhereTold};
-ghost use Rattle.tree_query.specs.Reaching.{IsMet, IsUnfit};
+ghost use Rattle.tree_query.specs.Calls.{OnlyReads, Ran};
 ghost use Rattle.tree_query.specs.Unsummed.{HasItems, HoldsItems};
 
 use crate::fetch::fetch;
@@ -89,7 +89,7 @@ fn count_node<S: NodeSource, B: Bound, L: Ledger>(
     ensures within { IfOk result (λ n. n ≤ item_count node) }
     ensures reads { OnlyReads S.NodeSource level store.old store.new steps.old steps.new }
     ensures ran { (tree : Tree) (at : ℕ) → WhereTold (S.nodes store.old) (λ there. IsMet B.Unit.Item there tree at level node)
-        → Ran S.NodeSource (λ there. IsUnfit B.Unit.Item there tree) store.old store.new result }
+        → Ran B.Unit.Item S.NodeSource tree store.old store.new result }
     ensures ready { OnOk result (S.is_ready store.new) }
 {
     match node {
@@ -111,9 +111,10 @@ fn count_node<S: NodeSource, B: Bound, L: Ledger>(
 
 /// How many items of a tree stand before the bound. On any nodes it is no more than the tree's count.
 ///
-/// It takes `height` steps at most. `Store` hands on what the store answered in this call. `BadNode` names a place on the way
-/// down from the root where no node stands that fits, and never comes where the tree has items. `NoMemory` comes where memory
-/// runs out, and `Summer` never.
+/// It takes `height` steps at most, and answers a number only where each node that it got fits its place. It gives up at once: each
+/// node that it got before the last fits in any case. `Store` hands on what the store answered in this call, at a place on the way
+/// down from the root. `BadNode` names the last place that it got on this way, where no node stands that fits, and never comes where
+/// the tree has items. `NoMemory` comes where memory runs out, and `Summer` never.
 pub fn count_before<S: NodeSource, B: Bound, L: Ledger>(
     alloc: Global,
     store: &mut S,
@@ -127,7 +128,7 @@ pub fn count_before<S: NodeSource, B: Bound, L: Ledger>(
         → IfOk result (λ n. n ≡ length (filter (B.front bound.now) items)) }
     ensures within { IfOk result (λ n. n ≤ tree.count) }
     ensures reads { OnlyReads S.NodeSource tree.height store.old store.new steps.old steps.new }
-    ensures ran { Ran S.NodeSource (λ there. IsUnfit B.Unit.Item there tree) store.old store.new result }
+    ensures ran { Ran B.Unit.Item S.NodeSource tree store.old store.new result }
     ensures sound { (there : Places) (items : List B.Unit) (at : ℕ) → S.nodes store.old ≡ Some there → HoldsItems B.Unit.Item there tree items
         → result ≡ Err (TreeFault.BadNode at) → ⊥ }
     ensures ready { OnOk result (S.is_ready store.new) }

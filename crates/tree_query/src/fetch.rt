@@ -1,10 +1,11 @@
 //! Getting nodes on the way down a tree.
 
-ghost use Rattle.std.specs.Prelude.{◌≡◌, Some, IfOk, OnOk};
+ghost use Rattle.std.specs.Prelude.{◌≡◌, ◌∷◌, Some, IfOk, OnOk};
 ghost use Rattle.tree_laws.specs.Fitting.{IsFitFor};
+ghost use Rattle.tree_laws.specs.Reaching.{Reaches, StandsFit};
+ghost use Rattle.tree_laws.specs.Stores.{WhereTold};
 ghost use Rattle.tree_laws.specs.declared.tree.Tree.{Tree};
-ghost use Rattle.tree_query.specs.Calls.{OnlyReads, Ran, WhereTold};
-ghost use Rattle.tree_query.specs.Reaching.{IsUnfit, Reaches, StandsFit};
+ghost use Rattle.tree_query.specs.Calls.{OnlyReads, Ran};
 
 use std::alloc::Global;
 use std::sync::ledger::Ledger;
@@ -26,7 +27,8 @@ pub(crate) fn fetch<S: NodeSource, T: Item, M, L: Ledger>(
     ensures stands { WhereTold (S.nodes store.old) (λ there. IfOk result (StandsFit T.Item there at level count fill)) }
     ensures reads { OnlyReads S.NodeSource 1 store.old store.new steps.old steps.new }
     ensures ran { (tree : Tree) → WhereTold (S.nodes store.old) (λ there. Reaches T.Item there tree at level count fill)
-        → Ran S.NodeSource (λ there. IsUnfit T.Item there tree) store.old store.new result }
+        → Ran T.Item S.NodeSource tree store.old store.new result }
+    ensures gets { S.gets store.new ≡ at ∷ S.gets store.old }
     ensures ready { OnOk result (S.is_ready store.new) }
 {
     let node = fetch_node(alloc, store, at, level, count, fill, steps)?;

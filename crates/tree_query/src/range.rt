@@ -1,15 +1,15 @@
 //! The value of a range of the items of a tree.
 
 ghost use Rattle.std.specs.List.{sum_by};
-ghost use Rattle.std.specs.Prelude.{true, false, ◌≡◌, ◌≢◌, ◌↔◌, ℕ, ◌+◌, ◌-◌, ◌*◌, ◌==◌, ◌<◌, ◌≤◌, ◌^◌, ◌∷◌, ◌++◌, min, List, [], Option, None, Some, All, IfErr, IfOk, OnOk, length, map, take, drop, slice_index_or};
+ghost use Rattle.std.specs.Prelude.{true, false, ◌≡◌, ◌≢◌, ◌↔◌, ℕ, ◌+◌, ◌-◌, ◌*◌, ◌==◌, ◌<◌, ◌≤◌, ◌^◌, ◌∷◌, ◌++◌, min, List, [], Option, None, Some, All, IfErr, IfOk, IfSome, OnOk, length, map, take, drop, slice_index_or};
 ghost use Rattle.tree_laws.specs.Nodes.{entries, is_leaf};
-ghost use Rattle.tree_laws.specs.Stores.{Places};
-ghost use Rattle.tree_laws.specs.Trees.{AreChildren, Has, IsTree, IsTreeSize, Stands};
+ghost use Rattle.tree_laws.specs.Stores.{Places, WhereTold};
+ghost use Rattle.tree_laws.specs.SummerTrees.{AreChildren, Has, IsTree, IsTreeSize, Stands};
 ghost use Rattle.tree_laws.specs.declared.node.Child.{Child};
 ghost use Rattle.tree_laws.specs.declared.tree.Tree.{Tree};
-ghost use Rattle.tree_query.specs.Calls.{OnlyReads, SumRan, Summed, WhereTold};
+ghost use Rattle.tree_query.specs.Calls.{OnlyReads, SumRan, Summed};
 ghost use Rattle.tree_query.specs.Ranges.{Gathered, IsValue, numbered};
-ghost use Rattle.tree_query.specs.Reaching.{AreOf, AreReached, IsFaulty, IsMet, IsUnreadAt, ReadFails};
+ghost use Rattle.tree_query.specs.Reaching.{AreOf, IsGot, IsUnreadAt, ReadFails};
 
 use crate::fetch::fetch;
 use json_terms::NoMemory;
@@ -76,6 +76,7 @@ fn add_leaf<F, M: Summer>(
     requires { length items.now ≤ 32 }
     ensures items { (first : M) (done : List M.Unit) → M.goes first summer.old → Gathered M.Summer first parts.old.items done
         → IfOk result (λ _. Gathered M.Summer first parts.new.items (done ++ items.now)) }
+    ensures fits { (first : M) → M.goes first summer.old → All (M.fits first) parts.old.items → OnOk result (All (M.fits first) parts.new.items) }
     ensures ran { Summed M.Summer summer.old summer.new result }
 {
     if items.is_empty() {
@@ -98,7 +99,7 @@ fn read_sum<F, M: Summer>(
 ) -> Result<M::Sum, TreeFault<F, M::Fault>>
     ensures spelled { IfOk result (λ sum. (M.meaning summer.now).spelled sum ≡ bytes.now) }
     ensures fits { IfOk result (M.fits summer.now) }
-    ensures cause { IfErr result (IsUnreadAt M.Unit.Item M.Summer summer.now at bytes.now) }
+    ensures cause { IfErr result (IsUnreadAt M.Summer summer.now at bytes.now) }
 {
     match summer.decode_sum(alloc, bytes)? {
         Ok(sum) => Ok(sum),
@@ -115,7 +116,7 @@ fn read_sums<F, M: Summer>(
 ) -> Result<Vec<M::Sum>, TreeFault<F, M::Fault>>
     ensures spelled { IfOk result (λ sums. map (λ child. child.sum) children.now ≡ map (M.meaning summer.now).spelled sums.items) }
     ensures fits { IfOk result (λ sums. All (M.fits summer.now) sums.items) }
-    ensures cause { IfErr result (ReadFails M.Unit.Item M.Summer summer.now at children.now) }
+    ensures cause { IfErr result (ReadFails M.Summer summer.now at children.now) }
 {
     let mut sums = Vec::new(alloc);
     for child in children {
@@ -136,7 +137,8 @@ fn add_whole<F, M: Summer>(
     ensures items { (first : M) (there : Places) (low : ℕ) (done items : List M.Unit) → M.goes first summer.now
         → AreChildren M.Unit.Item M.Summer first (Stands M.Unit.Item M.Summer first there low) children.now items → Gathered M.Summer first parts.old.items done
         → IfOk result (λ _. Gathered M.Summer first parts.new.items (done ++ items)) }
-    ensures cause { IfErr result (ReadFails M.Unit.Item M.Summer summer.now at children.now) }
+    ensures fits { (first : M) → M.goes first summer.now → All (M.fits first) parts.old.items → OnOk result (All (M.fits first) parts.new.items) }
+    ensures cause { IfErr result (ReadFails M.Summer summer.now at children.now) }
 {
     let sums = read_sums(alloc, at, summer, children)?;
     append_sums(parts, sums)?;
@@ -162,9 +164,10 @@ fn tail<S: NodeSource, M: Summer, L: Ledger>(
     ensures items { (first : M) (there : Places) (done items : List M.Unit) → S.nodes store.old ≡ Some there → M.goes first summer.old
         → from ≤ length items → Has M.Unit.Item M.Summer first there level node items → Gathered M.Summer first parts.old.items done
         → IfOk result (λ _. Gathered M.Summer first parts.new.items (done ++ drop from items)) }
+    ensures fits { (first : M) → M.goes first summer.old → All (M.fits first) parts.old.items → OnOk result (All (M.fits first) parts.new.items) }
     ensures reads { OnlyReads S.NodeSource level store.old store.new steps.old steps.new }
-    ensures ran { (first : M) (tree : Tree) → M.goes first summer.old → WhereTold (S.nodes store.old) (λ there. IsMet M.Unit.Item there tree at level node)
-        → SumRan S.NodeSource M.Summer (λ there. IsFaulty M.Unit.Item M.Summer first there tree) store.old store.new summer.old summer.new result }
+    ensures ran { (first : M) (tree : Tree) (since : List ℕ) → M.goes first summer.old → WhereTold (S.nodes store.old) (λ there. IsGot M.Unit.Item there tree since (S.gets store.old) at level node)
+        → SumRan M.Unit.Item S.NodeSource M.Summer first tree since store.old store.new summer.old summer.new result }
     ensures goes { OnOk result (M.goes summer.old summer.new) }
     ensures ready { OnOk result (S.is_ready store.new) }
 {
@@ -208,9 +211,10 @@ fn tail_row<S: NodeSource, M: Summer, L: Ledger>(
     ensures items { (first : M) (there : Places) (done items : List M.Unit) → S.nodes store.old ≡ Some there → M.goes first summer.old
         → ((c : Child M.Unit) (cs : List (Child M.Unit)) → children.now ≡ c ∷ cs → from < c.count) → AreChildren M.Unit.Item M.Summer first (Stands M.Unit.Item M.Summer first there low) children.now items → Gathered M.Summer first parts.old.items done
         → IfOk result (λ _. Gathered M.Summer first parts.new.items (done ++ drop from items)) }
+    ensures fits { (first : M) → M.goes first summer.old → All (M.fits first) parts.old.items → OnOk result (All (M.fits first) parts.new.items) }
     ensures reads { OnlyReads S.NodeSource (low + 1) store.old store.new steps.old steps.new }
-    ensures ran { (first : M) (tree : Tree) → M.goes first summer.old → WhereTold (S.nodes store.old) (λ there. AreOf M.Unit.Item there tree at low children.now)
-        → SumRan S.NodeSource M.Summer (λ there. IsFaulty M.Unit.Item M.Summer first there tree) store.old store.new summer.old summer.new result }
+    ensures ran { (first : M) (tree : Tree) (since : List ℕ) → M.goes first summer.old → WhereTold (S.nodes store.old) (λ there. AreOf M.Unit.Item there tree since (S.gets store.old) at low children.now)
+        → SumRan M.Unit.Item S.NodeSource M.Summer first tree since store.old store.new summer.old summer.new result }
     ensures goes { OnOk result (M.goes summer.old summer.new) }
     ensures ready { OnOk result (S.is_ready store.new) }
 {
@@ -247,9 +251,10 @@ fn head<S: NodeSource, M: Summer, L: Ledger>(
     ensures items { (first : M) (there : Places) (done items : List M.Unit) → S.nodes store.old ≡ Some there → M.goes first summer.old
         → to ≤ length items → Has M.Unit.Item M.Summer first there level node items → Gathered M.Summer first parts.old.items done
         → IfOk result (λ _. Gathered M.Summer first parts.new.items (done ++ take to items)) }
+    ensures fits { (first : M) → M.goes first summer.old → All (M.fits first) parts.old.items → OnOk result (All (M.fits first) parts.new.items) }
     ensures reads { OnlyReads S.NodeSource level store.old store.new steps.old steps.new }
-    ensures ran { (first : M) (tree : Tree) → M.goes first summer.old → WhereTold (S.nodes store.old) (λ there. IsMet M.Unit.Item there tree at level node)
-        → SumRan S.NodeSource M.Summer (λ there. IsFaulty M.Unit.Item M.Summer first there tree) store.old store.new summer.old summer.new result }
+    ensures ran { (first : M) (tree : Tree) (since : List ℕ) → M.goes first summer.old → WhereTold (S.nodes store.old) (λ there. IsGot M.Unit.Item there tree since (S.gets store.old) at level node)
+        → SumRan M.Unit.Item S.NodeSource M.Summer first tree since store.old store.new summer.old summer.new result }
     ensures goes { OnOk result (M.goes summer.old summer.new) }
     ensures ready { OnOk result (S.is_ready store.new) }
 {
@@ -283,9 +288,10 @@ fn head_row<S: NodeSource, M: Summer, L: Ledger>(
     ensures items { (first : M) (there : Places) (done items : List M.Unit) → S.nodes store.old ≡ Some there → M.goes first summer.old
         → ((c : Child M.Unit) (cs : List (Child M.Unit)) → children.now ≡ c ∷ cs → to < c.count) → AreChildren M.Unit.Item M.Summer first (Stands M.Unit.Item M.Summer first there low) children.now items → Gathered M.Summer first parts.old.items done
         → IfOk result (λ _. Gathered M.Summer first parts.new.items (done ++ take to items)) }
+    ensures fits { (first : M) → M.goes first summer.old → All (M.fits first) parts.old.items → OnOk result (All (M.fits first) parts.new.items) }
     ensures reads { OnlyReads S.NodeSource (low + 1) store.old store.new steps.old steps.new }
-    ensures ran { (first : M) (tree : Tree) → M.goes first summer.old → WhereTold (S.nodes store.old) (λ there. AreReached M.Unit.Item there tree low children.now)
-        → SumRan S.NodeSource M.Summer (λ there. IsFaulty M.Unit.Item M.Summer first there tree) store.old store.new summer.old summer.new result }
+    ensures ran { (first : M) (tree : Tree) (since : List ℕ) (at : ℕ) → M.goes first summer.old → WhereTold (S.nodes store.old) (λ there. AreOf M.Unit.Item there tree since (S.gets store.old) at low children.now)
+        → SumRan M.Unit.Item S.NodeSource M.Summer first tree since store.old store.new summer.old summer.new result }
     ensures goes { OnOk result (M.goes summer.old summer.new) }
     ensures ready { OnOk result (S.is_ready store.new) }
 {
@@ -320,9 +326,10 @@ fn inside<S: NodeSource, M: Summer, L: Ledger>(
     ensures items { (first : M) (there : Places) (done items : List M.Unit) → S.nodes store.old ≡ Some there → M.goes first summer.old
         → to ≤ length items → Has M.Unit.Item M.Summer first there level node items → Gathered M.Summer first parts.old.items done
         → IfOk result (λ _. Gathered M.Summer first parts.new.items (done ++ numbered from to items)) }
+    ensures fits { (first : M) → M.goes first summer.old → All (M.fits first) parts.old.items → OnOk result (All (M.fits first) parts.new.items) }
     ensures reads { OnlyReads S.NodeSource (2 * level) store.old store.new steps.old steps.new }
-    ensures ran { (first : M) (tree : Tree) → M.goes first summer.old → WhereTold (S.nodes store.old) (λ there. IsMet M.Unit.Item there tree at level node)
-        → SumRan S.NodeSource M.Summer (λ there. IsFaulty M.Unit.Item M.Summer first there tree) store.old store.new summer.old summer.new result }
+    ensures ran { (first : M) (tree : Tree) (since : List ℕ) → M.goes first summer.old → WhereTold (S.nodes store.old) (λ there. IsGot M.Unit.Item there tree since (S.gets store.old) at level node)
+        → SumRan M.Unit.Item S.NodeSource M.Summer first tree since store.old store.new summer.old summer.new result }
     ensures goes { OnOk result (M.goes summer.old summer.new) }
     ensures ready { OnOk result (S.is_ready store.new) }
 {
@@ -362,6 +369,7 @@ fn join_parts<F, M: Summer>(
 ) -> Result<M::Sum, TreeFault<F, M::Fault>>
     ensures value { (first : M) (items : List M.Unit) → M.goes first summer.old → items ≢ [] → All M.Unit.fits items → length items ≤ 2 ^ 63
         → Gathered M.Summer first parts.now items → IfOk result (λ sum. M.lawful first → sum ≡ (M.meaning first).value items) }
+    ensures fits { (first : M) → M.goes first summer.old → All (M.fits first) parts.now → IfOk result (M.fits first) }
     ensures ran { Summed M.Summer summer.old summer.new result }
 {
     match summer.join(alloc, parts) {
@@ -372,10 +380,12 @@ fn join_parts<F, M: Summer>(
 
 /// The value of the items of a tree with the numbers `from` to `to - 1`, and `None` exactly where there are none.
 ///
-/// Whole children are taken by the values that their nodes keep, so it takes twice the `height` in steps at most. `Store` and
-/// `Summer` hand on what the store and the summer answered in this call. `BadNode` names a place on the way down from the root
-/// where no node stands that fits, or one that keeps the bytes of no value, and never comes over a tree of this summer.
-/// `NoMemory` comes where memory runs out.
+/// Whole children are taken by the values that their nodes keep, so it takes twice the `height` in steps at most. It answers a
+/// value, which fits, only where each node that it got fits its place. It gives up at once: each node that it got before the last
+/// fits in any case. `Store` and `Summer` hand on what the store and the summer answered in this call, and the other of them goes
+/// on. `BadNode` names the last place that it got on the way down from the root, where no node stands that fits, or one that it got
+/// where all fit, whose node keeps the bytes of no value, and never comes over a tree of this summer. `NoMemory` comes where memory
+/// runs out.
 pub fn reduce_range<S: NodeSource, M: Summer, L: Ledger>(
     alloc: Global,
     store: &mut S,
@@ -391,9 +401,10 @@ pub fn reduce_range<S: NodeSource, M: Summer, L: Ledger>(
     requires within { to ≤ tree.count }
     ensures value { (first : M) (there : Places) (items : List M.Unit) → S.nodes store.old ≡ Some there → M.goes first summer.old
         → IsTree M.Unit.Item M.Summer first there tree items → IfOk result (IsValue M.Summer first (numbered from to items)) }
+    ensures fits { IfOk result (λ sum. IfSome sum (M.fits summer.old)) }
     ensures none { IfOk result (λ sum. (sum ≡ None) ↔ (from ≡ to)) }
     ensures reads { OnlyReads S.NodeSource (2 * tree.height) store.old store.new steps.old steps.new }
-    ensures ran { SumRan S.NodeSource M.Summer (λ there. IsFaulty M.Unit.Item M.Summer summer.old there tree) store.old store.new summer.old summer.new result }
+    ensures ran { SumRan M.Unit.Item S.NodeSource M.Summer summer.old tree (S.gets store.old) store.old store.new summer.old summer.new result }
     ensures sound { (first : M) (there : Places) (items : List M.Unit) (at : ℕ) → S.nodes store.old ≡ Some there → M.goes first summer.old
         → IsTree M.Unit.Item M.Summer first there tree items → result ≡ Err (TreeFault.BadNode at) → ⊥ }
     ensures ready { OnOk result (S.is_ready store.new) }

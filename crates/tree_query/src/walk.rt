@@ -1,18 +1,20 @@
 //! Walks over the items of a range of a tree.
 
-ghost use Rattle.std.specs.Prelude.{true, false, ◌≡◌, ◌↔◌, ℕ, ◌+◌, ◌-◌, ◌==◌, ◌<◌, ◌≤◌, ◌∷◌, ◌++◌, Bool, List, [], Option, Some, None, IfOk, OnErr, OnOk, length, drop, vec_len, if◌then◌else◌};
+ghost use Rattle.std.specs.Prelude.{true, false, ◌≡◌, ◌↔◌, ℕ, ◌+◌, ◌-◌, ◌==◌, ◌<◌, ◌≤◌, ◌∷◌, ◌++◌, Bool, List, [], Option, Some, None, IfOk, OnErr, OnOk, length, drop, vec_capacity, vec_len, if◌then◌else◌};
 ghost use Rattle.std.specs.List.{sum_by};
 ghost use Rattle.tree_laws.specs.Fitting.{item_count};
 ghost use Rattle.tree_laws.specs.Nodes.{is_leaf};
-ghost use Rattle.tree_laws.specs.Stores.{Extends, Places};
-ghost use Rattle.tree_laws.specs.Trees.{IsTreeSize};
+ghost use Rattle.tree_laws.specs.Reaching.{IsMet};
+ghost use Rattle.tree_laws.specs.Stores.{Extends, Places, WhereTold};
+ghost use Rattle.tree_laws.specs.SummerTrees.{IsTreeSize};
 ghost use Rattle.tree_laws.specs.declared.tree.Tree.{Tree};
-ghost use Rattle.tree_query.specs.Calls.{OnlyReads, Ran, WhereTold};
+ghost use Rattle.tree_query.specs.Calls.{OnlyReads, Ran};
 ghost use Rattle.tree_query.specs.Ranges.{numbered};
-ghost use Rattle.tree_query.specs.Reaching.{AreReached, IsMet, IsUnfit};
+ghost use Rattle.tree_query.specs.Reaching.{AreReached};
 ghost use Rattle.tree_query.specs.Unsummed.{HasItems, HoldsItems, StandItems};
-ghost use Rattle.tree_query.specs.Walking.{Ahead, AreOver, AreTurned, Finds, FindsReached, IsAt, IsOver, IsRest, IsSpent, Leads, turned};
+ghost use Rattle.tree_query.specs.Walking.{Ahead, AreOver, AreTurned, Finds, FindsReached, IsAt, IsOver, IsRest, Leads, LeadsOn, count_at_hand, height_of, left_of, turned};
 ghost use Rattle.tree_query.specs.declared.walk.Walk.{Walk};
+ghost use Rattle.tree_query.specs.declared.walk.WalkRow.{WalkRow};
 
 use crate::fetch::fetch;
 use crate::range::{count_within, within};
@@ -28,11 +30,19 @@ pub(crate) struct WalkRow<T> {
     children: Children<T>,
 }
 
+/// The child of a level that a walk goes down next.
+#[derive(Drop)]
+pub(crate) struct NextChild<T> {
+    level: u32,
+    child: Child<T>,
+}
+
 /// A walk over the items of a range, upward or downward: those at hand, and the children on its path that come later, so that it
-/// gets each node once.
+/// gets each node once. The first of these stands apart, so that going on to it takes nothing away before all is there.
 #[derive(Drop)]
 pub struct Walk<T> {
     leaf: Vec<T>,
+    next: Option<NextChild<T>>,
     rows: Vec<WalkRow<T>>,
     left: u64,
     height: u32,
@@ -115,7 +125,7 @@ fn go_to<S: NodeSource, T: Item, L: Ledger>(
     ensures over { (tree : Tree) (at : ℕ) (there : Places) → S.nodes store.old ≡ Some there → IsMet T.Item there tree at level node → AreOver T.Item there tree rows.old.items
         → OnOk result (AreOver T.Item there tree rows.new.items) }
     ensures ran { (tree : Tree) (at : ℕ) → WhereTold (S.nodes store.old) (λ there. IsMet T.Item there tree at level node)
-        → Ran S.NodeSource (λ there. IsUnfit T.Item there tree) store.old store.new result }
+        → Ran T.Item S.NodeSource tree store.old store.new result }
     ensures ready { OnOk result (S.is_ready store.new) }
 {
     match node {
@@ -137,15 +147,14 @@ fn go_to<S: NodeSource, T: Item, L: Ledger>(
     }
 }
 
-// The first child that comes, with its level.
-fn next_child<T: Item>(rows: &mut Vec<WalkRow<T>>) -> Result<Option<(u32, Child<T>)>, NoMemory>
-    ensures items { (there : Places) (flag : Bool) (items : List T) → Ahead T.Item flag there rows.old.items items → IfOk result (λ found. Finds T.Item flag there found rows.new.items items) }
-    ensures none { rows.old.items ≡ [] → IfOk result (λ found. found ≡ None) }
-    ensures over { (there : Places) (tree : Tree) → AreOver T.Item there tree rows.old.items → IfOk result (λ found. FindsReached T.Item there tree found rows.new.items) }
+// The first child that comes, taken out of its row. It takes no memory.
+fn next_child<T: Item>(rows: &mut Vec<WalkRow<T>>) -> Option<NextChild<T>>
+    ensures items { (there : Places) (flag : Bool) (items : List T) → Ahead T.Item flag there rows.old.items items → Finds T.Item flag there result rows.new.items items }
+    ensures over { (there : Places) (tree : Tree) → AreOver T.Item there tree rows.old.items → FindsReached T.Item there tree result rows.new.items }
 {
     let row = match rows.pop() {
         Some(row) => row,
-        None => return Ok(None),
+        None => return None,
     };
     let level = row.level;
     let mut rest = row.children.into_vec();
@@ -153,57 +162,78 @@ fn next_child<T: Item>(rows: &mut Vec<WalkRow<T>>) -> Result<Option<(u32, Child<
         return next_child(rows);
     }
     let child = take_first(&mut rest);
-    push_row(rows, level, rest)?;
-    Ok(Some((level, child)))
+    rows.push_reserved(WalkRow {
+        level,
+        children: Children::from_vec(rest),
+    });
+    Some(NextChild { level, child })
 }
 
-// Goes on to the next leaf where no item is at hand. Where no child comes, or one that doesn't lie below the height or has no
-// items, `NoMemory` is answered: it comes to that after a fault, and not on what `start` and `next` answered.
+// A list with no rows, and room for so many.
+fn room_for<T: Item>(alloc: Global, count: usize) -> Result<Vec<WalkRow<T>>, NoMemory>
+    ensures empty { IfOk result (λ room. vec_len room ≡ 0) }
+    ensures room { IfOk result (λ room. count ≤ vec_capacity room) }
+{
+    let room = Vec::with_capacity(alloc, count)?;
+    Ok(room)
+}
+
+// The rows, and the fresh ones behind them, in a list that has room for all.
+fn join_rows<T: Item>(
+    room: Vec<WalkRow<T>>,
+    rows: Vec<WalkRow<T>>,
+    fresh: Vec<WalkRow<T>>,
+) -> Vec<WalkRow<T>>
+    requires empty { vec_len room ≡ 0 }
+    requires room { vec_len rows + vec_len fresh ≤ vec_capacity room }
+    ensures { result.items ≡ rows.items ++ fresh.items }
+{
+    let mut all = room;
+    let mut rows = rows;
+    let mut fresh = fresh;
+    let _ = all.append(&mut rows);
+    let _ = all.append(&mut fresh);
+    all
+}
+
+// The next leaf, and the rows below the next child. Where no child comes, or one that doesn't lie below the height or has no items,
+// `NoMemory` is answered: it doesn't come to that on what `start` and `next` left.
 fn refill<S: NodeSource, T: Item, L: Ledger>(
     alloc: Global,
     store: &mut S,
     height: u32,
     descending: bool,
-    leaf: Vec<T>,
-    rows: &mut Vec<WalkRow<T>>,
+    next: &Option<NextChild<T>>,
     steps: &mut Steps<L>,
-) -> Result<Vec<T>, TreeFault<S::Fault, NoMemory>>
+) -> Result<(Vec<T>, Vec<WalkRow<T>>), TreeFault<S::Fault, NoMemory>>
     requires { S.is_ready store.old }
-    ensures items { (there : Places) (items : List T) → S.nodes store.old ≡ Some there → Leads T.Item descending there leaf.items rows.old.items items
-        → IfOk result (λ fresh. Leads T.Item descending there fresh.items rows.new.items items) }
-    ensures some { IfOk result (λ fresh. 0 < vec_len fresh) }
-    ensures spent { leaf.items ≡ [] → rows.old.items ≡ [] → OnOk result ⊥ }
-    ensures still { 0 < vec_len leaf → steps.new ≡ steps.old }
+    ensures items { (there : Places) (later : List (WalkRow T)) (items : List T) → S.nodes store.old ≡ Some there → Finds T.Item descending there next.now later items
+        → IfOk result (λ fresh. Leads T.Item descending there fresh.0.items (later ++ fresh.1.items) items) }
+    ensures some { IfOk result (λ fresh. 0 < vec_len fresh.0) }
     ensures reads { OnlyReads S.NodeSource height store.old store.new steps.old steps.new }
-    ensures over { (tree : Tree) (there : Places) → S.nodes store.old ≡ Some there → AreOver T.Item there tree rows.old.items → OnOk result (AreOver T.Item there tree rows.new.items) }
-    ensures ran { (tree : Tree) → WhereTold (S.nodes store.old) (λ there. AreOver T.Item there tree rows.old.items)
-        → Ran S.NodeSource (λ there. IsUnfit T.Item there tree) store.old store.new result }
+    ensures over { (tree : Tree) (there : Places) (later : List (WalkRow T)) → S.nodes store.old ≡ Some there → FindsReached T.Item there tree next.now later
+        → IfOk result (λ fresh. AreOver T.Item there tree (later ++ fresh.1.items)) }
+    ensures ran { (tree : Tree) (later : List (WalkRow T)) → WhereTold (S.nodes store.old) (λ there. FindsReached T.Item there tree next.now later)
+        → Ran T.Item S.NodeSource tree store.old store.new result }
     ensures ready { OnOk result (S.is_ready store.new) }
 {
-    if !leaf.is_empty() {
-        return Ok(leaf);
-    }
-    let found = next_child(rows)?;
-    let (level, child) = match found {
-        Some(pair) => pair,
+    let found = match next {
+        Some(found) => found,
         None => return Err(TreeFault::NoMemory),
     };
+    let level = found.level;
+    let count = found.child.count;
     if level >= height {
         return Err(TreeFault::NoMemory);
     }
-    if child.count == 0 {
+    if count == 0 {
         return Err(TreeFault::NoMemory);
     }
-    let node = fetch(
-        alloc,
-        store,
-        child.at,
-        level,
-        child.count,
-        Fill::Below,
-        steps,
-    )?;
-    go_to(alloc, store, level, node, 0, descending, rows, steps)
+    let at = found.child.at;
+    let node = fetch(alloc, store, at, level, count, Fill::Below, steps)?;
+    let mut rows = Vec::new(alloc);
+    let leaf = go_to(alloc, store, level, node, 0, descending, &mut rows, steps)?;
+    Ok((leaf, rows))
 }
 
 fn skipped(count: u64, from: u64, to: u64, descending: bool) -> u64
@@ -216,9 +246,10 @@ fn skipped(count: u64, from: u64, to: u64, descending: bool) -> u64
 impl<T: Item> Walk<T> {
     /// A walk over the items with the numbers `from` to `to - 1` of a tree, from the last to the first where `descending`.
     ///
-    /// It takes `height` steps at most. `Store` hands on what the store answered in this call. `BadNode` names a place on the way
-    /// down from the root where no node stands that fits, and never comes where the tree has items. `NoMemory` comes where memory
-    /// runs out, and `Summer` never.
+    /// It takes `height` steps at most. It answers a walk only where each node that it got fits its place. It gives up at once: each
+    /// node that it got before the last fits in any case. `Store` hands on what the store answered in this call, at a place on the
+    /// way down from the root. `BadNode` names the last place that it got on this way, where no node stands that fits, and never
+    /// comes where the tree has items. `NoMemory` comes where memory runs out, and `Summer` never.
     pub fn start<S: NodeSource, L: Ledger>(
         alloc: Global,
         store: &mut S,
@@ -234,12 +265,12 @@ impl<T: Item> Walk<T> {
         requires within { to ≤ tree.count }
         ensures items { (there : Places) (items : List T) → S.nodes store.old ≡ Some there → HoldsItems T.Item there tree items
             → IfOk result (λ walk. IsAt T.Item there walk (turned descending (numbered from to items))) }
-        ensures left { IfOk result (λ walk. walk.left ≡ to - from) }
-        ensures at_hand { IfOk result (λ walk. 0 < walk.left → 0 < vec_len walk.leaf) }
-        ensures height { IfOk result (λ walk. walk.height ≡ tree.height) }
+        ensures left { IfOk result (λ walk. left_of walk ≡ to - from) }
+        ensures at_hand { IfOk result (λ walk. 0 < left_of walk → 0 < count_at_hand walk) }
+        ensures height { IfOk result (λ walk. height_of walk ≡ tree.height) }
         ensures reads { OnlyReads S.NodeSource tree.height store.old store.new steps.old steps.new }
         ensures over { (there : Places) → S.nodes store.old ≡ Some there → IfOk result (IsOver T.Item there tree) }
-        ensures ran { Ran S.NodeSource (λ there. IsUnfit T.Item there tree) store.old store.new result }
+        ensures ran { Ran T.Item S.NodeSource tree store.old store.new result }
         ensures sound { (there : Places) (items : List T) (at : ℕ) → S.nodes store.old ≡ Some there → HoldsItems T.Item there tree items
             → result ≡ Err (TreeFault.BadNode at) → ⊥ }
         ensures ready { OnOk result (S.is_ready store.new) }
@@ -248,6 +279,7 @@ impl<T: Item> Walk<T> {
         if from == to {
             return Ok(Walk {
                 leaf: Vec::new(alloc),
+                next: None,
                 rows,
                 left: 0,
                 height: tree.height,
@@ -268,8 +300,10 @@ impl<T: Item> Walk<T> {
         let leaf = go_to(
             alloc, store, level, root, skip, descending, &mut rows, steps,
         )?;
+        let next = next_child(&mut rows);
         Ok(Walk {
             leaf,
+            next,
             rows,
             left: to - from,
             height: tree.height,
@@ -277,11 +311,57 @@ impl<T: Item> Walk<T> {
         })
     }
 
-    /// The next item, and `None` exactly after the last of the range. After a fault each further call answers one.
+    // Sees to it that an item is at hand.
+    fn advance<S: NodeSource, L: Ledger>(
+        &mut self,
+        alloc: Global,
+        store: &mut S,
+        steps: &mut Steps<L>,
+    ) -> Result<(), TreeFault<S::Fault, NoMemory>>
+        requires { S.is_ready store.old }
+        ensures leads { (there : Places) (items : List T) → S.nodes store.old ≡ Some there → LeadsOn T.Item self.old.descending there self.old.leaf.items self.old.next self.old.rows.items items
+            → OnOk result (LeadsOn T.Item self.old.descending there self.new.leaf.items self.new.next self.new.rows.items items) }
+        ensures some { OnOk result (0 < count_at_hand self.new) }
+        ensures left { left_of self.new ≡ left_of self.old }
+        ensures height { height_of self.new ≡ height_of self.old }
+        ensures order { self.new.descending ≡ self.old.descending }
+        ensures kept { OnErr result (self.new ≡ self.old) }
+        ensures at_hand { 0 < count_at_hand self.old → steps.new ≡ steps.old }
+        ensures reads { OnlyReads S.NodeSource (height_of self.old) store.old store.new steps.old steps.new }
+        ensures over { (tree : Tree) (there : Places) → S.nodes store.old ≡ Some there → IsOver T.Item there tree self.old → OnOk result (IsOver T.Item there tree self.new) }
+        ensures ran { (tree : Tree) → WhereTold (S.nodes store.old) (λ there. IsOver T.Item there tree self.old)
+            → Ran T.Item S.NodeSource tree store.old store.new result }
+        ensures ready { OnOk result (S.is_ready store.new) }
+    {
+        if !self.leaf.is_empty() {
+            return Ok(());
+        }
+        let (leaf, fresh) = refill(
+            alloc,
+            store,
+            self.height,
+            self.descending,
+            &self.next,
+            steps,
+        )?;
+        let count = self.rows.len() + fresh.len();
+        let room = room_for(alloc, count)?;
+        let rows = std::mem::replace(&mut self.rows, Vec::new(alloc));
+        let mut all = join_rows(room, rows, fresh);
+        self.next = next_child(&mut all);
+        self.rows = all;
+        self.leaf = leaf;
+        Ok(())
+    }
+
+    /// The next item, and `None` exactly after the last of the range. On a fault the walk is as it was, and the call may be made
+    /// again.
     ///
-    /// It takes no step while there is an item at hand, as at first, or none is left, and else `height` at most. `Store` hands on
-    /// what the store answered in this call. `BadNode` names a place below the root where no node stands that fits, and never comes
-    /// where the tree has items. `NoMemory` comes where memory runs out, and `Summer` never.
+    /// It takes no step while there is an item at hand, as at first, or none is left, and else `height` at most. It answers an item
+    /// only where each node that it got fits its place. It gives up at once: each node that it got before the last fits in any case.
+    /// `Store` hands on what the store answered in this call, at a place below the root. `BadNode` names the last place that it got,
+    /// where no node stands that fits, and never comes where the tree has items. `NoMemory` comes where memory runs out, and
+    /// `Summer` never.
     pub fn next<S: NodeSource, L: Ledger>(
         &mut self,
         alloc: Global,
@@ -291,17 +371,16 @@ impl<T: Item> Walk<T> {
         requires { S.is_ready store.old }
         ensures item { (there : Places) (x : T) (xs : List T) → S.nodes store.old ≡ Some there → IsAt T.Item there self.old (x ∷ xs) → IfOk result (λ got. got ≡ Some x) }
         ensures rest { (there : Places) (x : T) (xs : List T) → S.nodes store.old ≡ Some there → IsAt T.Item there self.old (x ∷ xs) → OnOk result (IsAt T.Item there self.new xs) }
-        ensures none { IfOk result (λ got. (got ≡ None) ↔ (self.old.left ≡ 0)) }
-        ensures left { OnOk result (self.new.left ≡ self.old.left - 1) }
-        ensures lost { OnErr result (IsSpent self.new) }
-        ensures spent { IsSpent self.old → OnOk result ⊥ }
-        ensures at_hand { 0 < vec_len self.old.leaf → steps.new ≡ steps.old }
-        ensures last { self.old.left ≡ 0 → steps.new ≡ steps.old }
-        ensures height { self.new.height ≡ self.old.height }
-        ensures reads { OnlyReads S.NodeSource self.old.height store.old store.new steps.old steps.new }
+        ensures none { IfOk result (λ got. (got ≡ None) ↔ (left_of self.old ≡ 0)) }
+        ensures left { OnOk result (left_of self.new ≡ left_of self.old - 1) }
+        ensures kept { OnErr result (self.new ≡ self.old) }
+        ensures at_hand { 0 < count_at_hand self.old → steps.new ≡ steps.old }
+        ensures last { left_of self.old ≡ 0 → steps.new ≡ steps.old }
+        ensures height { height_of self.new ≡ height_of self.old }
+        ensures reads { OnlyReads S.NodeSource (height_of self.old) store.old store.new steps.old steps.new }
         ensures over { (tree : Tree) (there : Places) → S.nodes store.old ≡ Some there → IsOver T.Item there tree self.old → OnOk result (IsOver T.Item there tree self.new) }
         ensures ran { (tree : Tree) → WhereTold (S.nodes store.old) (λ there. IsOver T.Item there tree self.old)
-            → Ran S.NodeSource (λ there. IsUnfit T.Item there tree) store.old store.new result }
+            → Ran T.Item S.NodeSource tree store.old store.new result }
         ensures sound { (tree : Tree) (there : Places) (items : List T) (at : ℕ) → S.nodes store.old ≡ Some there → IsOver T.Item there tree self.old → HoldsItems T.Item there tree items
             → result ≡ Err (TreeFault.BadNode at) → ⊥ }
         ensures ready { OnOk result (S.is_ready store.new) }
@@ -309,19 +388,7 @@ impl<T: Item> Walk<T> {
         if self.left == 0 {
             return Ok(None);
         }
-        let leaf = std::mem::replace(&mut self.leaf, Vec::new(alloc));
-        let mut rows = std::mem::replace(&mut self.rows, Vec::new(alloc));
-        let fresh = refill(
-            alloc,
-            store,
-            self.height,
-            self.descending,
-            leaf,
-            &mut rows,
-            steps,
-        )?;
-        self.rows = rows;
-        self.leaf = fresh;
+        self.advance(alloc, store, steps)?;
         self.left -= 1;
         let item = take_first(&mut self.leaf);
         Ok(Some(item))

@@ -1,21 +1,22 @@
-use Rattle.std.proofs.Common.{◌-◌, max, length, sym, ap, ◌∙◌, subst, arith, inl, inr, ◌≡◌, refl, true, false, Option, ℕ, List}
+use Rattle.std.proofs.Common.{◌-◌, max, length, sym, ap, ◌∙◌, subst, arith, inl, inr, ◌≡◌, refl, true, false, Option, ℕ, List, ◌<◌, ◌^◌}
 use Rattle.tree_laws.specs.Nodes.{entries}
-use Rattle.tree_laws.specs.Trees.{IsTree}
-use Rattle.tree_laws.proofs.Structure.{tree_stays}
+use Rattle.tree_laws.specs.SummerTrees.{IsTree}
+use Rattle.tree_laws.proofs.SummerTrees.{tree_stays}
 use Rattle.reduce_tree.specs.Applied.{applied, insertions}
-use Rattle.reduce_tree.specs.Bounds.{put_count}
 use Rattle.reduce_tree.specs.Calls.{places, IsKnown}
 use Rattle.reduce_tree.proofs.Applied.{applied_sorted, none_given}
 use Rattle.std.proofs.lemmas.Result.{err_from_is_err_and}
-use Rattle.reduce_tree.proofs.Calls.{Laws, ran_err, extends_on, fails_on, goes_on, goes_none, known_on}
-use Rattle.reduce_tree.proofs.Charge.{all_bounds, few_puts, few_steps, some_by_test}
+use Rattle.reduce_tree.proofs.Calls.{Laws, ran_err, extends_on, fails_on, goes_on, goes_none, known_on, ran_goes, unless_on}
+use Rattle.reduce_tree.proofs.Charge.{all_bounds, few_puts, few_steps, some_by_test, fault_bounds, top_bounds}
 use Rattle.reduce_tree.proofs.Nodes.{has_counts, height_small, none_from_test}
 use Rattle.reduce_tree.proofs.Puts.{inserts_none, less_or, unput}
 use Rattle.reduce_tree.specs.Rows.{leaf_items}
 use Rattle.reduce_tree.proofs.Sound.{sound_err}
-use Rattle.reduce_tree.proofs.Pieces.{applied_among, pieces_none, pieces_on}
+use Rattle.reduce_tree.proofs.Pieces.{applied_among, pieces_none, pieces_on, were_on, on_match}
 use Rattle.tree_laws.specs.declared.tree.Fill.TheVariants.{Below, Root}
 use Rattle.tree_laws.specs.declared.tree.Fill.{Fill}
+use Rattle.tree_laws.specs.Fitting.{item_count}
+use Rattle.reduce_tree.specs.Pieces.{WerePieces}
 use Rattle.reduce_tree.proofs.apply_edits.apply.Goals as goal
 
 pub returns-then-is_empty-clause-tree : goal.returns-then-is_empty-clause-tree
@@ -55,7 +56,7 @@ pub returns-then-row-clause-puts : goal.returns-then-row-clause-puts
 returns-then-row-clause-puts g c =
     let h = c.args.tree.height in
     let some = some_by_test (length c.args.edits.now) c.is_empty.result c.is_empty.ensures c.if-is_empty.false in
-    few_puts (h - 1) (max h h) (length c.args.edits.now) c.args.steps.now c.edit_root.new.steps (entries c.in_ok-row.row.node) _ (put_count (g.S.NodeSource.puts c.args.store.now)) (put_count (g.S.NodeSource.puts c.edit_root.new.store)) some (omega arith) c.in_ok-row.ensures.steps c.in_ok-row.ensures.once
+    few_puts (h - 1) (max h h) (length c.args.edits.now) c.args.steps.now c.edit_root.new.steps (entries c.in_ok-row.row.node) _ (length (g.S.NodeSource.puts c.args.store.now)) (length (g.S.NodeSource.puts c.edit_root.new.store)) some (omega arith) c.in_ok-row.ensures.steps c.in_ok-row.ensures.once
 
 pub returns-then-row-clause-steps : goal.returns-then-row-clause-steps
 returns-then-row-clause-steps g c =
@@ -104,9 +105,6 @@ returns-in_err-after-clause-ran g c =
 pub returns-clause-count : goal.returns-clause-count
 returns-clause-count g c = omega (arith, c.in_ok-row.ensures.count, c.in_ok-after.ensures.count)
 
-pub returns-clause-once : goal.returns-clause-once
-returns-clause-once g c = omega (arith, c.in_ok-row.ensures.once, c.in_ok-after.ensures.once)
-
 pub returns-clause-puts : goal.returns-clause-puts
 returns-clause-puts g c =
     let h = c.args.tree.height in
@@ -114,7 +112,7 @@ returns-clause-puts g c =
     let row = c.in_ok-row.row in
     let some = some_by_test (length c.args.edits.now) c.is_empty.result c.is_empty.ensures c.if-is_empty.false in
     (all_bounds (h - 1) (max h after) after (length c.args.edits.now) row.level (entries row.node) c.args.steps.now c.edit_root.new.steps c.raise.new.steps
-    (put_count (g.S.NodeSource.puts c.args.store.now)) (put_count (g.S.NodeSource.puts c.edit_root.new.store)) (put_count (g.S.NodeSource.puts c.raise.new.store))
+    (length (g.S.NodeSource.puts c.args.store.now)) (length (g.S.NodeSource.puts c.edit_root.new.store)) (length (g.S.NodeSource.puts c.raise.new.store))
     some (omega arith) (omega arith) c.in_ok-row.ensures.most c.in_ok-after.ensures.none c.in_ok-row.ensures.steps c.in_ok-row.ensures.once c.in_ok-after.ensures.steps c.in_ok-after.ensures.once).1
 
 pub returns-clause-steps : goal.returns-clause-steps
@@ -124,7 +122,7 @@ returns-clause-steps g c =
     let row = c.in_ok-row.row in
     let some = some_by_test (length c.args.edits.now) c.is_empty.result c.is_empty.ensures c.if-is_empty.false in
     (all_bounds (h - 1) (max h after) after (length c.args.edits.now) row.level (entries row.node) c.args.steps.now c.edit_root.new.steps c.raise.new.steps
-    (put_count (g.S.NodeSource.puts c.args.store.now)) (put_count (g.S.NodeSource.puts c.edit_root.new.store)) (put_count (g.S.NodeSource.puts c.raise.new.store))
+    (length (g.S.NodeSource.puts c.args.store.now)) (length (g.S.NodeSource.puts c.edit_root.new.store)) (length (g.S.NodeSource.puts c.raise.new.store))
     some (omega arith) (omega arith) c.in_ok-row.ensures.most c.in_ok-after.ensures.none c.in_ok-row.ensures.steps c.in_ok-row.ensures.once c.in_ok-after.ensures.steps c.in_ok-after.ensures.once).0
 
 pub raise-requires-clause-level : goal.raise-requires-clause-level
@@ -211,7 +209,7 @@ returns-then-row-clause-pieces g c first there items among told goes tree ai ae 
     let s0 = c.args.store.now in
     let s1 = c.edit_root.new.store in
     let e = (c.in_ok-row.ensures.unput c.if-row.true).puts in
-    let none = λ (fill : Fill) (old new : Option (List (List ℕ))) (h : new ≡ old). pieces_none g.M.Unit.Item g.M.Summer first among (places (g.S.NodeSource.nodes s1)) fill old new h in
+    let none = λ (fill : Fill) (old new : List (List ℕ)) (h : new ≡ old). pieces_none g.M.Unit.Item g.M.Summer first among (places (g.S.NodeSource.nodes s1)) fill old new h in
     record { mid = g.S.NodeSource.puts s1; below = none Below (g.S.NodeSource.puts s0) (g.S.NodeSource.puts s1) e; root = none Root (g.S.NodeSource.puts s1) (g.S.NodeSource.puts s1) refl; one = omega arith }
 
 pub returns-clause-pieces : goal.returns-clause-pieces
@@ -236,3 +234,130 @@ returns-clause-pieces g c first there items among told goes tree ai ae =
     let two = c.in_ok-after.ensures.pieces first (applied i.order edits items) among known1 row (applied_among i.order among edits items ae ai) in
     let e12 = extends_on i g.S.NodeSource m laws s1 s2 u1 c.raise.new.summer c.in_ok-after.ensures.ran in
     record { mid = two.mid; below = pieces_on i m first among n1 n2 e12 Below (g.S.NodeSource.puts s0) (g.S.NodeSource.puts s1) two.mid one two.below; root = two.root; one = two.one }
+
+pub returns-in_err-row-clause-ran : goal.returns-in_err-row-clause-ran
+returns-in_err-row-clause-ran g c =
+    let laws : Laws g.S.NodeSource g.M.Summer = record { store_steps = g.met.S.NodeSource.are_steps; store_keeps = g.met.S.NodeSource.keeps; store_caused = g.met.S.NodeSource.stays_caused; summer_steps = g.met.M.Summer.are_steps; summer_keeps = g.met.M.Summer.keeps; summer_caused = g.met.M.Summer.stays_caused } in
+    let p = err_from_is_err_and c.from_residual.result c.from_residual.ensures.1 in
+    ran_err g.M.Unit.Item g.S.NodeSource g.M.Summer laws _ _ _ _ c.from_residual.result c.in_err-row.field-0.0 p.0 p.2 p.1 c.in_err-row.ensures.ran
+
+pub returns-in_err-row-clause-kept : goal.returns-in_err-row-clause-kept
+returns-in_err-row-clause-kept g c =
+    let laws : Laws g.S.NodeSource g.M.Summer = record { store_steps = g.met.S.NodeSource.are_steps; store_keeps = g.met.S.NodeSource.keeps; store_caused = g.met.S.NodeSource.stays_caused; summer_steps = g.met.M.Summer.are_steps; summer_keeps = g.met.M.Summer.keeps; summer_caused = g.met.M.Summer.stays_caused } in
+    unless_on _ _ c.from_residual.result (λ went. g.met.S.NodeSource.keeps c.args.store.now c.edit_root.new.store went) (ran_goes g.M.Unit.Item g.S.NodeSource g.M.Summer laws c.args.store.now c.edit_root.new.store c.args.summer.now c.edit_root.new.summer c.from_residual.result (returns-in_err-row-clause-ran g c))
+
+pub returns-in_err-row-clause-ready : goal.returns-in_err-row-clause-ready
+returns-in_err-row-clause-ready g c =
+    let laws : Laws g.S.NodeSource g.M.Summer = record { store_steps = g.met.S.NodeSource.are_steps; store_keeps = g.met.S.NodeSource.keeps; store_caused = g.met.S.NodeSource.stays_caused; summer_steps = g.met.M.Summer.are_steps; summer_keeps = g.met.M.Summer.keeps; summer_caused = g.met.M.Summer.stays_caused } in
+    unless_on _ _ c.from_residual.result (λ went. g.met.S.NodeSource.stays_ready c.args.store.now c.edit_root.new.store went c.requires.ready) (ran_goes g.M.Unit.Item g.S.NodeSource g.M.Summer laws c.args.store.now c.edit_root.new.store c.args.summer.now c.edit_root.new.summer c.from_residual.result (returns-in_err-row-clause-ran g c))
+
+pub returns-in_err-after-clause-kept : goal.returns-in_err-after-clause-kept
+returns-in_err-after-clause-kept g c =
+    let laws : Laws g.S.NodeSource g.M.Summer = record { store_steps = g.met.S.NodeSource.are_steps; store_keeps = g.met.S.NodeSource.keeps; store_caused = g.met.S.NodeSource.stays_caused; summer_steps = g.met.M.Summer.are_steps; summer_keeps = g.met.M.Summer.keeps; summer_caused = g.met.M.Summer.stays_caused } in
+    unless_on _ _ c.from_residual-in_err-after.result (λ went. g.met.S.NodeSource.keeps c.args.store.now c.raise.new.store went) (ran_goes g.M.Unit.Item g.S.NodeSource g.M.Summer laws c.args.store.now c.raise.new.store c.args.summer.now c.raise.new.summer c.from_residual-in_err-after.result (returns-in_err-after-clause-ran g c))
+
+pub returns-in_err-after-clause-ready : goal.returns-in_err-after-clause-ready
+returns-in_err-after-clause-ready g c =
+    let laws : Laws g.S.NodeSource g.M.Summer = record { store_steps = g.met.S.NodeSource.are_steps; store_keeps = g.met.S.NodeSource.keeps; store_caused = g.met.S.NodeSource.stays_caused; summer_steps = g.met.M.Summer.are_steps; summer_keeps = g.met.M.Summer.keeps; summer_caused = g.met.M.Summer.stays_caused } in
+    unless_on _ _ c.from_residual-in_err-after.result (λ went. g.met.S.NodeSource.stays_ready c.args.store.now c.raise.new.store went c.requires.ready) (ran_goes g.M.Unit.Item g.S.NodeSource g.M.Summer laws c.args.store.now c.raise.new.store c.args.summer.now c.raise.new.summer c.from_residual-in_err-after.result (returns-in_err-after-clause-ran g c))
+
+pub returns-then-is_empty-clause-most_puts : goal.returns-then-is_empty-clause-most_puts
+returns-then-is_empty-clause-most_puts g c h high few = omega arith
+
+pub returns-then-row-clause-most_puts : goal.returns-then-row-clause-most_puts
+returns-then-row-clause-most_puts g c h high few =
+    let some = some_by_test (length c.args.edits.now) c.is_empty.result c.is_empty.ensures c.if-is_empty.false in
+    few_puts (c.args.tree.height - 1) h (length c.args.edits.now) c.args.steps.now c.edit_root.new.steps (entries c.in_ok-row.row.node) _ (length (g.S.NodeSource.puts c.args.store.now)) (length (g.S.NodeSource.puts c.edit_root.new.store)) some (omega (arith, high)) c.in_ok-row.ensures.steps c.in_ok-row.ensures.once
+
+pub returns-in_err-row-clause-most_puts : goal.returns-in_err-row-clause-most_puts
+returns-in_err-row-clause-most_puts g c h high few =
+    let some = some_by_test (length c.args.edits.now) c.is_empty.result c.is_empty.ensures c.if-is_empty.false in
+    let k = c.in_err-row.ensures.spent in
+    (fault_bounds (c.args.tree.height - 1) h (length c.args.edits.now) c.args.steps.now c.edit_root.new.steps (length (g.S.NodeSource.puts c.args.store.now)) (length (g.S.NodeSource.puts c.edit_root.new.store)) some (omega (arith, high)) k.steps k.puts).1
+
+pub returns-in_err-after-clause-most_puts : goal.returns-in_err-after-clause-most_puts
+returns-in_err-after-clause-most_puts g c h high few =
+    let some = some_by_test (length c.args.edits.now) c.is_empty.result c.is_empty.ensures c.if-is_empty.false in
+    let row = c.in_ok-row.row in
+    let r = c.in_ok-row.ensures in
+    let less : item_count row.node < 8 ^ h = omega (arith, r.count, few) in
+    let k = c.in_err-after.ensures.within h less in
+    (top_bounds (c.args.tree.height - 1) h (length c.args.edits.now) row.level (entries row.node) c.args.steps.now c.edit_root.new.steps c.raise.new.steps (length (g.S.NodeSource.puts c.args.store.now)) (length (g.S.NodeSource.puts c.edit_root.new.store)) (length (g.S.NodeSource.puts c.raise.new.store)) some (omega (arith, high)) r.most r.steps r.once k.steps k.puts).1
+
+pub returns-clause-most_puts : goal.returns-clause-most_puts
+returns-clause-most_puts g c h high few =
+    let some = some_by_test (length c.args.edits.now) c.is_empty.result c.is_empty.ensures c.if-is_empty.false in
+    let row = c.in_ok-row.row in
+    let r = c.in_ok-row.ensures in
+    let less : item_count row.node < 8 ^ h = omega (arith, r.count, few) in
+    let k = c.in_ok-after.ensures.within h less in
+    (top_bounds (c.args.tree.height - 1) h (length c.args.edits.now) row.level (entries row.node) c.args.steps.now c.edit_root.new.steps c.raise.new.steps (length (g.S.NodeSource.puts c.args.store.now)) (length (g.S.NodeSource.puts c.edit_root.new.store)) (length (g.S.NodeSource.puts c.raise.new.store)) some (omega (arith, high)) r.most r.steps r.once k.steps k.puts).1
+
+pub returns-then-is_empty-clause-most_steps : goal.returns-then-is_empty-clause-most_steps
+returns-then-is_empty-clause-most_steps g c h high few = omega arith
+
+pub returns-then-row-clause-most_steps : goal.returns-then-row-clause-most_steps
+returns-then-row-clause-most_steps g c h high few =
+    let some = some_by_test (length c.args.edits.now) c.is_empty.result c.is_empty.ensures c.if-is_empty.false in
+    few_steps (c.args.tree.height - 1) h (length c.args.edits.now) c.args.steps.now c.edit_root.new.steps (entries c.in_ok-row.row.node) _ some (omega (arith, high)) c.in_ok-row.ensures.steps
+
+pub returns-in_err-row-clause-most_steps : goal.returns-in_err-row-clause-most_steps
+returns-in_err-row-clause-most_steps g c h high few =
+    let some = some_by_test (length c.args.edits.now) c.is_empty.result c.is_empty.ensures c.if-is_empty.false in
+    let k = c.in_err-row.ensures.spent in
+    (fault_bounds (c.args.tree.height - 1) h (length c.args.edits.now) c.args.steps.now c.edit_root.new.steps (length (g.S.NodeSource.puts c.args.store.now)) (length (g.S.NodeSource.puts c.edit_root.new.store)) some (omega (arith, high)) k.steps k.puts).0
+
+pub returns-in_err-after-clause-most_steps : goal.returns-in_err-after-clause-most_steps
+returns-in_err-after-clause-most_steps g c h high few =
+    let some = some_by_test (length c.args.edits.now) c.is_empty.result c.is_empty.ensures c.if-is_empty.false in
+    let row = c.in_ok-row.row in
+    let r = c.in_ok-row.ensures in
+    let less : item_count row.node < 8 ^ h = omega (arith, r.count, few) in
+    let k = c.in_err-after.ensures.within h less in
+    (top_bounds (c.args.tree.height - 1) h (length c.args.edits.now) row.level (entries row.node) c.args.steps.now c.edit_root.new.steps c.raise.new.steps (length (g.S.NodeSource.puts c.args.store.now)) (length (g.S.NodeSource.puts c.edit_root.new.store)) (length (g.S.NodeSource.puts c.raise.new.store)) some (omega (arith, high)) r.most r.steps r.once k.steps k.puts).0
+
+pub returns-clause-most_steps : goal.returns-clause-most_steps
+returns-clause-most_steps g c h high few =
+    let some = some_by_test (length c.args.edits.now) c.is_empty.result c.is_empty.ensures c.if-is_empty.false in
+    let row = c.in_ok-row.row in
+    let r = c.in_ok-row.ensures in
+    let less : item_count row.node < 8 ^ h = omega (arith, r.count, few) in
+    let k = c.in_ok-after.ensures.within h less in
+    (top_bounds (c.args.tree.height - 1) h (length c.args.edits.now) row.level (entries row.node) c.args.steps.now c.edit_root.new.steps c.raise.new.steps (length (g.S.NodeSource.puts c.args.store.now)) (length (g.S.NodeSource.puts c.edit_root.new.store)) (length (g.S.NodeSource.puts c.raise.new.store)) some (omega (arith, high)) r.most r.steps r.once k.steps k.puts).0
+
+pub returns-in_err-row-clause-pieces : goal.returns-in_err-row-clause-pieces
+returns-in_err-row-clause-pieces g c first there items among told goes tree ai ae =
+    let i = g.M.Unit.Item in
+    let m = g.M.Summer in
+    let s0 = c.args.store.now in
+    let s1 = c.edit_root.new.store in
+    let u0 = c.args.summer.now in
+    let n0 = places (g.S.NodeSource.nodes s0) in
+    let known : IsKnown i g.S.NodeSource m first u0 s0 = record { goes = goes; there = there; told = told } in
+    let here : IsTree i m first n0 c.args.tree items = subst (λ p. IsTree i m first p c.args.tree items) (sym (ap places told)) tree in
+    let p = err_from_is_err_and c.from_residual.result c.from_residual.ensures.1 in
+    on_match c.from_residual.result _ _ _ p.0 p.2 p.1
+    (subst (λ b. WerePieces i m first among b c.in_err-row.field-0.0 (g.S.NodeSource.puts s0) (g.S.NodeSource.puts s1)) (ap places told) (c.in_err-row.ensures.pieces first items among known here.rises here.root ai ae))
+
+pub returns-in_err-after-clause-pieces : goal.returns-in_err-after-clause-pieces
+returns-in_err-after-clause-pieces g c first there items among told goes tree ai ae =
+    let laws : Laws g.S.NodeSource g.M.Summer = record { store_steps = g.met.S.NodeSource.are_steps; store_keeps = g.met.S.NodeSource.keeps; store_caused = g.met.S.NodeSource.stays_caused; summer_steps = g.met.M.Summer.are_steps; summer_keeps = g.met.M.Summer.keeps; summer_caused = g.met.M.Summer.stays_caused } in
+    let i = g.M.Unit.Item in
+    let m = g.M.Summer in
+    let s0 = c.args.store.now in
+    let s1 = c.edit_root.new.store in
+    let s2 = c.raise.new.store in
+    let u0 = c.args.summer.now in
+    let u1 = c.edit_root.new.summer in
+    let n0 = places (g.S.NodeSource.nodes s0) in
+    let n1 = places (g.S.NodeSource.nodes s1) in
+    let known : IsKnown i g.S.NodeSource m first u0 s0 = record { goes = goes; there = there; told = told } in
+    let here : IsTree i m first n0 c.args.tree items = subst (λ p. IsTree i m first p c.args.tree items) (sym (ap places told)) tree in
+    let edits = c.args.edits.now in
+    let row = c.in_ok-row.ensures.items first items known here.rises here.root in
+    let known1 = known_on i g.S.NodeSource m laws first s0 s1 u0 u1 known c.in_ok-row.ensures.ran in
+    let one = c.in_ok-row.ensures.pieces first items among known here.rises here.root ai ae in
+    let e01 = extends_on g.M.Unit.Item g.S.NodeSource g.M.Summer laws s0 s1 u0 u1 c.in_ok-row.ensures.ran in
+    let p = err_from_is_err_and c.from_residual-in_err-after.result c.from_residual-in_err-after.ensures.1 in
+    on_match c.from_residual-in_err-after.result _ _ _ p.0 p.2 p.1
+    (subst (λ b. WerePieces i m first among b c.in_err-after.field-0.0 (g.S.NodeSource.puts s0) (g.S.NodeSource.puts s2)) (ap places told) (were_on i m first among n0 n1 e01 _ (g.S.NodeSource.puts s0) (g.S.NodeSource.puts s1) (g.S.NodeSource.puts s2) one (c.in_err-after.ensures.pieces first (applied i.order edits items) among known1 row (applied_among i.order among edits items ae ai))))

@@ -3,9 +3,10 @@ use Rattle.std.specs.List.Sorted.{IsStrictlySortedBy}
 use Rattle.tree_laws.specs.declared.node.Node.TheVariants.{Inner}
 use Rattle.tree_laws.specs.Fitting.{AreLarge, item_count}
 use Rattle.tree_laws.specs.Nodes.{entries}
-use Rattle.tree_laws.specs.Trees.{AreChildren, Stands}
+use Rattle.tree_laws.specs.SummerTrees.{AreChildren, Stands}
 use Rattle.reduce_tree.specs.Applied.{applied, insertions, RemoveNone}
-use Rattle.reduce_tree.specs.Bounds.{pending, put_count, rounding, ArePut, ReadsFor}
+use Rattle.reduce_tree.specs.Bounds.{pending, rounding, ArePut}
+use Rattle.reduce_tree.specs.Counts.{ReadsFor}
 use Rattle.reduce_tree.specs.Calls.{places, GoOn, IsKnown, PutNone}
 use Rattle.reduce_tree.specs.Rows.{IsAtLevel, leaf_items}
 use Rattle.reduce_tree.specs.Pieces.{AreAmong, ArePieces, InsertAmong}
@@ -41,7 +42,7 @@ invariant-edit_children-loop-left g l =
       same : l.carry.same ≡ true → l.done.items ++ l.rest.items ≡ l.fn.children.items;
       still : l.carry.same ≡ true → entries l.carry.node ≡ 0;
       steps : 31 * l.steps + (vec_len l.done + (vec_len l.rest + (entries l.carry.node + (rounding (entries l.carry.node) + (93 * pending l.low l.carry.level (entries l.carry.node) + (length l.left + 186 * ((l.low + 1) * length l.left))))))) ≤ 31 * l.fn.steps + (vec_len l.fn.children + (length l.edits + 186 * ((l.low + 1) * length l.edits)));
-      once : 93 * put_count (puts l.store) + (vec_len l.done + (vec_len l.rest + (entries l.carry.node + (rounding (entries l.carry.node) + (62 * l.fn.steps + length l.left))))) ≤ 93 * put_count (puts l.fn.store) + (62 * l.steps + (vec_len l.fn.children + length l.edits));
+      once : 93 * length (puts l.store) + (vec_len l.done + (vec_len l.rest + (entries l.carry.node + (rounding (entries l.carry.node) + (62 * l.fn.steps + length l.left))))) ≤ 93 * length (puts l.fn.store) + (62 * l.steps + (vec_len l.fn.children + length l.edits));
       reads : ReadsFor (g.S.NodeSource.reads l.fn.store) (g.S.NodeSource.reads l.store) l.fn.steps l.steps;
       leaf : ArePut (g.S.NodeSource.size l.fn.store) (g.S.NodeSource.size l.store) (g.M.Summer.usable l.fn.summer) (insertions l.edits) (leaf_items l.carry.node + insertions l.left);
       unput : l.carry.same ≡ true → PutNone g.S.NodeSource l.fn.store l.store;

@@ -2,7 +2,7 @@ use Rattle.std.proofs.Common.{◌≡◌, ◌+◌, arith, sym, subst, ap, ◌∙�
 use Rattle.tree_laws.specs.declared.node.Node.TheVariants.{Inner}
 use Rattle.tree_laws.specs.Fitting.{AreLarge, item_count}
 use Rattle.tree_laws.specs.Nodes.{entries}
-use Rattle.tree_laws.specs.Trees.{Has}
+use Rattle.tree_laws.specs.SummerTrees.{Has}
 use Rattle.reduce_tree.specs.Bounds.{ready}
 use Rattle.reduce_tree.specs.Calls.{places}
 use Rattle.reduce_tree.proofs.Charge.{pending_not, slack_most, ready_some}
@@ -12,6 +12,8 @@ use Rattle.reduce_tree.proofs.Sound.{if_sound}
 use Rattle.std.proofs.lemmas.Result.{err_from_is_err_and}
 use Rattle.reduce_tree.proofs.Quiet.{all_front, all_back}
 use Rattle.reduce_tree.specs.Pieces.{AreAmong}
+use Rattle.reduce_tree.proofs.Calls.{on_err}
+use Rattle.reduce_tree.proofs.Pieces.{on_match}
 use Rattle.reduce_tree.proofs.batch.finish.Goals as goal
 
 pub returns-then-is_ready-clause-items : goal.returns-then-is_ready-clause-items
@@ -100,3 +102,35 @@ returns-clause-pieces g c first items among known h all =
     let front = subst (λ ds. Has g.M.Unit.Item g.M.Summer first there (low + 1) (Inner ds) h.front) (sym c.from_vec-2.ensures) (has_children g.M.Unit.Item g.M.Summer first there low c.args.done.items h.front h.at_front) in
     let parts = subst (AreAmong among) h.whole all in
     c.in_ok-joined.ensures.pieces first h.front h.back among known front h.at_back (all_front (Contains among) h.front h.back parts) (all_back (Contains among) h.front h.back parts)
+
+pub returns-in_err-settle-clause-spent : goal.returns-in_err-settle-clause-spent
+returns-in_err-settle-clause-spent g c =
+    let k = c.in_err-settle.ensures.spent in
+    on_err c.from_residual.result _ (record { steps = let s = k.steps in omega (arith, s); puts = let s = k.puts in omega (arith, s) })
+
+pub returns-in_err-joined-clause-spent : goal.returns-in_err-joined-clause-spent
+returns-in_err-joined-clause-spent g c =
+    let low = c.args.low in
+    let n : ready low c.args.carry.level (entries c.args.carry.node) ≡ false = sym c.is_ready.ensures.ready ∙ c.if-is_ready.false in
+    let none = slack_most (low + 1) (low + 1) (length c.from_vec-2.result) in
+    let some = slack_most (low + 1) c.args.carry.level (entries c.args.carry.node) in
+    let pays = pending_not low c.args.carry.level (entries c.args.carry.node) n in
+    let list = ap length c.from_vec-2.ensures in
+    let m = c.requires.most in
+    let k = c.in_err-joined.ensures.spent (low + 1) (omega arith) (omega (arith, m)) in
+    on_err c.from_residual-in_err-joined.result _ (record { steps = let a = k.steps in omega (arith, none, some, pays, list, a); puts = let a = k.puts in omega (arith, list, a) })
+
+pub returns-in_err-settle-clause-pieces : goal.returns-in_err-settle-clause-pieces
+returns-in_err-settle-clause-pieces g c first items among known h all =
+    let p = err_from_is_err_and c.from_residual.result c.from_residual.ensures.1 in
+    on_match c.from_residual.result _ _ _ p.0 p.2 p.1 (c.in_err-settle.ensures.pieces first items among known h all)
+
+pub returns-in_err-joined-clause-pieces : goal.returns-in_err-joined-clause-pieces
+returns-in_err-joined-clause-pieces g c first items among known h all =
+    let there = places (g.S.NodeSource.nodes c.args.store.now) in
+    let low = c.args.low in
+    let front = subst (λ ds. Has g.M.Unit.Item g.M.Summer first there (low + 1) (Inner ds) h.front) (sym c.from_vec-2.ensures) (has_children g.M.Unit.Item g.M.Summer first there low c.args.done.items h.front h.at_front) in
+    let parts = subst (AreAmong among) h.whole all in
+    let p = err_from_is_err_and c.from_residual-in_err-joined.result c.from_residual-in_err-joined.ensures.1 in
+    on_match c.from_residual-in_err-joined.result _ _ _ p.0 p.2 p.1
+    (c.in_err-joined.ensures.pieces first h.front h.back among known front h.at_back (all_front (Contains among) h.front h.back parts) (all_back (Contains among) h.front h.back parts))

@@ -2,9 +2,12 @@ use Rattle.std.proofs.Common.{◌+◌, ◌∷◌, ◌++◌, [], ◌∙◌, ap, a
 use Rattle.tree_laws.specs.declared.node.Node.TheVariants.{Inner}
 use Rattle.tree_laws.specs.Fitting.{AreLarge, item_count}
 use Rattle.reduce_tree.specs.Calls.{places}
-use Rattle.reduce_tree.proofs.Calls.{Laws, extends_on}
+use Rattle.reduce_tree.proofs.Calls.{Laws, extends_on, ran_err, on_err}
 use Rattle.reduce_tree.proofs.Nodes.{count_append, count_one, large_append, large_one}
 use Rattle.reduce_tree.proofs.Walk.{kept_child}
+use Rattle.std.proofs.lemmas.Result.{err_from_is_err_and}
+use Rattle.tree_laws.specs.declared.tree.TreeFault.TheVariants as tree_fault
+use Rattle.reduce_tree.proofs.Pieces.{were_done, on_match}
 use Rattle.reduce_tree.proofs.batch.keep_child.Goals as goal
 
 pub returns-clause-items : goal.returns-clause-items
@@ -47,3 +50,30 @@ returns-clause-unput g c e = c.in_ok-settle.ensures.unput (c.requires.still (sym
 
 pub returns-clause-pieces : goal.returns-clause-pieces
 returns-clause-pieces g c first items among known h all = c.in_ok-settle.ensures.pieces first items among known h all
+
+pub returns-in_err-add_last-clause-ran : goal.returns-in_err-add_last-clause-ran
+returns-in_err-add_last-clause-ran g c =
+    let laws : Laws g.S.NodeSource g.M.Summer = record { store_steps = g.met.S.NodeSource.are_steps; store_keeps = g.met.S.NodeSource.keeps; store_caused = g.met.S.NodeSource.stays_caused; summer_steps = g.met.M.Summer.are_steps; summer_keeps = g.met.M.Summer.keeps; summer_caused = g.met.M.Summer.stays_caused } in
+    let p = err_from_is_err_and c.from_residual-in_err-add_last.result c.from_residual-in_err-add_last.ensures.1 in
+    ran_err g.M.Unit.Item g.S.NodeSource g.M.Summer laws _ _ _ _ c.from_residual-in_err-add_last.result tree_fault.NoMemory p.0 p.2 p.1 (c.in_ok-settle.ensures.ran)
+
+pub returns-in_err-settle-clause-spent : goal.returns-in_err-settle-clause-spent
+returns-in_err-settle-clause-spent g c =
+    let k = c.in_err-settle.ensures.spent in
+    on_err c.from_residual.result _ (record { steps = let s = k.steps in omega (arith, s); puts = let s = k.puts in omega (arith, s) })
+
+pub returns-in_err-add_last-clause-spent : goal.returns-in_err-add_last-clause-spent
+returns-in_err-add_last-clause-spent g c =
+    let k = c.in_ok-settle.ensures in
+    on_err c.from_residual-in_err-add_last.result _ (record { steps = omega (arith, k.steps); puts = omega (arith, k.once) })
+
+pub returns-in_err-settle-clause-pieces : goal.returns-in_err-settle-clause-pieces
+returns-in_err-settle-clause-pieces g c first items among known h all =
+    let p = err_from_is_err_and c.from_residual.result c.from_residual.ensures.1 in
+    on_match c.from_residual.result _ _ _ p.0 p.2 p.1 (c.in_err-settle.ensures.pieces first items among known h all)
+
+pub returns-in_err-add_last-clause-pieces : goal.returns-in_err-add_last-clause-pieces
+returns-in_err-add_last-clause-pieces g c first items among known h all =
+    let laws : Laws g.S.NodeSource g.M.Summer = record { store_steps = g.met.S.NodeSource.are_steps; store_keeps = g.met.S.NodeSource.keeps; store_caused = g.met.S.NodeSource.stays_caused; summer_steps = g.met.M.Summer.are_steps; summer_keeps = g.met.M.Summer.keeps; summer_caused = g.met.M.Summer.stays_caused } in
+    let p = err_from_is_err_and c.from_residual-in_err-add_last.result c.from_residual-in_err-add_last.ensures.1 in
+    on_match c.from_residual-in_err-add_last.result _ _ _ p.0 p.2 p.1 (were_done g.M.Unit.Item g.M.Summer first among (places (g.S.NodeSource.nodes c.args.store.now)) (places (g.S.NodeSource.nodes c.settle.new.store)) (extends_on g.M.Unit.Item g.S.NodeSource g.M.Summer laws c.args.store.now c.settle.new.store c.args.summer.now c.settle.new.summer c.in_ok-settle.ensures.ran) _ (g.S.NodeSource.puts c.args.store.now) (g.S.NodeSource.puts c.settle.new.store) (c.in_ok-settle.ensures.pieces first items among known h all))

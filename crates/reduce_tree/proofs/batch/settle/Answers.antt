@@ -2,17 +2,19 @@ use Rattle.std.proofs.Common.{◌+◌, ◌∙◌, ap, arith, sym, subst, refl, C
 use Rattle.tree_laws.specs.declared.node.Node.TheVariants.{Inner}
 use Rattle.tree_laws.specs.Fitting.{AreLarge, item_count}
 use Rattle.tree_laws.specs.Nodes.{entries}
-use Rattle.tree_laws.specs.Trees.{AreChildren, Stands}
+use Rattle.tree_laws.specs.SummerTrees.{AreChildren, Stands}
 use Rattle.reduce_tree.specs.Calls.{places}
-use Rattle.reduce_tree.proofs.Calls.{Laws, extends_on, goes_none}
-use Rattle.reduce_tree.proofs.Charge.{ready_level, ready_least, some_by_test}
+use Rattle.reduce_tree.proofs.Calls.{Laws, extends_on, goes_none, ran_err, on_err}
+use Rattle.reduce_tree.proofs.Charge.{ready_level, ready_least, some_by_test, rounding_some}
 use Rattle.reduce_tree.proofs.Nodes.{count_append, large_append, none_counted, none_from_test}
 use Rattle.reduce_tree.proofs.Walk.{settled, settled_none}
 use Rattle.reduce_tree.proofs.Puts.{leaf_none, put_none, unput}
-use Rattle.reduce_tree.proofs.Pieces.{pieces_none}
+use Rattle.reduce_tree.proofs.Pieces.{pieces_none, were_done, on_match}
 use Rattle.reduce_tree.proofs.Quiet.{all_back}
 use Rattle.reduce_tree.specs.Pieces.{AreAmong}
 use Rattle.tree_laws.specs.declared.tree.Fill.TheVariants.{Below}
+use Rattle.std.proofs.lemmas.Result.{err_from_is_err_and}
+use Rattle.tree_laws.specs.declared.tree.TreeFault.TheVariants as tree_fault
 use Rattle.reduce_tree.proofs.batch.settle.Goals as goal
 
 pub place_row-requires-clause-least : goal.place_row-requires-clause-least
@@ -82,3 +84,34 @@ returns-then-is_empty-clause-pieces g c first items among known h all =
 pub returns-clause-pieces : goal.returns-clause-pieces
 returns-clause-pieces g c first items among known h all =
     c.in_ok-placed.ensures.pieces first c.args.row.level h.back among known h.at_back (all_back (Contains among) h.front h.back (subst (AreAmong among) h.whole all))
+
+pub returns-in_err-add_all-clause-ran : goal.returns-in_err-add_all-clause-ran
+returns-in_err-add_all-clause-ran g c =
+    let laws : Laws g.S.NodeSource g.M.Summer = record { store_steps = g.met.S.NodeSource.are_steps; store_keeps = g.met.S.NodeSource.keeps; store_caused = g.met.S.NodeSource.stays_caused; summer_steps = g.met.M.Summer.are_steps; summer_keeps = g.met.M.Summer.keeps; summer_caused = g.met.M.Summer.stays_caused } in
+    let p = err_from_is_err_and c.from_residual-in_err-add_all.result c.from_residual-in_err-add_all.ensures.1 in
+    ran_err g.M.Unit.Item g.S.NodeSource g.M.Summer laws _ _ _ _ c.from_residual-in_err-add_all.result tree_fault.NoMemory p.0 p.2 p.1 (c.in_ok-placed.ensures.ran)
+
+pub returns-in_err-placed-clause-spent : goal.returns-in_err-placed-clause-spent
+returns-in_err-placed-clause-spent g c =
+    let some = some_by_test (entries c.args.row.node) c.is_empty.result c.is_empty.ensures c.if-is_empty.false in
+    let r = rounding_some (entries c.args.row.node) some in
+    let k = c.in_err-placed.ensures.spent in
+    on_err c.from_residual.result _ (record { steps = let s = k.steps in omega (arith, r, s); puts = let s = k.puts in omega (arith, r, s) })
+
+pub returns-in_err-add_all-clause-spent : goal.returns-in_err-add_all-clause-spent
+returns-in_err-add_all-clause-spent g c =
+    let some = some_by_test (entries c.args.row.node) c.is_empty.result c.is_empty.ensures c.if-is_empty.false in
+    let r = rounding_some (entries c.args.row.node) some in
+    let k = c.in_ok-placed.ensures in
+    on_err c.from_residual-in_err-add_all.result _ (record { steps = omega (arith, r, k.steps, k.packed); puts = omega (arith, r, k.steps, k.packed, k.puts) })
+
+pub returns-in_err-placed-clause-pieces : goal.returns-in_err-placed-clause-pieces
+returns-in_err-placed-clause-pieces g c first items among known h all =
+    let p = err_from_is_err_and c.from_residual.result c.from_residual.ensures.1 in
+    on_match c.from_residual.result _ _ _ p.0 p.2 p.1 (c.in_err-placed.ensures.pieces first c.args.row.level h.back among known h.at_back (all_back (Contains among) h.front h.back (subst (AreAmong among) h.whole all)))
+
+pub returns-in_err-add_all-clause-pieces : goal.returns-in_err-add_all-clause-pieces
+returns-in_err-add_all-clause-pieces g c first items among known h all =
+    let laws : Laws g.S.NodeSource g.M.Summer = record { store_steps = g.met.S.NodeSource.are_steps; store_keeps = g.met.S.NodeSource.keeps; store_caused = g.met.S.NodeSource.stays_caused; summer_steps = g.met.M.Summer.are_steps; summer_keeps = g.met.M.Summer.keeps; summer_caused = g.met.M.Summer.stays_caused } in
+    let p = err_from_is_err_and c.from_residual-in_err-add_all.result c.from_residual-in_err-add_all.ensures.1 in
+    on_match c.from_residual-in_err-add_all.result _ _ _ p.0 p.2 p.1 (were_done g.M.Unit.Item g.M.Summer first among (places (g.S.NodeSource.nodes c.args.store.now)) (places (g.S.NodeSource.nodes c.place_row.new.store)) (extends_on g.M.Unit.Item g.S.NodeSource g.M.Summer laws c.args.store.now c.place_row.new.store c.args.summer.now c.place_row.new.summer c.in_ok-placed.ensures.ran) _ (g.S.NodeSource.puts c.args.store.now) (g.S.NodeSource.puts c.place_row.new.store) (c.in_ok-placed.ensures.pieces first c.args.row.level h.back among known h.at_back (all_back (Contains among) h.front h.back (subst (AreAmong among) h.whole all))))

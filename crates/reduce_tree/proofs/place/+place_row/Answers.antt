@@ -1,18 +1,19 @@
-use Rattle.std.proofs.Common.{arith, ◌≡◌, ◌+◌, ◌∙◌, ap, Contains, subst}
+use Rattle.std.proofs.Common.{arith, ◌≡◌, ◌+◌, ◌∙◌, ap, Contains, subst, refl}
 use Rattle.tree_laws.specs.declared.node.Node.TheVariants.{Inner}
 use Rattle.tree_laws.specs.Fitting.{item_count}
-use Rattle.tree_laws.specs.Trees.{Stands}
-use Rattle.tree_laws.proofs.Parts.{children_append}
-use Rattle.tree_laws.proofs.Structure.{children_stay, has_stays, stands_stays}
+use Rattle.tree_laws.specs.SummerTrees.{Stands}
+use Rattle.tree_laws.proofs.SummerTrees.{children_append}
+use Rattle.tree_laws.proofs.SummerTrees.{children_stay, has_stays, stands_stays}
 use Rattle.reduce_tree.specs.Calls.{places}
 use Rattle.std.proofs.lemmas.Result.{err_from_is_err_and}
-use Rattle.reduce_tree.proofs.Calls.{Laws, ran_err, extends_on, fails_on, goes_on, known_on}
+use Rattle.reduce_tree.proofs.Calls.{Laws, ran_err, extends_on, fails_on, goes_on, known_on, goes_none, on_err}
 use Rattle.reduce_tree.proofs.Nodes.{count_append, has_split, large_append, split_count, split_kind, split_large}
 use Rattle.reduce_tree.proofs.Puts.{leaf_split, put_two}
-use Rattle.reduce_tree.proofs.Pieces.{pieces_on}
+use Rattle.reduce_tree.proofs.Pieces.{pieces_on, were_none, were_done, were_on, on_match}
 use Rattle.reduce_tree.proofs.Quiet.{all_front, all_back}
 use Rattle.reduce_tree.specs.Pieces.{AreAmong}
 use Rattle.tree_laws.specs.declared.tree.Fill.TheVariants.{Below}
+use Rattle.tree_laws.specs.declared.tree.TreeFault.TheVariants as tree_fault
 use Rattle.reduce_tree.proofs.place.+place_row.Goals as goal
 
 pub returns-clause-children : goal.returns-clause-children
@@ -92,3 +93,122 @@ returns-clause-pieces g t c first level items among known has all =
     let done = c.in_ok-front.ensures.pieces first level j.front among known j.at_front (all_front (Contains among) j.front j.back parts) in
     let second = c.in_ok-back.ensures.pieces first level j.back among (known_on g.M.Unit.Item g.S.NodeSource g.M.Summer laws first s0 s1 u0 u1 known c.in_ok-front.ensures.ran) at_right (all_back (Contains among) j.front j.back parts) in
     pieces_on i m first among mid new e12 Below (g.S.NodeSource.puts s0) (g.S.NodeSource.puts s1) (g.S.NodeSource.puts s2) done second
+
+pub returns-in_err-left-clause-ran : goal.returns-in_err-left-clause-ran
+returns-in_err-left-clause-ran g t c =
+    let laws : Laws g.S.NodeSource g.M.Summer = record { store_steps = g.met.S.NodeSource.are_steps; store_keeps = g.met.S.NodeSource.keeps; store_caused = g.met.S.NodeSource.stays_caused; summer_steps = g.met.M.Summer.are_steps; summer_keeps = g.met.M.Summer.keeps; summer_caused = g.met.M.Summer.stays_caused } in
+    let p = err_from_is_err_and c.from_residual-in_err-left.result c.from_residual-in_err-left.ensures.1 in
+    ran_err g.M.Unit.Item g.S.NodeSource g.M.Summer laws _ _ _ _ c.from_residual-in_err-left.result tree_fault.NoMemory p.0 p.2 p.1 (goes_none g.M.Unit.Item g.S.NodeSource g.M.Summer laws c.args.store.now c.args.summer.now)
+
+pub returns-in_err-add_all-clause-ran : goal.returns-in_err-add_all-clause-ran
+returns-in_err-add_all-clause-ran g t c =
+    let laws : Laws g.S.NodeSource g.M.Summer = record { store_steps = g.met.S.NodeSource.are_steps; store_keeps = g.met.S.NodeSource.keeps; store_caused = g.met.S.NodeSource.stays_caused; summer_steps = g.met.M.Summer.are_steps; summer_keeps = g.met.M.Summer.keeps; summer_caused = g.met.M.Summer.stays_caused } in
+    let p = err_from_is_err_and c.from_residual-in_err-add_all.result c.from_residual-in_err-add_all.ensures.1 in
+    ran_err g.M.Unit.Item g.S.NodeSource g.M.Summer laws _ _ _ _ c.from_residual-in_err-add_all.result tree_fault.NoMemory p.0 p.2 p.1 (goes_on g.M.Unit.Item g.S.NodeSource g.M.Summer laws c.args.store.now c.place_row.new.store c.place_row-2.new.store c.args.summer.now c.place_row.new.summer c.place_row-2.new.summer c.in_ok-front.ensures.ran c.in_ok-back.ensures.ran)
+
+pub returns-in_err-whole-clause-spent : goal.returns-in_err-whole-clause-spent
+returns-in_err-whole-clause-spent g t c =
+    let k = c.in_err-whole.ensures.spent in
+    on_err c.from_residual.result _ (record { steps = k.steps; puts = k.puts })
+
+pub returns-in_err-left-clause-spent : goal.returns-in_err-left-clause-spent
+returns-in_err-left-clause-spent g t c =
+    on_err c.from_residual-in_err-left.result _ (record { steps = omega arith; puts = omega arith })
+
+pub returns-in_err-front-clause-spent : goal.returns-in_err-front-clause-spent
+returns-in_err-front-clause-spent g t c =
+    let k = c.in_err-front.ensures.spent in
+    let l = c.in_ok-left.ensures.left in
+    let r = c.in_ok-left.ensures.right in
+    on_err c.from_residual-in_err-front.result _ (record { steps = let s = k.steps in omega (arith, s, l, r); puts = let s = k.puts in omega (arith, s, l, r) })
+
+pub returns-in_err-back-clause-spent : goal.returns-in_err-back-clause-spent
+returns-in_err-back-clause-spent g t c =
+    let k = c.in_err-back.ensures.spent in
+    let a = c.in_ok-front.ensures in
+    let l = c.in_ok-left.ensures.left in
+    let r = c.in_ok-left.ensures.right in
+    on_err c.from_residual-in_err-back.result _ (record { steps = let s = k.steps in omega (arith, s, l, r, a.packed, a.steps); puts = let s = k.puts in omega (arith, s, l, r, a.packed, a.steps, a.puts) })
+
+pub returns-in_err-add_all-clause-spent : goal.returns-in_err-add_all-clause-spent
+returns-in_err-add_all-clause-spent g t c =
+    let a = c.in_ok-front.ensures in
+    let b = c.in_ok-back.ensures in
+    let l = c.in_ok-left.ensures.left in
+    let r = c.in_ok-left.ensures.right in
+    on_err c.from_residual-in_err-add_all.result _ (record { steps = omega (arith, l, r, a.packed, a.steps, b.packed, b.steps); puts = omega (arith, l, r, a.packed, a.steps, a.puts, b.packed, b.steps, b.puts) })
+
+pub returns-in_err-whole-clause-pieces : goal.returns-in_err-whole-clause-pieces
+returns-in_err-whole-clause-pieces g t c first level items among known has all =
+    let p = err_from_is_err_and c.from_residual.result c.from_residual.ensures.1 in
+    on_match c.from_residual.result _ _ _ p.0 p.2 p.1 (c.in_err-whole.ensures.pieces first level items among known has all)
+
+pub returns-in_err-left-clause-pieces : goal.returns-in_err-left-clause-pieces
+returns-in_err-left-clause-pieces g t c first level items among known has all =
+    let p = err_from_is_err_and c.from_residual-in_err-left.result c.from_residual-in_err-left.ensures.1 in
+    on_match c.from_residual-in_err-left.result _ _ _ p.0 p.2 p.1 (were_none g.M.Unit.Item g.M.Summer first among (places (g.S.NodeSource.nodes c.args.store.now)) _ (g.S.NodeSource.puts c.args.store.now) (g.S.NodeSource.puts c.args.store.now) refl)
+
+pub returns-in_err-front-clause-pieces : goal.returns-in_err-front-clause-pieces
+returns-in_err-front-clause-pieces g t c first level items among known has all =
+    let i = g.M.Unit.Item in
+    let m = g.M.Summer in
+    let s0 = c.args.store.now in
+    let old = places (g.S.NodeSource.nodes s0) in
+    let left = c.in_ok-left.left in
+    let right = c.in_ok-left.right in
+    let j = has_split i m first old level c.args.node left right items c.in_ok-left.ensures.split has in
+    let parts = subst (AreAmong among) j.whole all in
+    let p = err_from_is_err_and c.from_residual-in_err-front.result c.from_residual-in_err-front.ensures.1 in
+    on_match c.from_residual-in_err-front.result _ _ _ p.0 p.2 p.1
+    (c.in_err-front.ensures.pieces first level j.front among known j.at_front (all_front (Contains among) j.front j.back parts))
+
+pub returns-in_err-back-clause-pieces : goal.returns-in_err-back-clause-pieces
+returns-in_err-back-clause-pieces g t c first level items among known has all =
+    let laws : Laws g.S.NodeSource g.M.Summer = record { store_steps = g.met.S.NodeSource.are_steps; store_keeps = g.met.S.NodeSource.keeps; store_caused = g.met.S.NodeSource.stays_caused; summer_steps = g.met.M.Summer.are_steps; summer_keeps = g.met.M.Summer.keeps; summer_caused = g.met.M.Summer.stays_caused } in
+    let i = g.M.Unit.Item in
+    let m = g.M.Summer in
+    let s0 = c.args.store.now in
+    let s1 = c.place_row.new.store in
+    let s2 = c.place_row-2.new.store in
+    let u0 = c.args.summer.now in
+    let u1 = c.place_row.new.summer in
+    let old = places (g.S.NodeSource.nodes s0) in
+    let mid = places (g.S.NodeSource.nodes s1) in
+    let left = c.in_ok-left.left in
+    let right = c.in_ok-left.right in
+    let j = has_split i m first old level c.args.node left right items c.in_ok-left.ensures.split has in
+    let parts = subst (AreAmong among) j.whole all in
+    let at_right = has_stays i m first old mid (extends_on g.M.Unit.Item g.S.NodeSource g.M.Summer laws s0 s1 u0 u1 c.in_ok-front.ensures.ran) level right j.back j.at_back in
+    let done = c.in_ok-front.ensures.pieces first level j.front among known j.at_front (all_front (Contains among) j.front j.back parts) in
+    let e01 = extends_on g.M.Unit.Item g.S.NodeSource g.M.Summer laws s0 s1 u0 u1 c.in_ok-front.ensures.ran in
+    let known1 = known_on g.M.Unit.Item g.S.NodeSource g.M.Summer laws first s0 s1 u0 u1 known c.in_ok-front.ensures.ran in
+    let p = err_from_is_err_and c.from_residual-in_err-back.result c.from_residual-in_err-back.ensures.1 in
+    on_match c.from_residual-in_err-back.result _ _ _ p.0 p.2 p.1
+    (were_on i m first among old mid e01 _ (g.S.NodeSource.puts s0) (g.S.NodeSource.puts s1) (g.S.NodeSource.puts s2) done (c.in_err-back.ensures.pieces first level j.back among known1 at_right (all_back (Contains among) j.front j.back parts)))
+
+pub returns-in_err-add_all-clause-pieces : goal.returns-in_err-add_all-clause-pieces
+returns-in_err-add_all-clause-pieces g t c first level items among known has all =
+    let laws : Laws g.S.NodeSource g.M.Summer = record { store_steps = g.met.S.NodeSource.are_steps; store_keeps = g.met.S.NodeSource.keeps; store_caused = g.met.S.NodeSource.stays_caused; summer_steps = g.met.M.Summer.are_steps; summer_keeps = g.met.M.Summer.keeps; summer_caused = g.met.M.Summer.stays_caused } in
+    let i = g.M.Unit.Item in
+    let m = g.M.Summer in
+    let s0 = c.args.store.now in
+    let s1 = c.place_row.new.store in
+    let s2 = c.place_row-2.new.store in
+    let u0 = c.args.summer.now in
+    let u1 = c.place_row.new.summer in
+    let u2 = c.place_row-2.new.summer in
+    let old = places (g.S.NodeSource.nodes s0) in
+    let mid = places (g.S.NodeSource.nodes s1) in
+    let new = places (g.S.NodeSource.nodes s2) in
+    let left = c.in_ok-left.left in
+    let right = c.in_ok-left.right in
+    let j = has_split i m first old level c.args.node left right items c.in_ok-left.ensures.split has in
+    let parts = subst (AreAmong among) j.whole all in
+    let e12 = extends_on g.M.Unit.Item g.S.NodeSource g.M.Summer laws s1 s2 u1 u2 c.in_ok-back.ensures.ran in
+    let at_right = has_stays i m first old mid (extends_on g.M.Unit.Item g.S.NodeSource g.M.Summer laws s0 s1 u0 u1 c.in_ok-front.ensures.ran) level right j.back j.at_back in
+    let done = c.in_ok-front.ensures.pieces first level j.front among known j.at_front (all_front (Contains among) j.front j.back parts) in
+    let second = c.in_ok-back.ensures.pieces first level j.back among (known_on g.M.Unit.Item g.S.NodeSource g.M.Summer laws first s0 s1 u0 u1 known c.in_ok-front.ensures.ran) at_right (all_back (Contains among) j.front j.back parts) in
+    let e01 = extends_on g.M.Unit.Item g.S.NodeSource g.M.Summer laws s0 s1 u0 u1 c.in_ok-front.ensures.ran in
+    let p = err_from_is_err_and c.from_residual-in_err-add_all.result c.from_residual-in_err-add_all.ensures.1 in
+    on_match c.from_residual-in_err-add_all.result _ _ _ p.0 p.2 p.1
+    (were_done i m first among old new (λ at bytes s. e12 at bytes (e01 at bytes s)) _ (g.S.NodeSource.puts s0) (g.S.NodeSource.puts s2) (pieces_on i m first among mid new e12 Below (g.S.NodeSource.puts s0) (g.S.NodeSource.puts s1) (g.S.NodeSource.puts s2) done second))

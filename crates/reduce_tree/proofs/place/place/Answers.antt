@@ -1,12 +1,13 @@
-use Rattle.std.proofs.Common.{◌≡◌, ◌∙◌, Some, ap, length, arith}
+use Rattle.std.proofs.Common.{◌≡◌, ◌∙◌, Some, ap, length, arith, refl}
 use Rattle.tree_laws.specs.Nodes.{spelled_node}
-use Rattle.tree_laws.proofs.Structure.{has_stays}
+use Rattle.tree_laws.proofs.SummerTrees.{has_stays}
 use Rattle.reduce_tree.specs.Calls.{places, GoOn}
-use Rattle.reduce_tree.proofs.Calls.{Laws, extends_on, known_on, told_at}
+use Rattle.reduce_tree.proofs.Calls.{Laws, extends_on, known_on, told_at, ran_err, goes_put, goes_summer, fails_put, summed_fails, on_err}
 use Rattle.reduce_tree.proofs.Puts.{leaf_long}
 use Rattle.reduce_tree.proofs.Sound.{sound_err, summed_sound}
 use Rattle.std.proofs.lemmas.Result.{err_from_is_err_and}
-use Rattle.reduce_tree.proofs.Pieces.{pieces_one}
+use Rattle.reduce_tree.proofs.Pieces.{pieces_one, were_none, were_tried, on_match}
+use Rattle.tree_laws.specs.declared.tree.TreeFault.TheVariants as tree_fault
 use Rattle.reduce_tree.proofs.place.place.Goals as goal
 
 pub returns-in-Ok-clause-stands : goal.returns-in-Ok-clause-stands
@@ -21,7 +22,7 @@ returns-in-Ok-clause-stands g c first level fill items known filled has =
     let old = places (g.S.NodeSource.nodes s0) in
     let new = places (g.S.NodeSource.nodes s1) in
     let at = c.in-Ok.at in
-    let ran : GoOn i g.S.NodeSource m s0 s1 u0 u1 = record { store = c.in-Ok.ensures.goes; summer = c.in_ok-told.ensures.ran } in
+    let ran : GoOn i g.S.NodeSource m s0 s1 u0 u1 = goes_put g.M.Unit.Item g.S.NodeSource g.M.Summer laws c.args.store.now c.put.new.self c.args.summer.now c.tell.new.summer c.as_slice.result.now c.args.node c.in-Ok.ensures.goes c.in_ok-told.ensures.ran c.in-Ok.ensures.puts (c.as_slice.ensures.value ∙ c.in_ok-bytes.ensures.bytes) c.in_ok-bytes.ensures.fits c.requires.most c.in_ok-told.ensures.summed in
     let later = known_on g.M.Unit.Item g.S.NodeSource g.M.Summer laws first s0 s1 u0 u1 known ran in
     let stand : new at ≡ Some c.as_slice.result.now = told_at (g.S.NodeSource.nodes s1) (λ there. there at ≡ Some c.as_slice.result.now) later.there c.in-Ok.ensures.place later.told in
     let bytes : new at ≡ Some (spelled_node i.spelled c.args.node) = stand ∙ ap Some (c.as_slice.ensures.value ∙ c.in_ok-bytes.ensures.bytes) in
@@ -40,7 +41,7 @@ returns-in-Ok-clause-child g c first level items known filled has =
     let old = places (g.S.NodeSource.nodes s0) in
     let new = places (g.S.NodeSource.nodes s1) in
     let at = c.in-Ok.at in
-    let ran : GoOn i g.S.NodeSource m s0 s1 u0 u1 = record { store = c.in-Ok.ensures.goes; summer = c.in_ok-told.ensures.ran } in
+    let ran : GoOn i g.S.NodeSource m s0 s1 u0 u1 = goes_put g.M.Unit.Item g.S.NodeSource g.M.Summer laws c.args.store.now c.put.new.self c.args.summer.now c.tell.new.summer c.as_slice.result.now c.args.node c.in-Ok.ensures.goes c.in_ok-told.ensures.ran c.in-Ok.ensures.puts (c.as_slice.ensures.value ∙ c.in_ok-bytes.ensures.bytes) c.in_ok-bytes.ensures.fits c.requires.most c.in_ok-told.ensures.summed in
     let later = known_on g.M.Unit.Item g.S.NodeSource g.M.Summer laws first s0 s1 u0 u1 known ran in
     let stand : new at ≡ Some c.as_slice.result.now = told_at (g.S.NodeSource.nodes s1) (λ there. there at ≡ Some c.as_slice.result.now) later.there c.in-Ok.ensures.place later.told in
     let bytes : new at ≡ Some (spelled_node i.spelled c.args.node) = stand ∙ ap Some (c.as_slice.ensures.value ∙ c.in_ok-bytes.ensures.bytes) in
@@ -55,7 +56,9 @@ returns-in-Ok-clause-child g c first level items known filled has =
     }
 
 pub returns-in-Ok-clause-ran : goal.returns-in-Ok-clause-ran
-returns-in-Ok-clause-ran g c = record { store = c.in-Ok.ensures.goes; summer = c.in_ok-told.ensures.ran }
+returns-in-Ok-clause-ran g c =
+    let laws : Laws g.S.NodeSource g.M.Summer = record { store_steps = g.met.S.NodeSource.are_steps; store_keeps = g.met.S.NodeSource.keeps; store_caused = g.met.S.NodeSource.stays_caused; summer_steps = g.met.M.Summer.are_steps; summer_keeps = g.met.M.Summer.keeps; summer_caused = g.met.M.Summer.stays_caused } in
+    goes_put g.M.Unit.Item g.S.NodeSource g.M.Summer laws c.args.store.now c.put.new.self c.args.summer.now c.tell.new.summer c.as_slice.result.now c.args.node c.in-Ok.ensures.goes c.in_ok-told.ensures.ran c.in-Ok.ensures.puts (c.as_slice.ensures.value ∙ c.in_ok-bytes.ensures.bytes) c.in_ok-bytes.ensures.fits c.requires.most c.in_ok-told.ensures.summed
 
 pub returns-in-Ok-clause-leaf : goal.returns-in-Ok-clause-leaf
 returns-in-Ok-clause-leaf g c =
@@ -82,10 +85,56 @@ returns-in-Ok-clause-pieces g c first level fill items among known filled has al
     let old = places (g.S.NodeSource.nodes s0) in
     let new = places (g.S.NodeSource.nodes s1) in
     let at = c.in-Ok.at in
-    let ran : GoOn i g.S.NodeSource m s0 s1 u0 u1 = record { store = c.in-Ok.ensures.goes; summer = c.in_ok-told.ensures.ran } in
+    let ran : GoOn i g.S.NodeSource m s0 s1 u0 u1 = goes_put g.M.Unit.Item g.S.NodeSource g.M.Summer laws c.args.store.now c.put.new.self c.args.summer.now c.tell.new.summer c.as_slice.result.now c.args.node c.in-Ok.ensures.goes c.in_ok-told.ensures.ran c.in-Ok.ensures.puts (c.as_slice.ensures.value ∙ c.in_ok-bytes.ensures.bytes) c.in_ok-bytes.ensures.fits c.requires.most c.in_ok-told.ensures.summed in
     let later = known_on g.M.Unit.Item g.S.NodeSource g.M.Summer laws first s0 s1 u0 u1 known ran in
     let stand : new at ≡ Some c.as_slice.result.now = told_at (g.S.NodeSource.nodes s1) (λ there. there at ≡ Some c.as_slice.result.now) later.there c.in-Ok.ensures.place later.told in
     let bytes : new at ≡ Some (spelled_node i.spelled c.args.node) = stand ∙ ap Some (c.as_slice.ensures.value ∙ c.in_ok-bytes.ensures.bytes) in
     let stays = has_stays i m first old new (extends_on g.M.Unit.Item g.S.NodeSource g.M.Summer laws s0 s1 u0 u1 ran) level c.args.node items has in
     pieces_one i m first among new fill c.as_slice.result.now (g.S.NodeSource.puts s0) (g.S.NodeSource.puts s1) c.in-Ok.ensures.puts
     (record { level = level; at = at; own = items; node = record { node = c.args.node; fits = c.in_ok-bytes.ensures.fits; bytes = bytes; filled = filled; has = stays }; stand = stand; items = all })
+
+pub returns-in_err-told-clause-ran : goal.returns-in_err-told-clause-ran
+returns-in_err-told-clause-ran g c =
+    let laws : Laws g.S.NodeSource g.M.Summer = record { store_steps = g.met.S.NodeSource.are_steps; store_keeps = g.met.S.NodeSource.keeps; store_caused = g.met.S.NodeSource.stays_caused; summer_steps = g.met.M.Summer.are_steps; summer_keeps = g.met.M.Summer.keeps; summer_caused = g.met.M.Summer.stays_caused } in
+    let p = err_from_is_err_and c.from_residual.result c.from_residual.ensures.1 in
+    ran_err g.M.Unit.Item g.S.NodeSource g.M.Summer laws _ _ _ _ c.from_residual.result c.in_err-told.field-0.0 p.0 p.2 p.1 (summed_fails g.M.Unit.Item g.S.NodeSource g.M.Summer laws (Unit {0}) c.args.store.now c.args.summer.now c.tell.new.summer _ c.in_err-told.ensures.ran)
+
+pub returns-in_err-bytes-clause-ran : goal.returns-in_err-bytes-clause-ran
+returns-in_err-bytes-clause-ran g c =
+    let laws : Laws g.S.NodeSource g.M.Summer = record { store_steps = g.met.S.NodeSource.are_steps; store_keeps = g.met.S.NodeSource.keeps; store_caused = g.met.S.NodeSource.stays_caused; summer_steps = g.met.M.Summer.are_steps; summer_keeps = g.met.M.Summer.keeps; summer_caused = g.met.M.Summer.stays_caused } in
+    let p = err_from_is_err_and c.from_residual-in_err-bytes.result c.from_residual-in_err-bytes.ensures.1 in
+    ran_err g.M.Unit.Item g.S.NodeSource g.M.Summer laws _ _ _ _ c.from_residual-in_err-bytes.result tree_fault.NoMemory p.0 p.2 p.1 (goes_summer g.M.Unit.Item g.S.NodeSource g.M.Summer laws c.args.store.now c.args.summer.now c.tell.new.summer c.in_ok-told.ensures.ran)
+
+pub returns-clause-ran : goal.returns-clause-ran
+returns-clause-ran g c =
+    let laws : Laws g.S.NodeSource g.M.Summer = record { store_steps = g.met.S.NodeSource.are_steps; store_keeps = g.met.S.NodeSource.keeps; store_caused = g.met.S.NodeSource.stays_caused; summer_steps = g.met.M.Summer.are_steps; summer_keeps = g.met.M.Summer.keeps; summer_caused = g.met.M.Summer.stays_caused } in
+    fails_put g.M.Unit.Item g.S.NodeSource g.M.Summer laws c.args.store.now c.put.new.self c.args.summer.now c.tell.new.summer _ c.as_slice.result.now c.args.node c.in-Err.ensures.cause c.in_ok-told.ensures.ran c.in-Err.ensures.puts (c.as_slice.ensures.value ∙ c.in_ok-bytes.ensures.bytes) c.in_ok-bytes.ensures.fits c.requires.most c.in_ok-told.ensures.summed
+
+pub returns-in_err-told-clause-spent : goal.returns-in_err-told-clause-spent
+returns-in_err-told-clause-spent g c =
+    on_err c.from_residual.result _ (record { steps = omega arith; puts = omega arith })
+
+pub returns-in_err-bytes-clause-spent : goal.returns-in_err-bytes-clause-spent
+returns-in_err-bytes-clause-spent g c =
+    on_err c.from_residual-in_err-bytes.result _ (record { steps = omega arith; puts = omega arith })
+
+pub returns-clause-spent : goal.returns-clause-spent
+returns-clause-spent g c =
+    let more = ap length c.in-Err.ensures.puts in
+    record { steps = omega (arith, c.tick.ensures); puts = omega (arith, more, c.tick.ensures) }
+
+pub returns-in_err-told-clause-pieces : goal.returns-in_err-told-clause-pieces
+returns-in_err-told-clause-pieces g c first level fill items among known filled has all =
+    let p = err_from_is_err_and c.from_residual.result c.from_residual.ensures.1 in
+    on_match c.from_residual.result _ _ _ p.0 p.2 p.1 (were_none g.M.Unit.Item g.M.Summer first among (places (g.S.NodeSource.nodes c.args.store.now)) _ (g.S.NodeSource.puts c.args.store.now) (g.S.NodeSource.puts c.args.store.now) refl)
+
+pub returns-in_err-bytes-clause-pieces : goal.returns-in_err-bytes-clause-pieces
+returns-in_err-bytes-clause-pieces g c first level fill items among known filled has all =
+    let p = err_from_is_err_and c.from_residual-in_err-bytes.result c.from_residual-in_err-bytes.ensures.1 in
+    on_match c.from_residual-in_err-bytes.result _ _ _ p.0 p.2 p.1 (were_none g.M.Unit.Item g.M.Summer first among (places (g.S.NodeSource.nodes c.args.store.now)) _ (g.S.NodeSource.puts c.args.store.now) (g.S.NodeSource.puts c.args.store.now) refl)
+
+pub returns-clause-pieces : goal.returns-clause-pieces
+returns-clause-pieces g c first level fill items among known filled has all =
+    let is = c.as_slice.ensures.value ∙ c.in_ok-bytes.ensures.bytes in
+    were_tried g.M.Unit.Item g.M.Summer first among (places (g.S.NodeSource.nodes c.args.store.now)) _ c.as_slice.result.now (g.S.NodeSource.puts c.args.store.now) (g.S.NodeSource.puts c.put.new.self) c.in-Err.ensures.puts
+    (record { level = level; fill = fill; own = items; node = c.args.node; fits = c.in_ok-bytes.ensures.fits; bytes_are = is; filled = filled; has = has; items = all })

@@ -1,18 +1,20 @@
-use Rattle.std.proofs.Common.{arith, ◌≡◌, ◌+◌, ◌≤◌, ◌∙◌, ◌∷◌, [], ◌^◌, ap, sym, subst, Contains}
+use Rattle.std.proofs.Common.{arith, ◌≡◌, ◌+◌, ◌≤◌, ◌∙◌, ◌∷◌, [], ◌^◌, ap, sym, subst, Contains, ◌<◌, refl}
 use Rattle.tree_laws.specs.declared.node.Node.TheVariants.{Inner}
 use Rattle.tree_laws.specs.declared.tree.Fill.TheVariants.{Below}
 use Rattle.tree_laws.specs.Fitting.{IsFilled, item_count}
-use Rattle.tree_laws.specs.Trees.{Stands}
-use Rattle.tree_laws.proofs.Parts.{children_append, children_one}
-use Rattle.tree_laws.proofs.Structure.{child_stays, has_stays, stands_stays}
+use Rattle.tree_laws.specs.SummerTrees.{Stands}
+use Rattle.tree_laws.proofs.SummerTrees.{children_append, children_one}
+use Rattle.tree_laws.proofs.SummerTrees.{child_stays, has_stays, stands_stays}
 use Rattle.reduce_tree.specs.Calls.{places}
 use Rattle.std.proofs.lemmas.Result.{err_from_is_err_and}
-use Rattle.reduce_tree.proofs.Calls.{Laws, ran_err, extends_on, fails_on, goes_on, known_on}
+use Rattle.reduce_tree.proofs.Calls.{Laws, ran_err, extends_on, fails_on, goes_on, known_on, goes_none, on_err}
 use Rattle.reduce_tree.proofs.Nodes.{count_append, count_one, filled_large, has_split, large_append, large_one, split_count, split_kind, split_large}
 use Rattle.reduce_tree.proofs.Puts.{leaf_split, put_two}
-use Rattle.reduce_tree.proofs.Pieces.{pieces_on}
+use Rattle.reduce_tree.proofs.Pieces.{pieces_on, were_none, were_done, were_on, on_match}
 use Rattle.reduce_tree.proofs.Quiet.{all_front, all_back}
 use Rattle.reduce_tree.specs.Pieces.{AreAmong}
+use Rattle.tree_laws.specs.Nodes.{entries}
+use Rattle.tree_laws.specs.declared.tree.TreeFault.TheVariants as tree_fault
 use Rattle.reduce_tree.proofs.place.place_all.Goals as goal
 
 pub returns-then-len-le32-clause-children : goal.returns-then-len-le32-clause-children
@@ -123,3 +125,142 @@ returns-clause-pieces g c first level items among known has all =
     let done = c.in_ok-first.ensures.pieces first level Below j.front among known full_left j.at_front (all_front (Contains among) j.front j.back parts) in
     let second = c.in_ok-second.ensures.pieces first level Below j.back among (known_on g.M.Unit.Item g.S.NodeSource g.M.Summer laws first s0 s1 u0 u1 known c.in_ok-first.ensures.ran) full_right at_right (all_back (Contains among) j.front j.back parts) in
     pieces_on i m first among mid new e12 Below (g.S.NodeSource.puts s0) (g.S.NodeSource.puts s1) (g.S.NodeSource.puts s2) done second
+
+pub returns-in_err-list_of_one-clause-ran : goal.returns-in_err-list_of_one-clause-ran
+returns-in_err-list_of_one-clause-ran g c =
+    let laws : Laws g.S.NodeSource g.M.Summer = record { store_steps = g.met.S.NodeSource.are_steps; store_keeps = g.met.S.NodeSource.keeps; store_caused = g.met.S.NodeSource.stays_caused; summer_steps = g.met.M.Summer.are_steps; summer_keeps = g.met.M.Summer.keeps; summer_caused = g.met.M.Summer.stays_caused } in
+    let p = err_from_is_err_and c.from_residual-in_err-list_of_one.result c.from_residual-in_err-list_of_one.ensures.1 in
+    ran_err g.M.Unit.Item g.S.NodeSource g.M.Summer laws _ _ _ _ c.from_residual-in_err-list_of_one.result tree_fault.NoMemory p.0 p.2 p.1 (c.in_ok-child.ensures.ran)
+
+pub returns-in_err-left-clause-ran : goal.returns-in_err-left-clause-ran
+returns-in_err-left-clause-ran g c =
+    let laws : Laws g.S.NodeSource g.M.Summer = record { store_steps = g.met.S.NodeSource.are_steps; store_keeps = g.met.S.NodeSource.keeps; store_caused = g.met.S.NodeSource.stays_caused; summer_steps = g.met.M.Summer.are_steps; summer_keeps = g.met.M.Summer.keeps; summer_caused = g.met.M.Summer.stays_caused } in
+    let p = err_from_is_err_and c.from_residual-in_err-left.result c.from_residual-in_err-left.ensures.1 in
+    ran_err g.M.Unit.Item g.S.NodeSource g.M.Summer laws _ _ _ _ c.from_residual-in_err-left.result tree_fault.NoMemory p.0 p.2 p.1 (goes_none g.M.Unit.Item g.S.NodeSource g.M.Summer laws c.args.store.now c.args.summer.now)
+
+pub returns-in_err-list_of_two-clause-ran : goal.returns-in_err-list_of_two-clause-ran
+returns-in_err-list_of_two-clause-ran g c =
+    let laws : Laws g.S.NodeSource g.M.Summer = record { store_steps = g.met.S.NodeSource.are_steps; store_keeps = g.met.S.NodeSource.keeps; store_caused = g.met.S.NodeSource.stays_caused; summer_steps = g.met.M.Summer.are_steps; summer_keeps = g.met.M.Summer.keeps; summer_caused = g.met.M.Summer.stays_caused } in
+    let p = err_from_is_err_and c.from_residual-in_err-list_of_two.result c.from_residual-in_err-list_of_two.ensures.1 in
+    ran_err g.M.Unit.Item g.S.NodeSource g.M.Summer laws _ _ _ _ c.from_residual-in_err-list_of_two.result tree_fault.NoMemory p.0 p.2 p.1 (goes_on g.M.Unit.Item g.S.NodeSource g.M.Summer laws c.args.store.now c.place-2.new.store c.place-3.new.store c.args.summer.now c.place-2.new.summer c.place-3.new.summer c.in_ok-first.ensures.ran c.in_ok-second.ensures.ran)
+
+pub returns-in_err-child-clause-spent : goal.returns-in_err-child-clause-spent
+returns-in_err-child-clause-spent g c =
+    let k = c.in_err-child.ensures.spent in
+    on_err c.from_residual.result _ (record { steps = let s = k.steps in omega (arith, s); puts = let s = k.puts in omega (arith, s) })
+
+pub returns-in_err-list_of_one-clause-spent : goal.returns-in_err-list_of_one-clause-spent
+returns-in_err-list_of_one-clause-spent g c =
+    let k = c.in_ok-child.ensures in
+    on_err c.from_residual-in_err-list_of_one.result _ (record { steps = omega (arith, k.steps); puts = omega (arith, k.steps, k.puts) })
+
+pub returns-in_err-left-clause-spent : goal.returns-in_err-left-clause-spent
+returns-in_err-left-clause-spent g c =
+    on_err c.from_residual-in_err-left.result _ (record { steps = omega arith; puts = omega arith })
+
+pub returns-in_err-first-clause-spent : goal.returns-in_err-first-clause-spent
+returns-in_err-first-clause-spent g c =
+    let k = c.in_err-first.ensures.spent in
+    on_err c.from_residual-in_err-first.result _ (record { steps = let s = k.steps in omega (arith, s); puts = let s = k.puts in omega (arith, s) })
+
+pub returns-in_err-second-clause-spent : goal.returns-in_err-second-clause-spent
+returns-in_err-second-clause-spent g c =
+    let k = c.in_err-second.ensures.spent in
+    let a = c.in_ok-first.ensures in
+    let more : 32 < entries c.args.node = omega (arith, c.len.ensures, c.if-len-le32.false) in
+    on_err c.from_residual-in_err-second.result _ (record { steps = let s = k.steps in omega (arith, s, a.steps, more); puts = let s = k.puts in omega (arith, s, a.steps, a.puts, more) })
+
+pub returns-in_err-list_of_two-clause-spent : goal.returns-in_err-list_of_two-clause-spent
+returns-in_err-list_of_two-clause-spent g c =
+    let a = c.in_ok-first.ensures in
+    let b = c.in_ok-second.ensures in
+    let more : 32 < entries c.args.node = omega (arith, c.len.ensures, c.if-len-le32.false) in
+    on_err c.from_residual-in_err-list_of_two.result _ (record { steps = omega (arith, a.steps, b.steps, more); puts = omega (arith, a.steps, a.puts, b.steps, b.puts, more) })
+
+pub returns-in_err-child-clause-pieces : goal.returns-in_err-child-clause-pieces
+returns-in_err-child-clause-pieces g c first level items among known has all =
+    let full : IsFilled Below c.args.node = record { least = c.requires.least; most = omega (arith, c.len.ensures, c.if-len-le32.true) } in
+    let p = err_from_is_err_and c.from_residual.result c.from_residual.ensures.1 in
+    on_match c.from_residual.result _ _ _ p.0 p.2 p.1 (c.in_err-child.ensures.pieces first level Below items among known full has all)
+
+pub returns-in_err-list_of_one-clause-pieces : goal.returns-in_err-list_of_one-clause-pieces
+returns-in_err-list_of_one-clause-pieces g c first level items among known has all =
+    let laws : Laws g.S.NodeSource g.M.Summer = record { store_steps = g.met.S.NodeSource.are_steps; store_keeps = g.met.S.NodeSource.keeps; store_caused = g.met.S.NodeSource.stays_caused; summer_steps = g.met.M.Summer.are_steps; summer_keeps = g.met.M.Summer.keeps; summer_caused = g.met.M.Summer.stays_caused } in
+    let full : IsFilled Below c.args.node = record { least = c.requires.least; most = omega (arith, c.len.ensures, c.if-len-le32.true) } in
+    let p = err_from_is_err_and c.from_residual-in_err-list_of_one.result c.from_residual-in_err-list_of_one.ensures.1 in
+    on_match c.from_residual-in_err-list_of_one.result _ _ _ p.0 p.2 p.1 (were_done g.M.Unit.Item g.M.Summer first among (places (g.S.NodeSource.nodes c.args.store.now)) (places (g.S.NodeSource.nodes c.place.new.store)) (extends_on g.M.Unit.Item g.S.NodeSource g.M.Summer laws c.args.store.now c.place.new.store c.args.summer.now c.place.new.summer c.in_ok-child.ensures.ran) _ (g.S.NodeSource.puts c.args.store.now) (g.S.NodeSource.puts c.place.new.store) (c.in_ok-child.ensures.pieces first level Below items among known full has all))
+
+pub returns-in_err-left-clause-pieces : goal.returns-in_err-left-clause-pieces
+returns-in_err-left-clause-pieces g c first level items among known has all =
+    let p = err_from_is_err_and c.from_residual-in_err-left.result c.from_residual-in_err-left.ensures.1 in
+    on_match c.from_residual-in_err-left.result _ _ _ p.0 p.2 p.1 (were_none g.M.Unit.Item g.M.Summer first among (places (g.S.NodeSource.nodes c.args.store.now)) _ (g.S.NodeSource.puts c.args.store.now) (g.S.NodeSource.puts c.args.store.now) refl)
+
+pub returns-in_err-first-clause-pieces : goal.returns-in_err-first-clause-pieces
+returns-in_err-first-clause-pieces g c first level items among known has all =
+    let i = g.M.Unit.Item in
+    let m = g.M.Summer in
+    let s0 = c.args.store.now in
+    let old = places (g.S.NodeSource.nodes s0) in
+    let left = c.in_ok-left.left in
+    let right = c.in_ok-left.right in
+    let j = has_split i m first old level c.args.node left right items c.in_ok-left.ensures.split has in
+    let full_left : IsFilled Below left = record { least = omega (arith, c.in_ok-left.ensures.left); most = omega (arith, c.in_ok-left.ensures.left) } in
+    let parts = subst (AreAmong among) j.whole all in
+    let p = err_from_is_err_and c.from_residual-in_err-first.result c.from_residual-in_err-first.ensures.1 in
+    on_match c.from_residual-in_err-first.result _ _ _ p.0 p.2 p.1
+    (c.in_err-first.ensures.pieces first level Below j.front among known full_left j.at_front (all_front (Contains among) j.front j.back parts))
+
+pub returns-in_err-second-clause-pieces : goal.returns-in_err-second-clause-pieces
+returns-in_err-second-clause-pieces g c first level items among known has all =
+    let laws : Laws g.S.NodeSource g.M.Summer = record { store_steps = g.met.S.NodeSource.are_steps; store_keeps = g.met.S.NodeSource.keeps; store_caused = g.met.S.NodeSource.stays_caused; summer_steps = g.met.M.Summer.are_steps; summer_keeps = g.met.M.Summer.keeps; summer_caused = g.met.M.Summer.stays_caused } in
+    let i = g.M.Unit.Item in
+    let m = g.M.Summer in
+    let s0 = c.args.store.now in
+    let s1 = c.place-2.new.store in
+    let s2 = c.place-3.new.store in
+    let u0 = c.args.summer.now in
+    let u1 = c.place-2.new.summer in
+    let old = places (g.S.NodeSource.nodes s0) in
+    let mid = places (g.S.NodeSource.nodes s1) in
+    let left = c.in_ok-left.left in
+    let right = c.in_ok-left.right in
+    let j = has_split i m first old level c.args.node left right items c.in_ok-left.ensures.split has in
+    let full_left : IsFilled Below left = record { least = omega (arith, c.in_ok-left.ensures.left); most = omega (arith, c.in_ok-left.ensures.left) } in
+    let full_right : IsFilled Below right = record { least = omega (arith, c.in_ok-left.ensures.left, c.in_ok-left.ensures.right); most = omega (arith, c.in_ok-left.ensures.left, c.in_ok-left.ensures.right) } in
+    let parts = subst (AreAmong among) j.whole all in
+    let at_right = has_stays i m first old mid (extends_on g.M.Unit.Item g.S.NodeSource g.M.Summer laws s0 s1 u0 u1 c.in_ok-first.ensures.ran) level right j.back j.at_back in
+    let done = c.in_ok-first.ensures.pieces first level Below j.front among known full_left j.at_front (all_front (Contains among) j.front j.back parts) in
+    let e01 = extends_on g.M.Unit.Item g.S.NodeSource g.M.Summer laws s0 s1 u0 u1 c.in_ok-first.ensures.ran in
+    let known1 = known_on g.M.Unit.Item g.S.NodeSource g.M.Summer laws first s0 s1 u0 u1 known c.in_ok-first.ensures.ran in
+    let p = err_from_is_err_and c.from_residual-in_err-second.result c.from_residual-in_err-second.ensures.1 in
+    on_match c.from_residual-in_err-second.result _ _ _ p.0 p.2 p.1
+    (were_on i m first among old mid e01 _ (g.S.NodeSource.puts s0) (g.S.NodeSource.puts s1) (g.S.NodeSource.puts s2) done (c.in_err-second.ensures.pieces first level Below j.back among known1 full_right at_right (all_back (Contains among) j.front j.back parts)))
+
+pub returns-in_err-list_of_two-clause-pieces : goal.returns-in_err-list_of_two-clause-pieces
+returns-in_err-list_of_two-clause-pieces g c first level items among known has all =
+    let laws : Laws g.S.NodeSource g.M.Summer = record { store_steps = g.met.S.NodeSource.are_steps; store_keeps = g.met.S.NodeSource.keeps; store_caused = g.met.S.NodeSource.stays_caused; summer_steps = g.met.M.Summer.are_steps; summer_keeps = g.met.M.Summer.keeps; summer_caused = g.met.M.Summer.stays_caused } in
+    let i = g.M.Unit.Item in
+    let m = g.M.Summer in
+    let s0 = c.args.store.now in
+    let s1 = c.place-2.new.store in
+    let s2 = c.place-3.new.store in
+    let u0 = c.args.summer.now in
+    let u1 = c.place-2.new.summer in
+    let u2 = c.place-3.new.summer in
+    let old = places (g.S.NodeSource.nodes s0) in
+    let mid = places (g.S.NodeSource.nodes s1) in
+    let new = places (g.S.NodeSource.nodes s2) in
+    let left = c.in_ok-left.left in
+    let right = c.in_ok-left.right in
+    let j = has_split i m first old level c.args.node left right items c.in_ok-left.ensures.split has in
+    let full_left : IsFilled Below left = record { least = omega (arith, c.in_ok-left.ensures.left); most = omega (arith, c.in_ok-left.ensures.left) } in
+    let full_right : IsFilled Below right = record { least = omega (arith, c.in_ok-left.ensures.left, c.in_ok-left.ensures.right); most = omega (arith, c.in_ok-left.ensures.left, c.in_ok-left.ensures.right) } in
+    let parts = subst (AreAmong among) j.whole all in
+    let e12 = extends_on g.M.Unit.Item g.S.NodeSource g.M.Summer laws s1 s2 u1 u2 c.in_ok-second.ensures.ran in
+    let at_right = has_stays i m first old mid (extends_on g.M.Unit.Item g.S.NodeSource g.M.Summer laws s0 s1 u0 u1 c.in_ok-first.ensures.ran) level right j.back j.at_back in
+    let done = c.in_ok-first.ensures.pieces first level Below j.front among known full_left j.at_front (all_front (Contains among) j.front j.back parts) in
+    let second = c.in_ok-second.ensures.pieces first level Below j.back among (known_on g.M.Unit.Item g.S.NodeSource g.M.Summer laws first s0 s1 u0 u1 known c.in_ok-first.ensures.ran) full_right at_right (all_back (Contains among) j.front j.back parts) in
+    let e01 = extends_on g.M.Unit.Item g.S.NodeSource g.M.Summer laws s0 s1 u0 u1 c.in_ok-first.ensures.ran in
+    let p = err_from_is_err_and c.from_residual-in_err-list_of_two.result c.from_residual-in_err-list_of_two.ensures.1 in
+    on_match c.from_residual-in_err-list_of_two.result _ _ _ p.0 p.2 p.1
+    (were_done i m first among old new (λ at bytes s. e12 at bytes (e01 at bytes s)) _ (g.S.NodeSource.puts s0) (g.S.NodeSource.puts s2) (pieces_on i m first among mid new e12 Below (g.S.NodeSource.puts s0) (g.S.NodeSource.puts s1) (g.S.NodeSource.puts s2) done second))

@@ -2,14 +2,15 @@ use Rattle.std.proofs.Common.{rules, ◌≡◌, ◌+◌, ◌<◌, ◌≤◌, ◌
 use Rattle.tree_laws.specs.declared.node.Node.TheVariants.{Inner}
 use Rattle.tree_laws.specs.Fitting.{AreLarge, item_count}
 use Rattle.tree_laws.specs.Nodes.{entries}
-use Rattle.tree_laws.specs.Trees.{Has}
+use Rattle.tree_laws.specs.SummerTrees.{Has}
 use Rattle.reduce_tree.specs.Calls.{places}
 use Rattle.std.proofs.lemmas.Result.{err_from_is_err_and}
 use Rattle.reduce_tree.proofs.Calls.{Laws, ran_err, fails_on, goes_on, known_on, extends_on}
-use Rattle.reduce_tree.proofs.Nodes.{above_at_level, has_children, level_small, many_items}
+use Rattle.reduce_tree.proofs.Nodes.{above_at_level, has_children, level_small, many_items, level_below}
 use Rattle.reduce_tree.proofs.Puts.{put_two}
-use Rattle.reduce_tree.proofs.Pieces.{pieces_none, pieces_on}
+use Rattle.reduce_tree.proofs.Pieces.{pieces_none, pieces_on, were_on, on_match}
 use Rattle.tree_laws.specs.declared.tree.Fill.TheVariants.{Below}
+use Rattle.reduce_tree.proofs.Charge.{slack_some}
 use Rattle.reduce_tree.proofs.root.+raise.Goals as goal
 
 pub raise-requires : goal.raise-requires
@@ -98,3 +99,74 @@ returns-clause-pieces g t c first items among known has all =
     let two = c.in_ok-tree-2.ensures.pieces first items among (known_on i g.S.NodeSource m laws first s0 s1 u0 u1 known c.in_ok-children.ensures.ran) at_cs all in
     let e12 = extends_on i g.S.NodeSource m laws s1 s2 u1 c.raise.new.summer c.in_ok-tree-2.ensures.ran in
     record { mid = two.mid; below = pieces_on i m first among n1 n2 e12 Below (g.S.NodeSource.puts s0) (g.S.NodeSource.puts s1) two.mid one two.below; root = two.root; one = two.one }
+
+pub returns-then-len-le32-clause-within : goal.returns-then-len-le32-clause-within
+returns-then-len-le32-clause-within g t c top few = c.in_ok-tree.ensures.within top few
+
+pub returns-in_err-tree-clause-within : goal.returns-in_err-tree-clause-within
+returns-in_err-tree-clause-within g t c top few = c.in_err-tree.ensures.within top few
+
+pub returns-in_err-children-clause-within : goal.returns-in_err-children-clause-within
+returns-in_err-children-clause-within g t c top few =
+    let more : 0 < entries c.args.node = omega (arith, c.len.ensures, c.if-len-le32.false) in
+    let z = slack_some top c.args.level (entries c.args.node) more in
+    let low = level_below c.args.level top c.args.node c.requires.kind c.requires.large more few in
+    let k = c.in_err-children.ensures.spent in
+    record { steps = let a = k.steps in omega (arith, z, low, a); puts = let a = k.puts in omega (arith, z, low, a) }
+
+pub returns-clause-within : goal.returns-clause-within
+returns-clause-within g t c top few =
+    let more : 0 < entries c.args.node = omega (arith, c.len.ensures, c.if-len-le32.false) in
+    let z = slack_some top c.args.level (entries c.args.node) more in
+    let low = level_below c.args.level top c.args.node c.requires.kind c.requires.large more few in
+    let n = ap length c.from_vec.ensures in
+    let k = c.in_ok-children.ensures in
+    let same : item_count (Inner c.from_vec.result) ≡ item_count c.args.node = ap (λ ds. item_count (Inner ds)) c.from_vec.ensures ∙ k.count in
+    let some : 0 < length c.from_vec.result = omega (arith, n, k.some) in
+    let s = slack_some top (c.args.level + 1) (length c.from_vec.result) some in
+    let w = c.in_ok-tree-2.ensures.within top (subst (λ x. x < 8 ^ top) (sym same) few) in
+    record { steps = let a = w.steps in omega (arith, z, low, n, s, k.steps, k.packed, a); puts = let a = w.puts in omega (arith, z, low, n, s, k.steps, k.puts, k.packed, a) }
+
+pub returns-in_err-tree-2-clause-within : goal.returns-in_err-tree-2-clause-within
+returns-in_err-tree-2-clause-within g t c top few =
+    let more : 0 < entries c.args.node = omega (arith, c.len.ensures, c.if-len-le32.false) in
+    let z = slack_some top c.args.level (entries c.args.node) more in
+    let low = level_below c.args.level top c.args.node c.requires.kind c.requires.large more few in
+    let n = ap length c.from_vec.ensures in
+    let k = c.in_ok-children.ensures in
+    let same : item_count (Inner c.from_vec.result) ≡ item_count c.args.node = ap (λ ds. item_count (Inner ds)) c.from_vec.ensures ∙ k.count in
+    let some : 0 < length c.from_vec.result = omega (arith, n, k.some) in
+    let s = slack_some top (c.args.level + 1) (length c.from_vec.result) some in
+    let w = c.in_err-tree-2.ensures.within top (subst (λ x. x < 8 ^ top) (sym same) few) in
+    record { steps = let a = w.steps in omega (arith, z, low, n, s, k.steps, k.packed, a); puts = let a = w.puts in omega (arith, z, low, n, s, k.steps, k.puts, k.packed, a) }
+
+pub returns-in_err-tree-clause-pieces : goal.returns-in_err-tree-clause-pieces
+returns-in_err-tree-clause-pieces g t c first items among known has all =
+    let p = err_from_is_err_and c.from_residual.result c.from_residual.ensures.1 in
+    on_match c.from_residual.result _ _ _ p.0 p.2 p.1 (c.in_err-tree.ensures.pieces first items among known has all)
+
+pub returns-in_err-children-clause-pieces : goal.returns-in_err-children-clause-pieces
+returns-in_err-children-clause-pieces g t c first items among known has all =
+    let p = err_from_is_err_and c.from_residual-in_err-children.result c.from_residual-in_err-children.ensures.1 in
+    on_match c.from_residual-in_err-children.result _ _ _ p.0 p.2 p.1 (c.in_err-children.ensures.pieces first c.args.level items among known has all)
+
+pub returns-in_err-tree-2-clause-pieces : goal.returns-in_err-tree-2-clause-pieces
+returns-in_err-tree-2-clause-pieces g t c first items among known has all =
+    let laws : Laws g.S.NodeSource g.M.Summer = record { store_steps = g.met.S.NodeSource.are_steps; store_keeps = g.met.S.NodeSource.keeps; store_caused = g.met.S.NodeSource.stays_caused; summer_steps = g.met.M.Summer.are_steps; summer_keeps = g.met.M.Summer.keeps; summer_caused = g.met.M.Summer.stays_caused } in
+    let i = g.M.Unit.Item in
+    let m = g.M.Summer in
+    let s0 = c.args.store.now in
+    let s1 = c.place_row.new.store in
+    let s2 = c.raise.new.store in
+    let u0 = c.args.summer.now in
+    let u1 = c.place_row.new.summer in
+    let n1 = places (g.S.NodeSource.nodes s1) in
+    let cs = c.in_ok-children.ensures.children first c.args.level items known has in
+    let at_cs = subst (λ ds. Has i m first n1 (c.args.level + 1) (Inner ds) items) (sym c.from_vec.ensures) (has_children i m first n1 c.args.level c.in_ok-children.children.items items cs) in
+    let one = c.in_ok-children.ensures.pieces first c.args.level items among known has all in
+    let n0 = places (g.S.NodeSource.nodes s0) in
+    let e01 = extends_on g.M.Unit.Item g.S.NodeSource g.M.Summer laws s0 s1 u0 u1 c.in_ok-children.ensures.ran in
+    let known1 = known_on g.M.Unit.Item g.S.NodeSource g.M.Summer laws first s0 s1 u0 u1 known c.in_ok-children.ensures.ran in
+    let p = err_from_is_err_and c.from_residual-in_err-tree-2.result c.from_residual-in_err-tree-2.ensures.1 in
+    on_match c.from_residual-in_err-tree-2.result _ _ _ p.0 p.2 p.1
+    (were_on i m first among n0 n1 e01 _ (g.S.NodeSource.puts s0) (g.S.NodeSource.puts s1) (g.S.NodeSource.puts s2) one (c.in_err-tree-2.ensures.pieces first items among known1 at_cs all))

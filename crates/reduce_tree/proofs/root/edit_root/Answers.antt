@@ -3,17 +3,18 @@ use Rattle.tree_laws.specs.declared.node.Node.TheVariants.{Leaf}
 use Rattle.tree_laws.specs.declared.tree.Fill.TheVariants.{Root, Below}
 use Rattle.tree_laws.specs.Fitting.{AreLarge, item_count}
 use Rattle.tree_laws.specs.Nodes.{entries}
-use Rattle.tree_laws.specs.Trees.{Has, HasRoot, IsAt}
-use Rattle.tree_laws.proofs.Structure.{has_stays}
+use Rattle.tree_laws.specs.SummerTrees.{Has, HasRoot, IsAt}
+use Rattle.tree_laws.proofs.SummerTrees.{has_stays}
 use Rattle.reduce_tree.specs.Applied.{applied}
-use Rattle.reduce_tree.specs.Bounds.{put_count, slack}
+use Rattle.reduce_tree.specs.Bounds.{slack}
 use Rattle.reduce_tree.specs.Calls.{places}
 use Rattle.std.proofs.lemmas.Result.{err_from_is_err_and}
-use Rattle.reduce_tree.proofs.Calls.{Laws, ran_err, extends_on, fails_on, goes_on, known_on}
+use Rattle.reduce_tree.proofs.Calls.{Laws, ran_err, extends_on, fails_on, goes_on, known_on, on_err}
 use Rattle.reduce_tree.proofs.Nodes.{has_once, level_small}
 use Rattle.reduce_tree.proofs.Puts.{put_on}
 use Rattle.reduce_tree.proofs.Sound.{sound_err}
 use Rattle.reduce_tree.specs.Pieces.{ArePieces}
+use Rattle.reduce_tree.proofs.Pieces.{were_none, were_on, on_match, pieces_none}
 use Rattle.reduce_tree.proofs.root.edit_root.Goals as goal
 
 pub edit_row-requires-clause-kind : goal.edit_row-requires-clause-kind
@@ -126,7 +127,7 @@ pub returns-clause-steps : goal.returns-clause-steps
 returns-clause-steps g c = omega (arith, c.in_ok-root.ensures.steps, c.in_ok-root.ensures.fits.filled.most, c.in_ok-row-2.ensures.steps)
 
 pub returns-clause-once : goal.returns-clause-once
-returns-clause-once g c = omega (arith, ap put_count c.in_ok-root.ensures.puts, c.in_ok-root.ensures.steps, c.in_ok-root.ensures.fits.filled.most, c.in_ok-row-2.ensures.once)
+returns-clause-once g c = omega (arith, ap length c.in_ok-root.ensures.puts, c.in_ok-root.ensures.steps, c.in_ok-root.ensures.fits.filled.most, c.in_ok-row-2.ensures.once)
 
 pub returns-clause-leaf : goal.returns-clause-leaf
 returns-clause-leaf g c =
@@ -223,3 +224,64 @@ returns-clause-pieces g c first items among known sorted root ai ae =
     let st : IsAt i m first n0 (Has i m first n0 level) Root c.args.tree.root items = subst (λ h. HasRoot i m first n0 c.args.tree.root h items) up root in
     let has = has_stays i m first n0 n1 (extends_on i g.S.NodeSource m laws s0 s1 u0 u0 a) level c.in_ok-root.root items (c.in_ok-root.ensures.got first items Root known st) in
     subst (λ p. ArePieces i m first among n2 Below p (g.S.NodeSource.puts s2)) c.in_ok-root.ensures.puts (c.in_ok-row-2.ensures.pieces first items among (known_on i g.S.NodeSource m laws first s0 s1 u0 u0 known a) sorted has ai ae)
+
+pub returns-in_err-row-clause-spent : goal.returns-in_err-row-clause-spent
+returns-in_err-row-clause-spent g c =
+    let z : c.args.tree.height - 1 ≡ 0 = omega (arith, c.if-tree-eq0.true) in
+    let n : entries c.empty-none.result.node ≡ 0 = ap entries c.empty-none.ensures.node in
+    let k = c.in_err-row.ensures.spent in
+    on_err c.from_residual.result _ (record {
+      steps = subst (λ l. 31 * c.edit_row.new.steps ≤ 31 * c.args.steps.now + (63 + (length c.args.edits.now + 186 * (l * length c.args.edits.now)))) (sym z) (let a = k.steps in omega (arith, n, a));
+      puts = let a = k.puts in omega (arith, n, a);
+    })
+
+pub returns-in_err-root-clause-spent : goal.returns-in_err-root-clause-spent
+returns-in_err-root-clause-spent g c =
+    let b = c.in_err-root.ensures in
+    let same = ap length b.puts in
+    on_err c.from_residual-in_err-root.result _ (record { steps = omega (arith, b.steps); puts = omega (arith, same, b.steps) })
+
+pub returns-in_err-row-2-clause-spent : goal.returns-in_err-row-2-clause-spent
+returns-in_err-row-2-clause-spent g c =
+    let b = c.in_ok-root.ensures in
+    let same = ap length b.puts in
+    let most = b.fits.filled.most in
+    let k = c.in_err-row-2.ensures.spent in
+    on_err c.from_residual-in_err-row-2.result _ (record { steps = let s = k.steps in omega (arith, b.steps, most, s); puts = let s = k.puts in omega (arith, same, b.steps, most, s) })
+
+pub returns-in_err-row-clause-pieces : goal.returns-in_err-row-clause-pieces
+returns-in_err-row-clause-pieces g c first items among known sorted root ai ae =
+    let n0 = places (g.S.NodeSource.nodes c.args.store.now) in
+    let z : c.args.tree.height ≡ zero = omega (arith, c.if-tree-eq0.true) in
+    let e : items ≡ [] = subst (λ h. HasRoot g.M.Unit.Item g.M.Summer first n0 c.args.tree.root h items) z root in
+    let has = subst (λ x. Has g.M.Unit.Item g.M.Summer first n0 zero x items) (sym c.empty-none.ensures.node) e in
+    let p = err_from_is_err_and c.from_residual.result c.from_residual.ensures.1 in
+    on_match c.from_residual.result _ _ _ p.0 p.2 p.1
+    (c.in_err-row.ensures.pieces first items among known sorted has ai ae)
+
+pub returns-in_err-root-clause-pieces : goal.returns-in_err-root-clause-pieces
+returns-in_err-root-clause-pieces g c first items among known sorted root ai ae =
+    let p = err_from_is_err_and c.from_residual-in_err-root.result c.from_residual-in_err-root.ensures.1 in
+    on_match c.from_residual-in_err-root.result _ _ _ p.0 p.2 p.1 (were_none g.M.Unit.Item g.M.Summer first among (places (g.S.NodeSource.nodes c.args.store.now)) _ (g.S.NodeSource.puts c.args.store.now) (g.S.NodeSource.puts c.fetch.new.store) c.in_err-root.ensures.puts)
+
+pub returns-in_err-row-2-clause-pieces : goal.returns-in_err-row-2-clause-pieces
+returns-in_err-row-2-clause-pieces g c first items among known sorted root ai ae =
+    let laws : Laws g.S.NodeSource g.M.Summer = record { store_steps = g.met.S.NodeSource.are_steps; store_keeps = g.met.S.NodeSource.keeps; store_caused = g.met.S.NodeSource.stays_caused; summer_steps = g.met.M.Summer.are_steps; summer_keeps = g.met.M.Summer.keeps; summer_caused = g.met.M.Summer.stays_caused } in
+    let i = g.M.Unit.Item in
+    let m = g.M.Summer in
+    let s0 = c.args.store.now in
+    let s1 = c.fetch.new.store in
+    let s2 = c.edit_row-2.new.store in
+    let u0 = c.args.summer.now in
+    let a = c.in_ok-root.ensures.ran in
+    let n0 = places (g.S.NodeSource.nodes s0) in
+    let n1 = places (g.S.NodeSource.nodes s1) in
+    let level = c.args.tree.height - 1 in
+    let up : c.args.tree.height ≡ suc level = omega (arith, c.if-tree-eq0.false) in
+    let st : IsAt i m first n0 (Has i m first n0 level) Root c.args.tree.root items = subst (λ h. HasRoot i m first n0 c.args.tree.root h items) up root in
+    let has = has_stays i m first n0 n1 (extends_on i g.S.NodeSource m laws s0 s1 u0 u0 a) level c.in_ok-root.root items (c.in_ok-root.ensures.got first items Root known st) in
+    let e01 = extends_on g.M.Unit.Item g.S.NodeSource g.M.Summer laws s0 s1 u0 u0 a in
+    let known1 = known_on g.M.Unit.Item g.S.NodeSource g.M.Summer laws first s0 s1 u0 u0 known a in
+    let p = err_from_is_err_and c.from_residual-in_err-row-2.result c.from_residual-in_err-row-2.ensures.1 in
+    on_match c.from_residual-in_err-row-2.result _ _ _ p.0 p.2 p.1
+    (were_on i m first among n0 n1 e01 _ (g.S.NodeSource.puts s0) (g.S.NodeSource.puts s1) (g.S.NodeSource.puts s2) (pieces_none i m first among n1 Below (g.S.NodeSource.puts s0) (g.S.NodeSource.puts s1) c.in_ok-root.ensures.puts) (c.in_err-row-2.ensures.pieces first items among known1 sorted has ai ae))

@@ -3,10 +3,11 @@ use Rattle.tree_laws.specs.declared.tree.Fill.TheVariants.{Root}
 use Rattle.tree_laws.specs.Nodes.{entries}
 use Rattle.reduce_tree.specs.Calls.{places}
 use Rattle.reduce_tree.proofs.Calls.{Laws, goes_none}
-use Rattle.reduce_tree.proofs.Charge.{some_by_test}
-use Rattle.reduce_tree.proofs.Nodes.{has_none, lone_count, lone_root, lone_size, none_counted, none_from_test, root_at, root_fill, root_size}
+use Rattle.reduce_tree.proofs.Charge.{some_by_test, slack_some}
+use Rattle.reduce_tree.proofs.Nodes.{has_none, lone_count, lone_root, lone_size, none_counted, none_from_test, root_at, root_fill, root_size, level_below}
 use Rattle.reduce_tree.proofs.Puts.{leaf_lone, leaf_none, put_none}
-use Rattle.reduce_tree.proofs.Pieces.{pieces_none}
+use Rattle.reduce_tree.proofs.Pieces.{pieces_none, on_match}
+use Rattle.std.proofs.lemmas.Result.{err_from_is_err_and}
 use Rattle.reduce_tree.proofs.root.put_root.Goals as goal
 
 pub returns-then-is_empty-clause-root : goal.returns-then-is_empty-clause-root
@@ -77,3 +78,33 @@ returns-clause-pieces g c first items among known has all =
     let some : entries c.args.node ≡ 0 → ⊥ = λ e. let s = some_by_test (entries c.args.node) c.is_empty.result c.is_empty.ensures c.if-is_empty.false in omega (arith, e, s) in
     let fill = root_fill c.args.node some c.in_default.ensures c.requires.most in
     c.in_ok-top.ensures.pieces first c.args.level Root items among known fill has all
+
+pub returns-then-is_empty-clause-within : goal.returns-then-is_empty-clause-within
+returns-then-is_empty-clause-within g c top few = record { steps = omega arith; puts = omega arith }
+
+pub returns-in-Some-clause-within : goal.returns-in-Some-clause-within
+returns-in-Some-clause-within g c top few = record { steps = omega arith; puts = omega arith }
+
+pub returns-in_err-top-clause-within : goal.returns-in_err-top-clause-within
+returns-in_err-top-clause-within g c top few =
+    let some = some_by_test (entries c.args.node) c.is_empty.result c.is_empty.ensures c.if-is_empty.false in
+    let s = slack_some top c.args.level (entries c.args.node) some in
+    let low = level_below c.args.level top c.args.node c.requires.kind c.requires.large some few in
+    let k = c.in_err-top.ensures.spent in
+    record { steps = let a = k.steps in omega (arith, s, low, a); puts = let a = k.puts in omega (arith, s, low, a) }
+
+pub returns-clause-within : goal.returns-clause-within
+returns-clause-within g c top few =
+    let some = some_by_test (entries c.args.node) c.is_empty.result c.is_empty.ensures c.if-is_empty.false in
+    let s = slack_some top c.args.level (entries c.args.node) some in
+    let low = level_below c.args.level top c.args.node c.requires.kind c.requires.large some few in
+    let k = c.in_ok-top.ensures in
+    record { steps = omega (arith, s, low, k.steps); puts = omega (arith, s, low, k.steps, k.puts) }
+
+pub returns-in_err-top-clause-pieces : goal.returns-in_err-top-clause-pieces
+returns-in_err-top-clause-pieces g c first items among known has all =
+    let some : entries c.args.node ≡ 0 → ⊥ = λ e. let s = some_by_test (entries c.args.node) c.is_empty.result c.is_empty.ensures c.if-is_empty.false in omega (arith, e, s) in
+    let fill = root_fill c.args.node some c.in_default.ensures c.requires.most in
+    let p = err_from_is_err_and c.from_residual.result c.from_residual.ensures.1 in
+    on_match c.from_residual.result _ _ _ p.0 p.2 p.1
+    (c.in_err-top.ensures.pieces first c.args.level Root items among known fill has all)

@@ -1,22 +1,23 @@
-use Rattle.std.proofs.Common.{◌≡◌, suc, ◌-◌, ◌+◌, ◌∷◌, ◌++◌, sym, ap, ◌∙◌, subst, ◌==◌, arith, Contains, refl}
+use Rattle.std.proofs.Common.{◌≡◌, suc, ◌-◌, ◌+◌, ◌∷◌, ◌++◌, sym, ap, ◌∙◌, subst, ◌==◌, arith, Contains, refl, ◌<◌, length}
 use Rattle.tree_laws.specs.declared.node.Node.TheVariants.{Inner}
 use Rattle.tree_laws.specs.declared.tree.Fill.TheVariants.{Below}
 use Rattle.tree_laws.specs.Fitting.{AreLarge, item_count}
 use Rattle.tree_laws.specs.Nodes.{is_leaf}
-use Rattle.tree_laws.specs.Trees.{AreChildren, Has, Stands}
-use Rattle.tree_laws.proofs.Structure.{has_stays}
+use Rattle.tree_laws.specs.SummerTrees.{AreChildren, Has, Stands}
+use Rattle.tree_laws.proofs.SummerTrees.{has_stays}
 use Rattle.reduce_tree.specs.Calls.{places}
 use Rattle.std.proofs.lemmas.Result.{err_from_is_err_and}
-use Rattle.reduce_tree.proofs.Calls.{Laws, ran_err, extends_on, fails_on, goes_on, known_on}
+use Rattle.reduce_tree.proofs.Calls.{Laws, ran_err, extends_on, fails_on, goes_on, known_on, goes_none, on_err}
 use Rattle.reduce_tree.proofs.Nodes.{count_append, count_cons, has_join, joined_large, large_append, large_tail, level_above, split_count}
 use Rattle.reduce_tree.proofs.Walk.{graft_front}
 use Rattle.reduce_tree.proofs.Puts.{leaf_split, put_none, put_two}
 use Rattle.reduce_tree.specs.Rows.{leaf_items}
 use Rattle.reduce_tree.proofs.Sound.{if_sound}
-use Rattle.reduce_tree.proofs.Pieces.{pieces_none, pieces_on}
+use Rattle.reduce_tree.proofs.Pieces.{pieces_none, pieces_on, were_none, were_done, were_on, on_match}
 use Rattle.reduce_tree.proofs.Quiet.{all_front}
 use Rattle.reduce_tree.specs.Pieces.{AreAmong, ArePieces}
 use Rattle.std.proofs.lemmas.List.Elements.{All-append}
+use Rattle.tree_laws.specs.declared.tree.TreeFault.TheVariants as tree_fault
 use Rattle.reduce_tree.proofs.row.+join_front.Goals as goal
 
 pub returns-then-low-level-clause-items : goal.returns-then-low-level-clause-items
@@ -257,3 +258,204 @@ returns-in_ok-add_all-in-Inner-clause-pieces g t c first xs ys among known hx hy
     let one = subst (λ p. ArePieces i m first among n2 Below p (g.S.NodeSource.puts s2)) c.in_ok-below-in-Inner.ensures.puts (c.in_ok-joined-in-Inner.ensures.pieces first xs mid among known1 row got ax am) in
     let two = c.in_ok-placed-in-Inner.ensures.pieces first low zs among known2 made az in
     pieces_on i m first among n2 n3 e23 Below (g.S.NodeSource.puts s0) (g.S.NodeSource.puts s2) (g.S.NodeSource.puts s3) one two
+
+pub returns-in_err-join_nodes-clause-ran : goal.returns-in_err-join_nodes-clause-ran
+returns-in_err-join_nodes-clause-ran g t c =
+    let laws : Laws g.S.NodeSource g.M.Summer = record { store_steps = g.met.S.NodeSource.are_steps; store_keeps = g.met.S.NodeSource.keeps; store_caused = g.met.S.NodeSource.stays_caused; summer_steps = g.met.M.Summer.are_steps; summer_keeps = g.met.M.Summer.keeps; summer_caused = g.met.M.Summer.stays_caused } in
+    let p = err_from_is_err_and c.from_residual.result c.from_residual.ensures.1 in
+    ran_err g.M.Unit.Item g.S.NodeSource g.M.Summer laws _ _ _ _ c.from_residual.result tree_fault.NoMemory p.0 p.2 p.1 (goes_none g.M.Unit.Item g.S.NodeSource g.M.Summer laws c.args.store.now c.args.summer.now)
+
+pub returns-in_err-add_all-in-Inner-clause-ran : goal.returns-in_err-add_all-in-Inner-clause-ran
+returns-in_err-add_all-in-Inner-clause-ran g t c =
+    let laws : Laws g.S.NodeSource g.M.Summer = record { store_steps = g.met.S.NodeSource.are_steps; store_keeps = g.met.S.NodeSource.keeps; store_caused = g.met.S.NodeSource.stays_caused; summer_steps = g.met.M.Summer.are_steps; summer_keeps = g.met.M.Summer.keeps; summer_caused = g.met.M.Summer.stays_caused } in
+    let s0 = c.args.store.now in
+    let s1 = c.fetch.new.store in
+    let s2 = c.join_front.new.store in
+    let s3 = c.place_row.new.store in
+    let u0 = c.args.summer.now in
+    let u1 = c.join_front.new.summer in
+    let u2 = c.place_row.new.summer in
+    let ab = goes_on g.M.Unit.Item g.S.NodeSource g.M.Summer laws s0 s1 s2 u0 u0 u1 c.in_ok-below-in-Inner.ensures.ran c.in_ok-joined-in-Inner.ensures.ran in
+    let p = err_from_is_err_and c.from_residual-in_err-add_all-in-Inner.result c.from_residual-in_err-add_all-in-Inner.ensures.1 in
+    ran_err g.M.Unit.Item g.S.NodeSource g.M.Summer laws _ _ _ _ c.from_residual-in_err-add_all-in-Inner.result tree_fault.NoMemory p.0 p.2 p.1 (goes_on g.M.Unit.Item g.S.NodeSource g.M.Summer laws s0 s2 s3 u0 u1 u2 ab c.in_ok-placed-in-Inner.ensures.ran)
+
+pub returns-in_err-join_nodes-clause-spent : goal.returns-in_err-join_nodes-clause-spent
+returns-in_err-join_nodes-clause-spent g t c =
+    on_err c.from_residual.result _ (record { steps = omega arith; puts = omega arith })
+
+pub returns-in_err-below-in-Inner-clause-spent : goal.returns-in_err-below-in-Inner-clause-spent
+returns-in_err-below-in-Inner-clause-spent g t c =
+    let deep : c.args.low < c.args.level = omega (arith, c.requires.low, c.if-low-level.false) in
+    let some = c.requires.some in
+    let b = c.in_err-below-in-Inner.ensures in
+    let same = ap length b.puts in
+    on_err c.from_residual-in_err-below-in-Inner.result _ (record { steps = omega (arith, deep, b.steps); puts = omega (arith, same, b.steps) })
+
+pub returns-in_err-joined-in-Inner-clause-spent : goal.returns-in_err-joined-in-Inner-clause-spent
+returns-in_err-joined-in-Inner-clause-spent g t c =
+    let deep : c.args.low < c.args.level = omega (arith, c.requires.low, c.if-low-level.false) in
+    let some = c.requires.some in
+    let b = c.in_ok-below-in-Inner.ensures in
+    let same = ap length b.puts in
+    let most = b.fits.filled.most in
+    let k = c.in_err-joined-in-Inner.ensures.spent in
+    on_err c.from_residual-in_err-joined-in-Inner.result _ (record { steps = let s = k.steps in omega (arith, deep, some, b.steps, most, s); puts = let s = k.puts in omega (arith, same, some, b.steps, most, s) })
+
+pub returns-in_err-placed-in-Inner-clause-spent : goal.returns-in_err-placed-in-Inner-clause-spent
+returns-in_err-placed-in-Inner-clause-spent g t c =
+    let deep : c.args.low < c.args.level = omega (arith, c.requires.low, c.if-low-level.false) in
+    let some = c.requires.some in
+    let b = c.in_ok-below-in-Inner.ensures in
+    let same = ap length b.puts in
+    let most = b.fits.filled.most in
+    let j = c.in_ok-joined-in-Inner.ensures in
+    let k = c.in_err-placed-in-Inner.ensures.spent in
+    on_err c.from_residual-in_err-placed-in-Inner.result _ (record { steps = let s = k.steps in omega (arith, deep, some, b.steps, most, j.steps, s); puts = let s = k.puts in omega (arith, same, some, b.steps, most, j.once, s) })
+
+pub returns-in_err-add_all-in-Inner-clause-spent : goal.returns-in_err-add_all-in-Inner-clause-spent
+returns-in_err-add_all-in-Inner-clause-spent g t c =
+    let deep : c.args.low < c.args.level = omega (arith, c.requires.low, c.if-low-level.false) in
+    let some = c.requires.some in
+    let b = c.in_ok-below-in-Inner.ensures in
+    let same = ap length b.puts in
+    let most = b.fits.filled.most in
+    let j = c.in_ok-joined-in-Inner.ensures in
+    let k = c.in_ok-placed-in-Inner.ensures in
+    on_err c.from_residual-in_err-add_all-in-Inner.result _ (record { steps = omega (arith, deep, some, b.steps, most, j.steps, k.steps, k.packed); puts = omega (arith, same, some, b.steps, most, j.once, k.steps, k.puts, k.packed) })
+
+pub returns-in_err-join_nodes-clause-pieces : goal.returns-in_err-join_nodes-clause-pieces
+returns-in_err-join_nodes-clause-pieces g t c first xs ys among known hx hy ax ay =
+    let p = err_from_is_err_and c.from_residual.result c.from_residual.ensures.1 in
+    on_match c.from_residual.result _ _ _ p.0 p.2 p.1 (were_none g.M.Unit.Item g.M.Summer first among (places (g.S.NodeSource.nodes c.args.store.now)) _ (g.S.NodeSource.puts c.args.store.now) (g.S.NodeSource.puts c.args.store.now) refl)
+
+pub returns-in_err-below-in-Inner-clause-pieces : goal.returns-in_err-below-in-Inner-clause-pieces
+returns-in_err-below-in-Inner-clause-pieces g t c first xs ys among known hx hy ax ay =
+    let p = err_from_is_err_and c.from_residual-in_err-below-in-Inner.result c.from_residual-in_err-below-in-Inner.ensures.1 in
+    on_match c.from_residual-in_err-below-in-Inner.result _ _ _ p.0 p.2 p.1 (were_none g.M.Unit.Item g.M.Summer first among (places (g.S.NodeSource.nodes c.args.store.now)) _ (g.S.NodeSource.puts c.args.store.now) (g.S.NodeSource.puts c.fetch.new.store) c.in_err-below-in-Inner.ensures.puts)
+
+pub returns-in_err-joined-in-Inner-clause-pieces : goal.returns-in_err-joined-in-Inner-clause-pieces
+returns-in_err-joined-in-Inner-clause-pieces g t c first xs ys among known hx hy ax ay =
+    let laws : Laws g.S.NodeSource g.M.Summer = record { store_steps = g.met.S.NodeSource.are_steps; store_keeps = g.met.S.NodeSource.keeps; store_caused = g.met.S.NodeSource.stays_caused; summer_steps = g.met.M.Summer.are_steps; summer_keeps = g.met.M.Summer.keeps; summer_caused = g.met.M.Summer.stays_caused } in
+    let s0 = c.args.store.now in
+    let s1 = c.fetch.new.store in
+    let s2 = c.join_front.new.store in
+    let u0 = c.args.summer.now in
+    let a = c.in_ok-below-in-Inner.ensures.ran in
+    let cs = c.in-Inner.children in
+    let low = c.args.level - 1 in
+    let kind : is_leaf (Inner cs) ≡ (c.args.level == 0) = subst (λ x. is_leaf x ≡ (c.args.level == 0)) c.in-Inner.is c.requires.kind in
+    let lvl : c.args.level ≡ suc low = level_above c.args.level kind in
+    let e : cs ≡ c.take_first-child.result ∷ c.take_first-child.new.list.items = sym c.into_vec-after.ensures ∙ c.take_first-child.ensures in
+    let i = g.M.Unit.Item in
+    let m = g.M.Summer in
+    let n0 = places (g.S.NodeSource.nodes s0) in
+    let n1 = places (g.S.NodeSource.nodes s1) in
+    let below = c.in_ok-below-in-Inner.below in
+    let e01 = extends_on g.M.Unit.Item g.S.NodeSource g.M.Summer laws s0 s1 u0 u0 a in
+    let known1 = known_on g.M.Unit.Item g.S.NodeSource g.M.Summer laws first s0 s1 u0 u0 known a in
+    let has0 : Has i m first n0 c.args.level (Inner cs) ys = subst (λ x. Has i m first n0 c.args.level x ys) c.in-Inner.is hy in
+    let has1 : AreChildren i m first (Stands i m first n0 low) cs ys = subst (λ l. Has i m first n0 l (Inner cs) ys) lvl has0 in
+    let has2 = subst (λ ds. AreChildren i m first (Stands i m first n0 low) ds ys) e has1 in
+    let mid = has2.front in
+    let child = has2.at_front in
+    let am = all_front (Contains among) has2.front has2.back (subst (AreAmong among) has2.whole ay) in
+    let got = has_stays i m first n0 n1 e01 low below mid (c.in_ok-below-in-Inner.ensures.got first mid Below known child.stands) in
+    let row = has_stays i m first n0 n1 e01 c.args.low c.args.row xs hx in
+    let p = err_from_is_err_and c.from_residual-in_err-joined-in-Inner.result c.from_residual-in_err-joined-in-Inner.ensures.1 in
+    on_match c.from_residual-in_err-joined-in-Inner.result _ _ _ p.0 p.2 p.1
+    (were_on i m first among n0 n1 e01 _ (g.S.NodeSource.puts s0) (g.S.NodeSource.puts s1) (g.S.NodeSource.puts s2) (pieces_none i m first among n1 Below (g.S.NodeSource.puts s0) (g.S.NodeSource.puts s1) c.in_ok-below-in-Inner.ensures.puts) (c.in_err-joined-in-Inner.ensures.pieces first xs mid among known1 row got ax am))
+
+pub returns-in_err-placed-in-Inner-clause-pieces : goal.returns-in_err-placed-in-Inner-clause-pieces
+returns-in_err-placed-in-Inner-clause-pieces g t c first xs ys among known hx hy ax ay =
+    let laws : Laws g.S.NodeSource g.M.Summer = record { store_steps = g.met.S.NodeSource.are_steps; store_keeps = g.met.S.NodeSource.keeps; store_caused = g.met.S.NodeSource.stays_caused; summer_steps = g.met.M.Summer.are_steps; summer_keeps = g.met.M.Summer.keeps; summer_caused = g.met.M.Summer.stays_caused } in
+    let s0 = c.args.store.now in
+    let s1 = c.fetch.new.store in
+    let s2 = c.join_front.new.store in
+    let u0 = c.args.summer.now in
+    let u1 = c.join_front.new.summer in
+    let a = c.in_ok-below-in-Inner.ensures.ran in
+    let s3 = c.place_row.new.store in
+    let b = c.in_ok-joined-in-Inner.ensures.ran in
+    let ab = goes_on g.M.Unit.Item g.S.NodeSource g.M.Summer laws s0 s1 s2 u0 u0 u1 a b in
+    let cs = c.in-Inner.children in
+    let low = c.args.level - 1 in
+    let kind : is_leaf (Inner cs) ≡ (c.args.level == 0) = subst (λ x. is_leaf x ≡ (c.args.level == 0)) c.in-Inner.is c.requires.kind in
+    let lvl : c.args.level ≡ suc low = level_above c.args.level kind in
+    let e : cs ≡ c.take_first-child.result ∷ c.take_first-child.new.list.items = sym c.into_vec-after.ensures ∙ c.take_first-child.ensures in
+    let i = g.M.Unit.Item in
+    let m = g.M.Summer in
+    let n0 = places (g.S.NodeSource.nodes s0) in
+    let n1 = places (g.S.NodeSource.nodes s1) in
+    let n2 = places (g.S.NodeSource.nodes s2) in
+    let below = c.in_ok-below-in-Inner.below in
+    let e01 = extends_on g.M.Unit.Item g.S.NodeSource g.M.Summer laws s0 s1 u0 u0 a in
+    let e02 = extends_on g.M.Unit.Item g.S.NodeSource g.M.Summer laws s0 s2 u0 u1 ab in
+    let known1 = known_on g.M.Unit.Item g.S.NodeSource g.M.Summer laws first s0 s1 u0 u0 known a in
+    let known2 = known_on g.M.Unit.Item g.S.NodeSource g.M.Summer laws first s0 s2 u0 u1 known ab in
+    let has0 : Has i m first n0 c.args.level (Inner cs) ys = subst (λ x. Has i m first n0 c.args.level x ys) c.in-Inner.is hy in
+    let has1 : AreChildren i m first (Stands i m first n0 low) cs ys = subst (λ l. Has i m first n0 l (Inner cs) ys) lvl has0 in
+    let has2 = subst (λ ds. AreChildren i m first (Stands i m first n0 low) ds ys) e has1 in
+    let mid = has2.front in
+    let child = has2.at_front in
+    let am = all_front (Contains among) has2.front has2.back (subst (AreAmong among) has2.whole ay) in
+    let zs = xs ++ mid in
+    let az = All-append (Contains among) xs mid ax am in
+    let got = has_stays i m first n0 n1 e01 low below mid (c.in_ok-below-in-Inner.ensures.got first mid Below known child.stands) in
+    let row = has_stays i m first n0 n1 e01 c.args.low c.args.row xs hx in
+    let made = c.in_ok-joined-in-Inner.ensures.items first xs mid known1 row got in
+    let one = subst (λ p. ArePieces i m first among n2 Below p (g.S.NodeSource.puts s2)) c.in_ok-below-in-Inner.ensures.puts (c.in_ok-joined-in-Inner.ensures.pieces first xs mid among known1 row got ax am) in
+    let p = err_from_is_err_and c.from_residual-in_err-placed-in-Inner.result c.from_residual-in_err-placed-in-Inner.ensures.1 in
+    on_match c.from_residual-in_err-placed-in-Inner.result _ _ _ p.0 p.2 p.1
+    (were_on i m first among n0 n2 e02 _ (g.S.NodeSource.puts s0) (g.S.NodeSource.puts s2) (g.S.NodeSource.puts s3) one (c.in_err-placed-in-Inner.ensures.pieces first low zs among known2 made az))
+
+pub returns-in_err-add_all-in-Inner-clause-pieces : goal.returns-in_err-add_all-in-Inner-clause-pieces
+returns-in_err-add_all-in-Inner-clause-pieces g t c first xs ys among known hx hy ax ay =
+    let laws : Laws g.S.NodeSource g.M.Summer = record { store_steps = g.met.S.NodeSource.are_steps; store_keeps = g.met.S.NodeSource.keeps; store_caused = g.met.S.NodeSource.stays_caused; summer_steps = g.met.M.Summer.are_steps; summer_keeps = g.met.M.Summer.keeps; summer_caused = g.met.M.Summer.stays_caused } in
+    let s0 = c.args.store.now in
+    let s1 = c.fetch.new.store in
+    let s2 = c.join_front.new.store in
+    let u0 = c.args.summer.now in
+    let u1 = c.join_front.new.summer in
+    let a = c.in_ok-below-in-Inner.ensures.ran in
+    let s3 = c.place_row.new.store in
+    let u2 = c.place_row.new.summer in
+    let b = c.in_ok-joined-in-Inner.ensures.ran in
+    let ab = goes_on g.M.Unit.Item g.S.NodeSource g.M.Summer laws s0 s1 s2 u0 u0 u1 a b in
+    let cs = c.in-Inner.children in
+    let low = c.args.level - 1 in
+    let kind : is_leaf (Inner cs) ≡ (c.args.level == 0) = subst (λ x. is_leaf x ≡ (c.args.level == 0)) c.in-Inner.is c.requires.kind in
+    let lvl : c.args.level ≡ suc low = level_above c.args.level kind in
+    let e : cs ≡ c.take_first-child.result ∷ c.take_first-child.new.list.items = sym c.into_vec-after.ensures ∙ c.take_first-child.ensures in
+    let i = g.M.Unit.Item in
+    let m = g.M.Summer in
+    let n0 = places (g.S.NodeSource.nodes s0) in
+    let n1 = places (g.S.NodeSource.nodes s1) in
+    let n2 = places (g.S.NodeSource.nodes s2) in
+    let n3 = places (g.S.NodeSource.nodes s3) in
+    let below = c.in_ok-below-in-Inner.below in
+    let e01 = extends_on g.M.Unit.Item g.S.NodeSource g.M.Summer laws s0 s1 u0 u0 a in
+    let e02 = extends_on g.M.Unit.Item g.S.NodeSource g.M.Summer laws s0 s2 u0 u1 ab in
+    let e23 = extends_on g.M.Unit.Item g.S.NodeSource g.M.Summer laws s2 s3 u1 u2 c.in_ok-placed-in-Inner.ensures.ran in
+    let known1 = known_on g.M.Unit.Item g.S.NodeSource g.M.Summer laws first s0 s1 u0 u0 known a in
+    let known2 = known_on g.M.Unit.Item g.S.NodeSource g.M.Summer laws first s0 s2 u0 u1 known ab in
+    let has0 : Has i m first n0 c.args.level (Inner cs) ys = subst (λ x. Has i m first n0 c.args.level x ys) c.in-Inner.is hy in
+    let has1 : AreChildren i m first (Stands i m first n0 low) cs ys = subst (λ l. Has i m first n0 l (Inner cs) ys) lvl has0 in
+    let has2 = subst (λ ds. AreChildren i m first (Stands i m first n0 low) ds ys) e has1 in
+    let mid = has2.front in
+    let child = has2.at_front in
+    let am = all_front (Contains among) has2.front has2.back (subst (AreAmong among) has2.whole ay) in
+    let zs = xs ++ mid in
+    let az = All-append (Contains among) xs mid ax am in
+    let got = has_stays i m first n0 n1 e01 low below mid (c.in_ok-below-in-Inner.ensures.got first mid Below known child.stands) in
+    let row = has_stays i m first n0 n1 e01 c.args.low c.args.row xs hx in
+    let made = c.in_ok-joined-in-Inner.ensures.items first xs mid known1 row got in
+    let one = subst (λ p. ArePieces i m first among n2 Below p (g.S.NodeSource.puts s2)) c.in_ok-below-in-Inner.ensures.puts (c.in_ok-joined-in-Inner.ensures.pieces first xs mid among known1 row got ax am) in
+    let two = c.in_ok-placed-in-Inner.ensures.pieces first low zs among known2 made az in
+    let p = err_from_is_err_and c.from_residual-in_err-add_all-in-Inner.result c.from_residual-in_err-add_all-in-Inner.ensures.1 in
+    on_match c.from_residual-in_err-add_all-in-Inner.result _ _ _ p.0 p.2 p.1
+    (were_done i m first among n0 n3 (λ at bytes s. e23 at bytes (e02 at bytes s)) _ (g.S.NodeSource.puts s0) (g.S.NodeSource.puts s3) (pieces_on i m first among n2 n3 e23 Below (g.S.NodeSource.puts s0) (g.S.NodeSource.puts s2) (g.S.NodeSource.puts s3) one two))
+
+pub returns-then-low-level-clause-ran : goal.returns-then-low-level-clause-ran
+returns-then-low-level-clause-ran g t c =
+    let laws : Laws g.S.NodeSource g.M.Summer = record { store_steps = g.met.S.NodeSource.are_steps; store_keeps = g.met.S.NodeSource.keeps; store_caused = g.met.S.NodeSource.stays_caused; summer_steps = g.met.M.Summer.are_steps; summer_keeps = g.met.M.Summer.keeps; summer_caused = g.met.M.Summer.stays_caused } in
+    goes_none g.M.Unit.Item g.S.NodeSource g.M.Summer laws c.args.store.now c.args.summer.now

@@ -2,16 +2,17 @@ use Rattle.std.proofs.Common.{◌≡◌, ◌++◌, [], sym, subst, ap, ◌∙◌
 use Rattle.std.proofs.lemmas.List.{append-nil}
 use Rattle.tree_laws.specs.Nodes.{entries}
 use Rattle.tree_laws.specs.Fitting.{item_count}
-use Rattle.tree_laws.specs.Trees.{Has}
+use Rattle.tree_laws.specs.SummerTrees.{Has}
 use Rattle.reduce_tree.specs.Calls.{places}
-use Rattle.reduce_tree.proofs.Calls.{Laws, goes_none}
+use Rattle.reduce_tree.proofs.Calls.{Laws, goes_none, on_err}
 use Rattle.reduce_tree.proofs.Nodes.{has_none, none_counted, none_from_test}
 use Rattle.reduce_tree.proofs.Puts.{leaf_none, put_none, put_on}
 use Rattle.reduce_tree.specs.Rows.{leaf_items}
 use Rattle.reduce_tree.proofs.Sound.{if_sound}
 use Rattle.std.proofs.lemmas.Result.{err_from_is_err_and}
-use Rattle.reduce_tree.proofs.Pieces.{pieces_none}
+use Rattle.reduce_tree.proofs.Pieces.{pieces_none, on_match}
 use Rattle.tree_laws.specs.declared.tree.Fill.TheVariants.{Below}
+use Rattle.reduce_tree.proofs.Charge.{some_by_test, slack_some}
 use Rattle.reduce_tree.proofs.row.join_rows.Goals as goal
 
 pub returns-then-is_empty-clause-items : goal.returns-then-is_empty-clause-items
@@ -85,3 +86,27 @@ returns-then-is_empty-2-clause-pieces g c first xs ys among known hx hy ax ay =
 
 pub returns-clause-pieces : goal.returns-clause-pieces
 returns-clause-pieces g c first xs ys among known hx hy ax ay = c.in_ok-node-2.ensures.pieces first ys xs among known hy hx ay ax
+
+pub returns-in_err-node-clause-spent : goal.returns-in_err-node-clause-spent
+returns-in_err-node-clause-spent g c top f b =
+    let some = some_by_test (entries c.args.front.node) c.is_empty.result c.is_empty.ensures c.if-is_empty.false in
+    let s = slack_some top c.args.front.level (entries c.args.front.node) some in
+    let k = c.in_err-node.ensures.spent in
+    on_err c.from_residual.result _ (record { steps = let a = k.steps in omega (arith, s, f, b, a); puts = let a = k.puts in omega (arith, a) })
+
+pub returns-in_err-node-2-clause-spent : goal.returns-in_err-node-2-clause-spent
+returns-in_err-node-2-clause-spent g c top f b =
+    let some = some_by_test (entries c.args.back.node) c.is_empty-2.result c.is_empty-2.ensures c.if-is_empty-2.false in
+    let s = slack_some top c.args.back.level (entries c.args.back.node) some in
+    let k = c.in_err-node-2.ensures.spent in
+    on_err c.from_residual-in_err-node-2.result _ (record { steps = let a = k.steps in omega (arith, s, f, b, a); puts = let a = k.puts in omega (arith, a) })
+
+pub returns-in_err-node-clause-pieces : goal.returns-in_err-node-clause-pieces
+returns-in_err-node-clause-pieces g c first xs ys among known hx hy ax ay =
+    let p = err_from_is_err_and c.from_residual.result c.from_residual.ensures.1 in
+    on_match c.from_residual.result _ _ _ p.0 p.2 p.1 (c.in_err-node.ensures.pieces first xs ys among known hx hy ax ay)
+
+pub returns-in_err-node-2-clause-pieces : goal.returns-in_err-node-2-clause-pieces
+returns-in_err-node-2-clause-pieces g c first xs ys among known hx hy ax ay =
+    let p = err_from_is_err_and c.from_residual-in_err-node-2.result c.from_residual-in_err-node-2.ensures.1 in
+    on_match c.from_residual-in_err-node-2.result _ _ _ p.0 p.2 p.1 (c.in_err-node-2.ensures.pieces first ys xs among known hy hx ay ax)

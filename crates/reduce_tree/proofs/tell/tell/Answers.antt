@@ -1,8 +1,10 @@
-use Rattle.std.proofs.Common.{◌≡◌, ◌∙◌, ◌≤◌, ◌^◌, length, ap, sym, subst, arith}
+use Rattle.std.proofs.Common.{◌≡◌, ◌∙◌, ◌≤◌, ◌^◌, length, ap, sym, subst, arith, All}
 use Rattle.tree_laws.specs.Fitting.{item_count}
-use Rattle.tree_laws.proofs.Parts.{items_fit}
+use Rattle.tree_laws.proofs.SummerTrees.{items_fit}
 use Rattle.reduce_tree.specs.Rows.{Tells}
 use Rattle.reduce_tree.proofs.Nodes.{has_leaf, has_inner}
+use Rattle.reduce_tree.specs.Pieces.{IsSummed, IsSumSpelled}
+use Rattle.tree_laws.specs.declared.node.Child.{Child}
 use Rattle.reduce_tree.proofs.tell.tell.Goals as goal
 
 pub returns-in_ok-told-in-Leaf-clause-tells : goal.returns-in_ok-told-in-Leaf-clause-tells
@@ -22,3 +24,10 @@ returns-in_ok-told-in-Inner-clause-tells g c first there level items goes fits h
     let fit = items_fit i m first there level c.args.node.now items fits has in
     let k = has_inner i m first there level c.in-Inner.children items (rw c.in-Inner.is at has) in
     c.in_ok-told-in-Inner.ensures.tells first there k.0 items goes fit (rw c.as_slice-in-Inner.ensures k.2)
+
+pub returns-in_ok-told-in-Leaf-clause-summed : goal.returns-in_ok-told-in-Leaf-clause-summed
+returns-in_ok-told-in-Leaf-clause-summed g c = subst (λ n. IsSummed g.M.Unit.Item g.M.Summer c.args.summer.now n) (sym c.in-Leaf.is) c.in_ok-told-in-Leaf.ensures.usable
+
+pub returns-in_ok-told-in-Inner-clause-summed : goal.returns-in_ok-told-in-Inner-clause-summed
+returns-in_ok-told-in-Inner-clause-summed g c =
+    subst (λ n. IsSummed g.M.Unit.Item g.M.Summer c.args.summer.now n) (sym c.in-Inner.is) (subst (λ cs. All (λ (d : Child _). IsSumSpelled g.M.Unit.Item g.M.Summer c.args.summer.now d.sum) cs) c.as_slice-in-Inner.ensures c.in_ok-told-in-Inner.ensures.summed)

@@ -1,8 +1,11 @@
 use Rattle.std.proofs.Common.{◌≡◌, ◌∙◌, ◌-◌, ◌≤◌, ◌^◌, ◌++◌, ◌∷◌, [], suc, sym, ap, length, map, arith}
-use Rattle.tree_laws.specs.Trees.{Stands}
-use Rattle.tree_laws.proofs.Sizes.{counts_add}
+use Rattle.tree_laws.specs.SummerTrees.{Stands}
+use Rattle.tree_laws.proofs.SummerTrees.{counts_add}
 use Rattle.reduce_tree.proofs.Nodes.{children_last}
 use Rattle.reduce_tree.proofs.Summaries.{inner_summary}
+use Rattle.reduce_tree.proofs.Calls.{summed_none}
+use Rattle.std.proofs.lemmas.Result.{err_from_is_err_and}
+use Rattle.reduce_tree.proofs.Since.{sums_spelled}
 use Rattle.reduce_tree.proofs.tell.tell_inner.Goals as goal
 
 pub returns-clause-tells : goal.returns-clause-tells
@@ -25,3 +28,21 @@ returns-clause-tells g c first there level items goes fit has =
       summed = inner_summary i m first g.met.M.Summer.keeps (g.met.M.Summer.one_spelling first) P c.args.summer.now c.join.new.self cs items c.as_slice.result.now c.in-Ok.sum c.in_ok-sum.sum
           goes later c.requires.some few fit has sums (rw c.as_slice.ensures.value c.in_ok-sums.ensures.fits) c.in-Ok.ensures.value c.in_ok-sum.ensures.bytes c.in_ok-sum.ensures.fits;
     }
+
+pub returns-in_err-sums-clause-ran : goal.returns-in_err-sums-clause-ran
+returns-in_err-sums-clause-ran g c =
+    let p = err_from_is_err_and c.from_residual.result c.from_residual.ensures.1 in
+    summed_none g.M.Summer c.args.summer.now c.args.summer.now c.from_residual.result p.0 p.2 p.1 (g.met.M.Summer.are_steps.none c.args.summer.now)
+
+pub returns-in_err-sum-clause-ran : goal.returns-in_err-sum-clause-ran
+returns-in_err-sum-clause-ran g c =
+    let p = err_from_is_err_and c.from_residual-in_err-sum.result c.from_residual-in_err-sum.ensures.1 in
+    summed_none g.M.Summer c.args.summer.now c.join.new.self c.from_residual-in_err-sum.result p.0 p.2 p.1 c.in-Ok.ensures.goes
+
+pub returns-in_err-last-clause-ran : goal.returns-in_err-last-clause-ran
+returns-in_err-last-clause-ran g c =
+    let p = err_from_is_err_and c.from_residual-in_err-last.result c.from_residual-in_err-last.ensures.1 in
+    summed_none g.M.Summer c.args.summer.now c.join.new.self c.from_residual-in_err-last.result p.0 p.2 p.1 c.in-Ok.ensures.goes
+
+pub returns-clause-summed : goal.returns-clause-summed
+returns-clause-summed g c = sums_spelled g.M.Unit.Item g.M.Summer c.args.summer.now c.args.children.now c.in_ok-sums.sums.items c.in_ok-sums.ensures.spelled c.in_ok-sums.ensures.fits

@@ -5,11 +5,10 @@ use Rattle.std.proofs.lemmas.Result.{err_from_is_err_and}
 use Rattle.tree_laws.specs.declared.node.Node.TheVariants.{Inner}
 use Rattle.tree_laws.specs.declared.tree.Fill.TheVariants.{Below}
 use Rattle.tree_laws.specs.Nodes.{is_leaf}
-use Rattle.tree_laws.specs.Trees.{AreChildren, Has}
-use Rattle.tree_query.specs.Reaching.{IsUnfit}
+use Rattle.tree_laws.specs.SummerTrees.{AreChildren, Has}
 use Rattle.tree_query.specs.Unsummed.{HasItems, StandItems, unsummed}
 use Rattle.tree_query.proofs.Before.{count_all, count_cut, front_count}
-use Rattle.tree_query.proofs.Calls.{Laws, fails_on, ran_err}
+use Rattle.tree_query.proofs.Calls.{Laws, fails_on, ran_err, went_none, went_on}
 use Rattle.tree_query.proofs.Lists.{level_above, none_long}
 use Rattle.tree_query.proofs.Order.{first_of_rest}
 use Rattle.tree_query.proofs.Reached.{first_reached, has_got, has_leaf, node_met}
@@ -79,7 +78,7 @@ returns-in_err-below-in-Inner-clause-ran g t c tree at met =
     let reached = first_reached i tree (s.nodes c.args.store.now) at c.args.level low c.args.node cs c.pass.result.0.now rest child met c.in-Inner.is up e in
     let q = c.from_residual in
     let p = err_from_is_err_and q.result q.ensures.1 in
-    ran_err s laws (λ there. IsUnfit i there tree) _ _ _ _ q.result c.in_err-below-in-Inner.field-0.0 p.0 p.2 p.1 (c.in_err-below-in-Inner.ensures.ran tree reached)
+    ran_err i s laws tree _ _ _ _ q.result c.in_err-below-in-Inner.field-0.0 p.0 p.2 p.1 (c.in_err-below-in-Inner.ensures.ran tree reached)
 
 pub returns-in_err-more-in-Inner-clause-ran : goal.returns-in_err-more-in-Inner-clause-ran
 returns-in_err-more-in-Inner-clause-ran g t c tree at met =
@@ -101,8 +100,8 @@ returns-in_err-more-in-Inner-clause-ran g t c tree at met =
     let fails = c.in_err-more-in-Inner.ensures.ran tree child.at (λ there is. met' there (sym same ∙ is)) in
     let q = c.from_residual-in_err-more-in-Inner in
     let p = err_from_is_err_and q.result q.ensures.1 in
-    ran_err s laws (λ there. IsUnfit i there tree) _ _ _ _ q.result c.in_err-more-in-Inner.field-0.0 p.0 p.2 p.1
-    (fails_on s laws (λ there. IsUnfit i there tree) _ c.args.store.now c.fetch.new.store c.count_node.new.store _ same (c.in_ok-below-in-Inner.ensures.ran tree reached) fails)
+    ran_err i s laws tree _ _ _ _ q.result c.in_err-more-in-Inner.field-0.0 p.0 p.2 p.1
+    (fails_on i s laws tree _ c.args.store.now c.fetch.new.store c.count_node.new.store _ same (c.in_ok-below-in-Inner.ensures.ran tree reached) fails)
 
 pub returns-in_ok-more-in-Inner-clause-ran : goal.returns-in_ok-more-in-Inner-clause-ran
 returns-in_ok-more-in-Inner-clause-ran g t c tree at met =
@@ -120,4 +119,19 @@ returns-in_ok-more-in-Inner-clause-ran g t c tree at met =
     let reached = first_reached i tree told at c.args.level low c.args.node cs c.pass.result.0.now rest child met c.in-Inner.is up e in
     let met' = node_met i tree told child.at low child.count Below below reached c.in_ok-below-in-Inner.ensures.stands in
     let same = c.in_ok-below-in-Inner.ensures.reads.nodes in
-    g.met.S.NodeSource.are_steps.both c.args.store.now c.fetch.new.store c.count_node.new.store (c.in_ok-below-in-Inner.ensures.ran tree reached) (c.in_ok-more-in-Inner.ensures.ran tree child.at (λ there is. met' there (sym same ∙ is)))
+    let laws : Laws s = record { steps = g.met.S.NodeSource.are_steps; caused = g.met.S.NodeSource.stays_caused } in
+    went_on i s laws tree c.args.store.now c.fetch.new.store c.count_node.new.store same (c.in_ok-below-in-Inner.ensures.ran tree reached) (c.in_ok-more-in-Inner.ensures.ran tree child.at (λ there is. met' there (sym same ∙ is)))
+
+pub returns-in-Leaf-clause-ran : goal.returns-in-Leaf-clause-ran
+returns-in-Leaf-clause-ran g t c tree at met =
+    let i = g.B.Unit.Item in
+    let s = g.S.NodeSource in
+    let laws : Laws s = record { steps = g.met.S.NodeSource.are_steps; caused = g.met.S.NodeSource.stays_caused } in
+    went_none i s laws tree c.args.store.now
+
+pub returns-in-None-clause-ran : goal.returns-in-None-clause-ran
+returns-in-None-clause-ran g t c tree at met =
+    let i = g.B.Unit.Item in
+    let s = g.S.NodeSource in
+    let laws : Laws s = record { steps = g.met.S.NodeSource.are_steps; caused = g.met.S.NodeSource.stays_caused } in
+    went_none i s laws tree c.args.store.now

@@ -1,10 +1,10 @@
 use Rattle.std.proofs.Common.{◌<◌, ◌-◌, sym, ◌∙◌, arith}
 use Rattle.std.proofs.lemmas.Result.{err_from_is_err_and}
 use Rattle.tree_laws.specs.declared.tree.Fill.TheVariants.{Root}
-use Rattle.tree_laws.specs.Trees.{Has}
-use Rattle.tree_query.specs.Reaching.{IsUnfit, root}
+use Rattle.tree_laws.specs.SummerTrees.{Has}
+use Rattle.tree_laws.specs.Reaching.{root}
 use Rattle.tree_query.specs.Unsummed.{HasItems, unsummed}
-use Rattle.tree_query.proofs.Calls.{Laws, ran_bad, ran_err, ran_on}
+use Rattle.tree_query.proofs.Calls.{Laws, ran_bad, ran_err, ran_on, went_none}
 use Rattle.tree_query.proofs.Reached.{has_got, node_met, none_unfit, root_at}
 use Rattle.tree_query.proofs.count.count_before.Goals as goal
 
@@ -28,7 +28,7 @@ returns-clause-ran g c =
     let some : 0 < tree.height = omega (arith, c.if-tree-eq0.false) in
     let same = c.in_ok-root.ensures.reads.nodes in
     let met = node_met i tree (s.nodes c.args.store.now) tree.root level tree.count Root c.in_ok-root.root (λ there told. root some) c.in_ok-root.ensures.stands in
-    ran_on s laws (λ there. IsUnfit i there tree) _ _ c.args.store.now c.fetch.new.store c.count_node.new.store c.count_node.result same (c.in_ok-root.ensures.ran tree (λ there told. root some)) (c.count_node.ensures.ran tree tree.root (λ there told. met there (sym same ∙ told)))
+    ran_on i s laws tree _ _ c.args.store.now c.fetch.new.store c.count_node.new.store c.count_node.result same (c.in_ok-root.ensures.ran tree (λ there told. root some)) (c.count_node.ensures.ran tree tree.root (λ there told. met there (sym same ∙ told)))
 
 pub returns-clause-sound : goal.returns-clause-sound
 returns-clause-sound g c there items at told is e =
@@ -40,7 +40,7 @@ returns-clause-sound g c there items at told is e =
     let some : 0 < tree.height = omega (arith, c.if-tree-eq0.false) in
     let same = c.in_ok-root.ensures.reads.nodes in
     let met = node_met i tree (s.nodes c.args.store.now) tree.root level tree.count Root c.in_ok-root.root (λ there told. root some) c.in_ok-root.ensures.stands in
-    let bad = ran_bad s laws (λ there. IsUnfit i there tree) _ _ c.fetch.new.store c.count_node.new.store there c.count_node.result at (c.count_node.ensures.ran tree tree.root (λ there told. met there (sym same ∙ told))) (same ∙ told) e in
+    let bad = ran_bad i s laws tree _ _ c.fetch.new.store c.count_node.new.store there c.count_node.result at (c.count_node.ensures.ran tree tree.root (λ there told. met there (sym same ∙ told))) (same ∙ told) e in
     none_unfit i unsummed tt g.met.B.Unit.Item.one_spelling there tree items is at bad
 
 pub returns-in_err-root-clause-ran : goal.returns-in_err-root-clause-ran
@@ -50,7 +50,7 @@ returns-in_err-root-clause-ran g c =
     let laws : Laws s = record { steps = g.met.S.NodeSource.are_steps; caused = g.met.S.NodeSource.stays_caused } in
     let some : 0 < c.args.tree.height = omega (arith, c.if-tree-eq0.false) in
     let p = err_from_is_err_and c.from_residual.result c.from_residual.ensures.1 in
-    ran_err s laws (λ there. IsUnfit i there c.args.tree) _ _ _ _ c.from_residual.result c.in_err-root.field-0.0 p.0 p.2 p.1 (c.in_err-root.ensures.ran c.args.tree (λ there told. root some))
+    ran_err i s laws c.args.tree _ _ _ _ c.from_residual.result c.in_err-root.field-0.0 p.0 p.2 p.1 (c.in_err-root.ensures.ran c.args.tree (λ there told. root some))
 
 pub returns-in_err-root-clause-sound : goal.returns-in_err-root-clause-sound
 returns-in_err-root-clause-sound g c there items at told is e =
@@ -60,5 +60,12 @@ returns-in_err-root-clause-sound g c there items at told is e =
     let tree = c.args.tree in
     let some : 0 < tree.height = omega (arith, c.if-tree-eq0.false) in
     let p = err_from_is_err_and c.from_residual.result c.from_residual.ensures.1 in
-    let ran = ran_err s laws (λ there. IsUnfit i there tree) _ _ _ _ c.from_residual.result c.in_err-root.field-0.0 p.0 p.2 p.1 (c.in_err-root.ensures.ran tree (λ there told. root some)) in
-    none_unfit i unsummed tt g.met.B.Unit.Item.one_spelling there tree items is at (ran_bad s laws (λ there. IsUnfit i there tree) _ _ c.args.store.now c.fetch.new.store there c.from_residual.result at ran told e)
+    let ran = ran_err i s laws tree _ _ _ _ c.from_residual.result c.in_err-root.field-0.0 p.0 p.2 p.1 (c.in_err-root.ensures.ran tree (λ there told. root some)) in
+    none_unfit i unsummed tt g.met.B.Unit.Item.one_spelling there tree items is at (ran_bad i s laws tree _ _ c.args.store.now c.fetch.new.store there c.from_residual.result at ran told e)
+
+pub returns-then-tree-eq0-clause-ran : goal.returns-then-tree-eq0-clause-ran
+returns-then-tree-eq0-clause-ran g c =
+    let i = g.B.Unit.Item in
+    let s = g.S.NodeSource in
+    let laws : Laws s = record { steps = g.met.S.NodeSource.are_steps; caused = g.met.S.NodeSource.stays_caused } in
+    went_none i s laws c.args.tree c.args.store.now

@@ -4,13 +4,12 @@ use Rattle.std.proofs.lemmas.Result.{err_from_is_err_and}
 use Rattle.tree_laws.specs.declared.node.Node.TheVariants.{Inner}
 use Rattle.tree_laws.specs.declared.tree.Fill.TheVariants.{Below}
 use Rattle.tree_laws.specs.Nodes.{is_leaf}
-use Rattle.tree_laws.specs.Trees.{AreChildren, Has, Stands}
+use Rattle.tree_laws.specs.SummerTrees.{AreChildren, Has, Stands}
 use Rattle.tree_query.specs.Ranges.{Gathered}
-use Rattle.tree_query.specs.Reaching.{IsFaulty}
 use Rattle.tree_query.proofs.Lists.{level_above}
 use Rattle.tree_query.proofs.Ranges.{cutting}
-use Rattle.tree_query.proofs.Reached.{has_got, node_met}
-use Rattle.tree_query.proofs.Sums.{BothLaws, all_of, back_of, first_of, front_of, got_fails, reached_of, read_fails, sum_ran_err, sum_ran_on, summed_ran}
+use Rattle.tree_query.proofs.Reached.{has_got}
+use Rattle.tree_query.proofs.Sums.{BothLaws, all_of, back_of, first_of, front_of, got_fails, later_of, node_got, read_fails, sum_none, sum_ran_err, sum_ran_on, summed_ran}
 use Rattle.tree_query.proofs.range.+head.Goals as goal
 
 pub head-returns-in_ok-add_whole-in-Inner-clause-items : goal.head-returns-in_ok-add_whole-in-Inner-clause-items
@@ -33,7 +32,7 @@ head-returns-in_ok-add_whole-in-Inner-clause-items g t c first there done items 
     subst (λ zs. IfOk c.head_row.result (λ _. Gathered m first c.head_row.new.parts.items zs)) whole r
 
 pub head-returns-in_ok-add_whole-in-Inner-clause-ran : goal.head-returns-in_ok-add_whole-in-Inner-clause-ran
-head-returns-in_ok-add_whole-in-Inner-clause-ran g t c first tree goes met =
+head-returns-in_ok-add_whole-in-Inner-clause-ran g t c first tree since goes met =
     let i = g.M.Unit.Item in
     let m = g.M.Summer in
     let s = g.S.NodeSource in
@@ -46,11 +45,11 @@ head-returns-in_ok-add_whole-in-Inner-clause-ran g t c first tree goes met =
     let kind : is_leaf (Inner cs) ≡ (c.args.level == 0) = subst (λ x. is_leaf x ≡ (c.args.level == 0)) c.in-Inner.is c.requires.kind in
     let up : c.args.level ≡ suc low = level_above c.args.level kind in
     let e : cs ≡ c.cut-offset.result.0.now ++ c.cut-offset.result.1.now = sym c.as_slice.ensures ∙ c.cut-offset.ensures.whole in
-    let of = all_of i s m laws first tree told c.args.at c.args.level low c.args.node cs met c.in-Inner.is up in
-    c.head_row.ensures.ran first tree goes (reached_of i s m laws first tree told c.args.at low c.cut-offset.result.1.now (back_of i s m laws first tree told c.args.at low cs c.cut-offset.result.0.now c.cut-offset.result.1.now e of))
+    let of = all_of i s m laws first tree since s0 c.args.at c.args.level low c.args.node cs met c.in-Inner.is up in
+    c.head_row.ensures.ran first tree since c.args.at goes (back_of i s m laws first tree since s0 c.args.at low cs c.cut-offset.result.0.now c.cut-offset.result.1.now e of)
 
 pub head-returns-in_err-add_whole-in-Inner-clause-ran : goal.head-returns-in_err-add_whole-in-Inner-clause-ran
-head-returns-in_err-add_whole-in-Inner-clause-ran g t c first tree goes met =
+head-returns-in_err-add_whole-in-Inner-clause-ran g t c first tree since goes met =
     let i = g.M.Unit.Item in
     let m = g.M.Summer in
     let s = g.S.NodeSource in
@@ -63,14 +62,14 @@ head-returns-in_err-add_whole-in-Inner-clause-ran g t c first tree goes met =
     let kind : is_leaf (Inner cs) ≡ (c.args.level == 0) = subst (λ x. is_leaf x ≡ (c.args.level == 0)) c.in-Inner.is c.requires.kind in
     let up : c.args.level ≡ suc low = level_above c.args.level kind in
     let e : cs ≡ c.cut-offset.result.0.now ++ c.cut-offset.result.1.now = sym c.as_slice.ensures ∙ c.cut-offset.ensures.whole in
-    let of = all_of i s m laws first tree told c.args.at c.args.level low c.args.node cs met c.in-Inner.is up in
-    let front = front_of i s m laws first tree told c.args.at low cs c.cut-offset.result.0.now c.cut-offset.result.1.now e of in
+    let of = all_of i s m laws first tree since s0 c.args.at c.args.level low c.args.node cs met c.in-Inner.is up in
+    let front = front_of i s m laws first tree since s0 c.args.at low cs c.cut-offset.result.0.now c.cut-offset.result.1.now e of in
     let q = c.from_residual in
     let p = err_from_is_err_and q.result q.ensures.1 in
-    sum_ran_err s m laws (λ there. IsFaulty i m first there tree) _ s0 s0 u0 u0 q.result c.in_err-add_whole-in-Inner.field-0.0 p.0 p.2 p.1 (read_fails i s m laws first tree s0 u0 c.args.at low c.cut-offset.result.0.now _ goes front c.in_err-add_whole-in-Inner.ensures.cause)
+    sum_ran_err i s m laws first tree since _ s0 s0 u0 u0 q.result c.in_err-add_whole-in-Inner.field-0.0 p.0 p.2 p.1 (read_fails i s m laws first tree since s0 u0 c.args.at low c.cut-offset.result.0.now _ goes front c.in_err-add_whole-in-Inner.ensures.cause)
 
 pub head-returns-in-Leaf-clause-ran : goal.head-returns-in-Leaf-clause-ran
-head-returns-in-Leaf-clause-ran g t c first tree goes met =
+head-returns-in-Leaf-clause-ran g t c first tree since goes met =
     let i = g.M.Unit.Item in
     let m = g.M.Summer in
     let s = g.S.NodeSource in
@@ -78,10 +77,10 @@ head-returns-in-Leaf-clause-ran g t c first tree goes met =
     let s0 = c.args.store.now in
     let u0 = c.args.summer.now in
     let told = s.nodes s0 in
-    summed_ran s m laws (λ there. IsFaulty i m first there tree) _ s0 u0 c.add_leaf.new.summer c.add_leaf.result c.add_leaf.ensures.ran
+    summed_ran i s m laws first tree since _ s0 u0 c.add_leaf.new.summer c.add_leaf.result c.add_leaf.ensures.ran
 
 pub head_row-returns-then-to-eq0-clause-ran : goal.head_row-returns-then-to-eq0-clause-ran
-head_row-returns-then-to-eq0-clause-ran g t c first tree goes of =
+head_row-returns-then-to-eq0-clause-ran g t c first tree since at goes of =
     let i = g.M.Unit.Item in
     let m = g.M.Summer in
     let s = g.S.NodeSource in
@@ -89,14 +88,14 @@ head_row-returns-then-to-eq0-clause-ran g t c first tree goes of =
     let s0 = c.args.store.now in
     let u0 = c.args.summer.now in
     let told = s.nodes s0 in
-    (laws.steps.none s0, laws.sum_steps.none u0)
+    (sum_none i s m laws first tree since s0, laws.sum_steps.none u0)
 
 pub head_row-returns-then-to-eq0-clause-goes : goal.head_row-returns-then-to-eq0-clause-goes
 head_row-returns-then-to-eq0-clause-goes g t c =
     g.met.M.Summer.are_steps.none c.args.summer.now
 
 pub head_row-returns-in-None-clause-ran : goal.head_row-returns-in-None-clause-ran
-head_row-returns-in-None-clause-ran g t c first tree goes of =
+head_row-returns-in-None-clause-ran g t c first tree since at goes of =
     let i = g.M.Unit.Item in
     let m = g.M.Summer in
     let s = g.S.NodeSource in
@@ -104,14 +103,14 @@ head_row-returns-in-None-clause-ran g t c first tree goes of =
     let s0 = c.args.store.now in
     let u0 = c.args.summer.now in
     let told = s.nodes s0 in
-    (laws.steps.none s0, laws.sum_steps.none u0)
+    (sum_none i s m laws first tree since s0, laws.sum_steps.none u0)
 
 pub head_row-returns-in-None-clause-goes : goal.head_row-returns-in-None-clause-goes
 head_row-returns-in-None-clause-goes g t c =
     g.met.M.Summer.are_steps.none c.args.summer.now
 
 pub head_row-returns-in_err-node-clause-ran : goal.head_row-returns-in_err-node-clause-ran
-head_row-returns-in_err-node-clause-ran g t c first tree goes of =
+head_row-returns-in_err-node-clause-ran g t c first tree since at goes of =
     let i = g.M.Unit.Item in
     let m = g.M.Summer in
     let s = g.S.NodeSource in
@@ -123,13 +122,13 @@ head_row-returns-in_err-node-clause-ran g t c first tree goes of =
     let child = c.in-Some.pair.0.now in
     let after = c.in-Some.pair.1.now in
     let e : c.args.children.now ≡ child ∷ after = c.in-Some.ensures.cases.0 in
-    let reached = first_of i s m laws first tree told low c.args.children.now child after e of in
+    let reached = first_of i s m laws first tree since s0 at low c.args.children.now child after e of in
     let q = c.from_residual in
     let p = err_from_is_err_and q.result q.ensures.1 in
-    sum_ran_err s m laws (λ there. IsFaulty i m first there tree) _ s0 c.fetch.new.store u0 u0 q.result c.in_err-node.field-0.0 p.0 p.2 p.1 (got_fails i s m laws first tree s0 c.fetch.new.store u0 _ (c.in_err-node.ensures.ran tree reached))
+    sum_ran_err i s m laws first tree since _ s0 c.fetch.new.store u0 u0 q.result c.in_err-node.field-0.0 p.0 p.2 p.1 (got_fails i s m laws first tree since s0 c.fetch.new.store u0 _ (c.in_err-node.ensures.ran tree reached))
 
 pub head_row-returns-clause-ran : goal.head_row-returns-clause-ran
-head_row-returns-clause-ran g t c first tree goes of =
+head_row-returns-clause-ran g t c first tree since at goes of =
     let i = g.M.Unit.Item in
     let m = g.M.Summer in
     let s = g.S.NodeSource in
@@ -141,11 +140,11 @@ head_row-returns-clause-ran g t c first tree goes of =
     let child = c.in-Some.pair.0.now in
     let after = c.in-Some.pair.1.now in
     let e : c.args.children.now ≡ child ∷ after = c.in-Some.ensures.cases.0 in
-    let reached = first_of i s m laws first tree told low c.args.children.now child after e of in
+    let reached = first_of i s m laws first tree since s0 at low c.args.children.now child after e of in
     let same = c.in_ok-node.ensures.reads.nodes in
-    let met = node_met i tree told child.at low child.count Below c.in_ok-node.node reached c.in_ok-node.ensures.stands in
+    let met = node_got i s m laws first tree since s0 c.fetch.new.store child.at low child.count Below c.in_ok-node.node c.in_ok-node.ensures.gets (later_of i s m laws first tree since s0 at low c.args.children.now of) reached c.in_ok-node.ensures.stands in
     let first_goes = c.in_ok-node.ensures.ran tree reached in
-    sum_ran_on s m laws (λ there. IsFaulty i m first there tree) _ s0 c.fetch.new.store c.head.new.store u0 u0 c.head.new.summer c.head.result same first_goes (laws.sum_steps.none u0) (c.head.ensures.ran first tree goes (λ there is. met there (sym same ∙ is)))
+    sum_ran_on i s m laws first tree since _ s0 c.fetch.new.store c.head.new.store u0 u0 c.head.new.summer c.head.result same first_goes (laws.sum_steps.none u0) (c.head.ensures.ran first tree since goes (λ there is. met there (sym same ∙ is)))
 
 pub head_row-returns-clause-items : goal.head_row-returns-clause-items
 head_row-returns-clause-items g t c first there done items is-told goes inside are h =
@@ -168,3 +167,7 @@ head_row-returns-clause-items g t c first there done items is-told goes inside a
     let r = c.head.ensures.items first there done k.front (c.in_ok-node.ensures.reads.nodes ∙ is-told) goes small has h in
     let whole : done ++ take to k.front ≡ done ++ take to items = ap (λ t. done ++ t) (sym (take-append-le to k.front k.back small) ∙ ap (take to) (sym k.whole)) in
     subst (λ zs. IfOk c.head.result (λ _. Gathered m first c.head.new.parts.items zs)) whole r
+
+pub head-returns-in_ok-add_whole-in-Inner-clause-fits : goal.head-returns-in_ok-add_whole-in-Inner-clause-fits
+head-returns-in_ok-add_whole-in-Inner-clause-fits g t c first goes h =
+    c.head_row.ensures.fits first goes (c.in_ok-add_whole-in-Inner.ensures.fits first goes h)

@@ -5,17 +5,16 @@ use Rattle.tree_laws.specs.declared.node.Child.{Child}
 use Rattle.tree_laws.specs.declared.node.Node.TheVariants.{Inner}
 use Rattle.tree_laws.specs.declared.tree.Fill.TheVariants.{Below}
 use Rattle.tree_laws.specs.Nodes.{is_leaf}
-use Rattle.tree_laws.specs.Trees.{AreChildren, Has, Stands}
+use Rattle.tree_laws.specs.SummerTrees.{AreChildren, Has, Stands}
 use Rattle.tree_query.specs.Ranges.{Gathered, numbered}
-use Rattle.tree_query.specs.Reaching.{IsFaulty}
 use Rattle.tree_query.proofs.Lists.{level_above, none_from_test, none_long, some_from_test}
 use Rattle.tree_query.proofs.Ranges.{cutting, first_long, gathered_same, none_below, numbered_cut, numbered_empty, numbered_front, numbered_parted}
-use Rattle.tree_query.proofs.Reached.{has_got, node_met}
-use Rattle.tree_query.proofs.Sums.{BothLaws, all_of, back_of, first_of, front_of, got_fails, reached_of, sum_ran_err, sum_ran_on, ok_on, summed_ran}
+use Rattle.tree_query.proofs.Reached.{has_got}
+use Rattle.tree_query.proofs.Sums.{BothLaws, all_of, back_of, first_of, front_of, got_fails, later_of, node_got, of_on, ok_on, sum_none, sum_ran_err, sum_ran_on, summed_ran}
 use Rattle.tree_query.proofs.range.+inside.Goals as goal
 
 pub returns-in-Leaf-clause-ran : goal.returns-in-Leaf-clause-ran
-returns-in-Leaf-clause-ran g t c first tree goes met =
+returns-in-Leaf-clause-ran g t c first tree since goes met =
     let i = g.M.Unit.Item in
     let m = g.M.Summer in
     let s = g.S.NodeSource in
@@ -23,7 +22,7 @@ returns-in-Leaf-clause-ran g t c first tree goes met =
     let s0 = c.args.store.now in
     let u0 = c.args.summer.now in
     let told = s.nodes s0 in
-    summed_ran s m laws (λ there. IsFaulty i m first there tree) _ s0 u0 c.add_leaf.new.summer c.add_leaf.result c.add_leaf.ensures.ran
+    summed_ran i s m laws first tree since _ s0 u0 c.add_leaf.new.summer c.add_leaf.result c.add_leaf.ensures.ran
 
 pub returns-then-not-is_empty-clause-items : goal.returns-then-not-is_empty-clause-items
 returns-then-not-is_empty-clause-items g t c first there done items is-told goes long has h =
@@ -57,7 +56,7 @@ returns-then-not-is_empty-clause-items g t c first there done items is-told goes
     subst (λ zs. IfOk c.head_row.result (λ _. Gathered m first c.head_row.new.parts.items zs)) whole r
 
 pub returns-then-not-is_empty-clause-ran : goal.returns-then-not-is_empty-clause-ran
-returns-then-not-is_empty-clause-ran g t c first tree goes met =
+returns-then-not-is_empty-clause-ran g t c first tree since goes met =
     let i = g.M.Unit.Item in
     let m = g.M.Summer in
     let s = g.S.NodeSource in
@@ -76,15 +75,15 @@ returns-then-not-is_empty-clause-ran g t c first tree goes met =
     let left = c.cut-left.result.2 in
     let end = c.args.to - c.args.from + o in
     let e : cs ≡ c.cut-offset.result.0.now ++ rest = sym c.as_slice.ensures ∙ c.cut-offset.ensures.whole in
-    let all = all_of i s m laws first tree told c.args.at c.args.level low c.args.node cs met c.in-Inner.is up in
-    let rest_of = back_of i s m laws first tree told c.args.at low cs c.cut-offset.result.0.now rest e all in
-    let mid_of = front_of i s m laws first tree told c.args.at low rest mid after c.cut-left.ensures.whole rest_of in
-    let after_of = reached_of i s m laws first tree told c.args.at low after (back_of i s m laws first tree told c.args.at low rest mid after c.cut-left.ensures.whole rest_of) in
-    let ran = c.in_ok-tail_row-in-Inner.ensures.ran first tree goes mid_of in
+    let all = all_of i s m laws first tree since s0 c.args.at c.args.level low c.args.node cs met c.in-Inner.is up in
+    let rest_of = back_of i s m laws first tree since s0 c.args.at low cs c.cut-offset.result.0.now rest e all in
+    let mid_of = front_of i s m laws first tree since s0 c.args.at low rest mid after c.cut-left.ensures.whole rest_of in
+    let after_of = back_of i s m laws first tree since s0 c.args.at low rest mid after c.cut-left.ensures.whole rest_of in
+    let ran = c.in_ok-tail_row-in-Inner.ensures.ran first tree since goes mid_of in
     let same = c.in_ok-tail_row-in-Inner.ensures.reads.nodes in
     let u1 = c.tail_row.new.summer in
     let later = laws.sum_steps.both first u0 u1 goes ran.1 in
-    sum_ran_on s m laws (λ there. IsFaulty i m first there tree) _ s0 c.tail_row.new.store c.head_row.new.store u0 u1 c.head_row.new.summer c.head_row.result same ran.0 ran.1 (c.head_row.ensures.ran first tree later (λ there is. after_of there (sym same ∙ is)))
+    sum_ran_on i s m laws first tree since _ s0 c.tail_row.new.store c.head_row.new.store u0 u1 c.head_row.new.summer c.head_row.result same ran.0 ran.1 (c.head_row.ensures.ran first tree since c.args.at later (of_on i s m laws first tree since s0 c.tail_row.new.store c.args.at low after same ran.0 after_of))
 
 pub returns-then-not-is_empty-clause-goes : goal.returns-then-not-is_empty-clause-goes
 returns-then-not-is_empty-clause-goes g t c =
@@ -92,7 +91,7 @@ returns-then-not-is_empty-clause-goes g t c =
     ok_on _ _ (λ h. g.met.M.Summer.are_steps.both u0 c.tail_row.new.summer c.head_row.new.summer c.in_ok-tail_row-in-Inner.ensures.goes h) c.head_row.result c.head_row.ensures.goes
 
 pub returns-in_err-tail_row-in-Inner-clause-ran : goal.returns-in_err-tail_row-in-Inner-clause-ran
-returns-in_err-tail_row-in-Inner-clause-ran g t c first tree goes met =
+returns-in_err-tail_row-in-Inner-clause-ran g t c first tree since goes met =
     let i = g.M.Unit.Item in
     let m = g.M.Summer in
     let s = g.S.NodeSource in
@@ -111,13 +110,13 @@ returns-in_err-tail_row-in-Inner-clause-ran g t c first tree goes met =
     let left = c.cut-left.result.2 in
     let end = c.args.to - c.args.from + o in
     let e : cs ≡ c.cut-offset.result.0.now ++ rest = sym c.as_slice.ensures ∙ c.cut-offset.ensures.whole in
-    let all = all_of i s m laws first tree told c.args.at c.args.level low c.args.node cs met c.in-Inner.is up in
-    let rest_of = back_of i s m laws first tree told c.args.at low cs c.cut-offset.result.0.now rest e all in
-    let mid_of = front_of i s m laws first tree told c.args.at low rest mid after c.cut-left.ensures.whole rest_of in
-    let after_of = reached_of i s m laws first tree told c.args.at low after (back_of i s m laws first tree told c.args.at low rest mid after c.cut-left.ensures.whole rest_of) in
+    let all = all_of i s m laws first tree since s0 c.args.at c.args.level low c.args.node cs met c.in-Inner.is up in
+    let rest_of = back_of i s m laws first tree since s0 c.args.at low cs c.cut-offset.result.0.now rest e all in
+    let mid_of = front_of i s m laws first tree since s0 c.args.at low rest mid after c.cut-left.ensures.whole rest_of in
+    let after_of = back_of i s m laws first tree since s0 c.args.at low rest mid after c.cut-left.ensures.whole rest_of in
     let q = c.from_residual in
     let p = err_from_is_err_and q.result q.ensures.1 in
-    sum_ran_err s m laws (λ there. IsFaulty i m first there tree) _ s0 c.tail_row.new.store u0 c.tail_row.new.summer q.result c.in_err-tail_row-in-Inner.field-0.0 p.0 p.2 p.1 (c.in_err-tail_row-in-Inner.ensures.ran first tree goes mid_of)
+    sum_ran_err i s m laws first tree since _ s0 c.tail_row.new.store u0 c.tail_row.new.summer q.result c.in_err-tail_row-in-Inner.field-0.0 p.0 p.2 p.1 (c.in_err-tail_row-in-Inner.ensures.ran first tree since goes mid_of)
 
 pub returns-in-None-clause-items : goal.returns-in-None-clause-items
 returns-in-None-clause-items g t c first there done items is-told goes long has h =
@@ -148,7 +147,7 @@ returns-in-None-clause-items g t c first there done items is-told goes long has 
     gathered_same i m first c.args.parts.now.items done (done ++ numbered c.args.from c.args.to items) (sym (ap (λ u. done ++ u) all ∙ append-nil done)) h
 
 pub returns-in-None-clause-ran : goal.returns-in-None-clause-ran
-returns-in-None-clause-ran g t c first tree goes met =
+returns-in-None-clause-ran g t c first tree since goes met =
     let i = g.M.Unit.Item in
     let m = g.M.Summer in
     let s = g.S.NodeSource in
@@ -156,14 +155,14 @@ returns-in-None-clause-ran g t c first tree goes met =
     let s0 = c.args.store.now in
     let u0 = c.args.summer.now in
     let told = s.nodes s0 in
-    (laws.steps.none s0, laws.sum_steps.none u0)
+    (sum_none i s m laws first tree since s0, laws.sum_steps.none u0)
 
 pub returns-in-None-clause-goes : goal.returns-in-None-clause-goes
 returns-in-None-clause-goes g t c =
     g.met.M.Summer.are_steps.none c.args.summer.now
 
 pub returns-in_err-below-in-Inner-clause-ran : goal.returns-in_err-below-in-Inner-clause-ran
-returns-in_err-below-in-Inner-clause-ran g t c first tree goes met =
+returns-in_err-below-in-Inner-clause-ran g t c first tree since goes met =
     let i = g.M.Unit.Item in
     let m = g.M.Summer in
     let s = g.S.NodeSource in
@@ -182,17 +181,17 @@ returns-in_err-below-in-Inner-clause-ran g t c first tree goes met =
     let left = c.cut-left.result.2 in
     let end = c.args.to - c.args.from + o in
     let e : cs ≡ c.cut-offset.result.0.now ++ rest = sym c.as_slice.ensures ∙ c.cut-offset.ensures.whole in
-    let all = all_of i s m laws first tree told c.args.at c.args.level low c.args.node cs met c.in-Inner.is up in
-    let rest_of = back_of i s m laws first tree told c.args.at low cs c.cut-offset.result.0.now rest e all in
-    let mid_of = front_of i s m laws first tree told c.args.at low rest mid after c.cut-left.ensures.whole rest_of in
-    let after_of = reached_of i s m laws first tree told c.args.at low after (back_of i s m laws first tree told c.args.at low rest mid after c.cut-left.ensures.whole rest_of) in
+    let all = all_of i s m laws first tree since s0 c.args.at c.args.level low c.args.node cs met c.in-Inner.is up in
+    let rest_of = back_of i s m laws first tree since s0 c.args.at low cs c.cut-offset.result.0.now rest e all in
+    let mid_of = front_of i s m laws first tree since s0 c.args.at low rest mid after c.cut-left.ensures.whole rest_of in
+    let after_of = back_of i s m laws first tree since s0 c.args.at low rest mid after c.cut-left.ensures.whole rest_of in
     let child = c.in-Some.pair.0.now in
     let others = c.in-Some.pair.1.now in
     let some : after ≡ child ∷ others = c.in-Some.ensures.cases.0 in
-    let reached = first_of i s m laws first tree told low after child others some after_of in
+    let reached = first_of i s m laws first tree since s0 c.args.at low after child others some after_of in
     let q = c.from_residual-in_err-below-in-Inner in
     let p = err_from_is_err_and q.result q.ensures.1 in
-    sum_ran_err s m laws (λ there. IsFaulty i m first there tree) _ s0 c.fetch.new.store u0 u0 q.result c.in_err-below-in-Inner.field-0.0 p.0 p.2 p.1 (got_fails i s m laws first tree s0 c.fetch.new.store u0 _ (c.in_err-below-in-Inner.ensures.ran tree reached))
+    sum_ran_err i s m laws first tree since _ s0 c.fetch.new.store u0 u0 q.result c.in_err-below-in-Inner.field-0.0 p.0 p.2 p.1 (got_fails i s m laws first tree since s0 c.fetch.new.store u0 _ (c.in_err-below-in-Inner.ensures.ran tree reached))
 
 pub returns-in_ok-below-in-Inner-clause-items : goal.returns-in_ok-below-in-Inner-clause-items
 returns-in_ok-below-in-Inner-clause-items g t c first there done items is-told goes long has h =
@@ -230,7 +229,7 @@ returns-in_ok-below-in-Inner-clause-items g t c first there done items is-told g
     subst (λ zs. IfOk c.inside.result (λ _. Gathered m first c.inside.new.parts.items zs)) (ap (λ u. done ++ u) (sym all)) r
 
 pub returns-in_ok-below-in-Inner-clause-ran : goal.returns-in_ok-below-in-Inner-clause-ran
-returns-in_ok-below-in-Inner-clause-ran g t c first tree goes met =
+returns-in_ok-below-in-Inner-clause-ran g t c first tree since goes met =
     let i = g.M.Unit.Item in
     let m = g.M.Summer in
     let s = g.S.NodeSource in
@@ -249,15 +248,20 @@ returns-in_ok-below-in-Inner-clause-ran g t c first tree goes met =
     let left = c.cut-left.result.2 in
     let end = c.args.to - c.args.from + o in
     let e : cs ≡ c.cut-offset.result.0.now ++ rest = sym c.as_slice.ensures ∙ c.cut-offset.ensures.whole in
-    let all = all_of i s m laws first tree told c.args.at c.args.level low c.args.node cs met c.in-Inner.is up in
-    let rest_of = back_of i s m laws first tree told c.args.at low cs c.cut-offset.result.0.now rest e all in
-    let mid_of = front_of i s m laws first tree told c.args.at low rest mid after c.cut-left.ensures.whole rest_of in
-    let after_of = reached_of i s m laws first tree told c.args.at low after (back_of i s m laws first tree told c.args.at low rest mid after c.cut-left.ensures.whole rest_of) in
+    let all = all_of i s m laws first tree since s0 c.args.at c.args.level low c.args.node cs met c.in-Inner.is up in
+    let rest_of = back_of i s m laws first tree since s0 c.args.at low cs c.cut-offset.result.0.now rest e all in
+    let mid_of = front_of i s m laws first tree since s0 c.args.at low rest mid after c.cut-left.ensures.whole rest_of in
+    let after_of = back_of i s m laws first tree since s0 c.args.at low rest mid after c.cut-left.ensures.whole rest_of in
     let child = c.in-Some.pair.0.now in
     let others = c.in-Some.pair.1.now in
     let some : after ≡ child ∷ others = c.in-Some.ensures.cases.0 in
-    let reached = first_of i s m laws first tree told low after child others some after_of in
+    let reached = first_of i s m laws first tree since s0 c.args.at low after child others some after_of in
     let below = c.in_ok-below-in-Inner.below in
     let same = c.in_ok-below-in-Inner.ensures.reads.nodes in
-    let at_child = node_met i tree told child.at low child.count Below below reached c.in_ok-below-in-Inner.ensures.stands in
-    sum_ran_on s m laws (λ there. IsFaulty i m first there tree) _ s0 c.fetch.new.store c.inside.new.store u0 u0 c.inside.new.summer c.inside.result same (c.in_ok-below-in-Inner.ensures.ran tree reached) (laws.sum_steps.none u0) (c.inside.ensures.ran first tree goes (λ there is. at_child there (sym same ∙ is)))
+    let at_child = node_got i s m laws first tree since s0 c.fetch.new.store child.at low child.count Below below c.in_ok-below-in-Inner.ensures.gets (later_of i s m laws first tree since s0 c.args.at low after after_of) reached c.in_ok-below-in-Inner.ensures.stands in
+    sum_ran_on i s m laws first tree since _ s0 c.fetch.new.store c.inside.new.store u0 u0 c.inside.new.summer c.inside.result same (c.in_ok-below-in-Inner.ensures.ran tree reached) (laws.sum_steps.none u0) (c.inside.ensures.ran first tree since goes (λ there is. at_child there (sym same ∙ is)))
+
+pub returns-then-not-is_empty-clause-fits : goal.returns-then-not-is_empty-clause-fits
+returns-then-not-is_empty-clause-fits g t c first goes h =
+    let later = g.met.M.Summer.are_steps.both first c.args.summer.now c.tail_row.new.summer goes c.in_ok-tail_row-in-Inner.ensures.goes in
+    c.head_row.ensures.fits first later (c.in_ok-tail_row-in-Inner.ensures.fits first goes h)

@@ -4,13 +4,12 @@ use Rattle.std.proofs.lemmas.Result.{err_from_is_err_and}
 use Rattle.tree_laws.specs.declared.node.Node.TheVariants.{Inner}
 use Rattle.tree_laws.specs.declared.tree.Fill.TheVariants.{Below}
 use Rattle.tree_laws.specs.Nodes.{is_leaf}
-use Rattle.tree_laws.specs.Trees.{AreChildren, Has, Stands}
+use Rattle.tree_laws.specs.SummerTrees.{AreChildren, Has, Stands}
 use Rattle.tree_query.specs.Ranges.{Gathered}
-use Rattle.tree_query.specs.Reaching.{IsFaulty}
 use Rattle.tree_query.proofs.Lists.{level_above}
 use Rattle.tree_query.proofs.Ranges.{cutting}
-use Rattle.tree_query.proofs.Reached.{has_got, node_met}
-use Rattle.tree_query.proofs.Sums.{BothLaws, all_of, back_of, first_of, got_fails, reached_of, read_ran, sum_fails_on, sum_ran_err, sum_ran_on, summed_ran}
+use Rattle.tree_query.proofs.Reached.{has_got}
+use Rattle.tree_query.proofs.Sums.{BothLaws, all_of, back_of, first_of, got_fails, later_of, node_got, of_on, read_ran, sum_fails_on, sum_none, sum_ran_err, sum_ran_on, sum_went_on, summed_ran}
 use Rattle.tree_query.proofs.range.+tail.Goals as goal
 
 pub tail-returns-in-Inner-clause-items : goal.tail-returns-in-Inner-clause-items
@@ -30,7 +29,7 @@ tail-returns-in-Inner-clause-items g t c first there done items is-told goes lon
     subst (λ zs. IfOk c.tail_row.result (λ _. Gathered m first c.tail_row.new.parts.items (done ++ zs))) (sym k.dropped) r
 
 pub tail-returns-in-Inner-clause-ran : goal.tail-returns-in-Inner-clause-ran
-tail-returns-in-Inner-clause-ran g t c first tree goes met =
+tail-returns-in-Inner-clause-ran g t c first tree since goes met =
     let i = g.M.Unit.Item in
     let m = g.M.Summer in
     let s = g.S.NodeSource in
@@ -43,11 +42,11 @@ tail-returns-in-Inner-clause-ran g t c first tree goes met =
     let kind : is_leaf (Inner cs) ≡ (c.args.level == 0) = subst (λ x. is_leaf x ≡ (c.args.level == 0)) c.in-Inner.is c.requires.kind in
     let up : c.args.level ≡ suc low = level_above c.args.level kind in
     let e : cs ≡ c.cut-offset.result.0.now ++ c.cut-offset.result.1.now = sym c.as_slice.ensures ∙ c.cut-offset.ensures.whole in
-    let of = all_of i s m laws first tree told c.args.at c.args.level low c.args.node cs met c.in-Inner.is up in
-    c.tail_row.ensures.ran first tree goes (back_of i s m laws first tree told c.args.at low cs c.cut-offset.result.0.now c.cut-offset.result.1.now e of)
+    let of = all_of i s m laws first tree since s0 c.args.at c.args.level low c.args.node cs met c.in-Inner.is up in
+    c.tail_row.ensures.ran first tree since goes (back_of i s m laws first tree since s0 c.args.at low cs c.cut-offset.result.0.now c.cut-offset.result.1.now e of)
 
 pub tail-returns-in-Leaf-clause-ran : goal.tail-returns-in-Leaf-clause-ran
-tail-returns-in-Leaf-clause-ran g t c first tree goes met =
+tail-returns-in-Leaf-clause-ran g t c first tree since goes met =
     let i = g.M.Unit.Item in
     let m = g.M.Summer in
     let s = g.S.NodeSource in
@@ -55,7 +54,7 @@ tail-returns-in-Leaf-clause-ran g t c first tree goes met =
     let s0 = c.args.store.now in
     let u0 = c.args.summer.now in
     let told = s.nodes s0 in
-    summed_ran s m laws (λ there. IsFaulty i m first there tree) _ s0 u0 c.add_leaf.new.summer c.add_leaf.result c.add_leaf.ensures.ran
+    summed_ran i s m laws first tree since _ s0 u0 c.add_leaf.new.summer c.add_leaf.result c.add_leaf.ensures.ran
 
 pub tail_row-returns-then-from-eq0-clause-items : goal.tail_row-returns-then-from-eq0-clause-items
 tail_row-returns-then-from-eq0-clause-items g t c first there done items is-told goes inside are h =
@@ -64,7 +63,7 @@ tail_row-returns-then-from-eq0-clause-items g t c first there done items is-told
     subst (λ n. IfOk c.add_whole.result (λ _. Gathered m first c.add_whole.new.parts.items (done ++ drop n items))) (sym z) (c.add_whole.ensures.items first there c.args.low done items goes are h)
 
 pub tail_row-returns-then-from-eq0-clause-ran : goal.tail_row-returns-then-from-eq0-clause-ran
-tail_row-returns-then-from-eq0-clause-ran g t c first tree goes of =
+tail_row-returns-then-from-eq0-clause-ran g t c first tree since goes of =
     let i = g.M.Unit.Item in
     let m = g.M.Summer in
     let s = g.S.NodeSource in
@@ -72,7 +71,7 @@ tail_row-returns-then-from-eq0-clause-ran g t c first tree goes of =
     let s0 = c.args.store.now in
     let u0 = c.args.summer.now in
     let told = s.nodes s0 in
-    read_ran i s m laws first tree _ s0 u0 c.args.at c.args.low c.args.children.now c.add_whole.result goes of c.add_whole.ensures.cause
+    read_ran i s m laws first tree since _ s0 u0 c.args.at c.args.low c.args.children.now c.add_whole.result goes of c.add_whole.ensures.cause
 
 pub tail_row-returns-clause-items : goal.tail_row-returns-clause-items
 tail_row-returns-clause-items g t c first there done items is-told goes inside are h =
@@ -100,7 +99,7 @@ tail_row-returns-clause-items g t c first there done items is-told goes inside a
     subst (λ zs. IfOk c.add_whole-2.result (λ _. Gathered m first c.add_whole-2.new.parts.items zs)) whole all
 
 pub tail_row-returns-in_err-node-clause-ran : goal.tail_row-returns-in_err-node-clause-ran
-tail_row-returns-in_err-node-clause-ran g t c first tree goes of =
+tail_row-returns-in_err-node-clause-ran g t c first tree since goes of =
     let i = g.M.Unit.Item in
     let m = g.M.Summer in
     let s = g.S.NodeSource in
@@ -112,13 +111,13 @@ tail_row-returns-in_err-node-clause-ran g t c first tree goes of =
     let child = c.in-Some.pair.0.now in
     let after = c.in-Some.pair.1.now in
     let e : c.args.children.now ≡ child ∷ after = c.in-Some.ensures.cases.0 in
-    let reached = first_of i s m laws first tree told low c.args.children.now child after e (reached_of i s m laws first tree told c.args.at low c.args.children.now of) in
+    let reached = first_of i s m laws first tree since s0 c.args.at low c.args.children.now child after e of in
     let q = c.from_residual in
     let p = err_from_is_err_and q.result q.ensures.1 in
-    sum_ran_err s m laws (λ there. IsFaulty i m first there tree) _ s0 c.fetch.new.store u0 u0 q.result c.in_err-node.field-0.0 p.0 p.2 p.1 (got_fails i s m laws first tree s0 c.fetch.new.store u0 _ (c.in_err-node.ensures.ran tree reached))
+    sum_ran_err i s m laws first tree since _ s0 c.fetch.new.store u0 u0 q.result c.in_err-node.field-0.0 p.0 p.2 p.1 (got_fails i s m laws first tree since s0 c.fetch.new.store u0 _ (c.in_err-node.ensures.ran tree reached))
 
 pub tail_row-returns-in_err-tail-clause-ran : goal.tail_row-returns-in_err-tail-clause-ran
-tail_row-returns-in_err-tail-clause-ran g t c first tree goes of =
+tail_row-returns-in_err-tail-clause-ran g t c first tree since goes of =
     let i = g.M.Unit.Item in
     let m = g.M.Summer in
     let s = g.S.NodeSource in
@@ -130,17 +129,17 @@ tail_row-returns-in_err-tail-clause-ran g t c first tree goes of =
     let child = c.in-Some.pair.0.now in
     let after = c.in-Some.pair.1.now in
     let e : c.args.children.now ≡ child ∷ after = c.in-Some.ensures.cases.0 in
-    let reached = first_of i s m laws first tree told low c.args.children.now child after e (reached_of i s m laws first tree told c.args.at low c.args.children.now of) in
+    let reached = first_of i s m laws first tree since s0 c.args.at low c.args.children.now child after e of in
     let same = c.in_ok-node.ensures.reads.nodes in
-    let met = node_met i tree told child.at low child.count Below c.in_ok-node.node reached c.in_ok-node.ensures.stands in
+    let met = node_got i s m laws first tree since s0 c.fetch.new.store child.at low child.count Below c.in_ok-node.node c.in_ok-node.ensures.gets (later_of i s m laws first tree since s0 c.args.at low c.args.children.now of) reached c.in_ok-node.ensures.stands in
     let first_goes = c.in_ok-node.ensures.ran tree reached in
     let q = c.from_residual-in_err-tail in
     let p = err_from_is_err_and q.result q.ensures.1 in
-    let fails = c.in_err-tail.ensures.ran first tree goes (λ there is. met there (sym same ∙ is)) in
-    sum_ran_err s m laws (λ there. IsFaulty i m first there tree) _ s0 c.tail.new.store u0 c.tail.new.summer q.result c.in_err-tail.field-0.0 p.0 p.2 p.1 (sum_fails_on s m laws (λ there. IsFaulty i m first there tree) s0 c.fetch.new.store c.tail.new.store u0 u0 c.tail.new.summer _ same first_goes (laws.sum_steps.none u0) fails)
+    let fails = c.in_err-tail.ensures.ran first tree since goes (λ there is. met there (sym same ∙ is)) in
+    sum_ran_err i s m laws first tree since _ s0 c.tail.new.store u0 c.tail.new.summer q.result c.in_err-tail.field-0.0 p.0 p.2 p.1 (sum_fails_on i s m laws first tree since s0 c.fetch.new.store c.tail.new.store u0 u0 c.tail.new.summer _ same first_goes (laws.sum_steps.none u0) fails)
 
 pub tail_row-returns-clause-ran : goal.tail_row-returns-clause-ran
-tail_row-returns-clause-ran g t c first tree goes of =
+tail_row-returns-clause-ran g t c first tree since goes of =
     let i = g.M.Unit.Item in
     let m = g.M.Summer in
     let s = g.S.NodeSource in
@@ -152,20 +151,21 @@ tail_row-returns-clause-ran g t c first tree goes of =
     let child = c.in-Some.pair.0.now in
     let after = c.in-Some.pair.1.now in
     let e : c.args.children.now ≡ child ∷ after = c.in-Some.ensures.cases.0 in
-    let reached = first_of i s m laws first tree told low c.args.children.now child after e (reached_of i s m laws first tree told c.args.at low c.args.children.now of) in
+    let reached = first_of i s m laws first tree since s0 c.args.at low c.args.children.now child after e of in
     let same = c.in_ok-node.ensures.reads.nodes in
-    let met = node_met i tree told child.at low child.count Below c.in_ok-node.node reached c.in_ok-node.ensures.stands in
+    let met = node_got i s m laws first tree since s0 c.fetch.new.store child.at low child.count Below c.in_ok-node.node c.in_ok-node.ensures.gets (later_of i s m laws first tree since s0 c.args.at low c.args.children.now of) reached c.in_ok-node.ensures.stands in
     let first_goes = c.in_ok-node.ensures.ran tree reached in
-    let ran = c.in_ok-tail.ensures.ran first tree goes (λ there is. met there (sym same ∙ is)) in
+    let ran = c.in_ok-tail.ensures.ran first tree since goes (λ there is. met there (sym same ∙ is)) in
     let s2 = c.tail.new.store in
     let u1 = c.tail.new.summer in
     let same2 = c.in_ok-tail.ensures.reads.nodes ∙ same in
-    let rest = back_of i s m laws first tree told c.args.at low c.args.children.now (child ∷ []) after e of in
-    let read = read_ran i s m laws first tree _ s2 u1 c.args.at low after c.add_whole-2.result (laws.sum_steps.both first u0 u1 goes ran.1) (λ there is. rest there (sym same2 ∙ is)) c.add_whole-2.ensures.cause in
-    sum_ran_on s m laws (λ there. IsFaulty i m first there tree) _ s0 s2 s2 u0 u1 u1 c.add_whole-2.result same2 (laws.steps.both s0 c.fetch.new.store s2 first_goes ran.0) ran.1 read
+    let went = sum_went_on i s m laws first tree since s0 c.fetch.new.store s2 same first_goes ran.0 in
+    let rest = back_of i s m laws first tree since s0 c.args.at low c.args.children.now (child ∷ []) after e of in
+    let read = read_ran i s m laws first tree since _ s2 u1 c.args.at low after c.add_whole-2.result (laws.sum_steps.both first u0 u1 goes ran.1) (of_on i s m laws first tree since s0 s2 c.args.at low after same2 went rest) c.add_whole-2.ensures.cause in
+    sum_ran_on i s m laws first tree since _ s0 s2 s2 u0 u1 u1 c.add_whole-2.result same2 went ran.1 read
 
 pub tail_row-returns-in-None-clause-ran : goal.tail_row-returns-in-None-clause-ran
-tail_row-returns-in-None-clause-ran g t c first tree goes of =
+tail_row-returns-in-None-clause-ran g t c first tree since goes of =
     let i = g.M.Unit.Item in
     let m = g.M.Summer in
     let s = g.S.NodeSource in
@@ -173,8 +173,13 @@ tail_row-returns-in-None-clause-ran g t c first tree goes of =
     let s0 = c.args.store.now in
     let u0 = c.args.summer.now in
     let told = s.nodes s0 in
-    (laws.steps.none s0, laws.sum_steps.none u0)
+    (sum_none i s m laws first tree since s0, laws.sum_steps.none u0)
 
 pub tail_row-returns-in-None-clause-goes : goal.tail_row-returns-in-None-clause-goes
 tail_row-returns-in-None-clause-goes g t c =
     g.met.M.Summer.are_steps.none c.args.summer.now
+
+pub tail_row-returns-clause-fits : goal.tail_row-returns-clause-fits
+tail_row-returns-clause-fits g t c first goes h =
+    let later = g.met.M.Summer.are_steps.both first c.args.summer.now c.tail.new.summer goes c.in_ok-tail.ensures.goes in
+    c.add_whole-2.ensures.fits first later (c.in_ok-tail.ensures.fits first goes h)

@@ -9,13 +9,12 @@ use Rattle.tree_query.proofs.range.read_sums.Goals as goal
 
 pub returns-in_err-sum-clause-cause : goal.returns-in_err-sum-clause-cause
 returns-in_err-sum-clause-cause g c =
-    let i = g.M.Unit.Item in
     let m = g.M.Summer in
     let child = c.child-item.result in
     let p = err_from_is_err_and c.from_residual.result c.from_residual.ensures.1 in
     let inside : Contains c.args.children.now child = (c.loop-child.child-index, omega arith, sym c.child-item.is) in
-    err_as (ReadFails i m c.args.summer.now c.args.at c.args.children.now) c.from_residual.result c.in_err-sum.field-0.0 p.0 p.2 p.1
-    (read_err i m c.args.summer.now c.args.at c.args.children.now child _ inside (subst (λ bytes. IsUnreadAt i m c.args.summer.now c.args.at bytes c.in_err-sum.field-0.0) c.as_slice.ensures c.in_err-sum.ensures.cause))
+    err_as (ReadFails m c.args.summer.now c.args.at c.args.children.now) c.from_residual.result c.in_err-sum.field-0.0 p.0 p.2 p.1
+    (read_err m c.args.summer.now c.args.at c.args.children.now child _ inside (subst (λ bytes. IsUnreadAt m c.args.summer.now c.args.at bytes c.in_err-sum.field-0.0) c.as_slice.ensures c.in_err-sum.ensures.cause))
 
 pub loop-child-preserved : goal.loop-child-preserved
 loop-child-preserved g c =

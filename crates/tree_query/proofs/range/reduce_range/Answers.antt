@@ -1,15 +1,16 @@
-use Rattle.std.proofs.Common.{◌≡◌, ◌≢◌, ◌<◌, ◌≤◌, ◌-◌, ◌^◌, [], take, length, sym, ap, subst, ◌∙◌, arith}
+use Rattle.std.proofs.Common.{◌≡◌, ◌≢◌, ◌<◌, ◌≤◌, ◌-◌, ◌^◌, [], All, take, length, sym, ap, subst, ◌∙◌, arith}
 use Rattle.std.proofs.lemmas.Result.{err_from_is_err_and}
 use Rattle.tree_laws.specs.declared.tree.Fill.TheVariants.{Root}
-use Rattle.tree_laws.specs.Trees.{Has}
+use Rattle.tree_laws.specs.SummerTrees.{Has}
 use Rattle.tree_query.specs.Ranges.{Gathered, numbered}
-use Rattle.tree_query.specs.Reaching.{IsFaulty, root}
+use Rattle.tree_laws.specs.Reaching.{root}
 use Rattle.tree_query.proofs.Ranges.{gathered_none, numbered_length, numbered_none}
-use Rattle.tree_query.proofs.Reached.{has_got, node_met, root_at}
-use Rattle.tree_query.proofs.Sums.{BothLaws, got_fails, none_faulty, sum_bad, sum_fails_on, sum_ran_err, summed_fails}
-use Rattle.std.proofs.lemmas.List.Elements.{All-drop, All-take}
-use Rattle.tree_laws.proofs.Parts.{items_fit}
+use Rattle.tree_query.proofs.Reached.{has_got, root_at}
+use Rattle.tree_query.proofs.Sums.{BothLaws, got_fails, node_got, none_blamed, sum_bad, sum_fails_on, sum_none, sum_ran_err, sum_went_on, summed_fails}
+use Rattle.std.proofs.lemmas.List.Elements.{All-drop, All-nil, All-take}
+use Rattle.tree_laws.proofs.SummerTrees.{items_fit}
 use Rattle.tree_query.proofs.Lists.{some_height}
+use Rattle.tree_query.proofs.Since.{later_none}
 use Rattle.tree_query.proofs.range.reduce_range.Goals as goal
 
 pub overflow_sub-level : goal.overflow_sub-level
@@ -22,6 +23,8 @@ returns-then-from-to-clause-value g c first there items is-told goes is =
 
 pub returns-then-from-to-clause-ran : goal.returns-then-from-to-clause-ran
 returns-then-from-to-clause-ran g c =
+    let tree = c.args.tree in
+    let first = c.args.summer.now in
     let i = g.M.Unit.Item in
     let m = g.M.Summer in
     let s = g.S.NodeSource in
@@ -29,7 +32,8 @@ returns-then-from-to-clause-ran g c =
     let s0 = c.args.store.now in
     let u0 = c.args.summer.now in
     let told = s.nodes s0 in
-    (laws.steps.none s0, laws.sum_steps.none u0)
+    let since = s.gets s0 in
+    (sum_none i s m laws first tree since s0, laws.sum_steps.none u0)
 
 pub returns-clause-value : goal.returns-clause-value
 returns-clause-value g c first there items is-told goes is =
@@ -62,6 +66,7 @@ returns-in_err-root-clause-ran g c =
     let s0 = c.args.store.now in
     let u0 = c.args.summer.now in
     let told = s.nodes s0 in
+    let since = s.gets s0 in
     let tree = c.args.tree in
     let level = tree.height - 1 in
     let some : 0 < tree.height = some_height tree.height tree.count c.requires.size.empty (omega (arith, c.requires.range, c.requires.within, c.if-from-to.false)) in
@@ -69,7 +74,7 @@ returns-in_err-root-clause-ran g c =
     let goes = laws.sum_steps.none u0 in
     let q = c.from_residual in
     let p = err_from_is_err_and q.result q.ensures.1 in
-    sum_ran_err s m laws (λ there. IsFaulty i m first there tree) _ s0 c.fetch.new.store u0 u0 q.result c.in_err-root.field-0.0 p.0 p.2 p.1 (got_fails i s m laws first tree s0 c.fetch.new.store u0 _ (c.in_err-root.ensures.ran tree (λ there is. root some)))
+    sum_ran_err i s m laws first tree since _ s0 c.fetch.new.store u0 u0 q.result c.in_err-root.field-0.0 p.0 p.2 p.1 (got_fails i s m laws first tree since s0 c.fetch.new.store u0 _ (c.in_err-root.ensures.ran tree (λ there is. root some)))
 
 pub returns-in_err-root-clause-sound : goal.returns-in_err-root-clause-sound
 returns-in_err-root-clause-sound g c first there items at is-told goes is e =
@@ -80,13 +85,14 @@ returns-in_err-root-clause-sound g c first there items at is-told goes is e =
     let s0 = c.args.store.now in
     let u0 = c.args.summer.now in
     let told = s.nodes s0 in
+    let since = s.gets s0 in
     let tree = c.args.tree in
     let level = tree.height - 1 in
     let some : 0 < tree.height = some_height tree.height tree.count c.requires.size.empty (omega (arith, c.requires.range, c.requires.within, c.if-from-to.false)) in
     let q = c.from_residual in
     let p = err_from_is_err_and q.result q.ensures.1 in
-    let ran = sum_ran_err s m laws (λ there. IsFaulty i m first there tree) _ s0 c.fetch.new.store u0 u0 q.result c.in_err-root.field-0.0 p.0 p.2 p.1 (got_fails i s m laws first tree s0 c.fetch.new.store u0 _ (c.in_err-root.ensures.ran tree (λ there is. root some))) in
-    none_faulty i m first g.met.M.Unit.Item.one_spelling there tree items is at (sum_bad s m laws (λ there. IsFaulty i m first there tree) _ s0 c.fetch.new.store u0 u0 there q.result at ran is-told e)
+    let ran = sum_ran_err i s m laws first tree since _ s0 c.fetch.new.store u0 u0 q.result c.in_err-root.field-0.0 p.0 p.2 p.1 (got_fails i s m laws first tree since s0 c.fetch.new.store u0 _ (c.in_err-root.ensures.ran tree (λ there is. root some))) in
+    none_blamed i m first g.met.M.Unit.Item.one_spelling there tree items is since since (s.gets c.fetch.new.store) at (sum_bad i s m laws first tree since _ s0 c.fetch.new.store u0 u0 there q.result at ran is-told e)
 
 pub returns-in_err-inside-clause-ran : goal.returns-in_err-inside-clause-ran
 returns-in_err-inside-clause-ran g c =
@@ -97,6 +103,7 @@ returns-in_err-inside-clause-ran g c =
     let s0 = c.args.store.now in
     let u0 = c.args.summer.now in
     let told = s.nodes s0 in
+    let since = s.gets s0 in
     let tree = c.args.tree in
     let level = tree.height - 1 in
     let some : 0 < tree.height = some_height tree.height tree.count c.requires.size.empty (omega (arith, c.requires.range, c.requires.within, c.if-from-to.false)) in
@@ -105,9 +112,9 @@ returns-in_err-inside-clause-ran g c =
     let q = c.from_residual-in_err-inside in
     let p = err_from_is_err_and q.result q.ensures.1 in
     let same = c.in_ok-root.ensures.reads.nodes in
-    let met = node_met i tree told tree.root level tree.count Root c.in_ok-root.root (λ there is. root some) c.in_ok-root.ensures.stands in
+    let met = node_got i s m laws first tree since s0 c.fetch.new.store tree.root level tree.count Root c.in_ok-root.root c.in_ok-root.ensures.gets (λ there is. later_none since) (λ there is. root some) c.in_ok-root.ensures.stands in
     let got = c.in_ok-root.ensures.ran tree (λ there is. root some) in
-    sum_ran_err s m laws (λ there. IsFaulty i m first there tree) _ s0 c.inside.new.store u0 c.inside.new.summer q.result c.in_err-inside.field-0.0 p.0 p.2 p.1 (sum_fails_on s m laws (λ there. IsFaulty i m first there tree) s0 c.fetch.new.store c.inside.new.store u0 u0 c.inside.new.summer _ same got (laws.sum_steps.none u0) (c.in_err-inside.ensures.ran first tree goes (λ there is. met there (sym same ∙ is))))
+    sum_ran_err i s m laws first tree since _ s0 c.inside.new.store u0 c.inside.new.summer q.result c.in_err-inside.field-0.0 p.0 p.2 p.1 (sum_fails_on i s m laws first tree since s0 c.fetch.new.store c.inside.new.store u0 u0 c.inside.new.summer _ same got (laws.sum_steps.none u0) (c.in_err-inside.ensures.ran first tree since goes (λ there is. met there (sym same ∙ is))))
 
 pub returns-in_err-inside-clause-sound : goal.returns-in_err-inside-clause-sound
 returns-in_err-inside-clause-sound g c first there items at is-told goes is e =
@@ -118,16 +125,17 @@ returns-in_err-inside-clause-sound g c first there items at is-told goes is e =
     let s0 = c.args.store.now in
     let u0 = c.args.summer.now in
     let told = s.nodes s0 in
+    let since = s.gets s0 in
     let tree = c.args.tree in
     let level = tree.height - 1 in
     let some : 0 < tree.height = some_height tree.height tree.count c.requires.size.empty (omega (arith, c.requires.range, c.requires.within, c.if-from-to.false)) in
     let q = c.from_residual-in_err-inside in
     let p = err_from_is_err_and q.result q.ensures.1 in
     let same = c.in_ok-root.ensures.reads.nodes in
-    let met = node_met i tree told tree.root level tree.count Root c.in_ok-root.root (λ there is. root some) c.in_ok-root.ensures.stands in
+    let met = node_got i s m laws first tree since s0 c.fetch.new.store tree.root level tree.count Root c.in_ok-root.root c.in_ok-root.ensures.gets (λ there is. later_none since) (λ there is. root some) c.in_ok-root.ensures.stands in
     let got = c.in_ok-root.ensures.ran tree (λ there is. root some) in
-    let ran = sum_ran_err s m laws (λ there. IsFaulty i m first there tree) _ s0 c.inside.new.store u0 c.inside.new.summer q.result c.in_err-inside.field-0.0 p.0 p.2 p.1 (sum_fails_on s m laws (λ there. IsFaulty i m first there tree) s0 c.fetch.new.store c.inside.new.store u0 u0 c.inside.new.summer _ same got (laws.sum_steps.none u0) (c.in_err-inside.ensures.ran first tree goes (λ there is. met there (sym same ∙ is)))) in
-    none_faulty i m first g.met.M.Unit.Item.one_spelling there tree items is at (sum_bad s m laws (λ there. IsFaulty i m first there tree) _ s0 c.inside.new.store u0 c.inside.new.summer there q.result at ran is-told e)
+    let ran = sum_ran_err i s m laws first tree since _ s0 c.inside.new.store u0 c.inside.new.summer q.result c.in_err-inside.field-0.0 p.0 p.2 p.1 (sum_fails_on i s m laws first tree since s0 c.fetch.new.store c.inside.new.store u0 u0 c.inside.new.summer _ same got (laws.sum_steps.none u0) (c.in_err-inside.ensures.ran first tree since goes (λ there is. met there (sym same ∙ is)))) in
+    none_blamed i m first g.met.M.Unit.Item.one_spelling there tree items is since since (s.gets c.inside.new.store) at (sum_bad i s m laws first tree since _ s0 c.inside.new.store u0 c.inside.new.summer there q.result at ran is-told e)
 
 pub returns-in_err-sum-clause-ran : goal.returns-in_err-sum-clause-ran
 returns-in_err-sum-clause-ran g c =
@@ -138,6 +146,7 @@ returns-in_err-sum-clause-ran g c =
     let s0 = c.args.store.now in
     let u0 = c.args.summer.now in
     let told = s.nodes s0 in
+    let since = s.gets s0 in
     let tree = c.args.tree in
     let level = tree.height - 1 in
     let some : 0 < tree.height = some_height tree.height tree.count c.requires.size.empty (omega (arith, c.requires.range, c.requires.within, c.if-from-to.false)) in
@@ -146,14 +155,14 @@ returns-in_err-sum-clause-ran g c =
     let q = c.from_residual-in_err-sum in
     let p = err_from_is_err_and q.result q.ensures.1 in
     let same = c.in_ok-root.ensures.reads.nodes in
-    let met = node_met i tree told tree.root level tree.count Root c.in_ok-root.root (λ there is. root some) c.in_ok-root.ensures.stands in
+    let met = node_got i s m laws first tree since s0 c.fetch.new.store tree.root level tree.count Root c.in_ok-root.root c.in_ok-root.ensures.gets (λ there is. later_none since) (λ there is. root some) c.in_ok-root.ensures.stands in
     let got = c.in_ok-root.ensures.ran tree (λ there is. root some) in
-    let ran1 = c.in_ok-inside.ensures.ran first tree goes (λ there is. met there (sym same ∙ is)) in
+    let ran1 = c.in_ok-inside.ensures.ran first tree since goes (λ there is. met there (sym same ∙ is)) in
     let same2 = c.in_ok-inside.ensures.reads.nodes ∙ same in
     let s2 = c.inside.new.store in
     let u1 = c.inside.new.summer in
     let u2 = c.join_parts.new.summer in
-    sum_ran_err s m laws (λ there. IsFaulty i m first there tree) _ s0 s2 u0 u2 q.result c.in_err-sum.field-0.0 p.0 p.2 p.1 (sum_fails_on s m laws (λ there. IsFaulty i m first there tree) s0 s2 s2 u0 u1 u2 _ same2 (laws.steps.both s0 c.fetch.new.store s2 got ran1.0) ran1.1 (summed_fails s m laws (λ there. IsFaulty i m first there tree) g.row.M-Sum.Denot s2 u1 u2 _ c.in_err-sum.ensures.ran))
+    sum_ran_err i s m laws first tree since _ s0 s2 u0 u2 q.result c.in_err-sum.field-0.0 p.0 p.2 p.1 (sum_fails_on i s m laws first tree since s0 s2 s2 u0 u1 u2 _ same2 (sum_went_on i s m laws first tree since s0 c.fetch.new.store s2 same got ran1.0) ran1.1 (summed_fails i s m laws first tree since g.row.M-Sum.Denot s2 u1 u2 _ c.in_err-sum.ensures.ran))
 
 pub returns-in_err-sum-clause-sound : goal.returns-in_err-sum-clause-sound
 returns-in_err-sum-clause-sound g c first there items at is-told goes is e =
@@ -164,21 +173,22 @@ returns-in_err-sum-clause-sound g c first there items at is-told goes is e =
     let s0 = c.args.store.now in
     let u0 = c.args.summer.now in
     let told = s.nodes s0 in
+    let since = s.gets s0 in
     let tree = c.args.tree in
     let level = tree.height - 1 in
     let some : 0 < tree.height = some_height tree.height tree.count c.requires.size.empty (omega (arith, c.requires.range, c.requires.within, c.if-from-to.false)) in
     let q = c.from_residual-in_err-sum in
     let p = err_from_is_err_and q.result q.ensures.1 in
     let same = c.in_ok-root.ensures.reads.nodes in
-    let met = node_met i tree told tree.root level tree.count Root c.in_ok-root.root (λ there is. root some) c.in_ok-root.ensures.stands in
+    let met = node_got i s m laws first tree since s0 c.fetch.new.store tree.root level tree.count Root c.in_ok-root.root c.in_ok-root.ensures.gets (λ there is. later_none since) (λ there is. root some) c.in_ok-root.ensures.stands in
     let got = c.in_ok-root.ensures.ran tree (λ there is. root some) in
-    let ran1 = c.in_ok-inside.ensures.ran first tree goes (λ there is. met there (sym same ∙ is)) in
+    let ran1 = c.in_ok-inside.ensures.ran first tree since goes (λ there is. met there (sym same ∙ is)) in
     let same2 = c.in_ok-inside.ensures.reads.nodes ∙ same in
     let s2 = c.inside.new.store in
     let u1 = c.inside.new.summer in
     let u2 = c.join_parts.new.summer in
-    let ran = sum_ran_err s m laws (λ there. IsFaulty i m first there tree) _ s0 s2 u0 u2 q.result c.in_err-sum.field-0.0 p.0 p.2 p.1 (sum_fails_on s m laws (λ there. IsFaulty i m first there tree) s0 s2 s2 u0 u1 u2 _ same2 (laws.steps.both s0 c.fetch.new.store s2 got ran1.0) ran1.1 (summed_fails s m laws (λ there. IsFaulty i m first there tree) g.row.M-Sum.Denot s2 u1 u2 _ c.in_err-sum.ensures.ran)) in
-    none_faulty i m first g.met.M.Unit.Item.one_spelling there tree items is at (sum_bad s m laws (λ there. IsFaulty i m first there tree) _ s0 s2 u0 u2 there q.result at ran is-told e)
+    let ran = sum_ran_err i s m laws first tree since _ s0 s2 u0 u2 q.result c.in_err-sum.field-0.0 p.0 p.2 p.1 (sum_fails_on i s m laws first tree since s0 s2 s2 u0 u1 u2 _ same2 (sum_went_on i s m laws first tree since s0 c.fetch.new.store s2 same got ran1.0) ran1.1 (summed_fails i s m laws first tree since g.row.M-Sum.Denot s2 u1 u2 _ c.in_err-sum.ensures.ran)) in
+    none_blamed i m first g.met.M.Unit.Item.one_spelling there tree items is since since (s.gets s2) at (sum_bad i s m laws first tree since _ s0 s2 u0 u2 there q.result at ran is-told e)
 
 pub returns-clause-ran : goal.returns-clause-ran
 returns-clause-ran g c =
@@ -189,13 +199,22 @@ returns-clause-ran g c =
     let s0 = c.args.store.now in
     let u0 = c.args.summer.now in
     let told = s.nodes s0 in
+    let since = s.gets s0 in
     let tree = c.args.tree in
     let level = tree.height - 1 in
     let some : 0 < tree.height = some_height tree.height tree.count c.requires.size.empty (omega (arith, c.requires.range, c.requires.within, c.if-from-to.false)) in
     let first = u0 in
     let goes = laws.sum_steps.none u0 in
     let same = c.in_ok-root.ensures.reads.nodes in
-    let met = node_met i tree told tree.root level tree.count Root c.in_ok-root.root (λ there is. root some) c.in_ok-root.ensures.stands in
+    let met = node_got i s m laws first tree since s0 c.fetch.new.store tree.root level tree.count Root c.in_ok-root.root c.in_ok-root.ensures.gets (λ there is. later_none since) (λ there is. root some) c.in_ok-root.ensures.stands in
     let got = c.in_ok-root.ensures.ran tree (λ there is. root some) in
-    let ran1 = c.in_ok-inside.ensures.ran first tree goes (λ there is. met there (sym same ∙ is)) in
-    (laws.steps.both s0 c.fetch.new.store c.inside.new.store got ran1.0, laws.sum_steps.both u0 c.inside.new.summer c.join_parts.new.summer ran1.1 c.in_ok-sum.ensures.ran)
+    let ran1 = c.in_ok-inside.ensures.ran first tree since goes (λ there is. met there (sym same ∙ is)) in
+    (sum_went_on i s m laws first tree since s0 c.fetch.new.store c.inside.new.store same got ran1.0, laws.sum_steps.both u0 c.inside.new.summer c.join_parts.new.summer ran1.1 c.in_ok-sum.ensures.ran)
+
+pub returns-clause-fits : goal.returns-clause-fits
+returns-clause-fits g c =
+    let u0 = c.args.summer.now in
+    let fits = g.M.Summer.fits u0 in
+    let begun = subst (All fits) (sym c.new-parts.ensures.items) (All-nil fits) in
+    let all = c.in_ok-inside.ensures.fits u0 (g.met.M.Summer.are_steps.none u0) begun in
+    c.in_ok-sum.ensures.fits u0 c.in_ok-inside.ensures.goes (subst (All fits) (sym c.as_slice.ensures.value) all)

@@ -8,11 +8,12 @@ use Rattle.tree_laws.specs.declared.node.Node.TheVariants.{Inner}
 use Rattle.tree_laws.specs.declared.tree.Fill.TheVariants.{Below}
 use Rattle.tree_laws.specs.Fitting.{item_count}
 use Rattle.tree_laws.specs.Nodes.{is_leaf}
-use Rattle.tree_laws.specs.Trees.{AreChildren, Has}
-use Rattle.tree_query.specs.Reaching.{AreReached, IsMet, IsUnfit, Reaches}
+use Rattle.tree_laws.specs.SummerTrees.{AreChildren, Has}
+use Rattle.tree_laws.specs.Reaching.{IsMet, Reaches}
+use Rattle.tree_query.specs.Reaching.{AreReached}
 use Rattle.tree_query.specs.Unsummed.{HasItems, StandItems, unsummed}
 use Rattle.tree_query.specs.Walking.{AreTurned, Leads, turned}
-use Rattle.tree_query.proofs.Calls.{Laws, ran_err, ran_on}
+use Rattle.tree_query.proofs.Calls.{Laws, no_memory, ran_err, ran_on, went_none}
 use Rattle.tree_query.proofs.Lists.{level_above}
 use Rattle.tree_query.proofs.Reached.{children_reached, has_got, has_leaf, node_met}
 use Rattle.tree_query.proofs.Walks.{all_back, children_turned, reached, turned_all, turned_counts, turned_length, turned_twice}
@@ -37,7 +38,10 @@ returns-in_ok-leaf-in-Leaf-clause-some g t c =
 
 pub returns-in_ok-leaf-in-Leaf-clause-ran : goal.returns-in_ok-leaf-in-Leaf-clause-ran
 returns-in_ok-leaf-in-Leaf-clause-ran g t c tree at met =
-    g.met.S.NodeSource.are_steps.none c.args.store.now
+    let i = g.T.Item in
+    let s = g.S.NodeSource in
+    let laws : Laws s = record { steps = g.met.S.NodeSource.are_steps; caused = g.met.S.NodeSource.stays_caused } in
+    went_none i s laws tree c.args.store.now
 
 pub rest_of-requires : goal.rest_of-requires
 rest_of-requires g t c =
@@ -139,7 +143,7 @@ returns-in_err-below-in-Inner-clause-ran g t c tree at met =
     let reached = λ (there : _) (is : told ≡ Some there). All-head (λ (d : Child _). Reaches i there tree d.at low d.count Below) child rest (all there (met there is)) in
     let q = c.from_residual-in_err-below-in-Inner in
     let p = err_from_is_err_and q.result q.ensures.1 in
-    ran_err s laws (λ there. IsUnfit i there tree) _ _ s0 c.fetch.new.store q.result c.in_err-below-in-Inner.field-0.0 p.0 p.2 p.1 (c.in_err-below-in-Inner.ensures.ran tree reached)
+    ran_err i s laws tree _ _ s0 c.fetch.new.store q.result c.in_err-below-in-Inner.field-0.0 p.0 p.2 p.1 (c.in_err-below-in-Inner.ensures.ran tree reached)
 
 pub returns-in_ok-below-in-Inner-clause-ran : goal.returns-in_ok-below-in-Inner-clause-ran
 returns-in_ok-below-in-Inner-clause-ran g t c tree at met =
@@ -168,7 +172,7 @@ returns-in_ok-below-in-Inner-clause-ran g t c tree at met =
     let below = c.in_ok-below-in-Inner.below in
     let same = c.in_ok-below-in-Inner.ensures.reads.nodes in
     let at_child = node_met i tree told child.at low child.count Below below reached c.in_ok-below-in-Inner.ensures.stands in
-    ran_on s laws (λ there. IsUnfit i there tree) _ _ s0 c.fetch.new.store c.go_to.new.store c.go_to.result same (c.in_ok-below-in-Inner.ensures.ran tree reached) (c.go_to.ensures.ran tree child.at (λ there is. at_child there (sym same ∙ is)))
+    ran_on i s laws tree _ _ s0 c.fetch.new.store c.go_to.new.store c.go_to.result same (c.in_ok-below-in-Inner.ensures.ran tree reached) (c.go_to.ensures.ran tree child.at (λ there is. at_child there (sym same ∙ is)))
 
 pub returns-in_err-leaf-in-Leaf-clause-ran : goal.returns-in_err-leaf-in-Leaf-clause-ran
 returns-in_err-leaf-in-Leaf-clause-ran g t c tree at met =
@@ -179,7 +183,7 @@ returns-in_err-leaf-in-Leaf-clause-ran g t c tree at met =
     let told = s.nodes s0 in
     let q = c.from_residual in
     let p = err_from_is_err_and q.result q.ensures.1 in
-    ran_err s laws (λ there. IsUnfit i there tree) _ _ s0 s0 q.result tree_fault.NoMemory p.0 p.2 p.1 (laws.steps.none s0)
+    ran_err i s laws tree _ _ s0 s0 q.result tree_fault.NoMemory p.0 p.2 p.1 (no_memory i s laws tree s0)
 
 pub returns-in_err-found-in-Inner-clause-ran : goal.returns-in_err-found-in-Inner-clause-ran
 returns-in_err-found-in-Inner-clause-ran g t c tree at met =
@@ -190,7 +194,7 @@ returns-in_err-found-in-Inner-clause-ran g t c tree at met =
     let told = s.nodes s0 in
     let q = c.from_residual-in_err-found-in-Inner in
     let p = err_from_is_err_and q.result q.ensures.1 in
-    ran_err s laws (λ there. IsUnfit i there tree) _ _ s0 s0 q.result tree_fault.NoMemory p.0 p.2 p.1 (laws.steps.none s0)
+    ran_err i s laws tree _ _ s0 s0 q.result tree_fault.NoMemory p.0 p.2 p.1 (no_memory i s laws tree s0)
 
 pub returns-in_err-push_row-in-Inner-clause-ran : goal.returns-in_err-push_row-in-Inner-clause-ran
 returns-in_err-push_row-in-Inner-clause-ran g t c tree at met =
@@ -201,4 +205,4 @@ returns-in_err-push_row-in-Inner-clause-ran g t c tree at met =
     let told = s.nodes s0 in
     let q = c.from_residual-in_err-push_row-in-Inner in
     let p = err_from_is_err_and q.result q.ensures.1 in
-    ran_err s laws (λ there. IsUnfit i there tree) _ _ s0 s0 q.result tree_fault.NoMemory p.0 p.2 p.1 (laws.steps.none s0)
+    ran_err i s laws tree _ _ s0 s0 q.result tree_fault.NoMemory p.0 p.2 p.1 (no_memory i s laws tree s0)

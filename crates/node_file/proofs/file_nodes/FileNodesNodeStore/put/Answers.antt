@@ -11,11 +11,11 @@ returns-clause-ready g c =
 
 pub returns-clause-goes : goal.returns-clause-goes
 returns-clause-goes g c =
-    put_goes g.F.Folder c.args.self.now _ c.put_node.result (record { cache = refl; folder = refl; file = refl })
+    put_goes g.F.Folder c.args.self.now _ c.args.bytes.now c.put_node.result (record { cache = refl; folder = refl; file = refl }) c.put_node.ensures.cache c.put_node.ensures.done
     (put_adds g.F.Folder c.args.self.now.file.now c.put_node.new.file c.args.bytes.now c.args.self.now.folder.now c.put_node.new.folder c.put_node.result
     c.put_node.ensures.done c.put_node.ensures.disk c.put_node.ensures.cause.later)
 
 pub returns-clause-cause : goal.returns-clause-cause
 returns-clause-cause g c =
-    put_fails g.F.Folder c.args.self.now _ (sized c.args.bytes.now) c.put_node.result (record { cache = refl; folder = refl; file = refl })
-    c.put_node.ensures.err c.put_node.ensures.faults c.put_node.ensures.cause c.put_node.ensures.untouched c.put_node.ensures.disk
+    put_fails g.F.Folder c.args.self.now _ c.args.bytes.now (sized c.args.bytes.now) c.put_node.result (record { cache = refl; folder = refl; file = refl }) c.put_node.ensures.cache
+    c.put_node.ensures.err c.put_node.ensures.full.1 c.put_node.ensures.faults c.put_node.ensures.cause c.put_node.ensures.untouched c.put_node.ensures.disk

@@ -3,12 +3,12 @@ use Rattle.std.proofs.lemmas.List.{append-nil}
 use Rattle.std.proofs.lemmas.List.Elements.{All-nil}
 use Rattle.std.proofs.lemmas.Result.{err_from_is_err_and}
 use Rattle.tree_laws.specs.declared.tree.Fill.TheVariants.{Root}
-use Rattle.tree_laws.specs.Trees.{Has}
+use Rattle.tree_laws.specs.SummerTrees.{Has}
 use Rattle.tree_query.specs.Ranges.{numbered}
-use Rattle.tree_query.specs.Reaching.{IsUnfit, root}
+use Rattle.tree_laws.specs.Reaching.{root}
 use Rattle.tree_query.specs.Unsummed.{HasItems, unsummed}
 use Rattle.tree_query.specs.Walking.{Ahead, AreOver, turned}
-use Rattle.tree_query.proofs.Calls.{Laws, fails_on, ran_bad, ran_err}
+use Rattle.tree_query.proofs.Calls.{Laws, fails_on, ran_bad, ran_err, went_none, went_on}
 use Rattle.tree_query.proofs.Lists.{some_height}
 use Rattle.tree_query.proofs.Ranges.{numbered_length, numbered_none}
 use Rattle.tree_query.proofs.Reached.{has_got, node_met, none_unfit, root_at}
@@ -43,7 +43,7 @@ returns-clause-items g c there items is-told is =
     let says = c.in_ok-leaf.ensures.items there xs [] (c.in_ok-root.ensures.reads.nodes ∙ is-told) has1 (subst (λ rs. Ahead i flag there rs []) (sym c.new-rows.ensures.items) refl) in
     record {
       all = drop skip xs ++ [];
-      leads = says;
+      leads = record { front = says.front; back = says.back; whole = says.whole; at_front = says.at_front; at_back = c.next_child-next.ensures.items there flag says.back says.at_back };
       whole = range_turned flag from to skip items c.requires.range long e ∙ ap (take (to - from)) (sym (append-nil (drop skip xs)));
       count = sym (turned_length flag (numbered from to items) ∙ numbered_length from to items long);
     }
@@ -57,7 +57,7 @@ returns-then-from-to-clause-items g c there items is-told is =
     let all : turned flag (numbered c.args.from c.args.to items) ≡ [] = ap (turned flag) none ∙ turned_empty flag in
     record {
       all = [];
-      leads = record { front = []; back = []; whole = refl; at_front = sym c.new.ensures.items; at_back = subst (λ rs. Ahead i flag there rs []) (sym c.new-rows.ensures.items) refl };
+      leads = record { front = []; back = []; whole = refl; at_front = sym c.new.ensures.items; at_back = refl };
       whole = all;
       count = sym (ap length all);
     }
@@ -70,7 +70,10 @@ returns-then-from-to-clause-over g c there is-told =
 
 pub returns-then-from-to-clause-ran : goal.returns-then-from-to-clause-ran
 returns-then-from-to-clause-ran g c =
-    g.met.S.NodeSource.are_steps.none c.args.store.now
+    let i = g.T.Item in
+    let s = g.S.NodeSource in
+    let laws : Laws s = record { steps = g.met.S.NodeSource.are_steps; caused = g.met.S.NodeSource.stays_caused } in
+    went_none i s laws c.args.tree c.args.store.now
 
 pub returns-clause-over : goal.returns-clause-over
 returns-clause-over g c there is-told =
@@ -85,7 +88,7 @@ returns-clause-over g c there is-told =
     let same = c.in_ok-root.ensures.reads.nodes in
     let met = node_met i tree told tree.root level tree.count Root c.in_ok-root.root (λ there is. root some) c.in_ok-root.ensures.stands in
     let got = c.in_ok-root.ensures.ran tree (λ there is. root some) in
-    c.in_ok-leaf.ensures.over tree tree.root there (same ∙ is-told) (met there is-told) (subst (λ rs. AreOver i there tree rs) (sym c.new-rows.ensures.items) (All-nil _))
+    c.next_child-next.ensures.over there tree (c.in_ok-leaf.ensures.over tree tree.root there (same ∙ is-told) (met there is-told) (subst (λ rs. AreOver i there tree rs) (sym c.new-rows.ensures.items) (All-nil _)))
 
 pub returns-clause-ran : goal.returns-clause-ran
 returns-clause-ran g c =
@@ -100,7 +103,7 @@ returns-clause-ran g c =
     let same = c.in_ok-root.ensures.reads.nodes in
     let met = node_met i tree told tree.root level tree.count Root c.in_ok-root.root (λ there is. root some) c.in_ok-root.ensures.stands in
     let got = c.in_ok-root.ensures.ran tree (λ there is. root some) in
-    laws.steps.both s0 c.fetch.new.store c.go_to.new.store got (c.in_ok-leaf.ensures.ran tree tree.root (λ there is. met there (sym same ∙ is)))
+    went_on i s laws tree s0 c.fetch.new.store c.go_to.new.store same got (c.in_ok-leaf.ensures.ran tree tree.root (λ there is. met there (sym same ∙ is)))
 
 pub returns-in_err-root-clause-ran : goal.returns-in_err-root-clause-ran
 returns-in_err-root-clause-ran g c =
@@ -114,7 +117,7 @@ returns-in_err-root-clause-ran g c =
     let some : 0 < tree.height = some_height tree.height tree.count c.requires.size.empty (omega (arith, c.requires.range, c.requires.within, c.if-from-to.false)) in
     let q = c.from_residual in
     let p = err_from_is_err_and q.result q.ensures.1 in
-    ran_err s laws (λ there. IsUnfit i there tree) _ _ s0 c.fetch.new.store q.result c.in_err-root.field-0.0 p.0 p.2 p.1 (c.in_err-root.ensures.ran tree (λ there is. root some))
+    ran_err i s laws tree _ _ s0 c.fetch.new.store q.result c.in_err-root.field-0.0 p.0 p.2 p.1 (c.in_err-root.ensures.ran tree (λ there is. root some))
 
 pub returns-in_err-root-clause-sound : goal.returns-in_err-root-clause-sound
 returns-in_err-root-clause-sound g c there items at is-told is e =
@@ -128,8 +131,8 @@ returns-in_err-root-clause-sound g c there items at is-told is e =
     let some : 0 < tree.height = some_height tree.height tree.count c.requires.size.empty (omega (arith, c.requires.range, c.requires.within, c.if-from-to.false)) in
     let q = c.from_residual in
     let p = err_from_is_err_and q.result q.ensures.1 in
-    let ran = ran_err s laws (λ there. IsUnfit i there tree) _ _ s0 c.fetch.new.store q.result c.in_err-root.field-0.0 p.0 p.2 p.1 (c.in_err-root.ensures.ran tree (λ there is. root some)) in
-    none_unfit i unsummed tt g.met.T.Item.one_spelling there tree items is at (ran_bad s laws (λ there. IsUnfit i there tree) _ _ s0 c.fetch.new.store there q.result at ran is-told e)
+    let ran = ran_err i s laws tree _ _ s0 c.fetch.new.store q.result c.in_err-root.field-0.0 p.0 p.2 p.1 (c.in_err-root.ensures.ran tree (λ there is. root some)) in
+    none_unfit i unsummed tt g.met.T.Item.one_spelling there tree items is at (ran_bad i s laws tree _ _ s0 c.fetch.new.store there q.result at ran is-told e)
 
 pub returns-in_err-leaf-clause-ran : goal.returns-in_err-leaf-clause-ran
 returns-in_err-leaf-clause-ran g c =
@@ -146,7 +149,7 @@ returns-in_err-leaf-clause-ran g c =
     let same = c.in_ok-root.ensures.reads.nodes in
     let met = node_met i tree told tree.root level tree.count Root c.in_ok-root.root (λ there is. root some) c.in_ok-root.ensures.stands in
     let got = c.in_ok-root.ensures.ran tree (λ there is. root some) in
-    ran_err s laws (λ there. IsUnfit i there tree) _ _ s0 c.go_to.new.store q.result c.in_err-leaf.field-0.0 p.0 p.2 p.1 (fails_on s laws (λ there. IsUnfit i there tree) _ s0 c.fetch.new.store c.go_to.new.store _ same got (c.in_err-leaf.ensures.ran tree tree.root (λ there is. met there (sym same ∙ is))))
+    ran_err i s laws tree _ _ s0 c.go_to.new.store q.result c.in_err-leaf.field-0.0 p.0 p.2 p.1 (fails_on i s laws tree _ s0 c.fetch.new.store c.go_to.new.store _ same got (c.in_err-leaf.ensures.ran tree tree.root (λ there is. met there (sym same ∙ is))))
 
 pub returns-in_err-leaf-clause-sound : goal.returns-in_err-leaf-clause-sound
 returns-in_err-leaf-clause-sound g c there items at is-told is e =
@@ -163,5 +166,5 @@ returns-in_err-leaf-clause-sound g c there items at is-told is e =
     let same = c.in_ok-root.ensures.reads.nodes in
     let met = node_met i tree told tree.root level tree.count Root c.in_ok-root.root (λ there is. root some) c.in_ok-root.ensures.stands in
     let got = c.in_ok-root.ensures.ran tree (λ there is. root some) in
-    let ran = ran_err s laws (λ there. IsUnfit i there tree) _ _ s0 c.go_to.new.store q.result c.in_err-leaf.field-0.0 p.0 p.2 p.1 (fails_on s laws (λ there. IsUnfit i there tree) _ s0 c.fetch.new.store c.go_to.new.store _ same got (c.in_err-leaf.ensures.ran tree tree.root (λ there is. met there (sym same ∙ is)))) in
-    none_unfit i unsummed tt g.met.T.Item.one_spelling there tree items is at (ran_bad s laws (λ there. IsUnfit i there tree) _ _ s0 c.go_to.new.store there q.result at ran is-told e)
+    let ran = ran_err i s laws tree _ _ s0 c.go_to.new.store q.result c.in_err-leaf.field-0.0 p.0 p.2 p.1 (fails_on i s laws tree _ s0 c.fetch.new.store c.go_to.new.store _ same got (c.in_err-leaf.ensures.ran tree tree.root (λ there is. met there (sym same ∙ is)))) in
+    none_unfit i unsummed tt g.met.T.Item.one_spelling there tree items is at (ran_bad i s laws tree _ _ s0 c.go_to.new.store there q.result at ran is-told e)

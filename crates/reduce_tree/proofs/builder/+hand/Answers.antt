@@ -1,0 +1,211 @@
+use Rattle.std.proofs.Common.{rules, arith, ◌≤◌, ◌≡◌, ◌<◌, ◌+◌, ◌∙◌, ◌∷◌, ◌++◌, [], ◌^◌, ap, sym, subst, length, append_assoc, length-append}
+use Rattle.tree_laws.specs.declared.node.Node.TheVariants.{Inner}
+use Rattle.tree_laws.specs.declared.tree.Fill.TheVariants.{Below}
+use Rattle.tree_laws.specs.Fitting.{AreLarge, IsFilled, item_count}
+use Rattle.tree_laws.specs.Nodes.{spelled_node}
+use Rattle.tree_laws.specs.Stores.{pieces_size}
+use Rattle.tree_laws.specs.SummerTrees.{AreChildren, Has, Stands}
+use Rattle.tree_laws.proofs.SummerTrees.{children_append, children_one, children_split}
+use Rattle.tree_laws.proofs.SummerTrees.{children_stay, stands_stays}
+use Rattle.reduce_tree.specs.Built.{Stacked, row_items}
+use Rattle.reduce_tree.specs.Calls.{places}
+use Rattle.reduce_tree.specs.Packed.{IsCut, Climbs, StandsAt}
+use Rattle.std.proofs.lemmas.Result.{err_from_is_err_and}
+use Rattle.reduce_tree.proofs.Calls.{Laws, told_on}
+use Rattle.reduce_tree.proofs.Climb.{grew_on, cut_put, cut_stays, cut_wait, climbs_popped, climbs_push, climbs_stay}
+use Rattle.reduce_tree.proofs.Nodes.{above_at_level, filled_large, has_children, large_append, large_back, large_front, large_one}
+use Rattle.reduce_tree.proofs.Stacks.{IsRow, count_added, items_cut, items_pop, items_push, popped, rows_pop, rows_push, stacked_push, stacked_stays}
+use Rattle.reduce_tree.proofs.Working.{both_none, both_on, kept_on, knows_on, refused_on, worked_err, worked_none}
+use Rattle.reduce_tree.proofs.builder.+hand.Goals as goal
+
+pub put_node-requires-clause-some : goal.put_node-requires-clause-some
+put_node-requires-clause-some g t c = omega (arith, ap length c.from_vec.ensures, c.in_ok-full.ensures.full)
+
+pub put_node-requires-clause-most : goal.put_node-requires-clause-most
+put_node-requires-clause-most g t c = omega (arith, ap length c.from_vec.ensures, c.in_ok-full.ensures.full)
+
+pub put_node-requires-clause-few : goal.put_node-requires-clause-few
+put_node-requires-clause-few g t c =
+    let all = items_cut c.args.rows.now.items c.pop_row-row.new.rows.items c.pop_row-row.result c.in_ok-list.list.items c.in_ok-full.full.items c.in_ok-full.rest.items c.args.child c.pop_row-row.ensures.items c.in_ok-list.ensures c.in_ok-full.ensures.whole in
+    let own : item_count (Inner c.from_vec.result) ≡ item_count (Inner c.in_ok-full.full.items) = ap (λ ds. item_count (Inner ds)) c.from_vec.ensures in
+    omega (arith, all, own, c.requires.few)
+
+pub hand-requires : goal.hand-requires
+hand-requires g t c =
+    let all = items_cut c.args.rows.now.items c.pop_row-row.new.rows.items c.pop_row-row.result c.in_ok-list.list.items c.in_ok-full.full.items c.in_ok-full.rest.items c.args.child c.pop_row-row.ensures.items c.in_ok-list.ensures c.in_ok-full.ensures.whole in
+    let own : item_count (Inner c.from_vec.result) ≡ item_count (Inner c.in_ok-full.full.items) = ap (λ ds. item_count (Inner ds)) c.from_vec.ensures in
+    let long : 0 < length c.pop_row-row.result = omega (arith, ap length c.in_ok-list.ensures, length-append c.pop_row-row.result (c.args.child ∷ []), c.len.ensures, c.if-len-lt40.false) in
+    let less = c.pop_row-row.ensures.less long in
+    let few : row_items c.pop_row-row.new.rows.items + c.in_ok-parent.parent.count ≤ 2 ^ 40 = omega (arith, all, own, c.requires.few, c.in_ok-parent.ensures.count) in
+    search (rules, arith, less, few)
+
+pub returns-then-len-lt40-clause-items : goal.returns-then-len-lt40-clause-items
+returns-then-len-lt40-clause-items g t c first low xs mid known st one =
+    let i = g.M.Unit.Item in
+    let m = g.M.Summer in
+    let n0 = places (g.S.NodeSource.nodes c.args.store.now) in
+    let row = c.pop_row-row.result in
+    let above = c.pop_row-row.new.rows.items in
+    let list = c.in_ok-list.list.items in
+    let P = Stands i m first n0 low in
+    let j = popped i m first n0 low c.args.rows.now.items above row xs c.pop_row-row.ensures.items st in
+    let all = subst (λ ds. AreChildren i m first P ds (j.back ++ mid)) (sym c.in_ok-list.ensures) (children_append i m first P row (c.args.child ∷ []) j.back mid j.at_back (children_one i m first P c.args.child mid one)) in
+    let whole : j.front ++ (j.back ++ mid) ≡ xs ++ mid = sym (append_assoc j.front j.back mid) ∙ ap (λ u. u ++ mid) (sym j.whole) in
+    let r = stacked_push i m first n0 low above list j.front (j.back ++ mid) j.at_front all in
+    subst (λ u. Stacked i m first n0 low c.stack_row.new.rows.items u) whole (subst (λ rs. Stacked i m first n0 low rs (j.front ++ (j.back ++ mid))) (sym c.in_ok-stack_row.ensures) r)
+
+pub returns-then-len-lt40-clause-climbs : goal.returns-then-len-lt40-clause-climbs
+returns-then-len-lt40-clause-climbs g t c there below taken told h =
+    let i = g.M.Unit.Item in
+    let n0 = places (g.S.NodeSource.nodes c.args.store.now) in
+    let row = c.pop_row-row.result in
+    let above = c.pop_row-row.new.rows.items in
+    let list = c.in_ok-list.list.items in
+    let all = below ++ (c.args.child ∷ []) in
+    let k = climbs_popped i n0 c.args.rows.now.items above row below taken c.pop_row-row.ensures.items h in
+    let cut = subst (λ r. IsCut i n0 Inner all r k.given k.own) (sym c.in_ok-list.ensures) (cut_wait i Inner n0 below row k.given k.own c.args.child k.cut) in
+    let r = climbs_push i n0 above list [] k.given all k.own k.more k.climbs cut (omega (arith, length-append below (c.args.child ∷ []))) in
+    (k.own + k.more, omega (arith, k.sum), subst (λ rs. Climbs i n0 rs [] all (k.own + k.more)) (sym c.in_ok-stack_row.ensures) r)
+
+pub returns-then-len-lt40-clause-rows : goal.returns-then-len-lt40-clause-rows
+returns-then-len-lt40-clause-rows g t c low rows large =
+    let row = c.pop_row-row.result in
+    let above = c.pop_row-row.new.rows.items in
+    let list = c.in_ok-list.list.items in
+    let k = rows_pop low c.args.rows.now.items above row c.pop_row-row.ensures.items rows in
+    let long = ap length c.in_ok-list.ensures ∙ length-append row (c.args.child ∷ []) in
+    let all = subst (λ ds. AreLarge (low + 1) (Inner ds)) (sym c.in_ok-list.ensures) (large_append (low + 1) row (c.args.child ∷ []) k.0.large (large_one (low + 1) c.args.child large)) in
+    let one : IsRow 1 low list = record { some = omega (arith, long); few = omega (arith, c.len.ensures, c.if-len-lt40.true); large = all } in
+    rows_push low above c.stack_row.new.rows.items list c.in_ok-stack_row.ensures k.0.rows one (λ s. let eight = k.0.wait s in omega (arith, long, eight))
+
+pub returns-then-len-lt40-clause-count : goal.returns-then-len-lt40-clause-count
+returns-then-len-lt40-clause-count g t c =
+    let row = c.pop_row-row.result in
+    let above = c.pop_row-row.new.rows.items in
+    let list = c.in_ok-list.list.items in
+    omega (arith, items_pop c.args.rows.now.items above row c.pop_row-row.ensures.items, items_push above c.stack_row.new.rows.items list c.in_ok-stack_row.ensures, count_added list row c.args.child c.in_ok-list.ensures)
+
+pub returns-then-len-lt40-clause-ran : goal.returns-then-len-lt40-clause-ran
+returns-then-len-lt40-clause-ran g t c =
+    let laws : Laws g.S.NodeSource g.M.Summer = record { store_steps = g.met.S.NodeSource.are_steps; store_keeps = g.met.S.NodeSource.keeps; store_caused = g.met.S.NodeSource.stays_caused; summer_steps = g.met.M.Summer.are_steps; summer_keeps = g.met.M.Summer.keeps; summer_caused = g.met.M.Summer.stays_caused } in
+    both_none g.S.NodeSource g.M.Summer laws c.args.store.now c.args.summer.now
+
+pub returns-clause-items : goal.returns-clause-items
+returns-clause-items g t c first low xs mid known st one =
+    let laws : Laws g.S.NodeSource g.M.Summer = record { store_steps = g.met.S.NodeSource.are_steps; store_keeps = g.met.S.NodeSource.keeps; store_caused = g.met.S.NodeSource.stays_caused; summer_steps = g.met.M.Summer.are_steps; summer_keeps = g.met.M.Summer.keeps; summer_caused = g.met.M.Summer.stays_caused } in
+    let i = g.M.Unit.Item in
+    let m = g.M.Summer in
+    let s0 = c.args.store.now in
+    let s1 = c.put_node.new.store in
+    let s2 = c.hand.new.store in
+    let u0 = c.args.summer.now in
+    let u1 = c.put_node.new.summer in
+    let u2 = c.hand.new.summer in
+    let n0 = places (g.S.NodeSource.nodes s0) in
+    let n1 = places (g.S.NodeSource.nodes s1) in
+    let n2 = places (g.S.NodeSource.nodes s2) in
+    let e01 = kept_on g.S.NodeSource m laws s0 s1 u0 u1 c.in_ok-parent.ensures.ran in
+    let e12 = kept_on g.S.NodeSource m laws s1 s2 u1 u2 c.in_ok-hand.ensures.ran in
+    let row = c.pop_row-row.result in
+    let above = c.pop_row-row.new.rows.items in
+    let list = c.in_ok-list.list.items in
+    let full = c.in_ok-full.full.items in
+    let rest = c.in_ok-full.rest.items in
+    let is : c.from_vec.result ≡ full = c.from_vec.ensures in
+    let P = Stands i m first n0 low in
+    let j = popped i m first n0 low c.args.rows.now.items above row xs c.pop_row-row.ensures.items st in
+    let all = subst (λ ds. AreChildren i m first P ds (j.back ++ mid)) (sym c.in_ok-list.ensures) (children_append i m first P row (c.args.child ∷ []) j.back mid j.at_back (children_one i m first P c.args.child mid one)) in
+    let whole : j.front ++ (j.back ++ mid) ≡ xs ++ mid = sym (append_assoc j.front j.back mid) ∙ ap (λ u. u ++ mid) (sym j.whole) in
+    let k = children_split i m first P full rest (j.back ++ mid) (subst (λ ds. AreChildren i m first P ds (j.back ++ mid)) c.in_ok-full.ensures.whole all) in
+    let has = subst (λ ds. Has i m first n0 (low + 1) (Inner ds) k.front) (sym is) (has_children i m first n0 low full k.front k.at_front) in
+    let fill : IsFilled Below (Inner c.from_vec.result) = record { least = omega (arith, ap length is, c.in_ok-full.ensures.full); most = omega (arith, ap length is, c.in_ok-full.ensures.full) } in
+    let parent = c.in_ok-parent.ensures.child first (low + 1) k.front known fill has in
+    let above1 = stacked_stays i m first n0 n1 e01 (low + 1) above j.front j.at_front in
+    let says = c.in_ok-hand.ensures.items first (low + 1) j.front k.front (knows_on g.S.NodeSource m laws i first s0 s1 u0 u1 known c.in_ok-parent.ensures.ran) above1 parent in
+    let rest1 = children_stay i m first P (Stands i m first n1 low) (stands_stays i m first n0 n1 e01 low) rest k.back k.at_back in
+    let rest2 = children_stay i m first (Stands i m first n1 low) (Stands i m first n2 low) (stands_stays i m first n1 n2 e12 low) rest k.back rest1 in
+    let r = stacked_push i m first n2 low c.hand.new.rows.items rest (j.front ++ k.front) k.back says rest2 in
+    let whole2 : (j.front ++ k.front) ++ k.back ≡ xs ++ mid = append_assoc j.front k.front k.back ∙ ap (λ u. j.front ++ u) (sym k.whole) ∙ whole in
+    subst (λ u. Stacked i m first n2 low c.stack_row-2.new.rows.items u) whole2 (subst (λ rs. Stacked i m first n2 low rs ((j.front ++ k.front) ++ k.back)) (sym c.in_ok-stack_row-2.ensures) r)
+
+pub returns-clause-climbs : goal.returns-clause-climbs
+returns-clause-climbs g t c there below taken told h =
+    let laws : Laws g.S.NodeSource g.M.Summer = record { store_steps = g.met.S.NodeSource.are_steps; store_keeps = g.met.S.NodeSource.keeps; store_caused = g.met.S.NodeSource.stays_caused; summer_steps = g.met.M.Summer.are_steps; summer_keeps = g.met.M.Summer.keeps; summer_caused = g.met.M.Summer.stays_caused } in
+    let i = g.M.Unit.Item in
+    let m = g.M.Summer in
+    let s0 = c.args.store.now in
+    let s1 = c.put_node.new.store in
+    let s2 = c.hand.new.store in
+    let u0 = c.args.summer.now in
+    let u1 = c.put_node.new.summer in
+    let u2 = c.hand.new.summer in
+    let n0 = places (g.S.NodeSource.nodes s0) in
+    let n1 = places (g.S.NodeSource.nodes s1) in
+    let n2 = places (g.S.NodeSource.nodes s2) in
+    let e01 = kept_on g.S.NodeSource m laws s0 s1 u0 u1 c.in_ok-parent.ensures.ran in
+    let e12 = kept_on g.S.NodeSource m laws s1 s2 u1 u2 c.in_ok-hand.ensures.ran in
+    let row = c.pop_row-row.result in
+    let above = c.pop_row-row.new.rows.items in
+    let list = c.in_ok-list.list.items in
+    let full = c.in_ok-full.full.items in
+    let rest = c.in_ok-full.rest.items in
+    let is : c.from_vec.result ≡ full = c.from_vec.ensures in
+    let all = below ++ (c.args.child ∷ []) in
+    let parent = c.in_ok-parent.parent in
+    let mid = told_on (g.S.NodeSource.nodes s0) (g.S.NodeSource.nodes s1) there told (laws.store_keeps s0 s1 c.in_ok-parent.ensures.ran.store) in
+    let k = climbs_popped i n0 c.args.rows.now.items above row below taken c.pop_row-row.ensures.items h in
+    let cut = subst (λ r. IsCut i n0 Inner all r k.given k.own) (sym c.in_ok-list.ensures) (cut_wait i Inner n0 below row k.given k.own c.args.child k.cut) in
+    let long = ap length c.in_ok-full.ensures.whole ∙ length-append full rest in
+    let few : 8 ≤ length rest = omega (arith, long, c.in_ok-full.ensures.full, c.len.ensures, c.if-len-lt40.false) in
+    let at = subst (λ ds. StandsAt i n1 parent.at (Inner ds)) is (c.in_ok-parent.ensures.stored there told) in
+    let one = pieces_size (spelled_node i.spelled (Inner full) ∷ []) in
+    let own = k.own + one in
+    let takes = c.in_ok-parent.ensures.takes ∙ ap (λ ds. g.S.NodeSource.size s0 + pieces_size (spelled_node i.spelled (Inner ds) ∷ [])) is in
+    let cut1 = cut_put i Inner n1 all list full rest k.given k.own parent (cut_stays i Inner n0 n1 e01 all list k.given k.own cut) c.in_ok-full.ensures.whole c.in_ok-full.ensures.full few at in
+    let up = c.in_ok-hand.ensures.climbs mid.0 k.given k.more mid.1 (climbs_stay i n0 n1 e01 above [] k.given k.more k.climbs) in
+    let cut2 = cut_stays i Inner n1 n2 e12 all rest (k.given ++ (parent ∷ [])) own cut1 in
+    let r = climbs_push i n2 c.hand.new.rows.items rest [] (k.given ++ (parent ∷ [])) all own up.0 up.2 cut2 (omega (arith, length-append below (c.args.child ∷ []))) in
+    (own + up.0, grew_on (g.S.NodeSource.size s0) (g.S.NodeSource.size s1) (g.S.NodeSource.size s2) taken k.own k.more one up.0 k.sum takes up.1, subst (λ rs. Climbs i n2 rs [] all (own + up.0)) (sym c.in_ok-stack_row-2.ensures) r)
+
+pub returns-clause-rows : goal.returns-clause-rows
+returns-clause-rows g t c low rows large =
+    let row = c.pop_row-row.result in
+    let above = c.pop_row-row.new.rows.items in
+    let list = c.in_ok-list.list.items in
+    let full = c.in_ok-full.full.items in
+    let rest = c.in_ok-full.rest.items in
+    let is : c.from_vec.result ≡ full = c.from_vec.ensures in
+    let k = rows_pop low c.args.rows.now.items above row c.pop_row-row.ensures.items rows in
+    let long = ap length c.in_ok-list.ensures ∙ length-append row (c.args.child ∷ []) in
+    let parts = ap length c.in_ok-full.ensures.whole ∙ length-append full rest in
+    let all = subst (λ ds. AreLarge (low + 1) (Inner ds)) (sym c.in_ok-list.ensures) (large_append (low + 1) row (c.args.child ∷ []) k.0.large (large_one (low + 1) c.args.child large)) in
+    let both = subst (λ ds. AreLarge (low + 1) (Inner ds)) c.in_ok-full.ensures.whole all in
+    let first = subst (λ ds. AreLarge (low + 1) (Inner ds)) (sym is) (large_front (low + 1) full rest both) in
+    let many = filled_large (low + 1) (Inner c.from_vec.result) (above_at_level low c.from_vec.result) first (omega (arith, ap length is, c.in_ok-full.ensures.full)) in
+    let up = c.in_ok-hand.ensures.rows (low + 1) k.0.rows (subst (λ n. 8 ^ ((low + 1) + 1) ≤ n) (sym c.in_ok-parent.ensures.count) many) in
+    let few : length rest ≡ 8 = omega (arith, long, parts, c.in_ok-full.ensures.full, k.0.few, c.len.ensures, c.if-len-lt40.false) in
+    let one : IsRow 1 low rest = record { some = omega (arith, few); few = omega (arith, few); large = large_back (low + 1) full rest both } in
+    rows_push low c.hand.new.rows.items c.stack_row-2.new.rows.items rest c.in_ok-stack_row-2.ensures up one (λ s. omega (arith, few))
+
+pub returns-clause-count : goal.returns-clause-count
+returns-clause-count g t c =
+    let all = items_cut c.args.rows.now.items c.pop_row-row.new.rows.items c.pop_row-row.result c.in_ok-list.list.items c.in_ok-full.full.items c.in_ok-full.rest.items c.args.child c.pop_row-row.ensures.items c.in_ok-list.ensures c.in_ok-full.ensures.whole in
+    let own : item_count (Inner c.from_vec.result) ≡ item_count (Inner c.in_ok-full.full.items) = ap (λ ds. item_count (Inner ds)) c.from_vec.ensures in
+    omega (arith, all, own, c.in_ok-parent.ensures.count, c.in_ok-hand.ensures.count, items_push c.hand.new.rows.items c.stack_row-2.new.rows.items c.in_ok-full.rest.items c.in_ok-stack_row-2.ensures)
+
+pub returns-clause-ran : goal.returns-clause-ran
+returns-clause-ran g t c =
+    let laws : Laws g.S.NodeSource g.M.Summer = record { store_steps = g.met.S.NodeSource.are_steps; store_keeps = g.met.S.NodeSource.keeps; store_caused = g.met.S.NodeSource.stays_caused; summer_steps = g.met.M.Summer.are_steps; summer_keeps = g.met.M.Summer.keeps; summer_caused = g.met.M.Summer.stays_caused } in
+    both_on g.S.NodeSource g.M.Summer laws c.args.store.now c.put_node.new.store c.hand.new.store c.args.summer.now c.put_node.new.summer c.hand.new.summer c.in_ok-parent.ensures.ran c.in_ok-hand.ensures.ran
+
+pub returns-in_err-hand-clause-ran : goal.returns-in_err-hand-clause-ran
+returns-in_err-hand-clause-ran g t c =
+    let laws : Laws g.S.NodeSource g.M.Summer = record { store_steps = g.met.S.NodeSource.are_steps; store_keeps = g.met.S.NodeSource.keeps; store_caused = g.met.S.NodeSource.stays_caused; summer_steps = g.met.M.Summer.are_steps; summer_keeps = g.met.M.Summer.keeps; summer_caused = g.met.M.Summer.stays_caused } in
+    let p = err_from_is_err_and c.from_residual-in_err-hand.result c.from_residual-in_err-hand.ensures.1 in
+    worked_err g.S.NodeSource g.M.Summer laws _ _ _ _ c.from_residual-in_err-hand.result c.in_err-hand.field-0.0 p.0 p.2 p.1 (refused_on g.S.NodeSource g.M.Summer laws c.args.store.now c.put_node.new.store c.hand.new.store c.args.summer.now c.put_node.new.summer c.hand.new.summer c.in_ok-parent.ensures.ran _ c.in_err-hand.ensures.ran)
+
+pub returns-in_err-stack_row-2-clause-ran : goal.returns-in_err-stack_row-2-clause-ran
+returns-in_err-stack_row-2-clause-ran g t c =
+    let laws : Laws g.S.NodeSource g.M.Summer = record { store_steps = g.met.S.NodeSource.are_steps; store_keeps = g.met.S.NodeSource.keeps; store_caused = g.met.S.NodeSource.stays_caused; summer_steps = g.met.M.Summer.are_steps; summer_keeps = g.met.M.Summer.keeps; summer_caused = g.met.M.Summer.stays_caused } in
+    let p = err_from_is_err_and c.from_residual-in_err-stack_row-2.result c.from_residual-in_err-stack_row-2.ensures.1 in
+    worked_none g.S.NodeSource g.M.Summer laws _ _ _ _ c.from_residual-in_err-stack_row-2.result p.0 p.2 p.1 (both_on g.S.NodeSource g.M.Summer laws c.args.store.now c.put_node.new.store c.hand.new.store c.args.summer.now c.put_node.new.summer c.hand.new.summer c.in_ok-parent.ensures.ran c.in_ok-hand.ensures.ran)

@@ -1,0 +1,151 @@
+use Rattle.std.proofs.Common.{rules, arith, inl, inr, ◌≡◌, ◌+◌, ◌<◌, ◌≤◌, ◌∙◌, ◌∷◌, [], ◌^◌, ap, sym, subst}
+use Rattle.std.proofs.lemmas.Bool.{cases_lt}
+use Rattle.tree_laws.specs.declared.node.Node.TheVariants.{Inner}
+use Rattle.tree_laws.specs.declared.tree.Fill.TheVariants.{Below}
+use Rattle.tree_laws.specs.Fitting.{IsFilled, item_count}
+use Rattle.tree_laws.specs.Nodes.{entries, spelled_node}
+use Rattle.tree_laws.specs.Stores.{pieces_size}
+use Rattle.tree_laws.specs.SummerTrees.{Stands}
+use Rattle.tree_laws.proofs.SummerTrees.{children_append, children_one}
+use Rattle.tree_laws.proofs.SummerTrees.{child_stays, has_stays, stands_stays}
+use Rattle.reduce_tree.specs.Calls.{places}
+use Rattle.reduce_tree.specs.Packed.{ArePacked}
+use Rattle.std.proofs.lemmas.Result.{err_from_is_err_and}
+use Rattle.reduce_tree.proofs.Calls.{Laws, told_on}
+use Rattle.reduce_tree.proofs.Climb.{stand_stays}
+use Rattle.reduce_tree.proofs.Fills.{IsFirst, leaf_first, packed_one, packed_more}
+use Rattle.reduce_tree.proofs.Nodes.{count_cons, count_one, filled_large, has_split, large_append, large_one, split_count, split_kind, split_large}
+use Rattle.reduce_tree.proofs.Puts.{leaf_split}
+use Rattle.reduce_tree.proofs.Working.{both_on, kept_on, knows_on, refused_on, worked_err, worked_none}
+use Rattle.reduce_tree.proofs.builder.+pack_row.Goals as goal
+
+pub pack_row-requires : goal.pack_row-requires
+pack_row-requires g t c =
+    let right = c.in_ok-left.right in
+    let s = split_count c.args.node c.in_ok-left.left right c.in_ok-left.ensures.split in
+    let less : entries right < entries c.args.node = omega (arith, c.in_ok-left.ensures.right, c.cut_at-at.ensures.least) in
+    let least : 8 ≤ entries right = omega (arith, c.in_ok-left.ensures.right, c.cut_at-at.ensures.rest, c.len-2.ensures) in
+    let few : item_count right ≤ 2 ^ 40 = omega (arith, s, c.requires.few) in
+    search (rules, arith, less, least, few)
+
+pub returns-then-len-le32-clause-children : goal.returns-then-len-le32-clause-children
+returns-then-len-le32-clause-children g t c first level items known has =
+    let new = places (g.S.NodeSource.nodes c.put_node.new.store) in
+    let full : IsFilled Below c.args.node = record { least = c.requires.least; most = omega (arith, c.len.ensures, c.if-len-le32.true) } in
+    rw c.in_ok-list_of_one.ensures (children_one g.M.Unit.Item g.M.Summer first (Stands g.M.Unit.Item g.M.Summer first new level) c.in_ok-child.child items (c.in_ok-child.ensures.child first level items known full has))
+
+pub returns-then-len-le32-clause-large : goal.returns-then-len-le32-clause-large
+returns-then-len-le32-clause-large g t c level kind large =
+    let many = filled_large level c.args.node kind large c.requires.least in
+    rw c.in_ok-list_of_one.ensures (large_one (level + 1) c.in_ok-child.child (subst (λ n. 8 ^ (level + 1) ≤ n) (sym c.in_ok-child.ensures.count) many))
+
+pub returns-then-len-le32-clause-count : goal.returns-then-len-le32-clause-count
+returns-then-len-le32-clause-count g t c = rw c.in_ok-list_of_one.ensures (count_one c.in_ok-child.child ∙ c.in_ok-child.ensures.count)
+
+pub returns-then-len-le32-clause-packed : goal.returns-then-len-le32-clause-packed
+returns-then-len-le32-clause-packed g t c there told =
+    let now = places (g.S.NodeSource.nodes c.put_node.new.store) in
+    let few : entries c.args.node ≤ 32 = omega (arith, c.len.ensures, c.if-len-le32.true) in
+    let size = pieces_size (spelled_node g.M.Unit.Item.spelled c.args.node ∷ []) in
+    let one = packed_one g.M.Unit.Item now c.args.node c.in_ok-child.child few (c.in_ok-child.ensures.stored there told) in
+    (size, omega (arith, c.in_ok-child.ensures.takes), subst (λ cs. ArePacked g.M.Unit.Item now c.args.node cs size) (sym c.in_ok-list_of_one.ensures) one)
+
+pub returns-clause-children : goal.returns-clause-children
+returns-clause-children g t c first level items known has =
+    let laws : Laws g.S.NodeSource g.M.Summer = record { store_steps = g.met.S.NodeSource.are_steps; store_keeps = g.met.S.NodeSource.keeps; store_caused = g.met.S.NodeSource.stays_caused; summer_steps = g.met.M.Summer.are_steps; summer_keeps = g.met.M.Summer.keeps; summer_caused = g.met.M.Summer.stays_caused } in
+    let i = g.M.Unit.Item in
+    let m = g.M.Summer in
+    let s0 = c.args.store.now in
+    let s1 = c.put_node-2.new.store in
+    let s2 = c.pack_row.new.store in
+    let u0 = c.args.summer.now in
+    let u1 = c.put_node-2.new.summer in
+    let u2 = c.pack_row.new.summer in
+    let old = places (g.S.NodeSource.nodes s0) in
+    let mid = places (g.S.NodeSource.nodes s1) in
+    let new = places (g.S.NodeSource.nodes s2) in
+    let left = c.in_ok-left.left in
+    let right = c.in_ok-left.right in
+    let e01 = kept_on g.S.NodeSource m laws s0 s1 u0 u1 c.in_ok-first.ensures.ran in
+    let e12 = kept_on g.S.NodeSource m laws s1 s2 u1 u2 c.in_ok-rest.ensures.ran in
+    let j = has_split i m first old level c.args.node left right items c.in_ok-left.ensures.split has in
+    let full_left : IsFilled Below left = record { least = omega (arith, c.in_ok-left.ensures.left, c.cut_at-at.ensures.least); most = omega (arith, c.in_ok-left.ensures.left, c.cut_at-at.ensures.most) } in
+    let done = c.in_ok-first.ensures.child first level j.front known full_left j.at_front in
+    let at_right = has_stays i m first old mid e01 level right j.back j.at_back in
+    let others = c.in_ok-rest.ensures.children first level j.back (knows_on g.S.NodeSource m laws i first s0 s1 u0 u1 known c.in_ok-first.ensures.ran) at_right in
+    let first_now = child_stays i m first (Stands i m first mid level) (Stands i m first new level) (stands_stays i m first mid new e12 level) c.in_ok-first.first j.front done in
+    rw (c.in_ok-with_first.ensures, j.whole)
+    (children_append i m first (Stands i m first new level) (c.in_ok-first.first ∷ []) c.in_ok-rest.rest.items j.front j.back
+    (children_one i m first (Stands i m first new level) c.in_ok-first.first j.front first_now) others)
+
+pub returns-clause-large : goal.returns-clause-large
+returns-clause-large g t c level kind large =
+    let left = c.in_ok-left.left in
+    let right = c.in_ok-left.right in
+    let k = split_kind level c.args.node left right c.in_ok-left.ensures.split kind in
+    let l = split_large level c.args.node left right c.in_ok-left.ensures.split large in
+    let one = filled_large level left k.0 l.0 (omega (arith, c.in_ok-left.ensures.left, c.cut_at-at.ensures.least)) in
+    rw c.in_ok-with_first.ensures (large_append (level + 1) (c.in_ok-first.first ∷ []) c.in_ok-rest.rest.items
+    (large_one (level + 1) c.in_ok-first.first (subst (λ n. 8 ^ (level + 1) ≤ n) (sym c.in_ok-first.ensures.count) one))
+    (c.in_ok-rest.ensures.large level k.1 l.1))
+
+pub returns-clause-count : goal.returns-clause-count
+returns-clause-count g t c =
+    let s = split_count c.args.node c.in_ok-left.left c.in_ok-left.right c.in_ok-left.ensures.split in
+    let a : item_count (Inner c.in_ok-with_first.field-0.items) ≡ c.in_ok-first.first.count + item_count (Inner c.in_ok-rest.rest.items) =
+    ap (λ cs. item_count (Inner cs)) c.in_ok-with_first.ensures ∙ count_cons c.in_ok-first.first c.in_ok-rest.rest.items in
+    omega (arith, s, a, c.in_ok-first.ensures.count, c.in_ok-rest.ensures.count)
+
+pub returns-clause-packed : goal.returns-clause-packed
+returns-clause-packed g t c there told =
+    let laws : Laws g.S.NodeSource g.M.Summer = record { store_steps = g.met.S.NodeSource.are_steps; store_keeps = g.met.S.NodeSource.keeps; store_caused = g.met.S.NodeSource.stays_caused; summer_steps = g.met.M.Summer.are_steps; summer_keeps = g.met.M.Summer.keeps; summer_caused = g.met.M.Summer.stays_caused } in
+    let i = g.M.Unit.Item in
+    let s0 = c.args.store.now in
+    let s1 = c.put_node-2.new.store in
+    let s2 = c.pack_row.new.store in
+    let u1 = c.put_node-2.new.summer in
+    let u2 = c.pack_row.new.summer in
+    let new = places (g.S.NodeSource.nodes s2) in
+    let left = c.in_ok-left.left in
+    let right = c.in_ok-left.right in
+    let first = c.in_ok-first.first in
+    let mid = told_on (g.S.NodeSource.nodes s0) (g.S.NodeSource.nodes s1) there told (laws.store_keeps s0 s1 c.in_ok-first.ensures.ran.store) in
+    let e12 = kept_on g.S.NodeSource g.M.Summer laws s1 s2 u1 u2 c.in_ok-rest.ensures.ran in
+    let len = entries c.args.node in
+    let l : entries left ≡ c.cut_at-at.result = c.in_ok-left.ensures.left in
+    let r : entries right + c.cut_at-at.result ≡ len = c.in_ok-left.ensures.right in
+    let long : 32 < len = omega (arith, c.len.ensures, c.if-len-le32.false) in
+    let f : IsFirst (entries left) (entries right) = elim (cases_lt len 40) [
+      | inl s ↦ let e : c.cut_at-at.result ≡ 24 = c.cut_at-at.ensures.short (omega (arith, s, c.len-2.ensures)) in inl (omega (arith, e, l), omega (arith, e, r, long), omega (arith, e, r, s))
+      | inr b ↦ let e : c.cut_at-at.result ≡ 32 = c.cut_at-at.ensures.long (omega (arith, b, c.len-2.ensures)) in inr (omega (arith, e, l), omega (arith, e, r, b))
+    ] in
+    let rest = c.in_ok-rest.ensures.packed mid.0 mid.1 in
+    let size = pieces_size (spelled_node i.spelled left ∷ []) in
+    let more = packed_more i new c.args.node left right first c.in_ok-rest.rest.items rest.0 c.in_ok-left.ensures.split (stand_stays i (places (g.S.NodeSource.nodes s1)) new e12 first.at left (c.in_ok-first.ensures.stored there told)) f rest.2 in
+    (size + rest.0, omega (arith, c.in_ok-first.ensures.takes, rest.1), subst (λ cs. ArePacked i new c.args.node cs (size + rest.0)) (sym c.in_ok-with_first.ensures) more)
+
+pub returns-clause-leaf : goal.returns-clause-leaf
+returns-clause-leaf g t c =
+    let s = leaf_split c.args.node c.in_ok-left.left c.in_ok-left.right c.in_ok-left.ensures.split in
+    omega (arith, s, c.in_ok-first.ensures.leaf, c.in_ok-rest.ensures.leaf)
+
+pub returns-clause-usable : goal.returns-clause-usable
+returns-clause-usable g t c some =
+    c.in_ok-first.ensures.usable (leaf_first c.args.node c.in_ok-left.left c.in_ok-left.right c.in_ok-left.ensures.split some (omega (arith, c.in_ok-left.ensures.left, c.cut_at-at.ensures.least)))
+
+pub returns-clause-ran : goal.returns-clause-ran
+returns-clause-ran g t c =
+    let laws : Laws g.S.NodeSource g.M.Summer = record { store_steps = g.met.S.NodeSource.are_steps; store_keeps = g.met.S.NodeSource.keeps; store_caused = g.met.S.NodeSource.stays_caused; summer_steps = g.met.M.Summer.are_steps; summer_keeps = g.met.M.Summer.keeps; summer_caused = g.met.M.Summer.stays_caused } in
+    both_on g.S.NodeSource g.M.Summer laws c.args.store.now c.put_node-2.new.store c.pack_row.new.store c.args.summer.now c.put_node-2.new.summer c.pack_row.new.summer c.in_ok-first.ensures.ran c.in_ok-rest.ensures.ran
+
+pub returns-in_err-rest-clause-ran : goal.returns-in_err-rest-clause-ran
+returns-in_err-rest-clause-ran g t c =
+    let laws : Laws g.S.NodeSource g.M.Summer = record { store_steps = g.met.S.NodeSource.are_steps; store_keeps = g.met.S.NodeSource.keeps; store_caused = g.met.S.NodeSource.stays_caused; summer_steps = g.met.M.Summer.are_steps; summer_keeps = g.met.M.Summer.keeps; summer_caused = g.met.M.Summer.stays_caused } in
+    let p = err_from_is_err_and c.from_residual-in_err-rest.result c.from_residual-in_err-rest.ensures.1 in
+    worked_err g.S.NodeSource g.M.Summer laws _ _ _ _ c.from_residual-in_err-rest.result c.in_err-rest.field-0.0 p.0 p.2 p.1 (refused_on g.S.NodeSource g.M.Summer laws c.args.store.now c.put_node-2.new.store c.pack_row.new.store c.args.summer.now c.put_node-2.new.summer c.pack_row.new.summer c.in_ok-first.ensures.ran _ c.in_err-rest.ensures.ran)
+
+pub returns-in_err-with_first-clause-ran : goal.returns-in_err-with_first-clause-ran
+returns-in_err-with_first-clause-ran g t c =
+    let laws : Laws g.S.NodeSource g.M.Summer = record { store_steps = g.met.S.NodeSource.are_steps; store_keeps = g.met.S.NodeSource.keeps; store_caused = g.met.S.NodeSource.stays_caused; summer_steps = g.met.M.Summer.are_steps; summer_keeps = g.met.M.Summer.keeps; summer_caused = g.met.M.Summer.stays_caused } in
+    let p = err_from_is_err_and c.from_residual-in_err-with_first.result c.from_residual-in_err-with_first.ensures.1 in
+    worked_none g.S.NodeSource g.M.Summer laws _ _ _ _ c.from_residual-in_err-with_first.result p.0 p.2 p.1 (both_on g.S.NodeSource g.M.Summer laws c.args.store.now c.put_node-2.new.store c.pack_row.new.store c.args.summer.now c.put_node-2.new.summer c.pack_row.new.summer c.in_ok-first.ensures.ran c.in_ok-rest.ensures.ran)

@@ -1,0 +1,92 @@
+-- What a builder holds, and how its calls went.
+use Rattle.std.specs.Prelude.{◌≡◌, ◌⊎◌, ℕ, zero, suc, ◌+◌, ◌*◌, ◌<◌, ◌≤◌, List, [], ◌∷◌, ◌++◌, Result, Ok, Err, length}
+use Rattle.std.specs.List.{sum_by}
+use Rattle.tree_laws.specs.declared.item.Item.{Ghosts as Items}
+use Rattle.tree_laws.specs.declared.store.NodeSource.{Ghosts as Sources}
+use Rattle.tree_laws.specs.declared.summer.Summer.{Ghosts as Summers}
+use Rattle.tree_laws.specs.declared.node.Child.{Child}
+use Rattle.tree_laws.specs.declared.node.Node.TheVariants.{Leaf, Inner}
+use Rattle.tree_laws.specs.declared.tree.TreeFault.{TreeFault}
+use Rattle.tree_laws.specs.declared.tree.TreeFault.TheVariants as tree_fault
+use Rattle.tree_laws.specs.Fitting.{AreLarge, item_count}
+use Rattle.tree_laws.specs.Stores.{Places}
+use Rattle.tree_laws.specs.SummerTrees.{AreChildren, Joins, Stands}
+use Rattle.reduce_tree.specs.declared.builder.Builder.{Builder}
+use Rattle.reduce_tree.specs.Packed.{IsCut, Climbs}
+
+module _ {T : Type 0} where
+  -- how many items stand below the entries of rows
+  abbrev pub row_items : List (List (Child T)) → ℕ
+  row_items rows = sum_by (λ row. item_count (Inner row)) rows
+
+  -- how many items were pushed to a builder
+  abbrev pub pushed : Builder T → ℕ
+  pushed builder = row_items builder.rows.items + length builder.leaf.items
+
+  -- and how many of them wait to be put in a leaf
+  abbrev pub waiting : Builder T → ℕ
+  waiting builder = length builder.leaf.items
+
+  -- nothing was pushed yet
+  pub record HoldsNothing (builder : Builder T) : Type 0 where
+    pub leaf : builder.leaf.items ≡ []
+    pub rows : builder.rows.items ≡ []
+
+  -- rows above a level, the lowest last: fewer than 40 entries wait in each, `least` at least in the highest and 8 in the others,
+  -- and as many items at least stand below each entry as its level needs
+  abbrev pub AreRowsOf : ℕ → ℕ → List (List (Child T)) → Type 0
+  AreRowsOf least low [] = Unit {0}
+  AreRowsOf least low (row ∷ rows) = (least ≤ length row) × (length row < 40) × AreLarge (suc (low + length rows)) (Inner row) × AreRowsOf 8 low rows
+
+  abbrev pub AreRows : ℕ → List (List (Child T)) → Type 0
+  AreRows low rows = AreRowsOf 1 low rows
+
+  -- no call on the builder was refused: fewer than 40 entries wait at each of its levels, and 8 at least below a level
+  pub record IsWhole (builder : Builder T) : Type 0 where
+    pub rows : AreRows zero builder.rows.items
+    pub few : length builder.leaf.items < 40
+    pub least : 0 < length builder.rows.items → 8 ≤ length builder.leaf.items
+
+-- the last row taken off, or an empty one where there is none
+abbrev pub IsPopped : {X : Type 0} → List (List X) → List (List X) → List X → Type 0
+IsPopped old new row = (old ≡ new ++ row ∷ []) ⊎ ((old ≡ []) × (new ≡ []) × (row ≡ []))
+
+module _ {T M Sum Fault : Type 0} (i : Items T) (m : Summers M T Sum Fault) (first : M) (there : Places) where
+  -- the items of rows of children, one of each level, the lowest last
+  abbrev pub Stacked : ℕ → List (List (Child T)) → List T → Type 0
+  Stacked low [] items = items ≡ []
+  Stacked low (row ∷ rows) items = Joins (AreChildren i m first (Stands i m first there (low + length rows)) row) (Stacked low rows) items
+
+  -- a builder has these items
+  abbrev pub Built : Builder T → List T → Type 0
+  Built builder items = Joins (Stacked zero builder.rows.items) (λ xs. xs ≡ builder.leaf.items) items
+
+module _ {T : Type 0} (i : Items T) (there : Places) where
+  -- the items pushed are cut as part of a packed tree: those put stand in nodes of 32, level upon level, which take so many bytes
+  abbrev pub IsCutting : Builder T → List T → ℕ → Type 0
+  IsCutting builder items taken =
+      (given : List (Child T)) × (own : ℕ) × (more : ℕ)
+      × IsCut i there Leaf items builder.leaf.items given own × Climbs i there builder.rows.items [] given more × (taken ≡ own + more)
+
+-- A put makes two reads at most, and takes 10 bytes at least: the reads never fall, and rise by one at most for each 5 bytes by
+-- which the size rises.
+abbrev pub ReadsForBytes : ℕ → ℕ → ℕ → ℕ → Type 0
+ReadsForBytes before now small large = (before ≤ now) × (5 * now + small ≤ 5 * before + large)
+
+module _ {T S F M Sum G : Type 0} (s : Sources S F) (m : Summers M T Sum G) where
+  -- the store and the summer have gone on
+  pub record BothGo (old new : S) (before after : M) : Type 0 where
+    pub store : s.goes old new
+    pub summer : m.goes before after
+
+  -- why a call gave up: the store or the summer failed and the other went on, or memory ran out and both went on
+  abbrev pub Refused : S → S → M → M → TreeFault F G → Type 0
+  Refused old new before after (tree_fault.Store fault) = s.fails old new fault × m.goes before after
+  Refused old new before after (tree_fault.BadNode at) = ⊥
+  Refused old new before after (tree_fault.Summer fault) = s.goes old new × m.fails before after fault
+  Refused old new before after tree_fault.NoMemory = BothGo old new before after
+
+  -- a call answered Ok and both went on, or it gave up for a reason
+  abbrev pub Worked : {X : Type 0} → S → S → M → M → Result X (TreeFault F G) → Type 0
+  Worked old new before after (Ok value) = BothGo old new before after
+  Worked old new before after (Err fault) = Refused old new before after fault
