@@ -1,5 +1,5 @@
 -- How calls that come one after another are one.
-use Rattle.std.proofs.Common.{◌≡◌, ℕ, List, ◌∷◌, Option, Some, None, Result, Ok, Err, OnErr, IfSome, ◌≤◌, refl, sym, ap, ◌∙◌, subst}
+use Rattle.std.proofs.Common.{◌≡◌, ℕ, List, ◌∷◌, Option, Some, None, Result, Ok, Err, OnErr, IfSome, ◌≤◌, refl, sym, ap, ◌∙◌}
 use Rattle.tree_laws.specs.declared.item.Item.{Ghosts as Items}
 use Rattle.tree_laws.specs.declared.store.NodeSource.{Ghosts as Sources}
 use Rattle.tree_laws.specs.declared.summer.Summer.{Ghosts as Summers}
@@ -11,7 +11,7 @@ use Rattle.tree_laws.specs.Fetching.{FetchFails}
 use Rattle.tree_laws.specs.Meaning.{AreSteps, KeepsMeaning, Meaning, StaysCaused}
 use Rattle.tree_laws.specs.Nodes.{entries, FitsNode, spelled_node}
 use Rattle.tree_laws.specs.Stores.{EachSince, Extends, KeepsPlaces, Places}
-use Rattle.reduce_tree.specs.Calls.{places, unfit, unsummed, IsFaulty, KeepsBadSum, IsUnread, IsKnown, GoOn, Fails, Ran, Summed, UnlessStore}
+use Rattle.reduce_tree.specs.Calls.{places, KeepsBadSum, IsUnread, IsKnown, GoOn, Fails, Ran, Summed, UnlessStore}
 use Rattle.reduce_tree.specs.Pieces.{IsNodePiece, IsSummed}
 use Rattle.reduce_tree.proofs.Since.{node_back, since_none, since_on, since_one}
 
@@ -80,22 +80,19 @@ module _ {T S F M Sum G : Type 0} (i : Items T) (s : Sources S F) (m : Summers M
   unread_on : (u v : M) (bytes : List ℕ) → m.goes u v → IsUnread i m v bytes → IsUnread i m u bytes
   unread_on u v bytes g h sum fits is = h sum ((laws.summer_keeps.fits u v sum g).0 fits) (ap (λ (x : Meaning T Sum). x.spelled sum) (laws.summer_keeps.meaning u v g) ∙ is)
 
-  faulty_on : (u v : M) (there : Places) (at : ℕ) → m.goes u v → IsFaulty i m v there at → IsFaulty i m u there at
-  faulty_on u v there at g (unfit level count fill h) = unfit level count fill h
-  faulty_on u v there at g (unsummed h) = unsummed (record {
-    node = h.node;
-    fits = h.fits;
-    stand = h.stand;
-    keeps = record { children = h.keeps.children; inner = h.keeps.inner; child = h.keeps.child; inside = h.keeps.inside; unread = unread_on u v h.keeps.child.sum g h.keeps.unread };
-  })
+  unread_back : (u v : M) (bytes : List ℕ) → m.goes u v → IsUnread i m u bytes → IsUnread i m v bytes
+  unread_back u v bytes g h sum fits is = h sum ((laws.summer_keeps.fits u v sum g).1 fits) (ap (λ (x : Meaning T Sum). x.spelled sum) (sym (laws.summer_keeps.meaning u v g)) ∙ is)
 
-  faulty_told : (u v : M) (told : Option Places) (at : ℕ) → m.goes u v → IfSome told (λ there. IsFaulty i m v there at) → IfSome told (λ there. IsFaulty i m u there at)
-  faulty_told u v None at g h = tt
-  faulty_told u v (Some there) at g h = faulty_on u v there at g h
+  -- a summary is read before a summer's calls where it is read after them
+  pub bad_on : (u v : M) (node : Node T) → m.goes u v → KeepsBadSum i m v node → KeepsBadSum i m u node
+  bad_on u v node g h = record { children = h.children; inner = h.inner; child = h.child; inside = h.inside; unread = unread_on u v h.child.sum g h.unread }
+
+  pub bad_back : (u v : M) (node : Node T) → m.goes u v → KeepsBadSum i m u node → KeepsBadSum i m v node
+  bad_back u v node g h = record { children = h.children; inner = h.inner; child = h.child; inside = h.inside; unread = unread_back u v h.child.sum g h.unread }
 
   pub fails_on : (a b c : S) (u v w : M) → GoOn i s m a b u v → (fault : TreeFault F G) → Fails i s m b c v w fault → Fails i s m a c u w fault
   fails_on a b c u v w g (tree_fault.Store fault) h = record { store = laws.store_caused a b c fault g.store h.store; summer = laws.summer_steps.both u v w g.summer h.summer; puts = nodes_on a b c u v g.summer g.puts h.puts }
-  fails_on a b c u v w g (tree_fault.BadNode at) h = (faulty_told u v (s.nodes c) at g.summer h.0, goes_on a b c u v w g h.1)
+  fails_on a b c u v w g (tree_fault.BadNode at) h = goes_on a b c u v w g h
   fails_on a b c u v w g (tree_fault.Summer fault) h = record { store = laws.store_steps.both a b c g.store h.store; summer = laws.summer_caused u v w fault g.summer h.summer; puts = nodes_on a b c u v g.summer g.puts h.puts }
   fails_on a b c u v w g tree_fault.NoMemory h = goes_on a b c u v w g h
 
@@ -110,20 +107,11 @@ module _ {T S F M Sum G : Type 0} (i : Items T) (s : Sources S F) (m : Summers M
   summed_fails X a u v (tree_fault.Summer fault) h = record { store = laws.store_steps.none a; summer = h; puts = since_none (IsNodePiece i m u) (s.puts a) (s.puts a) refl }
   summed_fails X a u v tree_fault.NoMemory h = goes_summer a u v h
 
-  bad_told : (u : M) (level count : ℕ) (fill : Fill) (old new : Option Places) (at place : ℕ) → new ≡ old → place ≡ at → IfSome old (λ there. Rattle.tree_laws.specs.Fetching.IsBadAt i level count fill there at) → IfSome new (λ there. IsFaulty i m u there place)
-  bad_told u level count fill None new at place e p h = subst (λ o. IfSome o (λ there. IsFaulty i m u there place)) (sym e) tt
-  bad_told u level count fill (Some there) new at place e p h = subst (λ o. IfSome o (λ there. IsFaulty i m u there place)) (sym e) (subst (λ q. IsFaulty i m u there q) (sym p) (unfit level count fill h))
-
   pub fetch_fails : (a b : S) (u : M) (level count : ℕ) (fill : Fill) (at : ℕ) (fault : TreeFault F G) → s.nodes b ≡ s.nodes a → s.puts b ≡ s.puts a → FetchFails i level count fill s a b at fault → Fails i s m a b u u fault
   fetch_fails a b u level count fill at (tree_fault.Store fault) e f h = fails_get a b u fault h f
-  fetch_fails a b u level count fill at (tree_fault.BadNode place) e f h = (bad_told u level count fill (s.nodes a) (s.nodes b) at place e h.0 h.1, goes_store a b u h.2 f)
+  fetch_fails a b u level count fill at (tree_fault.BadNode place) e f h = goes_store a b u h.2 f
   fetch_fails a b u level count fill at (tree_fault.Summer fault) e f h = absurd h
   fetch_fails a b u level count fill at tree_fault.NoMemory e f h = goes_store a b u h f
-
-  -- a node that keeps a bad summary
-  pub bad_sum : (a : S) (u : M) (told : Option Places) (at : ℕ) (node : Node T) → FitsNode i.fits i.spelled node → IfSome told (λ there. there at ≡ Some (spelled_node i.spelled node)) → KeepsBadSum i m u node → IfSome told (λ there. IsFaulty i m u there at)
-  bad_sum a u None at node fits stand h = tt
-  bad_sum a u (Some there) at node fits stand h = unsummed (record { node = node; fits = fits; stand = stand; keeps = h })
 
   pub known_on : (first : M) (a b : S) (u v : M) → IsKnown i s m first u a → GoOn i s m a b u v → IsKnown i s m first v b
   known_on first a b u v k g =
@@ -141,7 +129,7 @@ module _ {T S F M Sum G : Type 0} (i : Items T) (s : Sources S F) (m : Summers M
   pub ran_goes : {X : Type 0} (a b : S) (u v : M) (q : Result X (TreeFault F G)) → Ran i s m a b u v q → UnlessStore q (s.goes a b)
   ran_goes a b u v (Ok value) h = h.store
   ran_goes a b u v (Err (tree_fault.Store fault)) h = tt
-  ran_goes a b u v (Err (tree_fault.BadNode at)) h = h.1.store
+  ran_goes a b u v (Err (tree_fault.BadNode at)) h = h.store
   ran_goes a b u v (Err (tree_fault.Summer fault)) h = h.store
   ran_goes a b u v (Err tree_fault.NoMemory) h = h.store
 

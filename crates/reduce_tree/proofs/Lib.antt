@@ -4,6 +4,8 @@ pub mod Calls
 pub mod Charge
 pub mod Climb
 pub mod Fills
+pub mod Given
+pub mod Growth
 pub mod Lists
 pub mod Made
 pub mod Nodes

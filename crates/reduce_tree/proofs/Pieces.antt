@@ -1,6 +1,6 @@
 -- What was put, over calls one after another.
-use Rattle.std.proofs.Common.{Result, Err, MatchResult, ◌≡◌, ℕ, List, [], ◌∷◌, ◌++◌, Contains, length, ◌+◌, ◌≤◌, arith, refl, sym, ap, ◌∙◌, subst}
-use Rattle.std.proofs.lemmas.List.Elements.{All-append, All-cons, All-filter, All-head, All-nil, All-tail, All-weaker}
+use Rattle.std.proofs.Common.{Result, Err, MatchResult, ◌≡◌, ℕ, List, [], ◌∷◌, ◌++◌, Contains, length, ◌+◌, arith, refl, ap, subst}
+use Rattle.std.proofs.lemmas.List.Elements.{All-append, All-filter, All-head, All-tail}
 use Rattle.std.specs.declared.cmp.Ordering.{Ordering}
 use Rattle.std.specs.List.Sorted.{IsStrictlySortedBy}
 use Rattle.std.specs.Ordering.{is_lt, is_gt}

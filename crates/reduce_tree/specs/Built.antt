@@ -1,15 +1,14 @@
--- What a builder holds, and how its calls went.
-use Rattle.std.specs.Prelude.{◌≡◌, ◌⊎◌, ℕ, zero, suc, ◌+◌, ◌*◌, ◌<◌, ◌≤◌, List, [], ◌∷◌, ◌++◌, Result, Ok, Err, length}
+-- What a builder holds, and what its calls put.
+use Rattle.std.specs.Prelude.{◌≡◌, ◌⊎◌, ℕ, zero, suc, ◌+◌, ◌*◌, ◌<◌, ◌≤◌, List, [], ◌∷◌, ◌++◌, length}
 use Rattle.std.specs.List.{sum_by}
 use Rattle.tree_laws.specs.declared.item.Item.{Ghosts as Items}
-use Rattle.tree_laws.specs.declared.store.NodeSource.{Ghosts as Sources}
 use Rattle.tree_laws.specs.declared.summer.Summer.{Ghosts as Summers}
 use Rattle.tree_laws.specs.declared.node.Child.{Child}
+use Rattle.tree_laws.specs.declared.node.Node.{Node}
 use Rattle.tree_laws.specs.declared.node.Node.TheVariants.{Leaf, Inner}
-use Rattle.tree_laws.specs.declared.tree.TreeFault.{TreeFault}
-use Rattle.tree_laws.specs.declared.tree.TreeFault.TheVariants as tree_fault
 use Rattle.tree_laws.specs.Fitting.{AreLarge, item_count}
-use Rattle.tree_laws.specs.Stores.{Places}
+use Rattle.tree_laws.specs.Nodes.{entries, FitsNode, spelled_node}
+use Rattle.tree_laws.specs.Stores.{EachSince, Places}
 use Rattle.tree_laws.specs.SummerTrees.{AreChildren, Joins, Stands}
 use Rattle.reduce_tree.specs.declared.builder.Builder.{Builder}
 use Rattle.reduce_tree.specs.Packed.{IsCut, Climbs}
@@ -26,6 +25,10 @@ module _ {T : Type 0} where
   -- and how many of them wait to be put in a leaf
   abbrev pub waiting : Builder T → ℕ
   waiting builder = length builder.leaf.items
+
+  -- at how many levels entries may wait: that of the items, and one for each row
+  abbrev pub levels_of : Builder T → ℕ
+  levels_of builder = length builder.rows.items + 1
 
   -- nothing was pushed yet
   pub record HoldsNothing (builder : Builder T) : Type 0 where
@@ -73,20 +76,22 @@ module _ {T : Type 0} (i : Items T) (there : Places) where
 abbrev pub ReadsForBytes : ℕ → ℕ → ℕ → ℕ → Type 0
 ReadsForBytes before now small large = (before ≤ now) × (5 * now + small ≤ 5 * before + large)
 
-module _ {T S F M Sum G : Type 0} (s : Sources S F) (m : Summers M T Sum G) where
-  -- the store and the summer have gone on
-  pub record BothGo (old new : S) (before after : M) : Type 0 where
-    pub store : s.goes old new
-    pub summer : m.goes before after
+module _ {T : Type 0} (i : Items T) where
+  -- the bytes of a node that can be spelled, of so many entries at least and so many at most
+  pub record HasEntries (low high : ℕ) (bytes : List ℕ) : Type 0 where
+    pub node : Node T
+    pub fits : FitsNode i.fits i.spelled node
+    pub bytes_are : bytes ≡ spelled_node i.spelled node
+    pub least : low ≤ entries node
+    pub most : entries node ≤ high
 
-  -- why a call gave up: the store or the summer failed and the other went on, or memory ran out and both went on
-  abbrev pub Refused : S → S → M → M → TreeFault F G → Type 0
-  Refused old new before after (tree_fault.Store fault) = s.fails old new fault × m.goes before after
-  Refused old new before after (tree_fault.BadNode at) = ⊥
-  Refused old new before after (tree_fault.Summer fault) = s.goes old new × m.fails before after fault
-  Refused old new before after tree_fault.NoMemory = BothGo old new before after
+  -- each piece put since, or tried, is a node of exactly 32 entries
+  abbrev pub ArePutFull : List (List ℕ) → List (List ℕ) → Type 0
+  ArePutFull = EachSince (HasEntries 32 32)
 
-  -- a call answered Ok and both went on, or it gave up for a reason
-  abbrev pub Worked : {X : Type 0} → S → S → M → M → Result X (TreeFault F G) → Type 0
-  Worked old new before after (Ok value) = BothGo old new before after
-  Worked old new before after (Err fault) = Refused old new before after fault
+  -- each piece put since, or tried, is a node of 8 to 32 entries, but for the newest, which may be the root and then has one at least
+  pub record ArePutPacked (old new : List (List ℕ)) : Type 0 where
+    pub mid : List (List ℕ)
+    pub below : EachSince (HasEntries 8 32) old mid
+    pub root : EachSince (HasEntries 1 32) mid new
+    pub one : length new ≤ length mid + 1

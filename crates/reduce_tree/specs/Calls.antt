@@ -1,26 +1,18 @@
 -- How calls on a store and on a summer went.
-use Rattle.std.specs.Prelude.{◌≡◌, ℕ, Option, Some, None, Result, Ok, Err, IfSome}
+use Rattle.std.specs.Prelude.{◌≡◌, Option, Some, None, Result, Ok, Err}
 use Rattle.tree_laws.specs.declared.item.Item.{Ghosts as Items}
 use Rattle.tree_laws.specs.declared.store.NodeSource.{Ghosts as Sources}
 use Rattle.tree_laws.specs.declared.summer.Summer.{Ghosts as Summers}
-use Rattle.tree_laws.specs.declared.tree.Fill.{Fill}
 use Rattle.tree_laws.specs.declared.tree.TreeFault.{TreeFault}
 use Rattle.tree_laws.specs.declared.tree.TreeFault.TheVariants as tree_fault
-use Rattle.tree_laws.specs.Fetching.{IsBadAt}
 use Rattle.tree_laws.specs.Stores.{EachSince, Places}
-pub use Rattle.tree_laws.specs.SummerTrees.{HasBadSum, IsUnread, KeepsBadSum}
+pub use Rattle.tree_laws.specs.SummerTrees.{IsUnread, KeepsBadSum}
 use Rattle.reduce_tree.specs.Pieces.{IsNodePiece}
 
 -- what stands in a store, where it tells that
 abbrev pub places : Option Places → Places
 places None = λ at. None
 places (Some there) = there
-
-module _ {T M Sum Fault : Type 0} (i : Items T) (m : Summers M T Sum Fault) (summer : M) where
-  -- at the place stands no node that fits in a tree, or one with a bad summary
-  pub data IsFaulty (there : Places) (at : ℕ) : Type 0 where
-    unfit : (level count : ℕ) (fill : Fill) → IsBadAt i level count fill there at → IsFaulty there at
-    unsummed : HasBadSum i m summer there at → IsFaulty there at
 
 module _ {S F : Type 0} (s : Sources S F) where
   -- nothing was put
@@ -48,7 +40,7 @@ module _ {T S F M Sum G : Type 0} (i : Items T) (s : Sources S F) (m : Summers M
   -- why a call gave up: the object that failed did what its fault says, and the other went on
   abbrev pub Fails : S → S → M → M → TreeFault F G → Type 0
   Fails old new before after (tree_fault.Store fault) = Went old new before after (s.fails old new fault) (m.goes before after)
-  Fails old new before after (tree_fault.BadNode at) = IfSome (s.nodes new) (λ there. IsFaulty i m before there at) × GoOn old new before after
+  Fails old new before after (tree_fault.BadNode at) = GoOn old new before after
   Fails old new before after (tree_fault.Summer fault) = Went old new before after (s.goes old new) (m.fails before after fault)
   Fails old new before after tree_fault.NoMemory = GoOn old new before after
 

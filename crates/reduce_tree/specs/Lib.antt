@@ -3,6 +3,7 @@ pub mod Bounds
 pub mod Built
 pub mod Calls
 pub mod Counts
+pub mod Given
 pub mod Packed
 pub mod Pieces
 pub mod Rows

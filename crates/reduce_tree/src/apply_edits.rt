@@ -1,11 +1,12 @@
 //! Edits of a tree.
 
+ghost use Rattle.reduce_tree.specs.Given.{Takes};
 ghost use Rattle.reduce_tree.specs.Pieces.{AreAmong, InsertAmong, AreTreePieces, WerePieces};
 ghost use Rattle.reduce_tree.specs.Applied.{applied, AreEdits, insertions, RemoveNone};
-ghost use Rattle.reduce_tree.specs.Counts.{ReadsFor};
+ghost use Rattle.reduce_tree.specs.Counts.{ReadsFor, node_size};
 ghost use Rattle.reduce_tree.specs.Calls.{places, Ran, PutNone, BlamesNone, UnlessStore};
-ghost use Rattle.std.specs.Prelude.{ℕ, ◌≡◌, ◌+◌, ◌*◌, ◌≤◌, ◌^◌, List, IfOk, OnOk, length, max, Some, ◌<◌, IfErr, MatchResult};
-ghost use Rattle.tree_laws.specs.Stores.{KeepsPlaces, Places};
+ghost use Rattle.std.specs.Prelude.{ℕ, ◌≡◌, ◌+◌, ◌*◌, ◌≤◌, ◌^◌, List, IfOk, OnOk, length, max, Some, ◌<◌, IfErr, MatchResult, All};
+ghost use Rattle.tree_laws.specs.Stores.{KeepsPlaces, Places, WhereTold};
 ghost use Rattle.tree_laws.specs.SummerTrees.{IsTree, IsTreeSize};
 
 use crate::edit::Edit;
@@ -21,16 +22,22 @@ use tree_laws::{Item, NodeStore, Steps, Summer, Tree, TreeFault};
 /// A step makes two reads of the store at most, whatever is answered. Where `h` levels are enough, which are the tree's height at
 /// least and take all its items and those inserted below `8^h`, each edit takes `8 * (h + 1)` steps and `4 * (h + 1)` puts at most,
 /// whatever is answered; a put at which the store fails counts too. The store grows by 8 bytes at least for each item inserted, and
-/// items are inserted only where the summer is usable.
+/// items are inserted only where the summer is usable. Where no item of the old tree or inserted is spelled in more than `longest`
+/// bytes, it grows by `4 * (h + 1)` times what a node of 32 such items takes at most for each edit, whatever is answered.
+///
+/// No bad node is passed over. Each place that was got is reached from the tree's root, and a node that fits stands there, of which
+/// each summary has the bytes of a value; or a piece stands there that this call put. Only the place got last may be another: the
+/// bad one that `BadNode` names, and where the store failed or memory ran out any that is reached or has such a piece. After `Store`
+/// that is by what stood in the store when it failed, and else by what stands there after the call.
 ///
 /// Each piece put, before a refusal too, is a node of 32 entries at most, and of 8 at least but for the root. Its items are those
 /// of the old tree and those inserted. A leaf is put only where the summer was usable, and each summary in an inner node is that
 /// of a value that fits. All this holds too of a piece at which the store fails; every other stands in the store.
 ///
-/// `Store` and `Summer` hand on what the store and the summer answered in this call, and the other of the two went on. `BadNode`
-/// names the place of a node that does not fit in a tree, or keeps a summary that has the bytes of no value: over a tree none is
-/// found. `NoMemory` is answered where memory runs out. After each refusal but `Store` the store is ready and keeps what stood in
-/// it, and after `BadNode` and `NoMemory` both went on.
+/// `Store` and `Summer` hand on what the store and the summer answered in this call, and the other of the two went on. The place that
+/// `BadNode` names is reached from the tree's root, and no node that fits stands there, or one that keeps a summary with the bytes of
+/// no value: over a tree none is found. `NoMemory` is answered where memory runs out. After each refusal but `Store` the store is
+/// ready and keeps what stood in it, and after `BadNode` and `NoMemory` both went on.
 pub fn apply<S: NodeStore, M: Summer, L: Ledger>(
     alloc: Global,
     store: &mut S,
@@ -58,6 +65,9 @@ pub fn apply<S: NodeStore, M: Summer, L: Ledger>(
     ensures usable { 0 < insertions edits.now → OnOk result (M.usable summer.old) }
     ensures none { (first : M) (there : Places) (items : List M.Unit) → S.nodes store.old ≡ Some there → M.goes first summer.old → IsTree M.Unit.Item M.Summer first there tree items
         → RemoveNone M.Unit.order edits.now items → IfOk result (λ after. (after ≡ tree) × PutNone S.NodeSource store.old store.new) }
+    ensures met { WhereTold (S.nodes store.old) (λ _. Takes M.Unit.Item S.NodeSource M.Summer summer.old tree (S.puts store.old) store.old store.new result) }
+    ensures bytes { (first : M) (there : Places) (items among : List M.Unit) (longest h : ℕ) → S.nodes store.old ≡ Some there → M.goes first summer.old → IsTree M.Unit.Item M.Summer first there tree items → AreAmong among items → InsertAmong among edits.now
+        → All (λ x. length (M.Unit.spelled x) ≤ longest) among → tree.height ≤ h → tree.count + insertions edits.now < 8 ^ h → S.size store.new ≤ S.size store.old + (length edits.now * (4 * (h + 1))) * node_size longest }
     ensures reads { ReadsFor (S.reads store.old) (S.reads store.new) steps.old steps.new }
     ensures sound { (first : M) (there : Places) (items : List M.Unit) → S.nodes store.old ≡ Some there → M.goes first summer.old → IsTree M.Unit.Item M.Summer first there tree items → IfErr result BlamesNone }
     ensures ran { Ran M.Unit.Item S.NodeSource M.Summer store.old store.new summer.old summer.new result }

@@ -1,5 +1,7 @@
 //! Edits of the nodes of a tree in one pass.
 
+ghost use Rattle.tree_laws.specs.declared.tree.Tree.{Tree};
+ghost use Rattle.reduce_tree.specs.Given.{AllGiven, Given, IsUnderWay, Took};
 ghost use Rattle.tree_laws.specs.declared.tree.Fill.TheVariants.{Below};
 ghost use Rattle.reduce_tree.specs.Pieces.{ArePieces, AreAmong, InsertAmong, WerePieces};
 ghost use Rattle.reduce_tree.specs.Applied.{applied, edit_key, insertions, RemoveNone};
@@ -9,7 +11,7 @@ ghost use Rattle.reduce_tree.specs.Calls.{places, IsKnown, Ran, PutNone, BlamesN
 ghost use Rattle.reduce_tree.specs.Rows.{IsAtLevel, Carries, leaf_items};
 ghost use Rattle.reduce_tree.specs.declared.edit.Edit.{Edit};
 ghost use Rattle.std.specs.List.Sorted.{IsStrictlySortedBy};
-ghost use Rattle.std.specs.Prelude.{true, false, ◌≡◌, ◌≢◌, ◌+◌, ◌*◌, ◌<◌, ◌≤◌, ◌^◌, ◌∷◌, ◌++◌, List, [], IfOk, OnOk, All, length, vec_len, take, slice_index_or, IfErr, OnErr, MatchResult};
+ghost use Rattle.std.specs.Prelude.{true, false, ◌≡◌, ◌≢◌, ◌+◌, ◌*◌, ◌<◌, ◌≤◌, ◌^◌, ◌∷◌, ◌++◌, List, [], IfOk, OnOk, All, length, vec_len, take, slice_index_or, IfErr, OnErr, MatchResult, ℕ};
 ghost use Rattle.std.specs.declared.cmp.Ordering.TheVariants.{Less};
 ghost use Rattle.tree_laws.specs.Fitting.{AreLarge, item_count};
 ghost use Rattle.tree_laws.specs.Nodes.{entries};
@@ -95,6 +97,8 @@ fn settle<S: NodeStore, M: Summer, L: Ledger>(
     ensures pieces { (first : M) (items among : List M.Unit) → IsKnown M.Unit.Item S.NodeSource M.Summer first summer.old store.old → Carries M.Unit.Item M.Summer first (places (S.nodes store.old)) low done.old.items row.level row.node items → AreAmong among items → MatchResult result (λ _. ArePieces M.Unit.Item M.Summer first among (places (S.nodes store.new)) Below (S.puts store.old) (S.puts store.new)) (λ fault. WerePieces M.Unit.Item M.Summer first among (places (S.nodes store.old)) fault (S.puts store.old) (S.puts store.new)) }
     ensures leaf { OnOk result (ArePut (S.size store.old) (S.size store.new) (M.usable summer.old) (leaf_items row.node) 0) }
     ensures unput { entries row.node ≡ 0 → OnOk result (PutNone S.NodeSource store.old store.new) }
+    ensures gets { S.gets store.new ≡ S.gets store.old }
+    ensures given { (first : M) (tree : Tree) (pieces : List (List ℕ)) → IsUnderWay M.Unit.Item S.NodeSource M.Summer first pieces summer.old store.old → All (Given M.Unit.Item S.NodeSource M.Summer first tree pieces store.old low) done.old.items → AllGiven M.Unit.Item S.NodeSource M.Summer first tree pieces store.old row.level row.node → OnOk result (All (Given M.Unit.Item S.NodeSource M.Summer first tree pieces store.new low) done.new.items) }
     ensures reads { ReadsFor (S.reads store.old) (S.reads store.new) steps.old steps.new }
     ensures sound { IfErr result BlamesNone }
     ensures ran { Ran M.Unit.Item S.NodeSource M.Summer store.old store.new summer.old summer.new result }
@@ -141,6 +145,8 @@ fn keep_child<S: NodeStore, M: Summer, L: Ledger>(
     ensures pieces { (first : M) (items among : List M.Unit) → IsKnown M.Unit.Item S.NodeSource M.Summer first summer.old store.old → Carries M.Unit.Item M.Summer first (places (S.nodes store.old)) low done.old.items carry.level carry.node items → AreAmong among items → MatchResult result (λ _. ArePieces M.Unit.Item M.Summer first among (places (S.nodes store.new)) Below (S.puts store.old) (S.puts store.new)) (λ fault. WerePieces M.Unit.Item M.Summer first among (places (S.nodes store.old)) fault (S.puts store.old) (S.puts store.new)) }
     ensures leaf { OnOk result (ArePut (S.size store.old) (S.size store.new) (M.usable summer.old) (leaf_items carry.node) 0) }
     ensures unput { IfOk result (λ row. row.same ≡ true → PutNone S.NodeSource store.old store.new) }
+    ensures gets { S.gets store.new ≡ S.gets store.old }
+    ensures given { (first : M) (tree : Tree) (pieces : List (List ℕ)) → IsUnderWay M.Unit.Item S.NodeSource M.Summer first pieces summer.old store.old → All (Given M.Unit.Item S.NodeSource M.Summer first tree pieces store.old low) done.old.items → AllGiven M.Unit.Item S.NodeSource M.Summer first tree pieces store.old carry.level carry.node → Given M.Unit.Item S.NodeSource M.Summer first tree pieces store.old low child → OnOk result (All (Given M.Unit.Item S.NodeSource M.Summer first tree pieces store.new low) done.new.items) }
     ensures reads { ReadsFor (S.reads store.old) (S.reads store.new) steps.old steps.new }
     ensures sound { IfErr result BlamesNone }
     ensures ran { Ran M.Unit.Item S.NodeSource M.Summer store.old store.new summer.old summer.new result }
@@ -195,6 +201,8 @@ fn edit_child<S: NodeStore, M: Summer, L: Ledger>(
     ensures inserts { IfOk result (λ row. row.same ≡ true → insertions edits.now ≡ 0) }
     ensures quiet { (first : M) (mid : List M.Unit) → IsKnown M.Unit.Item S.NodeSource M.Summer first summer.old store.old → IsChild M.Unit.Item M.Summer first (Stands M.Unit.Item M.Summer first (places (S.nodes store.old)) low) child mid → RemoveNone M.Unit.order edits.now mid
         → carry.same ≡ true → IfOk result (λ row. row.same ≡ true) }
+    ensures met { (first : M) (tree : Tree) (pieces : List (List ℕ)) → IsUnderWay M.Unit.Item S.NodeSource M.Summer first pieces summer.old store.old → All (Given M.Unit.Item S.NodeSource M.Summer first tree pieces store.old low) done.old.items → AllGiven M.Unit.Item S.NodeSource M.Summer first tree pieces store.old carry.level carry.node → Given M.Unit.Item S.NodeSource M.Summer first tree pieces store.old low child
+        → Took M.Unit.Item S.NodeSource M.Summer first tree pieces store.old store.new result (λ row. All (Given M.Unit.Item S.NodeSource M.Summer first tree pieces store.new low) done.new.items × AllGiven M.Unit.Item S.NodeSource M.Summer first tree pieces store.new row.level row.node) }
     ensures reads { ReadsFor (S.reads store.old) (S.reads store.new) steps.old steps.new }
     ensures ran { Ran M.Unit.Item S.NodeSource M.Summer store.old store.new summer.old summer.new result }
     ensures ready { OnOk result (S.is_ready store.new) }
@@ -257,6 +265,7 @@ fn edit_children<S: NodeStore, M: Summer, L: Ledger>(
     ensures inserts { IfOk result (λ row. row.same ≡ true → insertions edits.now ≡ 0) }
     ensures quiet { (first : M) (items : List M.Unit) → IsKnown M.Unit.Item S.NodeSource M.Summer first summer.old store.old → AreChildren M.Unit.Item M.Summer first (Stands M.Unit.Item M.Summer first (places (S.nodes store.old)) low) children.items items → RemoveNone M.Unit.order edits.now items
         → IfOk result (λ row. row.same ≡ true) }
+    ensures met { (first : M) (tree : Tree) (pieces : List (List ℕ)) → IsUnderWay M.Unit.Item S.NodeSource M.Summer first pieces summer.old store.old → All (Given M.Unit.Item S.NodeSource M.Summer first tree pieces store.old low) children.items → Took M.Unit.Item S.NodeSource M.Summer first tree pieces store.old store.new result (λ row. AllGiven M.Unit.Item S.NodeSource M.Summer first tree pieces store.new row.level row.node) }
     ensures reads { ReadsFor (S.reads store.old) (S.reads store.new) steps.old steps.new }
     ensures ran { Ran M.Unit.Item S.NodeSource M.Summer store.old store.new summer.old summer.new result }
     ensures ready { OnOk result (S.is_ready store.new) }
@@ -312,6 +321,7 @@ fn finish<S: NodeStore, M: Summer, L: Ledger>(
     ensures leaf { IfOk result (λ row. ArePut (S.size store.old) (S.size store.new) (M.usable summer.old) (leaf_items carry.node) (leaf_items row.node)) }
     ensures unput { IfOk result (λ row. row.same ≡ true → PutNone S.NodeSource store.old store.new) }
     ensures quiet { carry.same ≡ true → IfOk result (λ row. row.same ≡ true) }
+    ensures met { (first : M) (tree : Tree) (pieces : List (List ℕ)) → IsUnderWay M.Unit.Item S.NodeSource M.Summer first pieces summer.old store.old → All (Given M.Unit.Item S.NodeSource M.Summer first tree pieces store.old low) done.items → AllGiven M.Unit.Item S.NodeSource M.Summer first tree pieces store.old carry.level carry.node → Took M.Unit.Item S.NodeSource M.Summer first tree pieces store.old store.new result (λ row. AllGiven M.Unit.Item S.NodeSource M.Summer first tree pieces store.new row.level row.node) }
     ensures reads { ReadsFor (S.reads store.old) (S.reads store.new) steps.old steps.new }
     ensures ran { Ran M.Unit.Item S.NodeSource M.Summer store.old store.new summer.old summer.new result }
     ensures ready { OnOk result (S.is_ready store.new) }
@@ -368,6 +378,7 @@ pub(crate) fn edit_row<S: NodeStore, M: Summer, L: Ledger>(
     ensures unput { IfOk result (λ row. row.same ≡ true → PutNone S.NodeSource store.old store.new) }
     ensures inserts { IfOk result (λ row. row.same ≡ true → insertions edits.now ≡ 0) }
     ensures quiet { (first : M) (items : List M.Unit) → IsKnown M.Unit.Item S.NodeSource M.Summer first summer.old store.old → Has M.Unit.Item M.Summer first (places (S.nodes store.old)) level node items → RemoveNone M.Unit.order edits.now items → IfOk result (λ row. row.same ≡ true) }
+    ensures met { (first : M) (tree : Tree) (pieces : List (List ℕ)) → IsUnderWay M.Unit.Item S.NodeSource M.Summer first pieces summer.old store.old → AllGiven M.Unit.Item S.NodeSource M.Summer first tree pieces store.old level node → Took M.Unit.Item S.NodeSource M.Summer first tree pieces store.old store.new result (λ row. AllGiven M.Unit.Item S.NodeSource M.Summer first tree pieces store.new row.level row.node) }
     ensures reads { ReadsFor (S.reads store.old) (S.reads store.new) steps.old steps.new }
     ensures ran { Ran M.Unit.Item S.NodeSource M.Summer store.old store.new summer.old summer.new result }
     ensures ready { OnOk result (S.is_ready store.new) }

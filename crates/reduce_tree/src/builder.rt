@@ -1,15 +1,15 @@
 //! Building a tree of items that come in order.
 
-ghost use Rattle.reduce_tree.specs.Built.{HoldsNothing, row_items, pushed, waiting, AreRows, IsWhole, IsPopped, Stacked, Built, IsCutting, ReadsForBytes, Worked};
-ghost use Rattle.reduce_tree.specs.Calls.{places, IsKnown};
+ghost use Rattle.reduce_tree.specs.Built.{HoldsNothing, row_items, pushed, waiting, levels_of, AreRows, IsWhole, IsPopped, Stacked, Built, IsCutting, ReadsForBytes, HasEntries, ArePutFull, ArePutPacked};
+ghost use Rattle.reduce_tree.specs.Calls.{places, IsKnown, Ran, BlamesNone, UnlessStore};
 ghost use Rattle.reduce_tree.specs.Packed.{Grown, StandsAt, ArePacked, IsCut, Climbs, PacksAt, IsPackedTree};
 ghost use Rattle.reduce_tree.specs.Rows.{IsAtLevel, leaf_items};
 ghost use Rattle.reduce_tree.specs.declared.builder.Builder.{Builder};
 ghost use Rattle.std.specs.List.Sorted.{IsStrictlySortedBy};
-ghost use Rattle.std.specs.Prelude.{ℕ, ◌≡◌, ◌+◌, ◌*◌, ◌<◌, ◌≤◌, ◌^◌, ◌∷◌, ◌++◌, true, false, List, [], Some, IfOk, OnOk, OnErr, length, vec_len};
+ghost use Rattle.std.specs.Prelude.{ℕ, ◌≡◌, ◌+◌, ◌*◌, ◌<◌, ◌≤◌, ◌^◌, ◌∷◌, ◌++◌, true, false, List, [], Some, IfErr, IfOk, OnOk, OnErr, length, vec_len};
 ghost use Rattle.tree_laws.specs.Fitting.{AreLarge, item_count};
 ghost use Rattle.tree_laws.specs.Nodes.{entries, spelled_node};
-ghost use Rattle.tree_laws.specs.Stores.{Extends, KeepsPlaces, Places, pieces_size};
+ghost use Rattle.tree_laws.specs.Stores.{EachSince, Extends, KeepsPlaces, Places, pieces_size};
 ghost use Rattle.tree_laws.specs.Values.{PassFor, values_of};
 ghost use Rattle.tree_laws.specs.SummerTrees.{AreChildren, Has, HasRoot, IsChild, IsTree, IsTreeSize, Stands};
 ghost use Rattle.tree_laws.specs.declared.node.Child.{Child};
@@ -83,7 +83,11 @@ fn pack_row<S: NodeStore, M: Summer>(
     ensures usable { 0 < leaf_items node → OnOk result (M.usable summer.old) }
     ensures reads { OnOk result (ReadsForBytes (S.reads store.old) (S.reads store.new) (S.size store.old) (S.size store.new)) }
     ensures tried { OnErr result (ReadsForBytes (S.reads store.old) (S.reads store.new) (S.size store.old) (S.size store.new + 10)) }
-    ensures ran { Worked S.NodeSource M.Summer store.old store.new summer.old summer.new result }
+    ensures pieces { IfOk result (λ children. 32 * vec_len children ≤ entries node + 31) }
+    ensures puts { 32 * length (S.puts store.new) ≤ 32 * length (S.puts store.old) + (entries node + 31) }
+    ensures filled { EachSince (HasEntries M.Unit.Item 8 32) (S.puts store.old) (S.puts store.new) }
+    ensures sound { IfErr result BlamesNone }
+    ensures ran { Ran M.Unit.Item S.NodeSource M.Summer store.old store.new summer.old summer.new result }
     ensures ready { OnOk result (S.is_ready store.new) }
 {
     if node.len() <= 32 {
@@ -140,7 +144,10 @@ fn hand<S: NodeStore, M: Summer>(
     ensures count { OnOk result (row_items rows.new.items ≡ row_items rows.old.items + child.count) }
     ensures reads { OnOk result (ReadsForBytes (S.reads store.old) (S.reads store.new) (S.size store.old) (S.size store.new)) }
     ensures tried { OnErr result (ReadsForBytes (S.reads store.old) (S.reads store.new) (S.size store.old) (S.size store.new + 10)) }
-    ensures ran { Worked S.NodeSource M.Summer store.old store.new summer.old summer.new result }
+    ensures puts { length (S.puts store.new) ≤ length (S.puts store.old) + length rows.old.items }
+    ensures filled { ArePutFull M.Unit.Item (S.puts store.old) (S.puts store.new) }
+    ensures sound { IfErr result BlamesNone }
+    ensures ran { Ran M.Unit.Item S.NodeSource M.Summer store.old store.new summer.old summer.new result }
     ensures ready { OnOk result (S.is_ready store.new) }
 {
     let row = pop_row(alloc, rows);
@@ -195,7 +202,11 @@ fn put_top<S: NodeStore, M: Summer>(
     ensures usable { 0 < leaf_items node → OnOk result (M.usable summer.old) }
     ensures reads { OnOk result (ReadsForBytes (S.reads store.old) (S.reads store.new) (S.size store.old) (S.size store.new)) }
     ensures tried { OnErr result (ReadsForBytes (S.reads store.old) (S.reads store.new) (S.size store.old) (S.size store.new + 10)) }
-    ensures ran { Worked S.NodeSource M.Summer store.old store.new summer.old summer.new result }
+    ensures puts { length (S.puts store.new) ≤ length (S.puts store.old) + 1 }
+    ensures filled { EachSince (HasEntries M.Unit.Item 1 32) (S.puts store.old) (S.puts store.new) }
+    ensures refused { OnErr result (UnlessStore result (S.puts store.new ≡ S.puts store.old)) }
+    ensures sound { IfErr result BlamesNone }
+    ensures ran { Ran M.Unit.Item S.NodeSource M.Summer store.old store.new summer.old summer.new result }
     ensures ready { OnOk result (S.is_ready store.new) }
 {
     if node.is_empty() {
@@ -243,7 +254,12 @@ fn rise<S: NodeStore, M: Summer>(
     ensures usable { 0 < leaf_items node → OnOk result (M.usable summer.old) }
     ensures reads { OnOk result (ReadsForBytes (S.reads store.old) (S.reads store.new) (S.size store.old) (S.size store.new)) }
     ensures tried { OnErr result (ReadsForBytes (S.reads store.old) (S.reads store.new) (S.size store.old) (S.size store.new + 10)) }
-    ensures ran { Worked S.NodeSource M.Summer store.old store.new summer.old summer.new result }
+    ensures once { length rows.items ≡ 0 → entries node ≤ 32 → length (S.puts store.new) ≤ length (S.puts store.old) + 1 }
+    ensures puts { entries node ≤ 41 → length (S.puts store.new) ≤ length (S.puts store.old) + (2 * length rows.items + 3) }
+    ensures filled { ArePutPacked M.Unit.Item (S.puts store.old) (S.puts store.new) }
+    ensures refused { OnErr result (UnlessStore result (EachSince (HasEntries M.Unit.Item 8 32) (S.puts store.old) (S.puts store.new))) }
+    ensures sound { IfErr result BlamesNone }
+    ensures ran { Ran M.Unit.Item S.NodeSource M.Summer store.old store.new summer.old summer.new result }
     ensures ready { OnOk result (S.is_ready store.new) }
 {
     if fits_root(rows.len(), node.len()) {
@@ -283,8 +299,13 @@ impl<T: Item> Builder<T> {
     /// store grew by 8 bytes at least, and it was given to a summer that was usable. The store grows by what the nodes that are put
     /// take, their bytes and 8 more for each, and by nothing else.
     ///
+    /// Each piece put, before a refusal too, is a node of exactly 32 entries. Whatever is answered there is one at most for each level
+    /// at which entries wait, the items' own among them. A leaf is put only where the summer was usable, and each summary in an inner
+    /// node is that of a value that fits. A piece at which the store fails is such a node too, and counts.
+    ///
     /// `Store` and `Summer` hand on what the store and the summer answered in this call, and the other of the two has gone on, as
-    /// both have where memory runs out. `BadNode` never comes.
+    /// both have where memory runs out. `BadNode` never comes. After each refusal but `Store` the store is ready and keeps what stood
+    /// in it.
     pub fn push<S: NodeStore, M: Summer<Unit = T>>(
         &mut self,
         alloc: Global,
@@ -302,13 +323,16 @@ impl<T: Item> Builder<T> {
             → IfOk result (λ _. Grown (S.size store.old) (S.size store.new) taken (IsCutting T.Item (places (S.nodes store.new)) self.new (items ++ item ∷ []))) }
         ensures whole { OnOk result (IsWhole self.new) }
         ensures pushed { OnOk result (pushed self.new ≡ pushed self.old + 1) }
-        ensures kept { OnOk result (KeepsPlaces (S.nodes store.old) (S.nodes store.new)) }
+        ensures kept { UnlessStore result (KeepsPlaces (S.nodes store.old) (S.nodes store.new)) }
         ensures grows { OnOk result (S.size store.old + 8 * (waiting self.old + 1) ≤ S.size store.new + 8 * waiting self.new) }
         ensures usable { OnOk result (waiting self.new ≤ waiting self.old → M.usable summer.old) }
         ensures reads { OnOk result (ReadsForBytes (S.reads store.old) (S.reads store.new) (S.size store.old) (S.size store.new)) }
         ensures tried { OnErr result (ReadsForBytes (S.reads store.old) (S.reads store.new) (S.size store.old) (S.size store.new + 10)) }
-        ensures ran { Worked S.NodeSource M.Summer store.old store.new summer.old summer.new result }
-        ensures ready { OnOk result (S.is_ready store.new) }
+        ensures puts { length (S.puts store.new) ≤ length (S.puts store.old) + levels_of self.old }
+        ensures filled { ArePutFull T.Item (S.puts store.old) (S.puts store.new) }
+        ensures sound { IfErr result BlamesNone }
+        ensures ran { Ran T.Item S.NodeSource M.Summer store.old store.new summer.old summer.new result }
+        ensures ready { UnlessStore result (S.is_ready store.new) }
     {
         add_last(&mut self.leaf, item)?;
         if self.leaf.len() < 40 {
@@ -324,9 +348,13 @@ impl<T: Item> Builder<T> {
     }
 
     /// The tree of the items pushed, packed: each level is cut into nodes of 32, and where 1 to 7 entries remain, the last full node
-    /// gives up its last 8 to them. It holds them where they rise strictly. The conditions, the reads and the faults are those of
-    /// `push`; the store grows by 8 bytes at least for each item that waits. Over all pushes and this call the store grows by exactly
-    /// what the nodes of this tree take: no other node is put.
+    /// gives up its last 8 to them. It holds them where they rise strictly. The conditions, the reads, the faults and what they leave
+    /// are those of `push`; the store grows by 8 bytes at least for each item that waits. Over all pushes and this call the store
+    /// grows by exactly what the nodes of this tree take: no other node is put.
+    ///
+    /// Each piece put, before a refusal too, is a node of 8 to 32 entries, but for the newest, which may be the root and have fewer.
+    /// After a refusal but `Store` none has fewer. Whatever is answered there are two pieces at most for each of the levels, and one
+    /// more. The rest is as with `push`: of leaves, of summaries, and of a piece at which the store fails.
     pub fn finish<S: NodeStore, M: Summer<Unit = T>>(
         self,
         alloc: Global,
@@ -343,13 +371,17 @@ impl<T: Item> Builder<T> {
             → IfOk result (λ tree. Grown (S.size store.old) (S.size store.new) taken (IsPackedTree T.Item (places (S.nodes store.new)) tree items)) }
         ensures size { IfOk result IsTreeSize }
         ensures count { IfOk result (λ tree. tree.count ≡ pushed self) }
-        ensures kept { OnOk result (KeepsPlaces (S.nodes store.old) (S.nodes store.new)) }
+        ensures kept { UnlessStore result (KeepsPlaces (S.nodes store.old) (S.nodes store.new)) }
         ensures grows { OnOk result (S.size store.old + 8 * waiting self ≤ S.size store.new) }
         ensures usable { 0 < pushed self → OnOk result (M.usable summer.old) }
         ensures reads { OnOk result (ReadsForBytes (S.reads store.old) (S.reads store.new) (S.size store.old) (S.size store.new)) }
         ensures tried { OnErr result (ReadsForBytes (S.reads store.old) (S.reads store.new) (S.size store.old) (S.size store.new + 10)) }
-        ensures ran { Worked S.NodeSource M.Summer store.old store.new summer.old summer.new result }
-        ensures ready { OnOk result (S.is_ready store.new) }
+        ensures puts { length (S.puts store.new) ≤ length (S.puts store.old) + (2 * levels_of self + 1) }
+        ensures filled { ArePutPacked T.Item (S.puts store.old) (S.puts store.new) }
+        ensures refused { OnErr result (UnlessStore result (EachSince (HasEntries T.Item 8 32) (S.puts store.old) (S.puts store.new))) }
+        ensures sound { IfErr result BlamesNone }
+        ensures ran { Ran T.Item S.NodeSource M.Summer store.old store.new summer.old summer.new result }
+        ensures ready { UnlessStore result (S.is_ready store.new) }
     {
         let Builder { leaf, rows } = self;
         let node = Node::Leaf(Items::from_vec(leaf));

@@ -2,11 +2,13 @@
 
 ghost use Rattle.reduce_tree.specs.Counts.{ReadsFor};
 ghost use Rattle.reduce_tree.specs.Calls.{places, IsKnown, Ran, IsUnread, KeepsBadSum, BlamesNone};
-ghost use Rattle.std.specs.Prelude.{true, false, ◌≡◌, ◌+◌, List, IfOk, OnOk, IfErr, length};
+ghost use Rattle.reduce_tree.specs.Given.{AllGiven, IsUnderWay, Leads, Took};
+ghost use Rattle.std.specs.Prelude.{true, false, ◌≡◌, ◌+◌, ◌∷◌, ℕ, All, List, IfOk, OnOk, IfErr, length};
 ghost use Rattle.tree_laws.specs.Fitting.{IsFitFor};
 ghost use Rattle.tree_laws.specs.SummerTrees.{Has, IsAt};
 ghost use Rattle.tree_laws.specs.declared.node.Node.TheVariants.{Inner};
 ghost use Rattle.tree_laws.specs.declared.tree.Fill.{Fill};
+ghost use Rattle.tree_laws.specs.declared.tree.Tree.{Tree};
 
 use json_terms::NoMemory;
 use std::alloc::Global;
@@ -31,6 +33,9 @@ pub(crate) fn fetch<S: NodeStore, M: Summer, L: Ledger>(
         → IsAt M.Unit.Item M.Summer first (places (S.nodes store.old)) (Has M.Unit.Item M.Summer first (places (S.nodes store.old)) level) place at items → IfOk result (λ node. Has M.Unit.Item M.Summer first (places (S.nodes store.old)) level node items) }
     ensures nodes { S.nodes store.new ≡ S.nodes store.old }
     ensures puts { S.puts store.new ≡ S.puts store.old }
+    ensures gets { S.gets store.new ≡ at ∷ S.gets store.old }
+    ensures met { (first : M) (tree : Tree) (pieces : List (List ℕ)) → IsUnderWay M.Unit.Item S.NodeSource M.Summer first pieces summer.now store.old → Leads M.Unit.Item S.NodeSource M.Summer first tree pieces store.old level at count fill
+        → Took M.Unit.Item S.NodeSource M.Summer first tree pieces store.old store.new result (AllGiven M.Unit.Item S.NodeSource M.Summer first tree pieces store.new level) }
     ensures steps { steps.new ≡ steps.old + 1 }
     ensures size { S.size store.new ≡ S.size store.old }
     ensures reads { ReadsFor (S.reads store.old) (S.reads store.new) steps.old steps.new }
@@ -49,7 +54,8 @@ pub(crate) fn fetch<S: NodeStore, M: Summer, L: Ledger>(
 
 /// Whether each summary that a node keeps has the bytes of a value.
 fn are_read<M: Summer>(alloc: Global, summer: &M, node: &Node<M::Unit>) -> Result<bool, NoMemory>
-    ensures { IfOk result (λ read. read ≡ false → KeepsBadSum M.Unit.Item M.Summer summer.now node.now) }
+    ensures bad { IfOk result (λ read. read ≡ false → KeepsBadSum M.Unit.Item M.Summer summer.now node.now) }
+    ensures read { IfOk result (λ read. read ≡ true → KeepsBadSum M.Unit.Item M.Summer summer.now node.now → ⊥) }
 {
     match node {
         Node::Leaf(_) => Ok(true),
@@ -62,7 +68,8 @@ fn sums_are_read<M: Summer>(
     summer: &M,
     children: &[Child<M::Unit>],
 ) -> Result<bool, NoMemory>
-    ensures { IfOk result (λ read. read ≡ false → KeepsBadSum M.Unit.Item M.Summer summer.now (Inner children.now)) }
+    ensures bad { IfOk result (λ read. read ≡ false → KeepsBadSum M.Unit.Item M.Summer summer.now (Inner children.now)) }
+    ensures read { IfOk result (λ read. read ≡ true → All (λ child. IsUnread M.Unit.Item M.Summer summer.now child.sum → ⊥) children.now) }
 {
     for child in children {
         let bad = is_bad_sum(alloc, summer, child.sum.as_slice())?;
@@ -74,7 +81,8 @@ fn sums_are_read<M: Summer>(
 }
 
 fn is_bad_sum<M: Summer>(alloc: Global, summer: &M, bytes: &[u8]) -> Result<bool, NoMemory>
-    ensures { IfOk result (λ bad. bad ≡ true → IsUnread M.Unit.Item M.Summer summer.now bytes.now) }
+    ensures bad { IfOk result (λ bad. bad ≡ true → IsUnread M.Unit.Item M.Summer summer.now bytes.now) }
+    ensures read { IfOk result (λ bad. bad ≡ false → IsUnread M.Unit.Item M.Summer summer.now bytes.now → ⊥) }
 {
     match summer.decode_sum(alloc, bytes)? {
         Ok(_) => Ok(false),

@@ -1,13 +1,13 @@
 //! Putting one node, for a tree that is built anew.
 
-ghost use Rattle.reduce_tree.specs.Built.{ReadsForBytes, Worked};
-ghost use Rattle.reduce_tree.specs.Calls.{places, IsKnown};
+ghost use Rattle.reduce_tree.specs.Built.{HasEntries, ReadsForBytes};
+ghost use Rattle.reduce_tree.specs.Calls.{places, IsKnown, Ran, BlamesNone, UnlessStore};
 ghost use Rattle.reduce_tree.specs.Packed.{StandsAt};
 ghost use Rattle.reduce_tree.specs.Rows.{leaf_items};
-ghost use Rattle.std.specs.Prelude.{ℕ, ◌≡◌, ◌+◌, ◌*◌, ◌<◌, ◌≤◌, ◌^◌, ◌∷◌, List, [], Some, IfOk, OnOk, OnErr};
+ghost use Rattle.std.specs.Prelude.{ℕ, ◌≡◌, ◌+◌, ◌*◌, ◌<◌, ◌≤◌, ◌^◌, ◌∷◌, List, [], Some, IfErr, IfOk, OnOk, OnErr, length};
 ghost use Rattle.tree_laws.specs.Fitting.{IsFilled, item_count};
 ghost use Rattle.tree_laws.specs.Nodes.{entries, spelled_node};
-ghost use Rattle.tree_laws.specs.Stores.{Places, pieces_size};
+ghost use Rattle.tree_laws.specs.Stores.{EachSince, Places, pieces_size};
 ghost use Rattle.tree_laws.specs.SummerTrees.{Has, IsAt, IsChild, Stands};
 ghost use Rattle.tree_laws.specs.declared.tree.Fill.TheVariants.{Below};
 ghost use Rattle.tree_laws.specs.declared.tree.Fill.{Fill};
@@ -39,7 +39,11 @@ pub(crate) fn put_node<S: NodeStore, M: Summer>(
     ensures usable { 0 < leaf_items node → OnOk result (M.usable summer.old) }
     ensures reads { OnOk result (ReadsForBytes (S.reads store.old) (S.reads store.new) (S.size store.old) (S.size store.new)) }
     ensures tried { OnErr result (ReadsForBytes (S.reads store.old) (S.reads store.new) (S.size store.old) (S.size store.new + 10)) }
-    ensures ran { Worked S.NodeSource M.Summer store.old store.new summer.old summer.new result }
+    ensures puts { length (S.puts store.new) ≤ length (S.puts store.old) + 1 }
+    ensures filled { EachSince (HasEntries M.Unit.Item (entries node) (entries node)) (S.puts store.old) (S.puts store.new) }
+    ensures refused { OnErr result (UnlessStore result (S.puts store.new ≡ S.puts store.old)) }
+    ensures sound { IfErr result BlamesNone }
+    ensures ran { Ran M.Unit.Item S.NodeSource M.Summer store.old store.new summer.old summer.new result }
     ensures ready { OnOk result (S.is_ready store.new) }
 {
     let told: Told<M::Unit> = tell(alloc, summer, &node)?;

@@ -1,5 +1,7 @@
 //! The root of a tree: the row that edits leave of it, and the tree of a row.
 
+ghost use Rattle.tree_laws.specs.declared.tree.Tree.{Tree};
+ghost use Rattle.reduce_tree.specs.Given.{AllGiven, IsUnderWay, Took};
 ghost use Rattle.tree_laws.specs.declared.tree.Fill.TheVariants.{Below, Root};
 ghost use Rattle.reduce_tree.specs.Pieces.{ArePieces, AreAmong, InsertAmong, AreTreePieces, WerePieces};
 ghost use Rattle.reduce_tree.specs.Applied.{applied, insertions, RemoveNone};
@@ -49,6 +51,7 @@ fn put_root<S: NodeStore, M: Summer, L: Ledger>(
     ensures pieces { (first : M) (items among : List M.Unit) → IsKnown M.Unit.Item S.NodeSource M.Summer first summer.old store.old → Has M.Unit.Item M.Summer first (places (S.nodes store.old)) level node items → AreAmong among items → MatchResult result (λ _. ArePieces M.Unit.Item M.Summer first among (places (S.nodes store.new)) Root (S.puts store.old) (S.puts store.new)) (λ fault. WerePieces M.Unit.Item M.Summer first among (places (S.nodes store.old)) fault (S.puts store.old) (S.puts store.new)) }
     ensures one { OnOk result (length (S.puts store.new) ≤ length (S.puts store.old) + 1) }
     ensures leaf { OnOk result (ArePut (S.size store.old) (S.size store.new) (M.usable summer.old) (leaf_items node) 0) }
+    ensures gets { S.gets store.new ≡ S.gets store.old }
     ensures reads { ReadsFor (S.reads store.old) (S.reads store.new) steps.old steps.new }
     ensures sound { IfErr result BlamesNone }
     ensures ran { Ran M.Unit.Item S.NodeSource M.Summer store.old store.new summer.old summer.new result }
@@ -100,6 +103,7 @@ pub(crate) fn raise<S: NodeStore, M: Summer, L: Ledger>(
     ensures within { (top : ℕ) → item_count node < 8 ^ top → Spent steps.old steps.new (length (S.puts store.old)) (length (S.puts store.new)) (entries node + 31 * slack top level (entries node)) (entries node + 31 * slack top level (entries node)) }
     ensures pieces { (first : M) (items among : List M.Unit) → IsKnown M.Unit.Item S.NodeSource M.Summer first summer.old store.old → Has M.Unit.Item M.Summer first (places (S.nodes store.old)) level node items → AreAmong among items → MatchResult result (λ _. AreTreePieces M.Unit.Item M.Summer first among (places (S.nodes store.new)) (S.puts store.old) (S.puts store.new)) (λ fault. WerePieces M.Unit.Item M.Summer first among (places (S.nodes store.old)) fault (S.puts store.old) (S.puts store.new)) }
     ensures leaf { OnOk result (ArePut (S.size store.old) (S.size store.new) (M.usable summer.old) (leaf_items node) 0) }
+    ensures gets { S.gets store.new ≡ S.gets store.old }
     ensures reads { ReadsFor (S.reads store.old) (S.reads store.new) steps.old steps.new }
     ensures sound { IfErr result BlamesNone }
     ensures ran { Ran M.Unit.Item S.NodeSource M.Summer store.old store.new summer.old summer.new result }
@@ -144,6 +148,7 @@ pub(crate) fn edit_root<S: NodeStore, M: Summer, L: Ledger>(
     ensures unput { IfOk result (λ row. row.same ≡ true → PutNone S.NodeSource store.old store.new) }
     ensures inserts { IfOk result (λ row. row.same ≡ true → insertions edits.now ≡ 0) }
     ensures quiet { (first : M) (items : List M.Unit) → IsKnown M.Unit.Item S.NodeSource M.Summer first summer.old store.old → HasRoot M.Unit.Item M.Summer first (places (S.nodes store.old)) tree.root tree.height items → RemoveNone M.Unit.order edits.now items → IfOk result (λ row. row.same ≡ true) }
+    ensures met { (first : M) (pieces : List (List ℕ)) → IsUnderWay M.Unit.Item S.NodeSource M.Summer first pieces summer.old store.old → Took M.Unit.Item S.NodeSource M.Summer first tree pieces store.old store.new result (λ row. AllGiven M.Unit.Item S.NodeSource M.Summer first tree pieces store.new row.level row.node) }
     ensures reads { ReadsFor (S.reads store.old) (S.reads store.new) steps.old steps.new }
     ensures sound { (first : M) (items : List M.Unit) → IsKnown M.Unit.Item S.NodeSource M.Summer first summer.old store.old → IsStrictlySortedBy M.Unit.order items → HasRoot M.Unit.Item M.Summer first (places (S.nodes store.old)) tree.root tree.height items
         → tree.count ≡ length items → IfErr result BlamesNone }

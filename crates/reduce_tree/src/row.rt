@@ -1,5 +1,7 @@
 //! Rows of entries, and how they are joined.
 
+ghost use Rattle.tree_laws.specs.declared.tree.Tree.{Tree};
+ghost use Rattle.reduce_tree.specs.Given.{AllGiven, IsUnderWay, Took};
 ghost use Rattle.tree_laws.specs.declared.tree.Fill.TheVariants.{Below};
 ghost use Rattle.reduce_tree.specs.Pieces.{ArePieces, AreAmong, WerePieces};
 ghost use Rattle.reduce_tree.specs.Bounds.{slack, ArePut, Spent};
@@ -72,6 +74,8 @@ fn join_front<S: NodeStore, M: Summer, L: Ledger>(
     ensures spent { OnErr result (Spent steps.old steps.new (length (S.puts store.old)) (length (S.puts store.new)) (entries node + (entries row + 93 * (level - low))) (entries node + entries row)) }
     ensures pieces { (first : M) (xs ys among : List M.Unit) → IsKnown M.Unit.Item S.NodeSource M.Summer first summer.old store.old → Has M.Unit.Item M.Summer first (places (S.nodes store.old)) low row xs → Has M.Unit.Item M.Summer first (places (S.nodes store.old)) level node ys → AreAmong among xs → AreAmong among ys → MatchResult result (λ _. ArePieces M.Unit.Item M.Summer first among (places (S.nodes store.new)) Below (S.puts store.old) (S.puts store.new)) (λ fault. WerePieces M.Unit.Item M.Summer first among (places (S.nodes store.old)) fault (S.puts store.old) (S.puts store.new)) }
     ensures leaf { IfOk result (λ after. ArePut (S.size store.old) (S.size store.new) (M.usable summer.old) (leaf_items row + leaf_items node) (leaf_items after)) }
+    ensures met { (first : M) (tree : Tree) (pieces : List (List ℕ)) → IsUnderWay M.Unit.Item S.NodeSource M.Summer first pieces summer.old store.old → AllGiven M.Unit.Item S.NodeSource M.Summer first tree pieces store.old low row → AllGiven M.Unit.Item S.NodeSource M.Summer first tree pieces store.old level node
+        → Took M.Unit.Item S.NodeSource M.Summer first tree pieces store.old store.new result (AllGiven M.Unit.Item S.NodeSource M.Summer first tree pieces store.new level) }
     ensures reads { ReadsFor (S.reads store.old) (S.reads store.new) steps.old steps.new }
     ensures ran { Ran M.Unit.Item S.NodeSource M.Summer store.old store.new summer.old summer.new result }
     ensures ready { OnOk result (S.is_ready store.new) }
@@ -132,6 +136,8 @@ fn join_back<S: NodeStore, M: Summer, L: Ledger>(
     ensures spent { OnErr result (Spent steps.old steps.new (length (S.puts store.old)) (length (S.puts store.new)) (entries node + (entries row + 93 * (level - low))) (entries node + entries row)) }
     ensures pieces { (first : M) (xs ys among : List M.Unit) → IsKnown M.Unit.Item S.NodeSource M.Summer first summer.old store.old → Has M.Unit.Item M.Summer first (places (S.nodes store.old)) low row xs → Has M.Unit.Item M.Summer first (places (S.nodes store.old)) level node ys → AreAmong among xs → AreAmong among ys → MatchResult result (λ _. ArePieces M.Unit.Item M.Summer first among (places (S.nodes store.new)) Below (S.puts store.old) (S.puts store.new)) (λ fault. WerePieces M.Unit.Item M.Summer first among (places (S.nodes store.old)) fault (S.puts store.old) (S.puts store.new)) }
     ensures leaf { IfOk result (λ after. ArePut (S.size store.old) (S.size store.new) (M.usable summer.old) (leaf_items row + leaf_items node) (leaf_items after)) }
+    ensures met { (first : M) (tree : Tree) (pieces : List (List ℕ)) → IsUnderWay M.Unit.Item S.NodeSource M.Summer first pieces summer.old store.old → AllGiven M.Unit.Item S.NodeSource M.Summer first tree pieces store.old low row → AllGiven M.Unit.Item S.NodeSource M.Summer first tree pieces store.old level node
+        → Took M.Unit.Item S.NodeSource M.Summer first tree pieces store.old store.new result (AllGiven M.Unit.Item S.NodeSource M.Summer first tree pieces store.new level) }
     ensures reads { ReadsFor (S.reads store.old) (S.reads store.new) steps.old steps.new }
     ensures ran { Ran M.Unit.Item S.NodeSource M.Summer store.old store.new summer.old summer.new result }
     ensures ready { OnOk result (S.is_ready store.new) }
@@ -191,6 +197,8 @@ pub(crate) fn join_rows<S: NodeStore, M: Summer, L: Ledger>(
     ensures spent { (top : ℕ) → front.level ≤ top → back.level ≤ top → OnErr result (Spent steps.old steps.new (length (S.puts store.old)) (length (S.puts store.new)) (entries front.node + (entries back.node + (93 * slack top front.level (entries front.node) + 93 * slack top back.level (entries back.node)))) (entries front.node + entries back.node)) }
     ensures pieces { (first : M) (xs ys among : List M.Unit) → IsKnown M.Unit.Item S.NodeSource M.Summer first summer.old store.old → Has M.Unit.Item M.Summer first (places (S.nodes store.old)) front.level front.node xs → Has M.Unit.Item M.Summer first (places (S.nodes store.old)) back.level back.node ys → AreAmong among xs → AreAmong among ys → MatchResult result (λ _. ArePieces M.Unit.Item M.Summer first among (places (S.nodes store.new)) Below (S.puts store.old) (S.puts store.new)) (λ fault. WerePieces M.Unit.Item M.Summer first among (places (S.nodes store.old)) fault (S.puts store.old) (S.puts store.new)) }
     ensures leaf { IfOk result (λ row. ArePut (S.size store.old) (S.size store.new) (M.usable summer.old) (leaf_items front.node + leaf_items back.node) (leaf_items row.node)) }
+    ensures met { (first : M) (tree : Tree) (pieces : List (List ℕ)) → IsUnderWay M.Unit.Item S.NodeSource M.Summer first pieces summer.old store.old → AllGiven M.Unit.Item S.NodeSource M.Summer first tree pieces store.old front.level front.node → AllGiven M.Unit.Item S.NodeSource M.Summer first tree pieces store.old back.level back.node
+        → Took M.Unit.Item S.NodeSource M.Summer first tree pieces store.old store.new result (λ row. AllGiven M.Unit.Item S.NodeSource M.Summer first tree pieces store.new row.level row.node) }
     ensures reads { ReadsFor (S.reads store.old) (S.reads store.new) steps.old steps.new }
     ensures ran { Ran M.Unit.Item S.NodeSource M.Summer store.old store.new summer.old summer.new result }
     ensures ready { OnOk result (S.is_ready store.new) }

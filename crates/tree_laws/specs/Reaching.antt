@@ -1,5 +1,5 @@
 -- Which places a call on a tree may go to, and what is found there.
-use Rattle.std.specs.Prelude.{◌≡◌, ◌<◌, ◌-◌, ℕ, suc, List, Some, Contains, Result, Ok, Err}
+use Rattle.std.specs.Prelude.{◌≡◌, ◌⊎◌, ◌<◌, ◌-◌, ℕ, suc, List, ◌∷◌, Some, Contains}
 use Rattle.tree_laws.specs.declared.item.Item.{Ghosts as Items}
 use Rattle.tree_laws.specs.declared.node.Child.{Child}
 use Rattle.tree_laws.specs.declared.node.Node.{Node}
@@ -7,13 +7,11 @@ use Rattle.tree_laws.specs.declared.node.Node.TheVariants.{Inner}
 use Rattle.tree_laws.specs.declared.tree.Fill.{Fill}
 use Rattle.tree_laws.specs.declared.tree.Fill.TheVariants.{Root, Below}
 use Rattle.tree_laws.specs.declared.tree.Tree.{Tree}
-use Rattle.tree_laws.specs.declared.tree.TreeFault.{TreeFault}
-use Rattle.tree_laws.specs.declared.tree.TreeFault.TheVariants as tree_fault
 use Rattle.tree_laws.specs.Fetching.{IsBadAt, KeepsBadSum}
 use Rattle.tree_laws.specs.Fitting.{IsFitFor}
 use Rattle.tree_laws.specs.Meaning.{Values}
 use Rattle.tree_laws.specs.Nodes.{FitsNode, spelled_node}
-use Rattle.tree_laws.specs.Stores.{EachSince, IsSince, Places}
+use Rattle.tree_laws.specs.Stores.{EachSince, Places}
 
 module _ {T : Type 0} (i : Items T) (there : Places) where
   -- the node stands at the place and fits there
@@ -43,6 +41,13 @@ module _ {T : Type 0} (i : Items T) (there : Places) where
       pub node : Node T
       pub met : IsMet at level node
 
+    -- a node is to stand at the place
+    pub record IsReached (at : ℕ) : Type 0 where
+      pub level : ℕ
+      pub count : ℕ
+      pub fill : Fill
+      pub reached : Reaches at level count fill
+
     -- at a place that is reached stands no node that fits there
     pub record IsUnfit (at : ℕ) : Type 0 where
       pub level : ℕ
@@ -71,11 +76,18 @@ module _ {T S : Type 0} (i : Items T) (v : Values T S) (there : Places) (tree : 
     pub met : IsMet i there tree at level node
     pub read : KeepsBadSum v node → ⊥
 
--- how a call took what it got, by the places that were got before it and in it: it answers Ok only where each was good, and blames
--- only one that it got and that was bad
-abbrev pub Takes : {X F G : Type 0} → (Good Bad : ℕ → Type 0) → List ℕ → List ℕ → Result X (TreeFault F G) → Type 0
-Takes Good Bad old new (Ok value) = EachSince Good old new
-Takes Good Bad old new (Err (tree_fault.Store fault)) = Unit {0}
-Takes Good Bad old new (Err (tree_fault.BadNode at)) = Bad at × IsSince at old new
-Takes Good Bad old new (Err (tree_fault.Summer fault)) = Unit {0}
-Takes Good Bad old new (Err tree_fault.NoMemory) = Unit {0}
+-- Between two lists of places that were got, the newest first: this place was got last, and each other that was got since is good.
+pub record StopsAt (Good : ℕ → Type 0) (since now : List ℕ) (at : ℕ) : Type 0 where
+  pub before : List ℕ
+  pub last : now ≡ at ∷ before
+  pub good : EachSince Good since before
+
+-- the place that was got last may be got, and each other that was got since is good
+pub record StopsShort (May Good : ℕ → Type 0) (since now : List ℕ) : Type 0 where
+  pub at : ℕ
+  pub may : May at
+  pub stops : StopsAt Good since now at
+
+-- each place that was got since is good, but perhaps the last, which may be got
+abbrev pub GoesSoFar : (May Good : ℕ → Type 0) → List ℕ → List ℕ → Type 0
+GoesSoFar May Good since now = EachSince Good since now ⊎ StopsShort May Good since now

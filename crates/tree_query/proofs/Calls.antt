@@ -1,5 +1,4 @@
 -- How calls that come one after another are one.
-use Rattle.std.specs.Prelude.{◌⊎◌}
 use Rattle.std.proofs.Common.{◌≡◌, ◌∷◌, ℕ, List, Option, Some, Result, Ok, Err, IfSome, sym, ◌∙◌, subst, inl, inr}
 use Rattle.tree_laws.specs.declared.item.Item.{Ghosts as Items}
 use Rattle.tree_laws.specs.declared.store.NodeSource.{Ghosts as Sources}
@@ -10,10 +9,9 @@ use Rattle.tree_laws.specs.declared.tree.TreeFault.{TreeFault}
 use Rattle.tree_laws.specs.declared.tree.TreeFault.TheVariants as tree_fault
 use Rattle.tree_laws.specs.Fetching.{FetchFails, IsBadAt}
 use Rattle.tree_laws.specs.Meaning.{AreSteps, StaysCaused}
-use Rattle.tree_laws.specs.Reaching.{HasNode, IsUnfit, Reaches, StandsFit}
+use Rattle.tree_laws.specs.Reaching.{GoesSoFar, HasNode, IsReached, IsUnfit, Reaches, StandsFit, StopsAt, StopsShort}
 use Rattle.tree_laws.specs.Stores.{EachSince, Places, WhereTold}
 use Rattle.tree_query.specs.Calls.{Fails, Ran, WentOver}
-use Rattle.tree_query.specs.Reaching.{StopsAt, StopsShort}
 use Rattle.tree_query.proofs.Since.{each_none, each_on, each_one}
 
 -- the laws of a source
@@ -29,16 +27,16 @@ told_same told a b e f = let both : Some a ≡ Some b = sym e ∙ f in cc
 
 -- where a call stopped
 module _ {T : Type 0} (i : Items T) (there : Places) (tree : Tree) where
-  pub stops_one : (at : ℕ) (old new : List ℕ) → new ≡ at ∷ old → StopsAt i there tree old new at
+  pub stops_one : (at : ℕ) (old new : List ℕ) → new ≡ at ∷ old → StopsAt (HasNode i there tree) old new at
   stops_one at old new e = record { before = old; last = e; good = each_none (HasNode i there tree) old }
 
-  pub stops_on : (at : ℕ) (a b c : List ℕ) → EachSince (HasNode i there tree) a b → StopsAt i there tree b c at → StopsAt i there tree a c at
+  pub stops_on : (at : ℕ) (a b c : List ℕ) → EachSince (HasNode i there tree) a b → StopsAt (HasNode i there tree) b c at → StopsAt (HasNode i there tree) a c at
   stops_on at a b c h k = record { before = k.before; last = k.last; good = each_on (HasNode i there tree) a b k.before h k.good }
 
-  pub short_on : (a b c : List ℕ) → EachSince (HasNode i there tree) a b → StopsShort i there tree b c → StopsShort i there tree a c
-  short_on a b c h k = record { at = k.at; level = k.level; count = k.count; fill = k.fill; reached = k.reached; stops = stops_on k.at a b c h k.stops }
+  pub short_on : (a b c : List ℕ) → EachSince (HasNode i there tree) a b → StopsShort (IsReached i there tree) (HasNode i there tree) b c → StopsShort (IsReached i there tree) (HasNode i there tree) a c
+  short_on a b c h k = record { at = k.at; may = k.may; stops = stops_on k.at a b c h k.stops }
 
-  pub some_on : (a b c : List ℕ) → EachSince (HasNode i there tree) a b → EachSince (HasNode i there tree) b c ⊎ StopsShort i there tree b c → EachSince (HasNode i there tree) a c ⊎ StopsShort i there tree a c
+  pub some_on : (a b c : List ℕ) → EachSince (HasNode i there tree) a b → GoesSoFar (IsReached i there tree) (HasNode i there tree) b c → GoesSoFar (IsReached i there tree) (HasNode i there tree) a c
   some_on a b c h (inl k) = inl (each_on (HasNode i there tree) a b c h k)
   some_on a b c h (inr k) = inr (short_on a b c h k)
 
@@ -92,8 +90,8 @@ module _ {T S F : Type 0} (i : Items T) (s : Sources S F) (laws : Laws s) (tree 
     got = λ there told. each_one (HasNode i there tree) at (s.gets a) (s.gets b) e (record { level = level; node = node; met = record { count = count; fill = fill; reached = r there told; stands = h there told } });
   }
 
-  short_one : (a b : S) (level count : ℕ) (fill : Fill) (at : ℕ) → s.gets b ≡ at ∷ s.gets a → WhereTold (s.nodes a) (λ there. Reaches i there tree at level count fill) → WhereTold (s.nodes a) (λ there. StopsShort i there tree (s.gets a) (s.gets b))
-  short_one a b level count fill at e r there told = record { at = at; level = level; count = count; fill = fill; reached = r there told; stops = stops_one i there tree at (s.gets a) (s.gets b) e }
+  short_one : (a b : S) (level count : ℕ) (fill : Fill) (at : ℕ) → s.gets b ≡ at ∷ s.gets a → WhereTold (s.nodes a) (λ there. Reaches i there tree at level count fill) → WhereTold (s.nodes a) (λ there. StopsShort (IsReached i there tree) (HasNode i there tree) (s.gets a) (s.gets b))
+  short_one a b level count fill at e r there told = record { at = at; may = record { level = level; count = count; fill = fill; reached = r there told }; stops = stops_one i there tree at (s.gets a) (s.gets b) e }
 
   pub fetch_fails : (M : Type 0) (a b : S) (level count : ℕ) (fill : Fill) (at : ℕ) (fault : TreeFault F M) → s.gets b ≡ at ∷ s.gets a → WhereTold (s.nodes a) (λ there. Reaches i there tree at level count fill)
       → FetchFails i level count fill s a b at fault → Fails i s tree a b fault

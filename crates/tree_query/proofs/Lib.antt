@@ -5,6 +5,7 @@ pub mod Order
 pub mod Ranges
 pub mod Reached
 pub mod Since
+pub mod Summaries
 pub mod Sums
 pub mod Unsummed
 pub mod Walks

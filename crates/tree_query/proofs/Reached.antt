@@ -13,10 +13,12 @@ use Rattle.tree_laws.specs.Fetching.{IsBadAt}
 use Rattle.tree_laws.specs.Spelled.{IsSpelledOnce}
 use Rattle.tree_laws.specs.Stores.{Places, WhereTold}
 use Rattle.tree_laws.specs.SummerTrees.{AreChildren, Has, HasRoot, IsAt, IsChild, IsTree, Stands}
+use Rattle.tree_laws.specs.Values.{values_of}
 use Rattle.tree_laws.proofs.SummerTrees.{same_node}
 use Rattle.tree_laws.proofs.SummerTrees.{below_not_bad, root_not_bad}
 use Rattle.tree_laws.specs.Reaching.{IsMet, IsUnfit, Reaches, StandsFit, below, root}
 use Rattle.tree_query.specs.Reaching.{AreReached}
+use Rattle.tree_query.specs.Summaries.{IsRead}
 
 module _ {T : Type 0} (i : Items T) (there : Places) (tree : Tree) where
   pub children_reached : (at level : ℕ) (children : List (Child T)) → IsMet i there tree at (suc level) (Inner children) → AreReached i there tree level children
@@ -50,12 +52,6 @@ module _ {T M Sum Fault : Type 0} (i : Items T) (m : Summers M T Sum Fault) (fir
   all_own P [] items h = All-nil (IsOwn P)
   all_own P (c ∷ cs) items h = All-cons (IsOwn P) c cs (record { items = h.front; is = h.at_front }) (all_own P cs h.back h.at_back)
 
-  -- the bytes of a value that fits
-  pub record IsSummaryOf (child : Child T) : Type 0 where
-    pub sum : Sum
-    pub fits : m.fits first sum
-    pub bytes_are : child.sum ≡ (m.meaning first).spelled sum
-
   -- a node with the right items stands at the place
   record IsThere (at level count : ℕ) (fill : Fill) : Type 0 where
     pub items : List T
@@ -83,8 +79,8 @@ module _ {T M Sum Fault : Type 0} (i : Items T) (m : Summers M T Sum Fault) (fir
         let own = met_own up low n place children child (reached_there up (suc low) n place r) s inside in
         below_not_bad i m first there low child.at own.items own.is.stands (subst (λ k. IsBadAt i low k Below there child.at) own.is.count b)
 
-    -- what a node that is met keeps of a child is a summary
-    pub met_summary : (at level : ℕ) (children : List (Child T)) (child : Child T) → IsMet i there tree at level (Inner children) → Contains children child → IsSummaryOf child
+    -- what a node that is met keeps of a child is the bytes of a value
+    pub met_summary : (at level : ℕ) (children : List (Child T)) (child : Child T) → IsMet i there tree at level (Inner children) → Contains children child → IsRead (values_of m first) child.sum
     met_summary at zero children child h inside = let k = h.stands.place.kind in absurd (cc)
     met_summary at (suc level) children child h inside =
         let own = met_own at level h.count h.fill children child (reached_there at (suc level) h.count h.fill h.reached) h.stands inside in

@@ -188,6 +188,10 @@ pub ok_on : {X E : Type 0} (P Q : Type 0) → (P → Q) → (result : Result X E
 ok_on P Q f (Ok value) h = f h
 ok_on P Q f (Err fault) h = tt
 
+pub ok_is : {X E : Type 0} (Q : Type 0) (result : Result X E) → Q → OnOk result Q
+ok_is Q (Ok value) h = h
+ok_is Q (Err fault) h = tt
+
 -- what the exit of a `?` says of its fault
 pub err_as : {X E : Type 0} (Q : E → Type 0) (q : Result X E) (fault y : E) → y ≡ fault → q ≡ Err y → Q fault → IfErr q Q
 err_as Q q fault y e is h = rw is (rw e h)

@@ -1,14 +1,14 @@
 -- How calls on a tree in a store went.
-use Rattle.std.specs.Prelude.{◌≡◌, ◌⊎◌, ◌-◌, ◌*◌, ℕ, List, Result, Ok, Err}
+use Rattle.std.specs.Prelude.{◌≡◌, ◌-◌, ◌*◌, ℕ, List, Result, Ok, Err}
 use Rattle.tree_laws.specs.declared.item.Item.{Ghosts as Items}
 use Rattle.tree_laws.specs.declared.store.NodeSource.{Ghosts as Sources}
 use Rattle.tree_laws.specs.declared.summer.Summer.{Ghosts as Summers}
 use Rattle.tree_laws.specs.declared.tree.Tree.{Tree}
 use Rattle.tree_laws.specs.declared.tree.TreeFault.{TreeFault}
 use Rattle.tree_laws.specs.declared.tree.TreeFault.TheVariants as tree_fault
-use Rattle.tree_laws.specs.Reaching.{HasNode, IsUnfit}
+use Rattle.tree_laws.specs.Reaching.{GoesSoFar, HasNode, IsReached, IsUnfit, StopsAt, StopsShort}
 use Rattle.tree_laws.specs.Stores.{EachSince, RisesBy, WhereTold}
-use Rattle.tree_query.specs.Reaching.{IsBlamed, StopsAt, StopsShort}
+use Rattle.tree_query.specs.Reaching.{IsBlamed}
 
 -- a store was only read, and nothing of it changed: in so many steps at most, with two reads at most for each
 pub record OnlyReads {S F : Type 0} (s : Sources S F) (most : ℕ) (old new : S) (before after : ℕ) : Type 0 where
@@ -27,10 +27,10 @@ module _ {T S F : Type 0} (i : Items T) (s : Sources S F) (tree : Tree) where
   -- why a call gave up: the store failed, the place that it got last has no node that fits, or memory ran out. All that it got before
   -- fits, and after each of these but the first the store goes on
   abbrev pub Fails : {M : Type 0} → S → S → TreeFault F M → Type 0
-  Fails old new (tree_fault.Store fault) = s.fails old new fault × WhereTold (s.nodes old) (λ there. StopsShort i there tree (s.gets old) (s.gets new))
-  Fails old new (tree_fault.BadNode at) = s.goes old new × WhereTold (s.nodes old) (λ there. IsUnfit i there tree at × StopsAt i there tree (s.gets old) (s.gets new) at)
+  Fails old new (tree_fault.Store fault) = s.fails old new fault × WhereTold (s.nodes old) (λ there. StopsShort (IsReached i there tree) (HasNode i there tree) (s.gets old) (s.gets new))
+  Fails old new (tree_fault.BadNode at) = s.goes old new × WhereTold (s.nodes old) (λ there. IsUnfit i there tree at × StopsAt (HasNode i there tree) (s.gets old) (s.gets new) at)
   Fails old new (tree_fault.Summer fault) = ⊥
-  Fails old new tree_fault.NoMemory = s.goes old new × WhereTold (s.nodes old) (λ there. EachSince (HasNode i there tree) (s.gets old) (s.gets new) ⊎ StopsShort i there tree (s.gets old) (s.gets new))
+  Fails old new tree_fault.NoMemory = s.goes old new × WhereTold (s.nodes old) (λ there. GoesSoFar (IsReached i there tree) (HasNode i there tree) (s.gets old) (s.gets new))
 
   -- a call answered Ok over nodes that fit, or it gave up for a reason
   abbrev pub Ran : {X M : Type 0} → S → S → Result X (TreeFault F M) → Type 0

@@ -1,17 +1,16 @@
--- Which children a call on a tree may go to, what it got before it gave up, and why what a node keeps of them isn't read.
-use Rattle.std.specs.Prelude.{◌≡◌, ◌∷◌, ℕ, suc, List, All, Contains}
+-- Which children a call on a tree may go to, and why what a node keeps of them isn't read.
+use Rattle.std.specs.Prelude.{◌≡◌, ℕ, suc, List, All, Contains}
 use Rattle.tree_laws.specs.declared.item.Item.{Ghosts as Items}
 use Rattle.tree_laws.specs.declared.summer.Summer.{Ghosts as Summers}
 use Rattle.tree_laws.specs.declared.node.Child.{Child}
 use Rattle.tree_laws.specs.declared.node.Node.{Node}
 use Rattle.tree_laws.specs.declared.node.Node.TheVariants.{Inner}
-use Rattle.tree_laws.specs.declared.tree.Fill.{Fill}
 use Rattle.tree_laws.specs.declared.tree.Fill.TheVariants.{Below}
 use Rattle.tree_laws.specs.declared.tree.Tree.{Tree}
 use Rattle.tree_laws.specs.declared.tree.TreeFault.{TreeFault}
 use Rattle.tree_laws.specs.declared.tree.TreeFault.TheVariants as tree_fault
 use Rattle.tree_laws.specs.Fetching.{IsUnread}
-use Rattle.tree_laws.specs.Reaching.{HasNode, IsMet, IsUnfit, KeepsUnread, Reaches}
+use Rattle.tree_laws.specs.Reaching.{HasNode, IsMet, IsUnfit, KeepsUnread, Reaches, StopsAt}
 use Rattle.tree_laws.specs.Stores.{EachSince, IsSince, Places}
 use Rattle.tree_laws.specs.Values.{values_of}
 
@@ -33,27 +32,12 @@ module _ {T : Type 0} (i : Items T) (there : Places) (tree : Tree) where
       pub own : IsGot at (suc low) (Inner all)
       pub inside : All (Contains all) children
 
-    -- this place was got last, and at each other that was got since stands a node that is reached and fits
-    pub record StopsAt (at : ℕ) : Type 0 where
-      pub before : List ℕ
-      pub last : now ≡ at ∷ before
-      pub good : EachSince (HasNode i there tree) since before
-
-    -- it stopped at a place that is reached
-    pub record StopsShort : Type 0 where
-      pub at : ℕ
-      pub level : ℕ
-      pub count : ℕ
-      pub fill : Fill
-      pub reached : Reaches i there tree at level count fill
-      pub stops : StopsAt at
-
 -- why a call blames a place, by what was got before the walk down of which it is a part, before it, and in it
 module _ {T M Sum Fault : Type 0} (i : Items T) (m : Summers M T Sum Fault) (first : M) (there : Places) (tree : Tree) (since old now : List ℕ) where
   -- it stopped there, and no node that fits stands there. Or the node that stands there keeps a summary that has the bytes of no value,
   -- and all that it got fits
   pub data IsBlamed (at : ℕ) : Type 0 where
-    unfit : IsUnfit i there tree at → StopsAt i there tree old now at → IsBlamed at
+    unfit : IsUnfit i there tree at → StopsAt (HasNode i there tree) old now at → IsBlamed at
     unread : KeepsUnread i (values_of m first) there tree at → IsSince at since now → EachSince (HasNode i there tree) old now → IsBlamed at
 
 module _ {T M Sum Fault : Type 0} (m : Summers M T Sum Fault) (summer : M) where

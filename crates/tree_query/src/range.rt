@@ -2,14 +2,17 @@
 
 ghost use Rattle.std.specs.List.{sum_by};
 ghost use Rattle.std.specs.Prelude.{true, false, ◌≡◌, ◌≢◌, ◌↔◌, ℕ, ◌+◌, ◌-◌, ◌*◌, ◌==◌, ◌<◌, ◌≤◌, ◌^◌, ◌∷◌, ◌++◌, min, List, [], Option, None, Some, All, IfErr, IfOk, IfSome, OnOk, length, map, take, drop, slice_index_or};
+ghost use Rattle.tree_laws.specs.Fitting.{item_count};
 ghost use Rattle.tree_laws.specs.Nodes.{entries, is_leaf};
 ghost use Rattle.tree_laws.specs.Stores.{Places, WhereTold};
 ghost use Rattle.tree_laws.specs.SummerTrees.{AreChildren, Has, IsTree, IsTreeSize, Stands};
+ghost use Rattle.tree_laws.specs.Values.{values_of};
 ghost use Rattle.tree_laws.specs.declared.node.Child.{Child};
 ghost use Rattle.tree_laws.specs.declared.tree.Tree.{Tree};
 ghost use Rattle.tree_query.specs.Calls.{OnlyReads, SumRan, Summed};
 ghost use Rattle.tree_query.specs.Ranges.{Gathered, IsValue, numbered};
 ghost use Rattle.tree_query.specs.Reaching.{AreOf, IsGot, IsUnreadAt, ReadFails};
+ghost use Rattle.tree_query.specs.Summaries.{IsRead, NodeIsRead, RangeIsRead, RowIsRead, count_in};
 
 use crate::fetch::fetch;
 use json_terms::NoMemory;
@@ -138,6 +141,7 @@ fn add_whole<F, M: Summer>(
         → AreChildren M.Unit.Item M.Summer first (Stands M.Unit.Item M.Summer first there low) children.now items → Gathered M.Summer first parts.old.items done
         → IfOk result (λ _. Gathered M.Summer first parts.new.items (done ++ items)) }
     ensures fits { (first : M) → M.goes first summer.now → All (M.fits first) parts.old.items → OnOk result (All (M.fits first) parts.new.items) }
+    ensures sums { (first : M) → M.goes first summer.now → OnOk result (All (λ child. IsRead (values_of M.Summer first) child.sum) children.now) }
     ensures cause { IfErr result (ReadFails M.Summer summer.now at children.now) }
 {
     let sums = read_sums(alloc, at, summer, children)?;
@@ -165,6 +169,8 @@ fn tail<S: NodeSource, M: Summer, L: Ledger>(
         → from ≤ length items → Has M.Unit.Item M.Summer first there level node items → Gathered M.Summer first parts.old.items done
         → IfOk result (λ _. Gathered M.Summer first parts.new.items (done ++ drop from items)) }
     ensures fits { (first : M) → M.goes first summer.old → All (M.fits first) parts.old.items → OnOk result (All (M.fits first) parts.new.items) }
+    ensures sums { (first : M) (there : Places) (to : ℕ) → S.nodes store.old ≡ Some there → M.goes first summer.old → item_count node ≤ to
+        → OnOk result (NodeIsRead M.Unit.Item (values_of M.Summer first) there level node from to) }
     ensures reads { OnlyReads S.NodeSource level store.old store.new steps.old steps.new }
     ensures ran { (first : M) (tree : Tree) (since : List ℕ) → M.goes first summer.old → WhereTold (S.nodes store.old) (λ there. IsGot M.Unit.Item there tree since (S.gets store.old) at level node)
         → SumRan M.Unit.Item S.NodeSource M.Summer first tree since store.old store.new summer.old summer.new result }
@@ -212,6 +218,9 @@ fn tail_row<S: NodeSource, M: Summer, L: Ledger>(
         → ((c : Child M.Unit) (cs : List (Child M.Unit)) → children.now ≡ c ∷ cs → from < c.count) → AreChildren M.Unit.Item M.Summer first (Stands M.Unit.Item M.Summer first there low) children.now items → Gathered M.Summer first parts.old.items done
         → IfOk result (λ _. Gathered M.Summer first parts.new.items (done ++ drop from items)) }
     ensures fits { (first : M) → M.goes first summer.old → All (M.fits first) parts.old.items → OnOk result (All (M.fits first) parts.new.items) }
+    ensures sums { (first : M) (there : Places) (to : ℕ) → S.nodes store.old ≡ Some there → M.goes first summer.old
+        → ((c : Child M.Unit) (cs : List (Child M.Unit)) → children.now ≡ c ∷ cs → from < c.count) → count_in children.now ≤ to
+        → OnOk result (RowIsRead M.Unit.Item (values_of M.Summer first) there low children.now from to) }
     ensures reads { OnlyReads S.NodeSource (low + 1) store.old store.new steps.old steps.new }
     ensures ran { (first : M) (tree : Tree) (since : List ℕ) → M.goes first summer.old → WhereTold (S.nodes store.old) (λ there. AreOf M.Unit.Item there tree since (S.gets store.old) at low children.now)
         → SumRan M.Unit.Item S.NodeSource M.Summer first tree since store.old store.new summer.old summer.new result }
@@ -252,6 +261,8 @@ fn head<S: NodeSource, M: Summer, L: Ledger>(
         → to ≤ length items → Has M.Unit.Item M.Summer first there level node items → Gathered M.Summer first parts.old.items done
         → IfOk result (λ _. Gathered M.Summer first parts.new.items (done ++ take to items)) }
     ensures fits { (first : M) → M.goes first summer.old → All (M.fits first) parts.old.items → OnOk result (All (M.fits first) parts.new.items) }
+    ensures sums { (first : M) (there : Places) → S.nodes store.old ≡ Some there → M.goes first summer.old
+        → OnOk result (NodeIsRead M.Unit.Item (values_of M.Summer first) there level node 0 to) }
     ensures reads { OnlyReads S.NodeSource level store.old store.new steps.old steps.new }
     ensures ran { (first : M) (tree : Tree) (since : List ℕ) → M.goes first summer.old → WhereTold (S.nodes store.old) (λ there. IsGot M.Unit.Item there tree since (S.gets store.old) at level node)
         → SumRan M.Unit.Item S.NodeSource M.Summer first tree since store.old store.new summer.old summer.new result }
@@ -289,6 +300,9 @@ fn head_row<S: NodeSource, M: Summer, L: Ledger>(
         → ((c : Child M.Unit) (cs : List (Child M.Unit)) → children.now ≡ c ∷ cs → to < c.count) → AreChildren M.Unit.Item M.Summer first (Stands M.Unit.Item M.Summer first there low) children.now items → Gathered M.Summer first parts.old.items done
         → IfOk result (λ _. Gathered M.Summer first parts.new.items (done ++ take to items)) }
     ensures fits { (first : M) → M.goes first summer.old → All (M.fits first) parts.old.items → OnOk result (All (M.fits first) parts.new.items) }
+    ensures sums { (first : M) (there : Places) → S.nodes store.old ≡ Some there → M.goes first summer.old
+        → ((c : Child M.Unit) (cs : List (Child M.Unit)) → children.now ≡ c ∷ cs → to < c.count)
+        → OnOk result (RowIsRead M.Unit.Item (values_of M.Summer first) there low children.now 0 to) }
     ensures reads { OnlyReads S.NodeSource (low + 1) store.old store.new steps.old steps.new }
     ensures ran { (first : M) (tree : Tree) (since : List ℕ) (at : ℕ) → M.goes first summer.old → WhereTold (S.nodes store.old) (λ there. AreOf M.Unit.Item there tree since (S.gets store.old) at low children.now)
         → SumRan M.Unit.Item S.NodeSource M.Summer first tree since store.old store.new summer.old summer.new result }
@@ -327,6 +341,8 @@ fn inside<S: NodeSource, M: Summer, L: Ledger>(
         → to ≤ length items → Has M.Unit.Item M.Summer first there level node items → Gathered M.Summer first parts.old.items done
         → IfOk result (λ _. Gathered M.Summer first parts.new.items (done ++ numbered from to items)) }
     ensures fits { (first : M) → M.goes first summer.old → All (M.fits first) parts.old.items → OnOk result (All (M.fits first) parts.new.items) }
+    ensures sums { (first : M) (there : Places) → S.nodes store.old ≡ Some there → M.goes first summer.old
+        → OnOk result (NodeIsRead M.Unit.Item (values_of M.Summer first) there level node from to) }
     ensures reads { OnlyReads S.NodeSource (2 * level) store.old store.new steps.old steps.new }
     ensures ran { (first : M) (tree : Tree) (since : List ℕ) → M.goes first summer.old → WhereTold (S.nodes store.old) (λ there. IsGot M.Unit.Item there tree since (S.gets store.old) at level node)
         → SumRan M.Unit.Item S.NodeSource M.Summer first tree since store.old store.new summer.old summer.new result }
@@ -380,12 +396,13 @@ fn join_parts<F, M: Summer>(
 
 /// The value of the items of a tree with the numbers `from` to `to - 1`, and `None` exactly where there are none.
 ///
-/// Whole children are taken by the values that their nodes keep, so it takes twice the `height` in steps at most. It answers a
-/// value, which fits, only where each node that it got fits its place. It gives up at once: each node that it got before the last
-/// fits in any case. `Store` and `Summer` hand on what the store and the summer answered in this call, and the other of them goes
-/// on. `BadNode` names the last place that it got on the way down from the root, where no node stands that fits, or one that it got
-/// where all fit, whose node keeps the bytes of no value, and never comes over a tree of this summer. `NoMemory` comes where memory
-/// runs out.
+/// The range leads to the root, and on to each child that it cuts. Whole children are taken by the values that their nodes keep, so it
+/// takes twice the `height` in steps at most. It answers a value, which fits, only where each node that it got fits its place, a node
+/// that fits stands wherever the range leads, and what such a node keeps of each child that lies whole in the range is the bytes of a
+/// value. It gives up at once: each node that it got before the last fits in any case. `Store` and `Summer` hand on what the store and
+/// the summer answered in this call, and the other of them goes on. `BadNode` names the last place that it got on the way down from
+/// the root, where no node stands that fits, or one that it got where all fit, whose node keeps the bytes of no value, and never comes
+/// over a tree of this summer. `NoMemory` comes where memory runs out.
 pub fn reduce_range<S: NodeSource, M: Summer, L: Ledger>(
     alloc: Global,
     store: &mut S,
@@ -402,6 +419,8 @@ pub fn reduce_range<S: NodeSource, M: Summer, L: Ledger>(
     ensures value { (first : M) (there : Places) (items : List M.Unit) → S.nodes store.old ≡ Some there → M.goes first summer.old
         → IsTree M.Unit.Item M.Summer first there tree items → IfOk result (IsValue M.Summer first (numbered from to items)) }
     ensures fits { IfOk result (λ sum. IfSome sum (M.fits summer.old)) }
+    ensures sums { WhereTold (S.nodes store.old) (λ there.
+        IfOk result (λ sum. IfSome sum (λ _. RangeIsRead M.Unit.Item there tree from to (values_of M.Summer summer.old)))) }
     ensures none { IfOk result (λ sum. (sum ≡ None) ↔ (from ≡ to)) }
     ensures reads { OnlyReads S.NodeSource (2 * tree.height) store.old store.new steps.old steps.new }
     ensures ran { SumRan M.Unit.Item S.NodeSource M.Summer summer.old tree (S.gets store.old) store.old store.new summer.old summer.new result }

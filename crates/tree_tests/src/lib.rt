@@ -1,4 +1,4 @@
-//! Tests of the public calls of the crate `reduce_tree`; nothing else.
+//! Tests of the public calls of the crates `reduce_tree`, `tree_query` and `node_file`; nothing else.
 #![tactic(auto)]
 
 #[cfg(test)]
@@ -8,6 +8,12 @@ mod case;
 #[cfg(test)]
 mod edit_tests;
 #[cfg(test)]
+mod file_tests;
+#[cfg(test)]
+mod pack_tests;
+#[cfg(test)]
 mod pairs;
+#[cfg(test)]
+mod query_tests;
 #[cfg(test)]
 mod walk;

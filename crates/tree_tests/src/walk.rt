@@ -1,20 +1,24 @@
 //! All items of a tree from left to right, where each node fits and each entry says what stands below it.
 
+ghost use Rattle.std.specs.Prelude.{OnOk};
+
 use builtin_reduces::{BuiltinSummer, RowItem};
 use json_terms::{NoMemory, Term};
 use std::alloc::Global;
 use std::sync::ledger::Ledger;
 use std::test::Fail;
-use tree_laws::{Child, Fill, Item, MemoryNodes, Node, Steps, Summer, Tree, TreeFault, fetch_node};
+use tree_laws::{Child, Fill, Item, Node, NodeSource, Steps, Summer, Tree, TreeFault, fetch_node};
 
 /// The items of the tree.
-pub fn items_in<L: Ledger>(
+pub fn items_in<S: NodeSource, L: Ledger>(
     alloc: Global,
-    store: &mut MemoryNodes,
+    store: &mut S,
     summer: &mut BuiltinSummer,
     tree: Tree,
     steps: &mut Steps<L>,
-) -> Result<Vec<RowItem>, Fail> {
+) -> Result<Vec<RowItem>, Fail>
+    requires { S.is_ready store.old }
+{
     let mut items = Vec::new(alloc);
     if tree.height > 0 {
         let level = tree.height - 1;
@@ -33,9 +37,9 @@ pub fn items_in<L: Ledger>(
     Ok(items)
 }
 
-fn add_items<L: Ledger>(
+fn add_items<S: NodeSource, L: Ledger>(
     alloc: Global,
-    store: &mut MemoryNodes,
+    store: &mut S,
     summer: &mut BuiltinSummer,
     at: u64,
     level: u32,
@@ -43,10 +47,11 @@ fn add_items<L: Ledger>(
     fill: Fill,
     steps: &mut Steps<L>,
     items: &mut Vec<RowItem>,
-) -> Result<(), Fail> {
-    match fetch_node::<MemoryNodes, RowItem, NoMemory, L>(
-        alloc, store, at, level, count, fill, steps,
-    ) {
+) -> Result<(), Fail>
+    requires { S.is_ready store.old }
+    ensures { OnOk result (S.is_ready store.new) }
+{
+    match fetch_node::<S, RowItem, NoMemory, L>(alloc, store, at, level, count, fill, steps) {
         Ok(Node::Leaf(own)) => {
             for item in own.as_slice() {
                 items.push(item.copy_item(alloc)?)?;

@@ -21,7 +21,8 @@ pub fn edited<S: NodeStore, L: Ledger>(
     steps: &mut Steps<L>,
 ) -> Result<SizedTree, TreeFault<S::Fault, NoMemory>>
     requires { S.is_ready store.old }
-    ensures { OnOk result (S.is_ready store.new) }
+    ensures ready { OnOk result (S.is_ready store.new) }
+    ensures goes { OnOk result (S.goes store.old store.new) }
 {
     let tree = tree.tree();
     if tree.count > 1_000_000 || edits.len() > 1_000_000 {

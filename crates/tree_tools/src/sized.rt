@@ -1,7 +1,7 @@
 //! A tree whose numbers are those of a tree.
 
 ghost use Rattle.std.specs.Prelude.{◌≡◌};
-ghost use Rattle.tree_laws.specs.Trees.{IsTreeSize};
+ghost use Rattle.tree_laws.specs.SummerTrees.{IsTreeSize};
 
 use std::marker::Model;
 use tree_laws::Tree;
@@ -14,7 +14,7 @@ pub struct SizedTree {
 
 impl Model for SizedTree {
     ghost use Rattle.tree_laws.specs.declared.tree.Tree.{Tree};
-    ghost use Rattle.tree_laws.specs.Trees.{IsTreeSize};
+    ghost use Rattle.tree_laws.specs.SummerTrees.{IsTreeSize};
 
     ghost Value = { Tree };
 

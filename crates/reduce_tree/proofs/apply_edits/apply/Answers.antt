@@ -1,4 +1,4 @@
-use Rattle.std.proofs.Common.{◌-◌, max, length, sym, ap, ◌∙◌, subst, arith, inl, inr, ◌≡◌, refl, true, false, Option, ℕ, List, ◌<◌, ◌^◌}
+use Rattle.std.proofs.Common.{◌-◌, max, length, sym, ap, ◌∙◌, subst, arith, inl, inr, ◌≡◌, refl, true, false, ℕ, List, ◌<◌, ◌^◌, Ok}
 use Rattle.tree_laws.specs.Nodes.{entries}
 use Rattle.tree_laws.specs.SummerTrees.{IsTree}
 use Rattle.tree_laws.proofs.SummerTrees.{tree_stays}
@@ -17,6 +17,8 @@ use Rattle.tree_laws.specs.declared.tree.Fill.TheVariants.{Below, Root}
 use Rattle.tree_laws.specs.declared.tree.Fill.{Fill}
 use Rattle.tree_laws.specs.Fitting.{item_count}
 use Rattle.reduce_tree.specs.Pieces.{WerePieces}
+use Rattle.reduce_tree.proofs.Given.{begins, taken_quiet, took_fault, took_none, took_quiet}
+use Rattle.reduce_tree.proofs.Growth.{grown, ran_growing}
 use Rattle.reduce_tree.proofs.apply_edits.apply.Goals as goal
 
 pub returns-then-is_empty-clause-tree : goal.returns-then-is_empty-clause-tree
@@ -361,3 +363,76 @@ returns-in_err-after-clause-pieces g c first there items among told goes tree ai
     let p = err_from_is_err_and c.from_residual-in_err-after.result c.from_residual-in_err-after.ensures.1 in
     on_match c.from_residual-in_err-after.result _ _ _ p.0 p.2 p.1
     (subst (λ b. WerePieces i m first among b c.in_err-after.field-0.0 (g.S.NodeSource.puts s0) (g.S.NodeSource.puts s2)) (ap places told) (were_on i m first among n0 n1 e01 _ (g.S.NodeSource.puts s0) (g.S.NodeSource.puts s1) (g.S.NodeSource.puts s2) one (c.in_err-after.ensures.pieces first (applied i.order edits items) among known1 row (applied_among i.order among edits items ae ai))))
+
+pub returns-then-is_empty-clause-met : goal.returns-then-is_empty-clause-met
+returns-then-is_empty-clause-met g c there told =
+    let laws : Laws g.S.NodeSource g.M.Summer = record { store_steps = g.met.S.NodeSource.are_steps; store_keeps = g.met.S.NodeSource.keeps; store_caused = g.met.S.NodeSource.stays_caused; summer_steps = g.met.M.Summer.are_steps; summer_keeps = g.met.M.Summer.keeps; summer_caused = g.met.M.Summer.stays_caused } in
+    let i = g.M.Unit.Item in let s = g.S.NodeSource in let m = g.M.Summer in let s0 = c.args.store.now in let u0 = c.args.summer.now in
+    let tree = c.args.tree in let pieces = s.puts s0 in
+    took_none i s m laws u0 tree pieces s0 s0 refl
+
+pub returns-then-row-clause-met : goal.returns-then-row-clause-met
+returns-then-row-clause-met g c there told =
+    let laws : Laws g.S.NodeSource g.M.Summer = record { store_steps = g.met.S.NodeSource.are_steps; store_keeps = g.met.S.NodeSource.keeps; store_caused = g.met.S.NodeSource.stays_caused; summer_steps = g.met.M.Summer.are_steps; summer_keeps = g.met.M.Summer.keeps; summer_caused = g.met.M.Summer.stays_caused } in
+    let i = g.M.Unit.Item in let s = g.S.NodeSource in let m = g.M.Summer in let s0 = c.args.store.now in let u0 = c.args.summer.now in
+    let tree = c.args.tree in let pieces = s.puts s0 in
+    let under = begins i s m laws s0 u0 there told in
+    (c.in_ok-row.ensures.met u0 pieces under).0
+
+pub returns-clause-met : goal.returns-clause-met
+returns-clause-met g c there told =
+    let laws : Laws g.S.NodeSource g.M.Summer = record { store_steps = g.met.S.NodeSource.are_steps; store_keeps = g.met.S.NodeSource.keeps; store_caused = g.met.S.NodeSource.stays_caused; summer_steps = g.met.M.Summer.are_steps; summer_keeps = g.met.M.Summer.keeps; summer_caused = g.met.M.Summer.stays_caused } in
+    let i = g.M.Unit.Item in let s = g.S.NodeSource in let m = g.M.Summer in let s0 = c.args.store.now in let u0 = c.args.summer.now in
+    let tree = c.args.tree in let pieces = s.puts s0 in
+    let under = begins i s m laws s0 u0 there told in
+    let s1 = c.edit_root.new.store in let s2 = c.raise.new.store in let u1 = c.edit_root.new.summer in let u2 = c.raise.new.summer in
+    taken_quiet i s m laws u0 tree pieces s1 s2 u1 u2 c.in_ok-after.ensures.ran (s.gets s0) c.in_ok-after.ensures.gets (c.in_ok-row.ensures.met u0 pieces under).0
+
+pub returns-in_err-row-clause-met : goal.returns-in_err-row-clause-met
+returns-in_err-row-clause-met g c there told =
+    let laws : Laws g.S.NodeSource g.M.Summer = record { store_steps = g.met.S.NodeSource.are_steps; store_keeps = g.met.S.NodeSource.keeps; store_caused = g.met.S.NodeSource.stays_caused; summer_steps = g.met.M.Summer.are_steps; summer_keeps = g.met.M.Summer.keeps; summer_caused = g.met.M.Summer.stays_caused } in
+    let i = g.M.Unit.Item in let s = g.S.NodeSource in let m = g.M.Summer in let s0 = c.args.store.now in let u0 = c.args.summer.now in
+    let tree = c.args.tree in let pieces = s.puts s0 in
+    let under = begins i s m laws s0 u0 there told in
+    let p = err_from_is_err_and c.from_residual.result c.from_residual.ensures.1 in
+    (took_fault i s m laws u0 tree pieces c.from_residual.result (λ x. Unit {0}) s0 c.edit_root.new.store c.in_err-row.field-0.0 p.0 p.2 p.1 (c.in_err-row.ensures.met u0 pieces under).0).0
+
+pub returns-in_err-after-clause-met : goal.returns-in_err-after-clause-met
+returns-in_err-after-clause-met g c there told =
+    let laws : Laws g.S.NodeSource g.M.Summer = record { store_steps = g.met.S.NodeSource.are_steps; store_keeps = g.met.S.NodeSource.keeps; store_caused = g.met.S.NodeSource.stays_caused; summer_steps = g.met.M.Summer.are_steps; summer_keeps = g.met.M.Summer.keeps; summer_caused = g.met.M.Summer.stays_caused } in
+    let i = g.M.Unit.Item in let s = g.S.NodeSource in let m = g.M.Summer in let s0 = c.args.store.now in let u0 = c.args.summer.now in
+    let tree = c.args.tree in let pieces = s.puts s0 in
+    let under = begins i s m laws s0 u0 there told in
+    let s1 = c.edit_root.new.store in let s2 = c.raise.new.store in let u1 = c.edit_root.new.summer in let u2 = c.raise.new.summer in
+    let p = err_from_is_err_and c.from_residual-in_err-after.result c.from_residual-in_err-after.ensures.1 in
+    (took_quiet i s m laws u0 tree pieces c.from_residual-in_err-after.result (λ x. Unit {0}) s0 s1 s2 u0 u1 u2 c.in_ok-row.ensures.ran (c.in_ok-row.ensures.met u0 pieces under).0 c.in_err-after.field-0.0 p.0 p.2 p.1 c.in_err-after.ensures.ran c.in_err-after.ensures.gets c.in_err-after.ensures.sound).0
+
+pub returns-then-is_empty-clause-bytes : goal.returns-then-is_empty-clause-bytes
+returns-then-is_empty-clause-bytes g c first there items among longest h told goes tree ai ae all high few =
+    let i = g.M.Unit.Item in let s = g.S.NodeSource in let m = g.M.Summer in let s0 = c.args.store.now in let u0 = c.args.summer.now in
+    grown i m first (g.met.M.Summer.is_short first) longest among all s there (places (s.nodes s0)) s0 s0 (Ok c.args.tree) _ (ran_growing i s m g.met.S.NodeSource.grows g.met.S.NodeSource.grew s0 s0 u0 u0 (Ok c.args.tree) (returns-then-is_empty-clause-ran g c))
+    (returns-then-is_empty-clause-pieces g c first there items among told goes tree ai ae) (returns-then-is_empty-clause-most_puts g c h high few)
+
+pub returns-then-row-clause-bytes : goal.returns-then-row-clause-bytes
+returns-then-row-clause-bytes g c first there items among longest h told goes tree ai ae all high few =
+    let i = g.M.Unit.Item in let s = g.S.NodeSource in let m = g.M.Summer in let s0 = c.args.store.now in let u0 = c.args.summer.now in
+    grown i m first (g.met.M.Summer.is_short first) longest among all s there (places (s.nodes c.edit_root.new.store)) s0 c.edit_root.new.store (Ok c.args.tree) _ (ran_growing i s m g.met.S.NodeSource.grows g.met.S.NodeSource.grew s0 c.edit_root.new.store u0 c.edit_root.new.summer (Ok c.args.tree) c.in_ok-row.ensures.ran)
+    (returns-then-row-clause-pieces g c first there items among told goes tree ai ae) (returns-then-row-clause-most_puts g c h high few)
+
+pub returns-clause-bytes : goal.returns-clause-bytes
+returns-clause-bytes g c first there items among longest h told goes tree ai ae all high few =
+    let i = g.M.Unit.Item in let s = g.S.NodeSource in let m = g.M.Summer in let s0 = c.args.store.now in let u0 = c.args.summer.now in
+    grown i m first (g.met.M.Summer.is_short first) longest among all s there (places (s.nodes c.raise.new.store)) s0 c.raise.new.store (Ok c.in_ok-after.after) _ (ran_growing i s m g.met.S.NodeSource.grows g.met.S.NodeSource.grew s0 c.raise.new.store u0 c.raise.new.summer (Ok c.in_ok-after.after) (returns-clause-ran g c))
+    (returns-clause-pieces g c first there items among told goes tree ai ae) (returns-clause-most_puts g c h high few)
+
+pub returns-in_err-row-clause-bytes : goal.returns-in_err-row-clause-bytes
+returns-in_err-row-clause-bytes g c first there items among longest h told goes tree ai ae all high few =
+    let i = g.M.Unit.Item in let s = g.S.NodeSource in let m = g.M.Summer in let s0 = c.args.store.now in let u0 = c.args.summer.now in
+    grown i m first (g.met.M.Summer.is_short first) longest among all s there (places (s.nodes c.edit_root.new.store)) s0 c.edit_root.new.store c.from_residual.result _ (ran_growing i s m g.met.S.NodeSource.grows g.met.S.NodeSource.grew s0 c.edit_root.new.store u0 c.edit_root.new.summer c.from_residual.result (returns-in_err-row-clause-ran g c))
+    (returns-in_err-row-clause-pieces g c first there items among told goes tree ai ae) (returns-in_err-row-clause-most_puts g c h high few)
+
+pub returns-in_err-after-clause-bytes : goal.returns-in_err-after-clause-bytes
+returns-in_err-after-clause-bytes g c first there items among longest h told goes tree ai ae all high few =
+    let i = g.M.Unit.Item in let s = g.S.NodeSource in let m = g.M.Summer in let s0 = c.args.store.now in let u0 = c.args.summer.now in
+    grown i m first (g.met.M.Summer.is_short first) longest among all s there (places (s.nodes c.raise.new.store)) s0 c.raise.new.store c.from_residual-in_err-after.result _ (ran_growing i s m g.met.S.NodeSource.grows g.met.S.NodeSource.grew s0 c.raise.new.store u0 c.raise.new.summer c.from_residual-in_err-after.result (returns-in_err-after-clause-ran g c))
+    (returns-in_err-after-clause-pieces g c first there items among told goes tree ai ae) (returns-in_err-after-clause-most_puts g c h high few)

@@ -1,4 +1,4 @@
-use Rattle.std.proofs.Common.{◌≡◌, ◌+◌, ◌*◌, ◌≤◌, ◌++◌, true, List, length, vec_len}
+use Rattle.std.proofs.Common.{◌≡◌, ◌+◌, ◌*◌, ◌≤◌, ◌++◌, true, ℕ, All, List, length, vec_len}
 use Rattle.std.specs.List.Sorted.{IsStrictlySortedBy}
 use Rattle.tree_laws.specs.declared.node.Node.TheVariants.{Inner}
 use Rattle.tree_laws.specs.Fitting.{AreLarge, item_count}
@@ -7,6 +7,9 @@ use Rattle.tree_laws.specs.SummerTrees.{AreChildren, Stands}
 use Rattle.reduce_tree.specs.Applied.{applied, insertions, RemoveNone}
 use Rattle.reduce_tree.specs.Bounds.{pending, rounding, ArePut}
 use Rattle.reduce_tree.specs.Counts.{ReadsFor}
+use Rattle.reduce_tree.specs.Given.{AllGiven, Given, IsTaken, IsUnderWay}
+use Rattle.tree_laws.specs.declared.tree.Tree.{Tree}
+use Rattle.tree_laws.specs.Stores.{EachSince}
 use Rattle.reduce_tree.specs.Calls.{places, GoOn, IsKnown, PutNone}
 use Rattle.reduce_tree.specs.Rows.{IsAtLevel, leaf_items}
 use Rattle.reduce_tree.specs.Pieces.{AreAmong, ArePieces, InsertAmong}
@@ -50,6 +53,11 @@ invariant-edit_children-loop-left g l =
       quiet : (first : g.row.M.Denot) (items : List g.row.M-Unit.Denot) → IsKnown g.M.Unit.Item g.S.NodeSource g.M.Summer first l.fn.summer l.fn.store
           → AreChildren g.M.Unit.Item g.M.Summer first (Stands g.M.Unit.Item g.M.Summer first (places (nodes l.fn.store)) l.low) l.fn.children.items items
           → RemoveNone g.M.Unit.Item.order l.edits items → (l.carry.same ≡ true) × Still g.M.Unit.Item g.M.Summer first (places (nodes l.store)) l.low l.rest.items l.left;
+      met : (first : g.row.M.Denot) (tree : Tree) (pieces : List (List ℕ)) → IsUnderWay g.M.Unit.Item g.S.NodeSource g.M.Summer first pieces l.fn.summer l.fn.store → All (Given g.M.Unit.Item g.S.NodeSource g.M.Summer first tree pieces l.fn.store l.low) l.fn.children.items
+          → EachSince (IsTaken g.M.Unit.Item g.M.Summer first (places (nodes l.store)) pieces (puts l.store) tree) (g.S.NodeSource.gets l.fn.store) (g.S.NodeSource.gets l.store)
+          × All (Given g.M.Unit.Item g.S.NodeSource g.M.Summer first tree pieces l.store l.low) l.done.items
+          × AllGiven g.M.Unit.Item g.S.NodeSource g.M.Summer first tree pieces l.store l.carry.level l.carry.node
+          × All (Given g.M.Unit.Item g.S.NodeSource g.M.Summer first tree pieces l.store l.low) l.rest.items;
       pieces : (first : g.row.M.Denot) (items among : List g.row.M-Unit.Denot) → IsKnown g.M.Unit.Item g.S.NodeSource g.M.Summer first l.fn.summer l.fn.store → IsStrictlySortedBy g.M.Unit.Item.order items
           → AreChildren g.M.Unit.Item g.M.Summer first (Stands g.M.Unit.Item g.M.Summer first (places (nodes l.fn.store)) l.low) l.fn.children.items items → AreAmong among items → InsertAmong among l.edits
           → ArePieces g.M.Unit.Item g.M.Summer first among (places (nodes l.store)) Below (puts l.fn.store) (puts l.store) × Left g.M.Unit.Item g.M.Summer first among (places (nodes l.store)) l.low l.rest.items l.left;

@@ -1,4 +1,4 @@
-use Rattle.std.proofs.Common.{◌≡◌, ◌+◌, arith, sym, subst, ap, ◌∙◌, length, false, Contains}
+use Rattle.std.proofs.Common.{◌≡◌, ◌+◌, arith, sym, subst, ap, ◌∙◌, length, false, Contains, ◌-◌, All}
 use Rattle.tree_laws.specs.declared.node.Node.TheVariants.{Inner}
 use Rattle.tree_laws.specs.Fitting.{AreLarge, item_count}
 use Rattle.tree_laws.specs.Nodes.{entries}
@@ -12,8 +12,10 @@ use Rattle.reduce_tree.proofs.Sound.{if_sound}
 use Rattle.std.proofs.lemmas.Result.{err_from_is_err_and}
 use Rattle.reduce_tree.proofs.Quiet.{all_front, all_back}
 use Rattle.reduce_tree.specs.Pieces.{AreAmong}
-use Rattle.reduce_tree.proofs.Calls.{on_err}
+use Rattle.reduce_tree.proofs.Calls.{on_err, Laws}
 use Rattle.reduce_tree.proofs.Pieces.{on_match}
+use Rattle.reduce_tree.proofs.Given.{halts_quiet, took_fault, took_none}
+use Rattle.reduce_tree.specs.Given.{Given}
 use Rattle.reduce_tree.proofs.batch.finish.Goals as goal
 
 pub returns-then-is_ready-clause-items : goal.returns-then-is_ready-clause-items
@@ -134,3 +136,39 @@ returns-in_err-joined-clause-pieces g c first items among known h all =
     let p = err_from_is_err_and c.from_residual-in_err-joined.result c.from_residual-in_err-joined.ensures.1 in
     on_match c.from_residual-in_err-joined.result _ _ _ p.0 p.2 p.1
     (c.in_err-joined.ensures.pieces first h.front h.back among known front h.at_back (all_front (Contains among) h.front h.back parts) (all_back (Contains among) h.front h.back parts))
+
+pub returns-then-is_ready-clause-met : goal.returns-then-is_ready-clause-met
+returns-then-is_ready-clause-met g c first tree pieces under done carry =
+    let laws : Laws g.S.NodeSource g.M.Summer = record { store_steps = g.met.S.NodeSource.are_steps; store_keeps = g.met.S.NodeSource.keeps; store_caused = g.met.S.NodeSource.stays_caused; summer_steps = g.met.M.Summer.are_steps; summer_keeps = g.met.M.Summer.keeps; summer_caused = g.met.M.Summer.stays_caused } in
+    let i = g.M.Unit.Item in let s = g.S.NodeSource in let m = g.M.Summer in let s0 = c.args.store.now in let u0 = c.args.summer.now in
+    let low = c.args.low in
+    let same : low ≡ (low + 1) - 1 = omega arith in
+    let s1 = c.settle.new.store in
+    let all = subst (All (Given i s m first tree pieces s1 low)) (sym c.from_vec.ensures) (c.in_ok-settle.ensures.given first tree pieces under done carry) in
+    (took_none i s m laws first tree pieces s0 s1 c.in_ok-settle.ensures.gets, subst (λ n. All (Given i s m first tree pieces s1 n) c.from_vec.result) same all)
+
+pub returns-clause-met : goal.returns-clause-met
+returns-clause-met g c first tree pieces under done carry =
+    let laws : Laws g.S.NodeSource g.M.Summer = record { store_steps = g.met.S.NodeSource.are_steps; store_keeps = g.met.S.NodeSource.keeps; store_caused = g.met.S.NodeSource.stays_caused; summer_steps = g.met.M.Summer.are_steps; summer_keeps = g.met.M.Summer.keeps; summer_caused = g.met.M.Summer.stays_caused } in
+    let i = g.M.Unit.Item in let s = g.S.NodeSource in let m = g.M.Summer in let s0 = c.args.store.now in let u0 = c.args.summer.now in
+    let low = c.args.low in
+    let same : low ≡ (low + 1) - 1 = omega arith in
+    let front = subst (λ n. All (Given i s m first tree pieces s0 n) c.from_vec-2.result) same (subst (All (Given i s m first tree pieces s0 low)) (sym c.from_vec-2.ensures) done) in
+    c.in_ok-joined.ensures.met first tree pieces under front carry
+
+pub returns-in_err-settle-clause-met : goal.returns-in_err-settle-clause-met
+returns-in_err-settle-clause-met g c first tree pieces under done carry =
+    let laws : Laws g.S.NodeSource g.M.Summer = record { store_steps = g.met.S.NodeSource.are_steps; store_keeps = g.met.S.NodeSource.keeps; store_caused = g.met.S.NodeSource.stays_caused; summer_steps = g.met.M.Summer.are_steps; summer_keeps = g.met.M.Summer.keeps; summer_caused = g.met.M.Summer.stays_caused } in
+    let i = g.M.Unit.Item in let s = g.S.NodeSource in let m = g.M.Summer in let s0 = c.args.store.now in let u0 = c.args.summer.now in
+    let p = err_from_is_err_and c.from_residual.result c.from_residual.ensures.1 in
+    took_fault i s m laws first tree pieces c.from_residual.result _ s0 c.settle.new.store c.in_err-settle.field-0.0 p.0 p.2 p.1 (halts_quiet i s m laws first tree pieces s0 c.settle.new.store _ c.in_err-settle.ensures.gets c.in_err-settle.ensures.sound)
+
+pub returns-in_err-joined-clause-met : goal.returns-in_err-joined-clause-met
+returns-in_err-joined-clause-met g c first tree pieces under done carry =
+    let laws : Laws g.S.NodeSource g.M.Summer = record { store_steps = g.met.S.NodeSource.are_steps; store_keeps = g.met.S.NodeSource.keeps; store_caused = g.met.S.NodeSource.stays_caused; summer_steps = g.met.M.Summer.are_steps; summer_keeps = g.met.M.Summer.keeps; summer_caused = g.met.M.Summer.stays_caused } in
+    let i = g.M.Unit.Item in let s = g.S.NodeSource in let m = g.M.Summer in let s0 = c.args.store.now in let u0 = c.args.summer.now in
+    let low = c.args.low in
+    let same : low ≡ (low + 1) - 1 = omega arith in
+    let front = subst (λ n. All (Given i s m first tree pieces s0 n) c.from_vec-2.result) same (subst (All (Given i s m first tree pieces s0 low)) (sym c.from_vec-2.ensures) done) in
+    let p = err_from_is_err_and c.from_residual-in_err-joined.result c.from_residual-in_err-joined.ensures.1 in
+    took_fault i s m laws first tree pieces c.from_residual-in_err-joined.result _ s0 c.join_rows.new.store c.in_err-joined.field-0.0 p.0 p.2 p.1 (c.in_err-joined.ensures.met first tree pieces under front carry).0

@@ -1,4 +1,4 @@
-use Rattle.std.proofs.Common.{◌+◌, ◌∷◌, ◌++◌, [], ◌∙◌, ap, arith, sym, subst, length, length-append}
+use Rattle.std.proofs.Common.{◌+◌, ◌∷◌, ◌++◌, [], ◌∙◌, ap, arith, sym, subst, length, length-append, All}
 use Rattle.tree_laws.specs.declared.node.Node.TheVariants.{Inner}
 use Rattle.tree_laws.specs.Fitting.{AreLarge, item_count}
 use Rattle.reduce_tree.specs.Calls.{places}
@@ -8,6 +8,9 @@ use Rattle.reduce_tree.proofs.Walk.{kept_child}
 use Rattle.std.proofs.lemmas.Result.{err_from_is_err_and}
 use Rattle.tree_laws.specs.declared.tree.TreeFault.TheVariants as tree_fault
 use Rattle.reduce_tree.proofs.Pieces.{were_done, on_match}
+use Rattle.reduce_tree.proofs.Given.{given_on}
+use Rattle.reduce_tree.specs.Given.{Given}
+use Rattle.std.proofs.lemmas.List.Elements.{All-append, All-cons, All-nil}
 use Rattle.reduce_tree.proofs.batch.keep_child.Goals as goal
 
 pub returns-clause-items : goal.returns-clause-items
@@ -77,3 +80,12 @@ returns-in_err-add_last-clause-pieces g c first items among known h all =
     let laws : Laws g.S.NodeSource g.M.Summer = record { store_steps = g.met.S.NodeSource.are_steps; store_keeps = g.met.S.NodeSource.keeps; store_caused = g.met.S.NodeSource.stays_caused; summer_steps = g.met.M.Summer.are_steps; summer_keeps = g.met.M.Summer.keeps; summer_caused = g.met.M.Summer.stays_caused } in
     let p = err_from_is_err_and c.from_residual-in_err-add_last.result c.from_residual-in_err-add_last.ensures.1 in
     on_match c.from_residual-in_err-add_last.result _ _ _ p.0 p.2 p.1 (were_done g.M.Unit.Item g.M.Summer first among (places (g.S.NodeSource.nodes c.args.store.now)) (places (g.S.NodeSource.nodes c.settle.new.store)) (extends_on g.M.Unit.Item g.S.NodeSource g.M.Summer laws c.args.store.now c.settle.new.store c.args.summer.now c.settle.new.summer c.in_ok-settle.ensures.ran) _ (g.S.NodeSource.puts c.args.store.now) (g.S.NodeSource.puts c.settle.new.store) (c.in_ok-settle.ensures.pieces first items among known h all))
+
+pub returns-clause-given : goal.returns-clause-given
+returns-clause-given g c first tree pieces under done carry child =
+    let laws : Laws g.S.NodeSource g.M.Summer = record { store_steps = g.met.S.NodeSource.are_steps; store_keeps = g.met.S.NodeSource.keeps; store_caused = g.met.S.NodeSource.stays_caused; summer_steps = g.met.M.Summer.are_steps; summer_keeps = g.met.M.Summer.keeps; summer_caused = g.met.M.Summer.stays_caused } in
+    let i = g.M.Unit.Item in let s = g.S.NodeSource in let m = g.M.Summer in let s0 = c.args.store.now in let u0 = c.args.summer.now in
+    let s1 = c.settle.new.store in let u1 = c.settle.new.summer in
+    let P = Given i s m first tree pieces s1 c.args.low in
+    let one = given_on i s m laws first tree pieces s0 s1 u0 u1 c.in_ok-settle.ensures.ran c.args.low c.args.child child in
+    subst (All P) (sym c.in_ok-add_last.ensures) (All-append P c.settle.new.done.items (c.args.child ∷ []) (c.in_ok-settle.ensures.given first tree pieces under done carry) (All-cons P c.args.child [] one (All-nil P)))

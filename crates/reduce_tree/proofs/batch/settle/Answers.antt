@@ -1,4 +1,4 @@
-use Rattle.std.proofs.Common.{◌+◌, ◌∙◌, ap, arith, sym, subst, refl, Contains}
+use Rattle.std.proofs.Common.{◌+◌, ◌∙◌, ap, arith, sym, subst, refl, Contains, All}
 use Rattle.tree_laws.specs.declared.node.Node.TheVariants.{Inner}
 use Rattle.tree_laws.specs.Fitting.{AreLarge, item_count}
 use Rattle.tree_laws.specs.Nodes.{entries}
@@ -15,6 +15,9 @@ use Rattle.reduce_tree.specs.Pieces.{AreAmong}
 use Rattle.tree_laws.specs.declared.tree.Fill.TheVariants.{Below}
 use Rattle.std.proofs.lemmas.Result.{err_from_is_err_and}
 use Rattle.tree_laws.specs.declared.tree.TreeFault.TheVariants as tree_fault
+use Rattle.reduce_tree.proofs.Given.{all_on}
+use Rattle.reduce_tree.specs.Given.{Given}
+use Rattle.std.proofs.lemmas.List.Elements.{All-append}
 use Rattle.reduce_tree.proofs.batch.settle.Goals as goal
 
 pub place_row-requires-clause-least : goal.place_row-requires-clause-least
@@ -115,3 +118,15 @@ returns-in_err-add_all-clause-pieces g c first items among known h all =
     let laws : Laws g.S.NodeSource g.M.Summer = record { store_steps = g.met.S.NodeSource.are_steps; store_keeps = g.met.S.NodeSource.keeps; store_caused = g.met.S.NodeSource.stays_caused; summer_steps = g.met.M.Summer.are_steps; summer_keeps = g.met.M.Summer.keeps; summer_caused = g.met.M.Summer.stays_caused } in
     let p = err_from_is_err_and c.from_residual-in_err-add_all.result c.from_residual-in_err-add_all.ensures.1 in
     on_match c.from_residual-in_err-add_all.result _ _ _ p.0 p.2 p.1 (were_done g.M.Unit.Item g.M.Summer first among (places (g.S.NodeSource.nodes c.args.store.now)) (places (g.S.NodeSource.nodes c.place_row.new.store)) (extends_on g.M.Unit.Item g.S.NodeSource g.M.Summer laws c.args.store.now c.place_row.new.store c.args.summer.now c.place_row.new.summer c.in_ok-placed.ensures.ran) _ (g.S.NodeSource.puts c.args.store.now) (g.S.NodeSource.puts c.place_row.new.store) (c.in_ok-placed.ensures.pieces first c.args.row.level h.back among known h.at_back (all_back (Contains among) h.front h.back (subst (AreAmong among) h.whole all))))
+
+pub returns-clause-given : goal.returns-clause-given
+returns-clause-given g c first tree pieces under done row =
+    let laws : Laws g.S.NodeSource g.M.Summer = record { store_steps = g.met.S.NodeSource.are_steps; store_keeps = g.met.S.NodeSource.keeps; store_caused = g.met.S.NodeSource.stays_caused; summer_steps = g.met.M.Summer.are_steps; summer_keeps = g.met.M.Summer.keeps; summer_caused = g.met.M.Summer.stays_caused } in
+    let i = g.M.Unit.Item in let s = g.S.NodeSource in let m = g.M.Summer in let s0 = c.args.store.now in let u0 = c.args.summer.now in
+    let s1 = c.place_row.new.store in let u1 = c.place_row.new.summer in
+    let some = some_by_test (entries c.args.row.node) c.is_empty.result c.is_empty.ensures c.if-is_empty.false in
+    let level = ready_level c.args.low c.args.row.level (entries c.args.row.node) c.requires.settled some in
+    let placed = c.in_ok-placed.ensures.given first tree pieces c.args.row.level under c.requires.kind c.requires.large row in
+    let new = subst (λ l. All (Given i s m first tree pieces s1 l) c.in_ok-placed.placed.items) level placed in
+    subst (All (Given i s m first tree pieces s1 c.args.low)) (sym c.in_ok-add_all.ensures)
+    (All-append (Given i s m first tree pieces s1 c.args.low) c.args.done.now.items c.in_ok-placed.placed.items (all_on i s m laws first tree pieces s0 s1 u0 u1 c.in_ok-placed.ensures.ran c.args.low c.args.done.now.items done) new)

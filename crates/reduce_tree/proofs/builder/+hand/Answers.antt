@@ -1,6 +1,7 @@
 use Rattle.std.proofs.Common.{rules, arith, ◌≤◌, ◌≡◌, ◌<◌, ◌+◌, ◌∙◌, ◌∷◌, ◌++◌, [], ◌^◌, ap, sym, subst, length, append_assoc, length-append}
 use Rattle.tree_laws.specs.declared.node.Node.TheVariants.{Inner}
 use Rattle.tree_laws.specs.declared.tree.Fill.TheVariants.{Below}
+use Rattle.tree_laws.specs.declared.tree.TreeFault.TheVariants as tree_fault
 use Rattle.tree_laws.specs.Fitting.{AreLarge, IsFilled, item_count}
 use Rattle.tree_laws.specs.Nodes.{spelled_node}
 use Rattle.tree_laws.specs.Stores.{pieces_size}
@@ -11,11 +12,11 @@ use Rattle.reduce_tree.specs.Built.{Stacked, row_items}
 use Rattle.reduce_tree.specs.Calls.{places}
 use Rattle.reduce_tree.specs.Packed.{IsCut, Climbs, StandsAt}
 use Rattle.std.proofs.lemmas.Result.{err_from_is_err_and}
-use Rattle.reduce_tree.proofs.Calls.{Laws, told_on}
+use Rattle.reduce_tree.proofs.Calls.{Laws, extends_on, fails_on, goes_none, goes_on, known_on, ran_err, told_on}
 use Rattle.reduce_tree.proofs.Climb.{grew_on, cut_put, cut_stays, cut_wait, climbs_popped, climbs_push, climbs_stay}
 use Rattle.reduce_tree.proofs.Nodes.{above_at_level, filled_large, has_children, large_append, large_back, large_front, large_one}
 use Rattle.reduce_tree.proofs.Stacks.{IsRow, count_added, items_cut, items_pop, items_push, popped, rows_pop, rows_push, stacked_push, stacked_stays}
-use Rattle.reduce_tree.proofs.Working.{both_none, both_on, kept_on, knows_on, refused_on, worked_err, worked_none}
+use Rattle.reduce_tree.proofs.Working.{filled_none, filled_on, filled_wider}
 use Rattle.reduce_tree.proofs.builder.+hand.Goals as goal
 
 pub put_node-requires-clause-some : goal.put_node-requires-clause-some
@@ -88,7 +89,7 @@ returns-then-len-lt40-clause-count g t c =
 pub returns-then-len-lt40-clause-ran : goal.returns-then-len-lt40-clause-ran
 returns-then-len-lt40-clause-ran g t c =
     let laws : Laws g.S.NodeSource g.M.Summer = record { store_steps = g.met.S.NodeSource.are_steps; store_keeps = g.met.S.NodeSource.keeps; store_caused = g.met.S.NodeSource.stays_caused; summer_steps = g.met.M.Summer.are_steps; summer_keeps = g.met.M.Summer.keeps; summer_caused = g.met.M.Summer.stays_caused } in
-    both_none g.S.NodeSource g.M.Summer laws c.args.store.now c.args.summer.now
+    goes_none g.M.Unit.Item g.S.NodeSource g.M.Summer laws c.args.store.now c.args.summer.now
 
 pub returns-clause-items : goal.returns-clause-items
 returns-clause-items g t c first low xs mid known st one =
@@ -104,8 +105,8 @@ returns-clause-items g t c first low xs mid known st one =
     let n0 = places (g.S.NodeSource.nodes s0) in
     let n1 = places (g.S.NodeSource.nodes s1) in
     let n2 = places (g.S.NodeSource.nodes s2) in
-    let e01 = kept_on g.S.NodeSource m laws s0 s1 u0 u1 c.in_ok-parent.ensures.ran in
-    let e12 = kept_on g.S.NodeSource m laws s1 s2 u1 u2 c.in_ok-hand.ensures.ran in
+    let e01 = extends_on g.M.Unit.Item g.S.NodeSource m laws s0 s1 u0 u1 c.in_ok-parent.ensures.ran in
+    let e12 = extends_on g.M.Unit.Item g.S.NodeSource m laws s1 s2 u1 u2 c.in_ok-hand.ensures.ran in
     let row = c.pop_row-row.result in
     let above = c.pop_row-row.new.rows.items in
     let list = c.in_ok-list.list.items in
@@ -121,7 +122,7 @@ returns-clause-items g t c first low xs mid known st one =
     let fill : IsFilled Below (Inner c.from_vec.result) = record { least = omega (arith, ap length is, c.in_ok-full.ensures.full); most = omega (arith, ap length is, c.in_ok-full.ensures.full) } in
     let parent = c.in_ok-parent.ensures.child first (low + 1) k.front known fill has in
     let above1 = stacked_stays i m first n0 n1 e01 (low + 1) above j.front j.at_front in
-    let says = c.in_ok-hand.ensures.items first (low + 1) j.front k.front (knows_on g.S.NodeSource m laws i first s0 s1 u0 u1 known c.in_ok-parent.ensures.ran) above1 parent in
+    let says = c.in_ok-hand.ensures.items first (low + 1) j.front k.front (known_on g.M.Unit.Item g.S.NodeSource m laws first s0 s1 u0 u1 known c.in_ok-parent.ensures.ran) above1 parent in
     let rest1 = children_stay i m first P (Stands i m first n1 low) (stands_stays i m first n0 n1 e01 low) rest k.back k.at_back in
     let rest2 = children_stay i m first (Stands i m first n1 low) (Stands i m first n2 low) (stands_stays i m first n1 n2 e12 low) rest k.back rest1 in
     let r = stacked_push i m first n2 low c.hand.new.rows.items rest (j.front ++ k.front) k.back says rest2 in
@@ -142,8 +143,8 @@ returns-clause-climbs g t c there below taken told h =
     let n0 = places (g.S.NodeSource.nodes s0) in
     let n1 = places (g.S.NodeSource.nodes s1) in
     let n2 = places (g.S.NodeSource.nodes s2) in
-    let e01 = kept_on g.S.NodeSource m laws s0 s1 u0 u1 c.in_ok-parent.ensures.ran in
-    let e12 = kept_on g.S.NodeSource m laws s1 s2 u1 u2 c.in_ok-hand.ensures.ran in
+    let e01 = extends_on g.M.Unit.Item g.S.NodeSource m laws s0 s1 u0 u1 c.in_ok-parent.ensures.ran in
+    let e12 = extends_on g.M.Unit.Item g.S.NodeSource m laws s1 s2 u1 u2 c.in_ok-hand.ensures.ran in
     let row = c.pop_row-row.result in
     let above = c.pop_row-row.new.rows.items in
     let list = c.in_ok-list.list.items in
@@ -196,16 +197,90 @@ returns-clause-count g t c =
 pub returns-clause-ran : goal.returns-clause-ran
 returns-clause-ran g t c =
     let laws : Laws g.S.NodeSource g.M.Summer = record { store_steps = g.met.S.NodeSource.are_steps; store_keeps = g.met.S.NodeSource.keeps; store_caused = g.met.S.NodeSource.stays_caused; summer_steps = g.met.M.Summer.are_steps; summer_keeps = g.met.M.Summer.keeps; summer_caused = g.met.M.Summer.stays_caused } in
-    both_on g.S.NodeSource g.M.Summer laws c.args.store.now c.put_node.new.store c.hand.new.store c.args.summer.now c.put_node.new.summer c.hand.new.summer c.in_ok-parent.ensures.ran c.in_ok-hand.ensures.ran
+    goes_on g.M.Unit.Item g.S.NodeSource g.M.Summer laws c.args.store.now c.put_node.new.store c.hand.new.store c.args.summer.now c.put_node.new.summer c.hand.new.summer c.in_ok-parent.ensures.ran c.in_ok-hand.ensures.ran
 
 pub returns-in_err-hand-clause-ran : goal.returns-in_err-hand-clause-ran
 returns-in_err-hand-clause-ran g t c =
     let laws : Laws g.S.NodeSource g.M.Summer = record { store_steps = g.met.S.NodeSource.are_steps; store_keeps = g.met.S.NodeSource.keeps; store_caused = g.met.S.NodeSource.stays_caused; summer_steps = g.met.M.Summer.are_steps; summer_keeps = g.met.M.Summer.keeps; summer_caused = g.met.M.Summer.stays_caused } in
     let p = err_from_is_err_and c.from_residual-in_err-hand.result c.from_residual-in_err-hand.ensures.1 in
-    worked_err g.S.NodeSource g.M.Summer laws _ _ _ _ c.from_residual-in_err-hand.result c.in_err-hand.field-0.0 p.0 p.2 p.1 (refused_on g.S.NodeSource g.M.Summer laws c.args.store.now c.put_node.new.store c.hand.new.store c.args.summer.now c.put_node.new.summer c.hand.new.summer c.in_ok-parent.ensures.ran _ c.in_err-hand.ensures.ran)
+    ran_err g.M.Unit.Item g.S.NodeSource g.M.Summer laws _ _ _ _ c.from_residual-in_err-hand.result c.in_err-hand.field-0.0 p.0 p.2 p.1 (fails_on g.M.Unit.Item g.S.NodeSource g.M.Summer laws c.args.store.now c.put_node.new.store c.hand.new.store c.args.summer.now c.put_node.new.summer c.hand.new.summer c.in_ok-parent.ensures.ran _ c.in_err-hand.ensures.ran)
 
 pub returns-in_err-stack_row-2-clause-ran : goal.returns-in_err-stack_row-2-clause-ran
 returns-in_err-stack_row-2-clause-ran g t c =
     let laws : Laws g.S.NodeSource g.M.Summer = record { store_steps = g.met.S.NodeSource.are_steps; store_keeps = g.met.S.NodeSource.keeps; store_caused = g.met.S.NodeSource.stays_caused; summer_steps = g.met.M.Summer.are_steps; summer_keeps = g.met.M.Summer.keeps; summer_caused = g.met.M.Summer.stays_caused } in
     let p = err_from_is_err_and c.from_residual-in_err-stack_row-2.result c.from_residual-in_err-stack_row-2.ensures.1 in
-    worked_none g.S.NodeSource g.M.Summer laws _ _ _ _ c.from_residual-in_err-stack_row-2.result p.0 p.2 p.1 (both_on g.S.NodeSource g.M.Summer laws c.args.store.now c.put_node.new.store c.hand.new.store c.args.summer.now c.put_node.new.summer c.hand.new.summer c.in_ok-parent.ensures.ran c.in_ok-hand.ensures.ran)
+    ran_err g.M.Unit.Item g.S.NodeSource g.M.Summer laws _ _ _ _ c.from_residual-in_err-stack_row-2.result tree_fault.NoMemory p.0 p.2 p.1 (goes_on g.M.Unit.Item g.S.NodeSource g.M.Summer laws c.args.store.now c.put_node.new.store c.hand.new.store c.args.summer.now c.put_node.new.summer c.hand.new.summer c.in_ok-parent.ensures.ran c.in_ok-hand.ensures.ran)
+
+pub returns-in_err-list-clause-filled : goal.returns-in_err-list-clause-filled
+returns-in_err-list-clause-filled g t c = filled_none g.M.Unit.Item _ _ (g.S.NodeSource.puts c.args.store.now)
+
+pub returns-in_err-stack_row-clause-filled : goal.returns-in_err-stack_row-clause-filled
+returns-in_err-stack_row-clause-filled g t c = filled_none g.M.Unit.Item _ _ (g.S.NodeSource.puts c.args.store.now)
+
+pub returns-then-len-lt40-clause-filled : goal.returns-then-len-lt40-clause-filled
+returns-then-len-lt40-clause-filled g t c = filled_none g.M.Unit.Item _ _ (g.S.NodeSource.puts c.args.store.now)
+
+pub returns-in_err-full-clause-filled : goal.returns-in_err-full-clause-filled
+returns-in_err-full-clause-filled g t c = filled_none g.M.Unit.Item _ _ (g.S.NodeSource.puts c.args.store.now)
+
+pub returns-in_err-list-clause-ran : goal.returns-in_err-list-clause-ran
+returns-in_err-list-clause-ran g t c =
+    let laws : Laws g.S.NodeSource g.M.Summer = record { store_steps = g.met.S.NodeSource.are_steps; store_keeps = g.met.S.NodeSource.keeps; store_caused = g.met.S.NodeSource.stays_caused; summer_steps = g.met.M.Summer.are_steps; summer_keeps = g.met.M.Summer.keeps; summer_caused = g.met.M.Summer.stays_caused } in
+    let p = err_from_is_err_and c.from_residual.result c.from_residual.ensures.1 in
+    ran_err g.M.Unit.Item g.S.NodeSource g.M.Summer laws _ _ _ _ c.from_residual.result tree_fault.NoMemory p.0 p.2 p.1 (goes_none g.M.Unit.Item g.S.NodeSource g.M.Summer laws c.args.store.now c.args.summer.now)
+
+pub returns-in_err-stack_row-clause-ran : goal.returns-in_err-stack_row-clause-ran
+returns-in_err-stack_row-clause-ran g t c =
+    let laws : Laws g.S.NodeSource g.M.Summer = record { store_steps = g.met.S.NodeSource.are_steps; store_keeps = g.met.S.NodeSource.keeps; store_caused = g.met.S.NodeSource.stays_caused; summer_steps = g.met.M.Summer.are_steps; summer_keeps = g.met.M.Summer.keeps; summer_caused = g.met.M.Summer.stays_caused } in
+    let p = err_from_is_err_and c.from_residual-in_err-stack_row.result c.from_residual-in_err-stack_row.ensures.1 in
+    ran_err g.M.Unit.Item g.S.NodeSource g.M.Summer laws _ _ _ _ c.from_residual-in_err-stack_row.result tree_fault.NoMemory p.0 p.2 p.1 (goes_none g.M.Unit.Item g.S.NodeSource g.M.Summer laws c.args.store.now c.args.summer.now)
+
+pub returns-in_err-full-clause-ran : goal.returns-in_err-full-clause-ran
+returns-in_err-full-clause-ran g t c =
+    let laws : Laws g.S.NodeSource g.M.Summer = record { store_steps = g.met.S.NodeSource.are_steps; store_keeps = g.met.S.NodeSource.keeps; store_caused = g.met.S.NodeSource.stays_caused; summer_steps = g.met.M.Summer.are_steps; summer_keeps = g.met.M.Summer.keeps; summer_caused = g.met.M.Summer.stays_caused } in
+    let p = err_from_is_err_and c.from_residual-in_err-full.result c.from_residual-in_err-full.ensures.1 in
+    ran_err g.M.Unit.Item g.S.NodeSource g.M.Summer laws _ _ _ _ c.from_residual-in_err-full.result tree_fault.NoMemory p.0 p.2 p.1 (goes_none g.M.Unit.Item g.S.NodeSource g.M.Summer laws c.args.store.now c.args.summer.now)
+
+pub returns-in_err-parent-clause-filled : goal.returns-in_err-parent-clause-filled
+returns-in_err-parent-clause-filled g t c =
+    let own : length c.from_vec.result ≡ 32 = omega (arith, ap length c.from_vec.ensures, c.in_ok-full.ensures.full) in
+    filled_wider g.M.Unit.Item _ _ 32 32 (omega (arith, own)) (omega (arith, own)) _ _ c.in_err-parent.ensures.filled
+
+pub returns-in_err-parent-clause-puts : goal.returns-in_err-parent-clause-puts
+returns-in_err-parent-clause-puts g t c =
+    let long : 0 < length c.pop_row-row.result = omega (arith, ap length c.in_ok-list.ensures, length-append c.pop_row-row.result (c.args.child ∷ []), c.len.ensures, c.if-len-lt40.false) in
+    let less = c.pop_row-row.ensures.less long in
+    omega (arith, less, c.in_err-parent.ensures.puts)
+
+pub returns-in_err-hand-clause-filled : goal.returns-in_err-hand-clause-filled
+returns-in_err-hand-clause-filled g t c =
+    let own : length c.from_vec.result ≡ 32 = omega (arith, ap length c.from_vec.ensures, c.in_ok-full.ensures.full) in
+    filled_on g.M.Unit.Item 32 32 (g.S.NodeSource.puts c.args.store.now) (g.S.NodeSource.puts c.put_node.new.store) (g.S.NodeSource.puts c.hand.new.store) (filled_wider g.M.Unit.Item _ _ 32 32 (omega (arith, own)) (omega (arith, own)) _ _ c.in_ok-parent.ensures.filled) c.in_err-hand.ensures.filled
+
+pub returns-in_err-hand-clause-puts : goal.returns-in_err-hand-clause-puts
+returns-in_err-hand-clause-puts g t c =
+    let long : 0 < length c.pop_row-row.result = omega (arith, ap length c.in_ok-list.ensures, length-append c.pop_row-row.result (c.args.child ∷ []), c.len.ensures, c.if-len-lt40.false) in
+    let less = c.pop_row-row.ensures.less long in
+    omega (arith, less, c.in_ok-parent.ensures.puts, c.in_err-hand.ensures.puts)
+
+pub returns-in_err-stack_row-2-clause-filled : goal.returns-in_err-stack_row-2-clause-filled
+returns-in_err-stack_row-2-clause-filled g t c =
+    let own : length c.from_vec.result ≡ 32 = omega (arith, ap length c.from_vec.ensures, c.in_ok-full.ensures.full) in
+    filled_on g.M.Unit.Item 32 32 (g.S.NodeSource.puts c.args.store.now) (g.S.NodeSource.puts c.put_node.new.store) (g.S.NodeSource.puts c.hand.new.store) (filled_wider g.M.Unit.Item _ _ 32 32 (omega (arith, own)) (omega (arith, own)) _ _ c.in_ok-parent.ensures.filled) c.in_ok-hand.ensures.filled
+
+pub returns-in_err-stack_row-2-clause-puts : goal.returns-in_err-stack_row-2-clause-puts
+returns-in_err-stack_row-2-clause-puts g t c =
+    let long : 0 < length c.pop_row-row.result = omega (arith, ap length c.in_ok-list.ensures, length-append c.pop_row-row.result (c.args.child ∷ []), c.len.ensures, c.if-len-lt40.false) in
+    let less = c.pop_row-row.ensures.less long in
+    omega (arith, less, c.in_ok-parent.ensures.puts, c.in_ok-hand.ensures.puts)
+
+pub returns-clause-filled : goal.returns-clause-filled
+returns-clause-filled g t c =
+    let own : length c.from_vec.result ≡ 32 = omega (arith, ap length c.from_vec.ensures, c.in_ok-full.ensures.full) in
+    filled_on g.M.Unit.Item 32 32 (g.S.NodeSource.puts c.args.store.now) (g.S.NodeSource.puts c.put_node.new.store) (g.S.NodeSource.puts c.hand.new.store) (filled_wider g.M.Unit.Item _ _ 32 32 (omega (arith, own)) (omega (arith, own)) _ _ c.in_ok-parent.ensures.filled) c.in_ok-hand.ensures.filled
+
+pub returns-clause-puts : goal.returns-clause-puts
+returns-clause-puts g t c =
+    let long : 0 < length c.pop_row-row.result = omega (arith, ap length c.in_ok-list.ensures, length-append c.pop_row-row.result (c.args.child ∷ []), c.len.ensures, c.if-len-lt40.false) in
+    let less = c.pop_row-row.ensures.less long in
+    omega (arith, less, c.in_ok-parent.ensures.puts, c.in_ok-hand.ensures.puts)

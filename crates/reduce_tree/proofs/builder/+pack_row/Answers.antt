@@ -1,7 +1,8 @@
-use Rattle.std.proofs.Common.{rules, arith, inl, inr, ◌≡◌, ◌+◌, ◌<◌, ◌≤◌, ◌∙◌, ◌∷◌, [], ◌^◌, ap, sym, subst}
+use Rattle.std.proofs.Common.{rules, arith, inl, inr, ◌≡◌, ◌+◌, ◌<◌, ◌≤◌, ◌∙◌, ◌∷◌, [], ◌^◌, ap, sym, subst, length}
 use Rattle.std.proofs.lemmas.Bool.{cases_lt}
 use Rattle.tree_laws.specs.declared.node.Node.TheVariants.{Inner}
 use Rattle.tree_laws.specs.declared.tree.Fill.TheVariants.{Below}
+use Rattle.tree_laws.specs.declared.tree.TreeFault.TheVariants as tree_fault
 use Rattle.tree_laws.specs.Fitting.{IsFilled, item_count}
 use Rattle.tree_laws.specs.Nodes.{entries, spelled_node}
 use Rattle.tree_laws.specs.Stores.{pieces_size}
@@ -11,12 +12,12 @@ use Rattle.tree_laws.proofs.SummerTrees.{child_stays, has_stays, stands_stays}
 use Rattle.reduce_tree.specs.Calls.{places}
 use Rattle.reduce_tree.specs.Packed.{ArePacked}
 use Rattle.std.proofs.lemmas.Result.{err_from_is_err_and}
-use Rattle.reduce_tree.proofs.Calls.{Laws, told_on}
+use Rattle.reduce_tree.proofs.Calls.{Laws, extends_on, fails_on, goes_none, goes_on, known_on, ran_err, told_on}
 use Rattle.reduce_tree.proofs.Climb.{stand_stays}
 use Rattle.reduce_tree.proofs.Fills.{IsFirst, leaf_first, packed_one, packed_more}
 use Rattle.reduce_tree.proofs.Nodes.{count_cons, count_one, filled_large, has_split, large_append, large_one, split_count, split_kind, split_large}
 use Rattle.reduce_tree.proofs.Puts.{leaf_split}
-use Rattle.reduce_tree.proofs.Working.{both_on, kept_on, knows_on, refused_on, worked_err, worked_none}
+use Rattle.reduce_tree.proofs.Working.{filled_none, filled_on, filled_wider, row_puts}
 use Rattle.reduce_tree.proofs.builder.+pack_row.Goals as goal
 
 pub pack_row-requires : goal.pack_row-requires
@@ -66,13 +67,13 @@ returns-clause-children g t c first level items known has =
     let new = places (g.S.NodeSource.nodes s2) in
     let left = c.in_ok-left.left in
     let right = c.in_ok-left.right in
-    let e01 = kept_on g.S.NodeSource m laws s0 s1 u0 u1 c.in_ok-first.ensures.ran in
-    let e12 = kept_on g.S.NodeSource m laws s1 s2 u1 u2 c.in_ok-rest.ensures.ran in
+    let e01 = extends_on g.M.Unit.Item g.S.NodeSource m laws s0 s1 u0 u1 c.in_ok-first.ensures.ran in
+    let e12 = extends_on g.M.Unit.Item g.S.NodeSource m laws s1 s2 u1 u2 c.in_ok-rest.ensures.ran in
     let j = has_split i m first old level c.args.node left right items c.in_ok-left.ensures.split has in
     let full_left : IsFilled Below left = record { least = omega (arith, c.in_ok-left.ensures.left, c.cut_at-at.ensures.least); most = omega (arith, c.in_ok-left.ensures.left, c.cut_at-at.ensures.most) } in
     let done = c.in_ok-first.ensures.child first level j.front known full_left j.at_front in
     let at_right = has_stays i m first old mid e01 level right j.back j.at_back in
-    let others = c.in_ok-rest.ensures.children first level j.back (knows_on g.S.NodeSource m laws i first s0 s1 u0 u1 known c.in_ok-first.ensures.ran) at_right in
+    let others = c.in_ok-rest.ensures.children first level j.back (known_on g.M.Unit.Item g.S.NodeSource m laws first s0 s1 u0 u1 known c.in_ok-first.ensures.ran) at_right in
     let first_now = child_stays i m first (Stands i m first mid level) (Stands i m first new level) (stands_stays i m first mid new e12 level) c.in_ok-first.first j.front done in
     rw (c.in_ok-with_first.ensures, j.whole)
     (children_append i m first (Stands i m first new level) (c.in_ok-first.first ∷ []) c.in_ok-rest.rest.items j.front j.back
@@ -110,7 +111,7 @@ returns-clause-packed g t c there told =
     let right = c.in_ok-left.right in
     let first = c.in_ok-first.first in
     let mid = told_on (g.S.NodeSource.nodes s0) (g.S.NodeSource.nodes s1) there told (laws.store_keeps s0 s1 c.in_ok-first.ensures.ran.store) in
-    let e12 = kept_on g.S.NodeSource g.M.Summer laws s1 s2 u1 u2 c.in_ok-rest.ensures.ran in
+    let e12 = extends_on g.M.Unit.Item g.S.NodeSource g.M.Summer laws s1 s2 u1 u2 c.in_ok-rest.ensures.ran in
     let len = entries c.args.node in
     let l : entries left ≡ c.cut_at-at.result = c.in_ok-left.ensures.left in
     let r : entries right + c.cut_at-at.result ≡ len = c.in_ok-left.ensures.right in
@@ -136,16 +137,77 @@ returns-clause-usable g t c some =
 pub returns-clause-ran : goal.returns-clause-ran
 returns-clause-ran g t c =
     let laws : Laws g.S.NodeSource g.M.Summer = record { store_steps = g.met.S.NodeSource.are_steps; store_keeps = g.met.S.NodeSource.keeps; store_caused = g.met.S.NodeSource.stays_caused; summer_steps = g.met.M.Summer.are_steps; summer_keeps = g.met.M.Summer.keeps; summer_caused = g.met.M.Summer.stays_caused } in
-    both_on g.S.NodeSource g.M.Summer laws c.args.store.now c.put_node-2.new.store c.pack_row.new.store c.args.summer.now c.put_node-2.new.summer c.pack_row.new.summer c.in_ok-first.ensures.ran c.in_ok-rest.ensures.ran
+    goes_on g.M.Unit.Item g.S.NodeSource g.M.Summer laws c.args.store.now c.put_node-2.new.store c.pack_row.new.store c.args.summer.now c.put_node-2.new.summer c.pack_row.new.summer c.in_ok-first.ensures.ran c.in_ok-rest.ensures.ran
 
 pub returns-in_err-rest-clause-ran : goal.returns-in_err-rest-clause-ran
 returns-in_err-rest-clause-ran g t c =
     let laws : Laws g.S.NodeSource g.M.Summer = record { store_steps = g.met.S.NodeSource.are_steps; store_keeps = g.met.S.NodeSource.keeps; store_caused = g.met.S.NodeSource.stays_caused; summer_steps = g.met.M.Summer.are_steps; summer_keeps = g.met.M.Summer.keeps; summer_caused = g.met.M.Summer.stays_caused } in
     let p = err_from_is_err_and c.from_residual-in_err-rest.result c.from_residual-in_err-rest.ensures.1 in
-    worked_err g.S.NodeSource g.M.Summer laws _ _ _ _ c.from_residual-in_err-rest.result c.in_err-rest.field-0.0 p.0 p.2 p.1 (refused_on g.S.NodeSource g.M.Summer laws c.args.store.now c.put_node-2.new.store c.pack_row.new.store c.args.summer.now c.put_node-2.new.summer c.pack_row.new.summer c.in_ok-first.ensures.ran _ c.in_err-rest.ensures.ran)
+    ran_err g.M.Unit.Item g.S.NodeSource g.M.Summer laws _ _ _ _ c.from_residual-in_err-rest.result c.in_err-rest.field-0.0 p.0 p.2 p.1 (fails_on g.M.Unit.Item g.S.NodeSource g.M.Summer laws c.args.store.now c.put_node-2.new.store c.pack_row.new.store c.args.summer.now c.put_node-2.new.summer c.pack_row.new.summer c.in_ok-first.ensures.ran _ c.in_err-rest.ensures.ran)
 
 pub returns-in_err-with_first-clause-ran : goal.returns-in_err-with_first-clause-ran
 returns-in_err-with_first-clause-ran g t c =
     let laws : Laws g.S.NodeSource g.M.Summer = record { store_steps = g.met.S.NodeSource.are_steps; store_keeps = g.met.S.NodeSource.keeps; store_caused = g.met.S.NodeSource.stays_caused; summer_steps = g.met.M.Summer.are_steps; summer_keeps = g.met.M.Summer.keeps; summer_caused = g.met.M.Summer.stays_caused } in
     let p = err_from_is_err_and c.from_residual-in_err-with_first.result c.from_residual-in_err-with_first.ensures.1 in
-    worked_none g.S.NodeSource g.M.Summer laws _ _ _ _ c.from_residual-in_err-with_first.result p.0 p.2 p.1 (both_on g.S.NodeSource g.M.Summer laws c.args.store.now c.put_node-2.new.store c.pack_row.new.store c.args.summer.now c.put_node-2.new.summer c.pack_row.new.summer c.in_ok-first.ensures.ran c.in_ok-rest.ensures.ran)
+    ran_err g.M.Unit.Item g.S.NodeSource g.M.Summer laws _ _ _ _ c.from_residual-in_err-with_first.result tree_fault.NoMemory p.0 p.2 p.1 (goes_on g.M.Unit.Item g.S.NodeSource g.M.Summer laws c.args.store.now c.put_node-2.new.store c.pack_row.new.store c.args.summer.now c.put_node-2.new.summer c.pack_row.new.summer c.in_ok-first.ensures.ran c.in_ok-rest.ensures.ran)
+
+pub returns-in_err-child-clause-filled : goal.returns-in_err-child-clause-filled
+returns-in_err-child-clause-filled g t c = filled_wider g.M.Unit.Item _ _ 8 32 c.requires.least (omega (arith, c.len.ensures, c.if-len-le32.true)) _ _ c.in_err-child.ensures.filled
+
+pub returns-in_err-list_of_one-clause-filled : goal.returns-in_err-list_of_one-clause-filled
+returns-in_err-list_of_one-clause-filled g t c = filled_wider g.M.Unit.Item _ _ 8 32 c.requires.least (omega (arith, c.len.ensures, c.if-len-le32.true)) _ _ c.in_ok-child.ensures.filled
+
+pub returns-then-len-le32-clause-filled : goal.returns-then-len-le32-clause-filled
+returns-then-len-le32-clause-filled g t c = filled_wider g.M.Unit.Item _ _ 8 32 c.requires.least (omega (arith, c.len.ensures, c.if-len-le32.true)) _ _ c.in_ok-child.ensures.filled
+
+pub returns-in_err-left-clause-filled : goal.returns-in_err-left-clause-filled
+returns-in_err-left-clause-filled g t c = filled_none g.M.Unit.Item _ _ (g.S.NodeSource.puts c.args.store.now)
+
+pub returns-in_err-left-clause-ran : goal.returns-in_err-left-clause-ran
+returns-in_err-left-clause-ran g t c =
+    let laws : Laws g.S.NodeSource g.M.Summer = record { store_steps = g.met.S.NodeSource.are_steps; store_keeps = g.met.S.NodeSource.keeps; store_caused = g.met.S.NodeSource.stays_caused; summer_steps = g.met.M.Summer.are_steps; summer_keeps = g.met.M.Summer.keeps; summer_caused = g.met.M.Summer.stays_caused } in
+    let p = err_from_is_err_and c.from_residual-in_err-left.result c.from_residual-in_err-left.ensures.1 in
+    ran_err g.M.Unit.Item g.S.NodeSource g.M.Summer laws _ _ _ _ c.from_residual-in_err-left.result tree_fault.NoMemory p.0 p.2 p.1 (goes_none g.M.Unit.Item g.S.NodeSource g.M.Summer laws c.args.store.now c.args.summer.now)
+
+pub returns-in_err-first-clause-filled : goal.returns-in_err-first-clause-filled
+returns-in_err-first-clause-filled g t c = filled_wider g.M.Unit.Item _ _ 8 32 (omega (arith, c.in_ok-left.ensures.left, c.cut_at-at.ensures.least)) (omega (arith, c.in_ok-left.ensures.left, c.cut_at-at.ensures.most)) _ _ c.in_err-first.ensures.filled
+
+pub returns-in_err-rest-clause-filled : goal.returns-in_err-rest-clause-filled
+returns-in_err-rest-clause-filled g t c = filled_on g.M.Unit.Item 8 32 (g.S.NodeSource.puts c.args.store.now) (g.S.NodeSource.puts c.put_node-2.new.store) (g.S.NodeSource.puts c.pack_row.new.store) (filled_wider g.M.Unit.Item _ _ 8 32 (omega (arith, c.in_ok-left.ensures.left, c.cut_at-at.ensures.least)) (omega (arith, c.in_ok-left.ensures.left, c.cut_at-at.ensures.most)) _ _ c.in_ok-first.ensures.filled) c.in_err-rest.ensures.filled
+
+pub returns-in_err-rest-clause-puts : goal.returns-in_err-rest-clause-puts
+returns-in_err-rest-clause-puts g t c =
+    let n = entries c.args.node in
+    let long : 32 < n = omega (arith, c.len.ensures, c.if-len-le32.false) in
+    row_puts n c.cut_at-at.result (entries c.in_ok-left.right) (length (g.S.NodeSource.puts c.args.store.now)) (length (g.S.NodeSource.puts c.put_node-2.new.store)) (length (g.S.NodeSource.puts c.pack_row.new.store)) long c.in_ok-left.ensures.right
+    (λ s. c.cut_at-at.ensures.short (omega (arith, s, c.len-2.ensures))) (λ b. c.cut_at-at.ensures.long (omega (arith, b, c.len-2.ensures))) c.in_ok-first.ensures.puts c.in_err-rest.ensures.puts
+
+pub returns-in_err-with_first-clause-filled : goal.returns-in_err-with_first-clause-filled
+returns-in_err-with_first-clause-filled g t c = filled_on g.M.Unit.Item 8 32 (g.S.NodeSource.puts c.args.store.now) (g.S.NodeSource.puts c.put_node-2.new.store) (g.S.NodeSource.puts c.pack_row.new.store) (filled_wider g.M.Unit.Item _ _ 8 32 (omega (arith, c.in_ok-left.ensures.left, c.cut_at-at.ensures.least)) (omega (arith, c.in_ok-left.ensures.left, c.cut_at-at.ensures.most)) _ _ c.in_ok-first.ensures.filled) c.in_ok-rest.ensures.filled
+
+pub returns-in_err-with_first-clause-puts : goal.returns-in_err-with_first-clause-puts
+returns-in_err-with_first-clause-puts g t c =
+    let n = entries c.args.node in
+    let long : 32 < n = omega (arith, c.len.ensures, c.if-len-le32.false) in
+    row_puts n c.cut_at-at.result (entries c.in_ok-left.right) (length (g.S.NodeSource.puts c.args.store.now)) (length (g.S.NodeSource.puts c.put_node-2.new.store)) (length (g.S.NodeSource.puts c.pack_row.new.store)) long c.in_ok-left.ensures.right
+    (λ s. c.cut_at-at.ensures.short (omega (arith, s, c.len-2.ensures))) (λ b. c.cut_at-at.ensures.long (omega (arith, b, c.len-2.ensures))) c.in_ok-first.ensures.puts c.in_ok-rest.ensures.puts
+
+pub returns-clause-filled : goal.returns-clause-filled
+returns-clause-filled g t c = filled_on g.M.Unit.Item 8 32 (g.S.NodeSource.puts c.args.store.now) (g.S.NodeSource.puts c.put_node-2.new.store) (g.S.NodeSource.puts c.pack_row.new.store) (filled_wider g.M.Unit.Item _ _ 8 32 (omega (arith, c.in_ok-left.ensures.left, c.cut_at-at.ensures.least)) (omega (arith, c.in_ok-left.ensures.left, c.cut_at-at.ensures.most)) _ _ c.in_ok-first.ensures.filled) c.in_ok-rest.ensures.filled
+
+pub returns-clause-puts : goal.returns-clause-puts
+returns-clause-puts g t c =
+    let n = entries c.args.node in
+    let long : 32 < n = omega (arith, c.len.ensures, c.if-len-le32.false) in
+    row_puts n c.cut_at-at.result (entries c.in_ok-left.right) (length (g.S.NodeSource.puts c.args.store.now)) (length (g.S.NodeSource.puts c.put_node-2.new.store)) (length (g.S.NodeSource.puts c.pack_row.new.store)) long c.in_ok-left.ensures.right
+    (λ s. c.cut_at-at.ensures.short (omega (arith, s, c.len-2.ensures))) (λ b. c.cut_at-at.ensures.long (omega (arith, b, c.len-2.ensures))) c.in_ok-first.ensures.puts c.in_ok-rest.ensures.puts
+
+pub returns-clause-pieces : goal.returns-clause-pieces
+returns-clause-pieces g t c =
+    let n = entries c.args.node in
+    let long : 32 < n = omega (arith, c.len.ensures, c.if-len-le32.false) in
+    let rest = c.in_ok-rest.rest.items in
+    let all = ap length c.in_ok-with_first.ensures in
+    let most = row_puts n c.cut_at-at.result (entries c.in_ok-left.right) 0 1 (length rest + 1) long c.in_ok-left.ensures.right
+    (λ s. c.cut_at-at.ensures.short (omega (arith, s, c.len-2.ensures))) (λ b. c.cut_at-at.ensures.long (omega (arith, b, c.len-2.ensures))) (omega arith) (omega (arith, c.in_ok-rest.ensures.pieces)) in
+    omega (arith, all, most)

@@ -9,13 +9,13 @@ use Rattle.reduce_tree.specs.Built.{AreRows, Stacked, row_items}
 use Rattle.reduce_tree.specs.Calls.{places}
 use Rattle.reduce_tree.specs.Packed.{ArePacked, IsCut, StandsAt}
 use Rattle.std.proofs.lemmas.Result.{err_from_is_err_and}
-use Rattle.reduce_tree.proofs.Calls.{Laws, told_on}
+use Rattle.reduce_tree.proofs.Calls.{Laws, extends_on, fails_on, goes_on, known_on, ran_err, told_on}
 use Rattle.reduce_tree.proofs.Climb.{grew_up, cut_root, cut_stays, cut_waits, climbs_none, climbs_popped, climbs_some, climbs_stay, nodes_stay, packs_root, packs_up, two_given}
 use Rattle.reduce_tree.proofs.Lists.{none_long}
 use Rattle.reduce_tree.proofs.Nodes.{above_at_level, count_append, has_children, large_append, level_small, many_items}
 use Rattle.reduce_tree.proofs.Puts.{less_or}
 use Rattle.reduce_tree.proofs.Stacks.{items_pop, none_row, popped, rows_pop, stacked_stays}
-use Rattle.reduce_tree.proofs.Working.{both_on, kept_on, knows_on, refused_on, worked_err}
+use Rattle.reduce_tree.proofs.Working.{filled_on, filled_same, packed_below, packed_on, packed_top, refused_on, refused_sure, rise_puts}
 use Rattle.reduce_tree.proofs.builder.+rise.Goals as goal
 
 pub pack_row-requires-clause-least : goal.pack_row-requires-clause-least
@@ -87,8 +87,8 @@ returns-clause-root g t c first xs ys known st has =
     let n0 = places (g.S.NodeSource.nodes s0) in
     let n1 = places (g.S.NodeSource.nodes s1) in
     let n2 = places (g.S.NodeSource.nodes s2) in
-    let e01 = kept_on g.S.NodeSource m laws s0 s1 u0 u1 c.in_ok-placed.ensures.ran in
-    let e12 = kept_on g.S.NodeSource m laws s1 s2 u1 u2 c.in_ok-tree-2.ensures.ran in
+    let e01 = extends_on g.M.Unit.Item g.S.NodeSource m laws s0 s1 u0 u1 c.in_ok-placed.ensures.ran in
+    let e12 = extends_on g.M.Unit.Item g.S.NodeSource m laws s1 s2 u1 u2 c.in_ok-tree-2.ensures.ran in
     let placed = c.in_ok-placed.placed.items in
     let row = c.pop_row-row.result in
     let above = c.pop_row-row.new.rows.items in
@@ -101,7 +101,7 @@ returns-clause-root g t c first xs ys known st has =
     let all = children_append i m first (Stands i m first n1 level) row placed j.back ys j.at_back cs in
     let at = subst (λ ds. Has i m first n1 (level + 1) (Inner ds) (j.back ++ ys)) (sym list) (has_children i m first n1 level (row ++ placed) (j.back ++ ys) all) in
     let whole : j.front ++ (j.back ++ ys) ≡ xs ++ ys = sym (append_assoc j.front j.back ys) ∙ ap (λ u. u ++ ys) (sym j.whole) in
-    let says = c.in_ok-tree-2.ensures.root first j.front (j.back ++ ys) (knows_on g.S.NodeSource m laws i first s0 s1 u0 u1 known c.in_ok-placed.ensures.ran) j.at_front at in
+    let says = c.in_ok-tree-2.ensures.root first j.front (j.back ++ ys) (known_on g.M.Unit.Item g.S.NodeSource m laws first s0 s1 u0 u1 known c.in_ok-placed.ensures.ran) j.at_front at in
     subst (λ u. HasRoot i m first n2 c.in_ok-tree-2.tree.root c.in_ok-tree-2.tree.height u) whole says
 
 pub returns-clause-count : goal.returns-clause-count
@@ -128,8 +128,8 @@ returns-clause-leaf g t c there given ws above own more told is some cut climbs 
     let n0 = places (g.S.NodeSource.nodes s0) in
     let n1 = places (g.S.NodeSource.nodes s1) in
     let n2 = places (g.S.NodeSource.nodes s2) in
-    let e01 = kept_on g.S.NodeSource m laws s0 s1 u0 u1 c.in_ok-placed.ensures.ran in
-    let e12 = kept_on g.S.NodeSource m laws s1 s2 u1 u2 c.in_ok-tree-2.ensures.ran in
+    let e01 = extends_on g.M.Unit.Item g.S.NodeSource m laws s0 s1 u0 u1 c.in_ok-placed.ensures.ran in
+    let e12 = extends_on g.M.Unit.Item g.S.NodeSource m laws s1 s2 u1 u2 c.in_ok-tree-2.ensures.ran in
     let level = c.args.level in
     let tree = c.in_ok-tree-2.tree in
     let placed = c.in_ok-placed.placed.items in
@@ -193,8 +193,8 @@ returns-clause-inner g t c there given ws above own more told is some cut climbs
     let n0 = places (g.S.NodeSource.nodes s0) in
     let n1 = places (g.S.NodeSource.nodes s1) in
     let n2 = places (g.S.NodeSource.nodes s2) in
-    let e01 = kept_on g.S.NodeSource m laws s0 s1 u0 u1 c.in_ok-placed.ensures.ran in
-    let e12 = kept_on g.S.NodeSource m laws s1 s2 u1 u2 c.in_ok-tree-2.ensures.ran in
+    let e01 = extends_on g.M.Unit.Item g.S.NodeSource m laws s0 s1 u0 u1 c.in_ok-placed.ensures.ran in
+    let e12 = extends_on g.M.Unit.Item g.S.NodeSource m laws s1 s2 u1 u2 c.in_ok-tree-2.ensures.ran in
     let level = c.args.level in
     let tree = c.in_ok-tree-2.tree in
     let placed = c.in_ok-placed.placed.items in
@@ -262,10 +262,91 @@ returns-clause-usable g t c some = c.in_ok-placed.ensures.usable some
 pub returns-clause-ran : goal.returns-clause-ran
 returns-clause-ran g t c =
     let laws : Laws g.S.NodeSource g.M.Summer = record { store_steps = g.met.S.NodeSource.are_steps; store_keeps = g.met.S.NodeSource.keeps; store_caused = g.met.S.NodeSource.stays_caused; summer_steps = g.met.M.Summer.are_steps; summer_keeps = g.met.M.Summer.keeps; summer_caused = g.met.M.Summer.stays_caused } in
-    both_on g.S.NodeSource g.M.Summer laws c.args.store.now c.pack_row.new.store c.rise.new.store c.args.summer.now c.pack_row.new.summer c.rise.new.summer c.in_ok-placed.ensures.ran c.in_ok-tree-2.ensures.ran
+    goes_on g.M.Unit.Item g.S.NodeSource g.M.Summer laws c.args.store.now c.pack_row.new.store c.rise.new.store c.args.summer.now c.pack_row.new.summer c.rise.new.summer c.in_ok-placed.ensures.ran c.in_ok-tree-2.ensures.ran
 
 pub returns-in_err-tree-2-clause-ran : goal.returns-in_err-tree-2-clause-ran
 returns-in_err-tree-2-clause-ran g t c =
     let laws : Laws g.S.NodeSource g.M.Summer = record { store_steps = g.met.S.NodeSource.are_steps; store_keeps = g.met.S.NodeSource.keeps; store_caused = g.met.S.NodeSource.stays_caused; summer_steps = g.met.M.Summer.are_steps; summer_keeps = g.met.M.Summer.keeps; summer_caused = g.met.M.Summer.stays_caused } in
     let p = err_from_is_err_and c.from_residual-in_err-tree-2.result c.from_residual-in_err-tree-2.ensures.1 in
-    worked_err g.S.NodeSource g.M.Summer laws _ _ _ _ c.from_residual-in_err-tree-2.result c.in_err-tree-2.field-0.0 p.0 p.2 p.1 (refused_on g.S.NodeSource g.M.Summer laws c.args.store.now c.pack_row.new.store c.rise.new.store c.args.summer.now c.pack_row.new.summer c.rise.new.summer c.in_ok-placed.ensures.ran _ c.in_err-tree-2.ensures.ran)
+    ran_err g.M.Unit.Item g.S.NodeSource g.M.Summer laws _ _ _ _ c.from_residual-in_err-tree-2.result c.in_err-tree-2.field-0.0 p.0 p.2 p.1 (fails_on g.M.Unit.Item g.S.NodeSource g.M.Summer laws c.args.store.now c.pack_row.new.store c.rise.new.store c.args.summer.now c.pack_row.new.summer c.rise.new.summer c.in_ok-placed.ensures.ran _ c.in_err-tree-2.ensures.ran)
+
+pub returns-in_err-tree-clause-filled : goal.returns-in_err-tree-clause-filled
+returns-in_err-tree-clause-filled g t c = packed_top g.M.Unit.Item _ _ c.in_err-tree.ensures.filled c.in_err-tree.ensures.puts
+
+pub returns-then-fits_root-clause-filled : goal.returns-then-fits_root-clause-filled
+returns-then-fits_root-clause-filled g t c = packed_top g.M.Unit.Item _ _ c.in_ok-tree.ensures.filled c.in_ok-tree.ensures.puts
+
+pub returns-in_err-placed-clause-filled : goal.returns-in_err-placed-clause-filled
+returns-in_err-placed-clause-filled g t c = packed_below g.M.Unit.Item _ _ c.in_err-placed.ensures.filled
+
+pub returns-in_err-add_all-clause-filled : goal.returns-in_err-add_all-clause-filled
+returns-in_err-add_all-clause-filled g t c = packed_below g.M.Unit.Item _ _ c.in_ok-placed.ensures.filled
+
+pub returns-in_err-placed-clause-once : goal.returns-in_err-placed-clause-once
+returns-in_err-placed-clause-once g t c rows few =
+    let z : c.len.result ≡ 0 = omega (arith, c.len.ensures, rows) in
+    let many = c.fits_root.ensures.more c.if-fits_root.false z in
+    absurd (omega (arith, many, c.len-2.ensures, few))
+
+pub returns-in_err-add_all-clause-once : goal.returns-in_err-add_all-clause-once
+returns-in_err-add_all-clause-once g t c rows few =
+    let z : c.len.result ≡ 0 = omega (arith, c.len.ensures, rows) in
+    let many = c.fits_root.ensures.more c.if-fits_root.false z in
+    absurd (omega (arith, many, c.len-2.ensures, few))
+
+pub returns-in_err-tree-2-clause-once : goal.returns-in_err-tree-2-clause-once
+returns-in_err-tree-2-clause-once g t c rows few =
+    let z : c.len.result ≡ 0 = omega (arith, c.len.ensures, rows) in
+    let many = c.fits_root.ensures.more c.if-fits_root.false z in
+    absurd (omega (arith, many, c.len-2.ensures, few))
+
+pub returns-clause-once : goal.returns-clause-once
+returns-clause-once g t c rows few =
+    let z : c.len.result ≡ 0 = omega (arith, c.len.ensures, rows) in
+    let many = c.fits_root.ensures.more c.if-fits_root.false z in
+    absurd (omega (arith, many, c.len-2.ensures, few))
+
+pub returns-in_err-tree-2-clause-filled : goal.returns-in_err-tree-2-clause-filled
+returns-in_err-tree-2-clause-filled g t c = packed_on g.M.Unit.Item (g.S.NodeSource.puts c.args.store.now) (g.S.NodeSource.puts c.pack_row.new.store) (g.S.NodeSource.puts c.rise.new.store) c.in_ok-placed.ensures.filled c.in_err-tree-2.ensures.filled
+
+pub returns-in_err-tree-2-clause-puts : goal.returns-in_err-tree-2-clause-puts
+returns-in_err-tree-2-clause-puts g t c most =
+    let placed = c.in_ok-placed.placed.items in
+    let row = c.pop_row-row.result in
+    let above = c.pop_row-row.new.rows.items in
+    let list : c.from_vec.result ≡ row ++ placed = c.from_vec.ensures ∙ c.in_ok-add_all.ensures ∙ ap (λ r. r ++ placed) c.into_vec-list.ensures in
+    let long = ap length list ∙ length-append row placed in
+    let k = rows_pop c.args.level c.args.rows.items above row c.pop_row-row.ensures.items c.requires.rows in
+    rise_puts c.args.rows.items above row (length placed) (length c.from_vec.result) (entries c.args.node) (length (g.S.NodeSource.puts c.args.store.now)) (length (g.S.NodeSource.puts c.pack_row.new.store)) (length (g.S.NodeSource.puts c.rise.new.store))
+    c.pop_row-row.ensures.items k.0.few long (omega (arith, c.in_ok-placed.ensures.pieces)) most c.in_ok-placed.ensures.puts c.in_err-tree-2.ensures.once c.in_err-tree-2.ensures.puts
+
+pub returns-clause-filled : goal.returns-clause-filled
+returns-clause-filled g t c = packed_on g.M.Unit.Item (g.S.NodeSource.puts c.args.store.now) (g.S.NodeSource.puts c.pack_row.new.store) (g.S.NodeSource.puts c.rise.new.store) c.in_ok-placed.ensures.filled c.in_ok-tree-2.ensures.filled
+
+pub returns-clause-puts : goal.returns-clause-puts
+returns-clause-puts g t c most =
+    let placed = c.in_ok-placed.placed.items in
+    let row = c.pop_row-row.result in
+    let above = c.pop_row-row.new.rows.items in
+    let list : c.from_vec.result ≡ row ++ placed = c.from_vec.ensures ∙ c.in_ok-add_all.ensures ∙ ap (λ r. r ++ placed) c.into_vec-list.ensures in
+    let long = ap length list ∙ length-append row placed in
+    let k = rows_pop c.args.level c.args.rows.items above row c.pop_row-row.ensures.items c.requires.rows in
+    rise_puts c.args.rows.items above row (length placed) (length c.from_vec.result) (entries c.args.node) (length (g.S.NodeSource.puts c.args.store.now)) (length (g.S.NodeSource.puts c.pack_row.new.store)) (length (g.S.NodeSource.puts c.rise.new.store))
+    c.pop_row-row.ensures.items k.0.few long (omega (arith, c.in_ok-placed.ensures.pieces)) most c.in_ok-placed.ensures.puts c.in_ok-tree-2.ensures.once c.in_ok-tree-2.ensures.puts
+
+pub returns-in_err-tree-clause-refused : goal.returns-in_err-tree-clause-refused
+returns-in_err-tree-clause-refused g t c =
+    let p = err_from_is_err_and c.from_residual.result c.from_residual.ensures.1 in
+    refused_on _ _ c.from_residual.result c.in_err-tree.field-0.0 p.0 p.2 p.1 (λ e. filled_same g.M.Unit.Item 8 32 (g.S.NodeSource.puts c.args.store.now) (g.S.NodeSource.puts c.put_top.new.store) e) c.in_err-tree.ensures.refused
+
+pub returns-in_err-placed-clause-refused : goal.returns-in_err-placed-clause-refused
+returns-in_err-placed-clause-refused g t c = refused_sure _ c.from_residual-in_err-placed.result c.in_err-placed.ensures.filled
+
+pub returns-in_err-add_all-clause-refused : goal.returns-in_err-add_all-clause-refused
+returns-in_err-add_all-clause-refused g t c = refused_sure _ c.from_residual-in_err-add_all.result c.in_ok-placed.ensures.filled
+
+pub returns-in_err-tree-2-clause-refused : goal.returns-in_err-tree-2-clause-refused
+returns-in_err-tree-2-clause-refused g t c =
+    let p = err_from_is_err_and c.from_residual-in_err-tree-2.result c.from_residual-in_err-tree-2.ensures.1 in
+    refused_on _ _ c.from_residual-in_err-tree-2.result c.in_err-tree-2.field-0.0 p.0 p.2 p.1
+    (λ h. filled_on g.M.Unit.Item 8 32 (g.S.NodeSource.puts c.args.store.now) (g.S.NodeSource.puts c.pack_row.new.store) (g.S.NodeSource.puts c.rise.new.store) c.in_ok-placed.ensures.filled h) c.in_err-tree-2.ensures.refused

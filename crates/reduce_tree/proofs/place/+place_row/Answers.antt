@@ -1,4 +1,4 @@
-use Rattle.std.proofs.Common.{arith, ◌≡◌, ◌+◌, ◌∙◌, ap, Contains, subst, refl}
+use Rattle.std.proofs.Common.{arith, ◌≡◌, ◌+◌, ◌∙◌, ap, Contains, subst, refl, ◌-◌}
 use Rattle.tree_laws.specs.declared.node.Node.TheVariants.{Inner}
 use Rattle.tree_laws.specs.Fitting.{item_count}
 use Rattle.tree_laws.specs.SummerTrees.{Stands}
@@ -14,6 +14,9 @@ use Rattle.reduce_tree.proofs.Quiet.{all_front, all_back}
 use Rattle.reduce_tree.specs.Pieces.{AreAmong}
 use Rattle.tree_laws.specs.declared.tree.Fill.TheVariants.{Below}
 use Rattle.tree_laws.specs.declared.tree.TreeFault.TheVariants as tree_fault
+use Rattle.reduce_tree.proofs.Given.{all_on, row_on, under_on, each_split}
+use Rattle.reduce_tree.specs.Given.{Given}
+use Rattle.std.proofs.lemmas.List.Elements.{All-append}
 use Rattle.reduce_tree.proofs.place.+place_row.Goals as goal
 
 pub returns-clause-children : goal.returns-clause-children
@@ -212,3 +215,19 @@ returns-in_err-add_all-clause-pieces g t c first level items among known has all
     let p = err_from_is_err_and c.from_residual-in_err-add_all.result c.from_residual-in_err-add_all.ensures.1 in
     on_match c.from_residual-in_err-add_all.result _ _ _ p.0 p.2 p.1
     (were_done i m first among old new (λ at bytes s. e12 at bytes (e01 at bytes s)) _ (g.S.NodeSource.puts s0) (g.S.NodeSource.puts s2) (pieces_on i m first among mid new e12 Below (g.S.NodeSource.puts s0) (g.S.NodeSource.puts s1) (g.S.NodeSource.puts s2) done second))
+
+pub returns-clause-given : goal.returns-clause-given
+returns-clause-given g t c first tree pieces level under kind large given =
+    let laws : Laws g.S.NodeSource g.M.Summer = record { store_steps = g.met.S.NodeSource.are_steps; store_keeps = g.met.S.NodeSource.keeps; store_caused = g.met.S.NodeSource.stays_caused; summer_steps = g.met.M.Summer.are_steps; summer_keeps = g.met.M.Summer.keeps; summer_caused = g.met.M.Summer.stays_caused } in
+    let i = g.M.Unit.Item in let s = g.S.NodeSource in let m = g.M.Summer in let s0 = c.args.store.now in let u0 = c.args.summer.now in
+    let s1 = c.place_row.new.store in let s2 = c.place_row-2.new.store in let u1 = c.place_row.new.summer in let u2 = c.place_row-2.new.summer in
+    let left = c.in_ok-left.left in let right = c.in_ok-left.right in
+    let split = c.in_ok-left.ensures.split in
+    let k = split_kind level c.args.node left right split kind in
+    let l = split_large level c.args.node left right split large in
+    let halves = each_split (Given i s m first tree pieces s0 (level - 1)) c.args.node left right split given in
+    let ran = c.in_ok-front.ensures.ran in
+    let one = c.in_ok-front.ensures.given first tree pieces level under k.0 l.0 halves.0 in
+    let two = c.in_ok-back.ensures.given first tree pieces level (under_on i s m laws first tree pieces s0 s1 u0 u1 under ran) k.1 l.1 (row_on i s m laws first tree pieces s0 s1 u0 u1 ran level right halves.1) in
+    let one_now = all_on i s m laws first tree pieces s1 s2 u1 u2 c.in_ok-back.ensures.ran level c.in_ok-front.front.items one in
+    rw c.in_ok-add_all.ensures (All-append (Given i s m first tree pieces s2 level) c.in_ok-front.front.items c.in_ok-back.back.items one_now two)

@@ -8,6 +8,7 @@ use Rattle.reduce_tree.proofs.Sound.{sound_err, summed_sound}
 use Rattle.std.proofs.lemmas.Result.{err_from_is_err_and}
 use Rattle.reduce_tree.proofs.Pieces.{pieces_one, were_none, were_tried, on_match}
 use Rattle.tree_laws.specs.declared.tree.TreeFault.TheVariants as tree_fault
+use Rattle.reduce_tree.proofs.Given.{put_given}
 use Rattle.reduce_tree.proofs.place.place.Goals as goal
 
 pub returns-in-Ok-clause-stands : goal.returns-in-Ok-clause-stands
@@ -138,3 +139,12 @@ returns-clause-pieces g c first level fill items among known filled has all =
     let is = c.as_slice.ensures.value ∙ c.in_ok-bytes.ensures.bytes in
     were_tried g.M.Unit.Item g.M.Summer first among (places (g.S.NodeSource.nodes c.args.store.now)) _ c.as_slice.result.now (g.S.NodeSource.puts c.args.store.now) (g.S.NodeSource.puts c.put.new.self) c.in-Err.ensures.puts
     (record { level = level; fill = fill; own = items; node = c.args.node; fits = c.in_ok-bytes.ensures.fits; bytes_are = is; filled = filled; has = has; items = all })
+
+pub returns-in-Ok-clause-given : goal.returns-in-Ok-clause-given
+returns-in-Ok-clause-given g c first tree pieces level under kind large filled given =
+    let laws : Laws g.S.NodeSource g.M.Summer = record { store_steps = g.met.S.NodeSource.are_steps; store_keeps = g.met.S.NodeSource.keeps; store_caused = g.met.S.NodeSource.stays_caused; summer_steps = g.met.M.Summer.are_steps; summer_keeps = g.met.M.Summer.keeps; summer_caused = g.met.M.Summer.stays_caused } in
+    let i = g.M.Unit.Item in let s = g.S.NodeSource in let m = g.M.Summer in let s0 = c.args.store.now in let u0 = c.args.summer.now in
+    let s1 = c.put.new.self in let u1 = c.tell.new.summer in
+    let spells = c.as_slice.ensures.value ∙ c.in_ok-bytes.ensures.bytes in
+    let ran : GoOn i s m s0 s1 u0 u1 = goes_put i s m laws s0 s1 u0 u1 c.as_slice.result.now c.args.node c.in-Ok.ensures.goes c.in_ok-told.ensures.ran c.in-Ok.ensures.puts spells c.in_ok-bytes.ensures.fits c.requires.most c.in_ok-told.ensures.summed in
+    put_given i s m laws first tree pieces s0 s1 u0 u1 under ran c.as_slice.result.now c.in-Ok.ensures.puts c.args.node spells c.in_ok-bytes.ensures.fits c.in_ok-told.ensures.summed level _ _ c.in-Ok.ensures.place c.in_ok-told.ensures.count kind filled large given

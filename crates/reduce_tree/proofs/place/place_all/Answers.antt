@@ -1,4 +1,4 @@
-use Rattle.std.proofs.Common.{arith, ◌≡◌, ◌+◌, ◌≤◌, ◌∙◌, ◌∷◌, [], ◌^◌, ap, sym, subst, Contains, ◌<◌, refl}
+use Rattle.std.proofs.Common.{arith, ◌≡◌, ◌+◌, ◌≤◌, ◌∙◌, ◌∷◌, [], ◌^◌, ap, sym, subst, Contains, ◌<◌, refl, ◌-◌}
 use Rattle.tree_laws.specs.declared.node.Node.TheVariants.{Inner}
 use Rattle.tree_laws.specs.declared.tree.Fill.TheVariants.{Below}
 use Rattle.tree_laws.specs.Fitting.{IsFilled, item_count}
@@ -15,6 +15,9 @@ use Rattle.reduce_tree.proofs.Quiet.{all_front, all_back}
 use Rattle.reduce_tree.specs.Pieces.{AreAmong}
 use Rattle.tree_laws.specs.Nodes.{entries}
 use Rattle.tree_laws.specs.declared.tree.TreeFault.TheVariants as tree_fault
+use Rattle.reduce_tree.proofs.Given.{given_on, row_on, under_on, each_split}
+use Rattle.reduce_tree.specs.Given.{Given}
+use Rattle.std.proofs.lemmas.List.Elements.{All-cons, All-nil}
 use Rattle.reduce_tree.proofs.place.place_all.Goals as goal
 
 pub returns-then-len-le32-clause-children : goal.returns-then-len-le32-clause-children
@@ -264,3 +267,29 @@ returns-in_err-list_of_two-clause-pieces g c first level items among known has a
     let p = err_from_is_err_and c.from_residual-in_err-list_of_two.result c.from_residual-in_err-list_of_two.ensures.1 in
     on_match c.from_residual-in_err-list_of_two.result _ _ _ p.0 p.2 p.1
     (were_done i m first among old new (λ at bytes s. e12 at bytes (e01 at bytes s)) _ (g.S.NodeSource.puts s0) (g.S.NodeSource.puts s2) (pieces_on i m first among mid new e12 Below (g.S.NodeSource.puts s0) (g.S.NodeSource.puts s1) (g.S.NodeSource.puts s2) done second))
+
+pub returns-then-len-le32-clause-given : goal.returns-then-len-le32-clause-given
+returns-then-len-le32-clause-given g c first tree pieces level under kind large given =
+    let i = g.M.Unit.Item in let s = g.S.NodeSource in let m = g.M.Summer in let s0 = c.args.store.now in let u0 = c.args.summer.now in
+    let full : IsFilled Below c.args.node = record { least = c.requires.least; most = omega (arith, c.len.ensures, c.if-len-le32.true) } in
+    let P = Given i s m first tree pieces c.place.new.store level in
+    rw c.in_ok-list_of_one.ensures (All-cons P c.in_ok-child.child [] (c.in_ok-child.ensures.given first tree pieces level under kind large full given) (All-nil P))
+
+pub returns-clause-given : goal.returns-clause-given
+returns-clause-given g c first tree pieces level under kind large given =
+    let laws : Laws g.S.NodeSource g.M.Summer = record { store_steps = g.met.S.NodeSource.are_steps; store_keeps = g.met.S.NodeSource.keeps; store_caused = g.met.S.NodeSource.stays_caused; summer_steps = g.met.M.Summer.are_steps; summer_keeps = g.met.M.Summer.keeps; summer_caused = g.met.M.Summer.stays_caused } in
+    let i = g.M.Unit.Item in let s = g.S.NodeSource in let m = g.M.Summer in let s0 = c.args.store.now in let u0 = c.args.summer.now in
+    let s1 = c.place-2.new.store in let s2 = c.place-3.new.store in let u1 = c.place-2.new.summer in let u2 = c.place-3.new.summer in
+    let left = c.in_ok-left.left in let right = c.in_ok-left.right in
+    let split = c.in_ok-left.ensures.split in
+    let k = split_kind level c.args.node left right split kind in
+    let l = split_large level c.args.node left right split large in
+    let full_left : IsFilled Below left = record { least = omega (arith, c.in_ok-left.ensures.left); most = omega (arith, c.in_ok-left.ensures.left) } in
+    let full_right : IsFilled Below right = record { least = omega (arith, c.in_ok-left.ensures.left, c.in_ok-left.ensures.right); most = omega (arith, c.in_ok-left.ensures.left, c.in_ok-left.ensures.right) } in
+    let halves = each_split (Given i s m first tree pieces s0 (level - 1)) c.args.node left right split given in
+    let ran = c.in_ok-first.ensures.ran in
+    let one = c.in_ok-first.ensures.given first tree pieces level under k.0 l.0 full_left halves.0 in
+    let two = c.in_ok-second.ensures.given first tree pieces level (under_on i s m laws first tree pieces s0 s1 u0 u1 under ran) k.1 l.1 full_right (row_on i s m laws first tree pieces s0 s1 u0 u1 ran level right halves.1) in
+    let P = Given i s m first tree pieces s2 level in
+    let one_now = given_on i s m laws first tree pieces s1 s2 u1 u2 c.in_ok-second.ensures.ran level c.in_ok-first.first one in
+    rw c.in_ok-list_of_two.ensures (All-cons P c.in_ok-first.first (c.in_ok-second.second ∷ []) one_now (All-cons P c.in_ok-second.second [] two (All-nil P)))

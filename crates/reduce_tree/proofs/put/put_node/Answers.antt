@@ -1,11 +1,12 @@
-use Rattle.std.proofs.Common.{◌≡◌, ◌∙◌, Some, ap, length, arith}
+use Rattle.std.proofs.Common.{◌≡◌, ◌∙◌, Some, ap, length, arith, refl}
 use Rattle.tree_laws.specs.Nodes.{spelled_node}
 use Rattle.tree_laws.proofs.SummerTrees.{has_stays}
-use Rattle.reduce_tree.specs.Calls.{places}
-use Rattle.reduce_tree.specs.Built.{BothGo}
-use Rattle.reduce_tree.proofs.Calls.{Laws, told_at, told_on}
+use Rattle.tree_laws.specs.declared.tree.TreeFault.TheVariants as tree_fault
+use Rattle.reduce_tree.specs.Calls.{places, GoOn}
+use Rattle.reduce_tree.proofs.Calls.{Laws, extends_on, fails_put, goes_put, goes_summer, known_on, ran_err, summed_fails, told_at, told_on}
 use Rattle.reduce_tree.proofs.Puts.{leaf_long}
-use Rattle.reduce_tree.proofs.Working.{kept_on, knows_on, summed_refused, worked_err}
+use Rattle.reduce_tree.proofs.Sound.{sound_err, summed_sound}
+use Rattle.reduce_tree.proofs.Working.{filled_none, filled_one, refused_sure}
 use Rattle.std.proofs.lemmas.Result.{err_from_is_err_and}
 use Rattle.reduce_tree.proofs.put.put_node.Goals as goal
 
@@ -21,11 +22,11 @@ returns-in-Ok-clause-stands g c first level fill items known filled has =
     let old = places (g.S.NodeSource.nodes s0) in
     let new = places (g.S.NodeSource.nodes s1) in
     let at = c.in-Ok.at in
-    let ran : BothGo g.S.NodeSource m s0 s1 u0 u1 = record { store = c.in-Ok.ensures.goes; summer = c.in_ok-told.ensures.ran } in
-    let later = knows_on g.S.NodeSource g.M.Summer laws g.M.Unit.Item first s0 s1 u0 u1 known ran in
+    let ran : GoOn i g.S.NodeSource m s0 s1 u0 u1 = goes_put i g.S.NodeSource m laws s0 s1 u0 u1 c.as_slice.result.now c.args.node c.in-Ok.ensures.goes c.in_ok-told.ensures.ran c.in-Ok.ensures.puts (c.as_slice.ensures.value ∙ c.in_ok-bytes.ensures.bytes) c.in_ok-bytes.ensures.fits c.requires.most c.in_ok-told.ensures.summed in
+    let later = known_on g.M.Unit.Item g.S.NodeSource g.M.Summer laws first s0 s1 u0 u1 known ran in
     let stand : new at ≡ Some c.as_slice.result.now = told_at (g.S.NodeSource.nodes s1) (λ there. there at ≡ Some c.as_slice.result.now) later.there c.in-Ok.ensures.place later.told in
     let bytes : new at ≡ Some (spelled_node i.spelled c.args.node) = stand ∙ ap Some (c.as_slice.ensures.value ∙ c.in_ok-bytes.ensures.bytes) in
-    let stays = has_stays i m first old new (kept_on g.S.NodeSource g.M.Summer laws s0 s1 u0 u1 ran) level c.args.node items has in
+    let stays = has_stays i m first old new (extends_on g.M.Unit.Item g.S.NodeSource g.M.Summer laws s0 s1 u0 u1 ran) level c.args.node items has in
     record { node = c.args.node; fits = c.in_ok-bytes.ensures.fits; bytes = bytes; filled = filled; has = stays }
 
 pub returns-in-Ok-clause-child : goal.returns-in-Ok-clause-child
@@ -40,11 +41,11 @@ returns-in-Ok-clause-child g c first level items known filled has =
     let old = places (g.S.NodeSource.nodes s0) in
     let new = places (g.S.NodeSource.nodes s1) in
     let at = c.in-Ok.at in
-    let ran : BothGo g.S.NodeSource m s0 s1 u0 u1 = record { store = c.in-Ok.ensures.goes; summer = c.in_ok-told.ensures.ran } in
-    let later = knows_on g.S.NodeSource g.M.Summer laws g.M.Unit.Item first s0 s1 u0 u1 known ran in
+    let ran : GoOn i g.S.NodeSource m s0 s1 u0 u1 = goes_put i g.S.NodeSource m laws s0 s1 u0 u1 c.as_slice.result.now c.args.node c.in-Ok.ensures.goes c.in_ok-told.ensures.ran c.in-Ok.ensures.puts (c.as_slice.ensures.value ∙ c.in_ok-bytes.ensures.bytes) c.in_ok-bytes.ensures.fits c.requires.most c.in_ok-told.ensures.summed in
+    let later = known_on g.M.Unit.Item g.S.NodeSource g.M.Summer laws first s0 s1 u0 u1 known ran in
     let stand : new at ≡ Some c.as_slice.result.now = told_at (g.S.NodeSource.nodes s1) (λ there. there at ≡ Some c.as_slice.result.now) later.there c.in-Ok.ensures.place later.told in
     let bytes : new at ≡ Some (spelled_node i.spelled c.args.node) = stand ∙ ap Some (c.as_slice.ensures.value ∙ c.in_ok-bytes.ensures.bytes) in
-    let stays = has_stays i m first old new (kept_on g.S.NodeSource g.M.Summer laws s0 s1 u0 u1 ran) level c.args.node items has in
+    let stays = has_stays i m first old new (extends_on g.M.Unit.Item g.S.NodeSource g.M.Summer laws s0 s1 u0 u1 ran) level c.args.node items has in
     let told = c.in_ok-told.ensures.tells first old level items known.goes c.in_ok-bytes.ensures.fits has in
     record {
       stands = record { node = c.args.node; fits = c.in_ok-bytes.ensures.fits; bytes = bytes; filled = filled; has = stays };
@@ -73,11 +74,57 @@ returns-in-Ok-clause-leaf g c =
     omega (arith, long, c.in-Ok.ensures.size, leaf_long g.M.Unit.Item.spelled c.args.node)
 
 pub returns-in-Ok-clause-ran : goal.returns-in-Ok-clause-ran
-returns-in-Ok-clause-ran g c = record { store = c.in-Ok.ensures.goes; summer = c.in_ok-told.ensures.ran }
+returns-in-Ok-clause-ran g c =
+    let laws : Laws g.S.NodeSource g.M.Summer = record { store_steps = g.met.S.NodeSource.are_steps; store_keeps = g.met.S.NodeSource.keeps; store_caused = g.met.S.NodeSource.stays_caused; summer_steps = g.met.M.Summer.are_steps; summer_keeps = g.met.M.Summer.keeps; summer_caused = g.met.M.Summer.stays_caused } in
+    goes_put g.M.Unit.Item g.S.NodeSource g.M.Summer laws c.args.store.now c.put.new.self c.args.summer.now c.tell.new.summer c.as_slice.result.now c.args.node c.in-Ok.ensures.goes c.in_ok-told.ensures.ran c.in-Ok.ensures.puts (c.as_slice.ensures.value ∙ c.in_ok-bytes.ensures.bytes) c.in_ok-bytes.ensures.fits c.requires.most c.in_ok-told.ensures.summed
+
+pub returns-in-Ok-clause-puts : goal.returns-in-Ok-clause-puts
+returns-in-Ok-clause-puts g c =
+    let more = ap length c.in-Ok.ensures.puts in
+    omega (arith, more)
+
+pub returns-in-Ok-clause-filled : goal.returns-in-Ok-clause-filled
+returns-in-Ok-clause-filled g c = filled_one g.M.Unit.Item c.args.node c.as_slice.result.now _ _ c.in-Ok.ensures.puts (c.as_slice.ensures.value ∙ c.in_ok-bytes.ensures.bytes) c.in_ok-bytes.ensures.fits
 
 pub returns-in_err-told-clause-ran : goal.returns-in_err-told-clause-ran
 returns-in_err-told-clause-ran g c =
     let laws : Laws g.S.NodeSource g.M.Summer = record { store_steps = g.met.S.NodeSource.are_steps; store_keeps = g.met.S.NodeSource.keeps; store_caused = g.met.S.NodeSource.stays_caused; summer_steps = g.met.M.Summer.are_steps; summer_keeps = g.met.M.Summer.keeps; summer_caused = g.met.M.Summer.stays_caused } in
     let p = err_from_is_err_and c.from_residual.result c.from_residual.ensures.1 in
-    worked_err g.S.NodeSource g.M.Summer laws _ _ _ _ c.from_residual.result c.in_err-told.field-0.0 p.0 p.2 p.1
-    (summed_refused g.S.NodeSource g.M.Summer laws (Unit {0}) c.args.store.now c.args.summer.now c.tell.new.summer _ c.in_err-told.ensures.ran)
+    ran_err g.M.Unit.Item g.S.NodeSource g.M.Summer laws _ _ _ _ c.from_residual.result c.in_err-told.field-0.0 p.0 p.2 p.1
+    (summed_fails g.M.Unit.Item g.S.NodeSource g.M.Summer laws (Unit {0}) c.args.store.now c.args.summer.now c.tell.new.summer _ c.in_err-told.ensures.ran)
+
+pub returns-in_err-told-clause-filled : goal.returns-in_err-told-clause-filled
+returns-in_err-told-clause-filled g c = filled_none g.M.Unit.Item _ _ (g.S.NodeSource.puts c.args.store.now)
+
+pub returns-in_err-told-clause-sound : goal.returns-in_err-told-clause-sound
+returns-in_err-told-clause-sound g c =
+    let p = err_from_is_err_and c.from_residual.result c.from_residual.ensures.1 in
+    sound_err c.from_residual.result c.in_err-told.field-0.0 p.0 p.2 p.1 (summed_sound (Unit {0}) g.M.Summer c.args.summer.now c.tell.new.summer _ c.in_err-told.ensures.ran)
+
+pub returns-in_err-bytes-clause-filled : goal.returns-in_err-bytes-clause-filled
+returns-in_err-bytes-clause-filled g c = filled_none g.M.Unit.Item _ _ (g.S.NodeSource.puts c.args.store.now)
+
+pub returns-in_err-bytes-clause-ran : goal.returns-in_err-bytes-clause-ran
+returns-in_err-bytes-clause-ran g c =
+    let laws : Laws g.S.NodeSource g.M.Summer = record { store_steps = g.met.S.NodeSource.are_steps; store_keeps = g.met.S.NodeSource.keeps; store_caused = g.met.S.NodeSource.stays_caused; summer_steps = g.met.M.Summer.are_steps; summer_keeps = g.met.M.Summer.keeps; summer_caused = g.met.M.Summer.stays_caused } in
+    let p = err_from_is_err_and c.from_residual-in_err-bytes.result c.from_residual-in_err-bytes.ensures.1 in
+    ran_err g.M.Unit.Item g.S.NodeSource g.M.Summer laws _ _ _ _ c.from_residual-in_err-bytes.result tree_fault.NoMemory p.0 p.2 p.1 (goes_summer g.M.Unit.Item g.S.NodeSource g.M.Summer laws c.args.store.now c.args.summer.now c.tell.new.summer c.in_ok-told.ensures.ran)
+
+pub returns-clause-puts : goal.returns-clause-puts
+returns-clause-puts g c =
+    let more = ap length c.in-Err.ensures.puts in
+    omega (arith, more)
+
+pub returns-clause-filled : goal.returns-clause-filled
+returns-clause-filled g c = filled_one g.M.Unit.Item c.args.node c.as_slice.result.now _ _ c.in-Err.ensures.puts (c.as_slice.ensures.value ∙ c.in_ok-bytes.ensures.bytes) c.in_ok-bytes.ensures.fits
+
+pub returns-clause-ran : goal.returns-clause-ran
+returns-clause-ran g c =
+    let laws : Laws g.S.NodeSource g.M.Summer = record { store_steps = g.met.S.NodeSource.are_steps; store_keeps = g.met.S.NodeSource.keeps; store_caused = g.met.S.NodeSource.stays_caused; summer_steps = g.met.M.Summer.are_steps; summer_keeps = g.met.M.Summer.keeps; summer_caused = g.met.M.Summer.stays_caused } in
+    fails_put g.M.Unit.Item g.S.NodeSource g.M.Summer laws c.args.store.now c.put.new.self c.args.summer.now c.tell.new.summer _ c.as_slice.result.now c.args.node c.in-Err.ensures.cause c.in_ok-told.ensures.ran c.in-Err.ensures.puts (c.as_slice.ensures.value ∙ c.in_ok-bytes.ensures.bytes) c.in_ok-bytes.ensures.fits c.requires.most c.in_ok-told.ensures.summed
+
+pub returns-in_err-told-clause-refused : goal.returns-in_err-told-clause-refused
+returns-in_err-told-clause-refused g c = refused_sure _ c.from_residual.result refl
+
+pub returns-in_err-bytes-clause-refused : goal.returns-in_err-bytes-clause-refused
+returns-in_err-bytes-clause-refused g c = refused_sure _ c.from_residual-in_err-bytes.result refl

@@ -15,6 +15,8 @@ use Rattle.reduce_tree.proofs.Puts.{put_on}
 use Rattle.reduce_tree.proofs.Sound.{sound_err}
 use Rattle.reduce_tree.specs.Pieces.{ArePieces}
 use Rattle.reduce_tree.proofs.Pieces.{were_none, were_on, on_match, pieces_none}
+use Rattle.reduce_tree.proofs.Given.{root_leads, taken_on, took_fault, took_later, under_on}
+use Rattle.reduce_tree.specs.Given.{AllGiven}
 use Rattle.reduce_tree.proofs.root.edit_root.Goals as goal
 
 pub edit_row-requires-clause-kind : goal.edit_row-requires-clause-kind
@@ -285,3 +287,51 @@ returns-in_err-row-2-clause-pieces g c first items among known sorted root ai ae
     let p = err_from_is_err_and c.from_residual-in_err-row-2.result c.from_residual-in_err-row-2.ensures.1 in
     on_match c.from_residual-in_err-row-2.result _ _ _ p.0 p.2 p.1
     (were_on i m first among n0 n1 e01 _ (g.S.NodeSource.puts s0) (g.S.NodeSource.puts s1) (g.S.NodeSource.puts s2) (pieces_none i m first among n1 Below (g.S.NodeSource.puts s0) (g.S.NodeSource.puts s1) c.in_ok-root.ensures.puts) (c.in_err-row-2.ensures.pieces first items among known1 sorted has ai ae))
+
+pub returns-then-tree-eq0-clause-met : goal.returns-then-tree-eq0-clause-met
+returns-then-tree-eq0-clause-met g c first pieces under =
+    let laws : Laws g.S.NodeSource g.M.Summer = record { store_steps = g.met.S.NodeSource.are_steps; store_keeps = g.met.S.NodeSource.keeps; store_caused = g.met.S.NodeSource.stays_caused; summer_steps = g.met.M.Summer.are_steps; summer_keeps = g.met.M.Summer.keeps; summer_caused = g.met.M.Summer.stays_caused } in
+    let i = g.M.Unit.Item in let s = g.S.NodeSource in let m = g.M.Summer in let s0 = c.args.store.now in let u0 = c.args.summer.now in
+    let tree = c.args.tree in
+    let none = subst (λ n. AllGiven i s m first tree pieces s0 0 n) (sym c.empty-none.ensures.node) tt in
+    c.in_ok-row.ensures.met first tree pieces under none
+
+pub returns-in_err-row-clause-met : goal.returns-in_err-row-clause-met
+returns-in_err-row-clause-met g c first pieces under =
+    let laws : Laws g.S.NodeSource g.M.Summer = record { store_steps = g.met.S.NodeSource.are_steps; store_keeps = g.met.S.NodeSource.keeps; store_caused = g.met.S.NodeSource.stays_caused; summer_steps = g.met.M.Summer.are_steps; summer_keeps = g.met.M.Summer.keeps; summer_caused = g.met.M.Summer.stays_caused } in
+    let i = g.M.Unit.Item in let s = g.S.NodeSource in let m = g.M.Summer in let s0 = c.args.store.now in let u0 = c.args.summer.now in
+    let tree = c.args.tree in
+    let none = subst (λ n. AllGiven i s m first tree pieces s0 0 n) (sym c.empty-none.ensures.node) tt in
+    let p = err_from_is_err_and c.from_residual.result c.from_residual.ensures.1 in
+    took_fault i s m laws first tree pieces c.from_residual.result _ s0 c.edit_row.new.store c.in_err-row.field-0.0 p.0 p.2 p.1 (c.in_err-row.ensures.met first tree pieces under none).0
+
+pub returns-in_err-root-clause-met : goal.returns-in_err-root-clause-met
+returns-in_err-root-clause-met g c first pieces under =
+    let laws : Laws g.S.NodeSource g.M.Summer = record { store_steps = g.met.S.NodeSource.are_steps; store_keeps = g.met.S.NodeSource.keeps; store_caused = g.met.S.NodeSource.stays_caused; summer_steps = g.met.M.Summer.are_steps; summer_keeps = g.met.M.Summer.keeps; summer_caused = g.met.M.Summer.stays_caused } in
+    let i = g.M.Unit.Item in let s = g.S.NodeSource in let m = g.M.Summer in let s0 = c.args.store.now in let u0 = c.args.summer.now in
+    let tree = c.args.tree in let level = tree.height - 1 in let s1 = c.fetch.new.store in
+    let leads = root_leads i s m laws first tree pieces s0 (omega (arith, c.if-tree-eq0.false)) in
+    let p = err_from_is_err_and c.from_residual-in_err-root.result c.from_residual-in_err-root.ensures.1 in
+    took_fault i s m laws first tree pieces c.from_residual-in_err-root.result _ s0 s1 c.in_err-root.field-0.0 p.0 p.2 p.1 (c.in_err-root.ensures.met first tree pieces under leads).0
+
+pub returns-clause-met : goal.returns-clause-met
+returns-clause-met g c first pieces under =
+    let laws : Laws g.S.NodeSource g.M.Summer = record { store_steps = g.met.S.NodeSource.are_steps; store_keeps = g.met.S.NodeSource.keeps; store_caused = g.met.S.NodeSource.stays_caused; summer_steps = g.met.M.Summer.are_steps; summer_keeps = g.met.M.Summer.keeps; summer_caused = g.met.M.Summer.stays_caused } in
+    let i = g.M.Unit.Item in let s = g.S.NodeSource in let m = g.M.Summer in let s0 = c.args.store.now in let u0 = c.args.summer.now in
+    let tree = c.args.tree in let level = tree.height - 1 in let s1 = c.fetch.new.store in
+    let leads = root_leads i s m laws first tree pieces s0 (omega (arith, c.if-tree-eq0.false)) in
+    let s2 = c.edit_row-2.new.store in let u1 = c.edit_row-2.new.summer in
+    let got = c.in_ok-root.ensures.met first tree pieces under leads in
+    let made = c.in_ok-row-2.ensures.met first tree pieces (under_on i s m laws first tree pieces s0 s1 u0 u0 under c.in_ok-root.ensures.ran) got.1 in
+    (taken_on i s m laws first tree pieces s1 s2 u0 u1 c.in_ok-row-2.ensures.ran (s.gets s0) got.0 made.0, made.1)
+
+pub returns-in_err-row-2-clause-met : goal.returns-in_err-row-2-clause-met
+returns-in_err-row-2-clause-met g c first pieces under =
+    let laws : Laws g.S.NodeSource g.M.Summer = record { store_steps = g.met.S.NodeSource.are_steps; store_keeps = g.met.S.NodeSource.keeps; store_caused = g.met.S.NodeSource.stays_caused; summer_steps = g.met.M.Summer.are_steps; summer_keeps = g.met.M.Summer.keeps; summer_caused = g.met.M.Summer.stays_caused } in
+    let i = g.M.Unit.Item in let s = g.S.NodeSource in let m = g.M.Summer in let s0 = c.args.store.now in let u0 = c.args.summer.now in
+    let tree = c.args.tree in let level = tree.height - 1 in let s1 = c.fetch.new.store in
+    let leads = root_leads i s m laws first tree pieces s0 (omega (arith, c.if-tree-eq0.false)) in
+    let got = c.in_ok-root.ensures.met first tree pieces under leads in
+    let p = err_from_is_err_and c.from_residual-in_err-row-2.result c.from_residual-in_err-row-2.ensures.1 in
+    took_later i s m laws first tree pieces c.from_residual-in_err-row-2.result _ s0 s1 c.edit_row-2.new.store u0 u0 c.edit_row-2.new.summer c.in_ok-root.ensures.ran got.0 c.in_err-row-2.field-0.0 p.0 p.2 p.1 c.in_err-row-2.ensures.ran
+    (c.in_err-row-2.ensures.met first tree pieces (under_on i s m laws first tree pieces s0 s1 u0 u0 under c.in_ok-root.ensures.ran) got.1).0

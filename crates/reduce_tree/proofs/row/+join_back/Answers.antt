@@ -1,4 +1,4 @@
-use Rattle.std.proofs.Common.{◌≡◌, suc, ◌-◌, ◌+◌, ◌∷◌, ◌++◌, [], sym, ap, ◌∙◌, subst, ◌==◌, arith, Contains, refl, ◌<◌, length}
+use Rattle.std.proofs.Common.{◌≡◌, suc, ◌-◌, ◌+◌, ◌∷◌, ◌++◌, [], sym, ap, ◌∙◌, subst, ◌==◌, arith, Contains, refl, ◌<◌, length, All}
 use Rattle.tree_laws.specs.declared.node.Node.TheVariants.{Inner}
 use Rattle.tree_laws.specs.declared.tree.Fill.TheVariants.{Below}
 use Rattle.tree_laws.specs.Fitting.{AreLarge, item_count}
@@ -16,9 +16,11 @@ use Rattle.reduce_tree.proofs.Sound.{if_sound, child_last}
 use Rattle.reduce_tree.proofs.Pieces.{pieces_none, pieces_on, were_none, were_done, were_on, on_match}
 use Rattle.reduce_tree.proofs.Quiet.{all_front, all_back}
 use Rattle.reduce_tree.specs.Pieces.{AreAmong, ArePieces}
-use Rattle.std.proofs.lemmas.List.Elements.{All-append}
+use Rattle.std.proofs.lemmas.List.Elements.{All-append, All-head}
 use Rattle.tree_laws.proofs.SummerTrees.{children_split}
 use Rattle.tree_laws.specs.declared.tree.TreeFault.TheVariants as tree_fault
+use Rattle.reduce_tree.proofs.Given.{all_on, row_on, taken_on, taken_quiet, took_fault, took_later, took_none, took_quiet, under_on, each_join, fails_none, halts_quiet}
+use Rattle.reduce_tree.specs.Given.{AllGiven, AreEach, Given}
 use Rattle.reduce_tree.proofs.row.+join_back.Goals as goal
 
 pub returns-then-low-level-clause-items : goal.returns-then-low-level-clause-items
@@ -474,3 +476,105 @@ pub returns-then-low-level-clause-ran : goal.returns-then-low-level-clause-ran
 returns-then-low-level-clause-ran g t c =
     let laws : Laws g.S.NodeSource g.M.Summer = record { store_steps = g.met.S.NodeSource.are_steps; store_keeps = g.met.S.NodeSource.keeps; store_caused = g.met.S.NodeSource.stays_caused; summer_steps = g.met.M.Summer.are_steps; summer_keeps = g.met.M.Summer.keeps; summer_caused = g.met.M.Summer.stays_caused } in
     goes_none g.M.Unit.Item g.S.NodeSource g.M.Summer laws c.args.store.now c.args.summer.now
+
+pub returns-then-low-level-clause-met : goal.returns-then-low-level-clause-met
+returns-then-low-level-clause-met g t c first tree pieces under low_given given =
+    let laws : Laws g.S.NodeSource g.M.Summer = record { store_steps = g.met.S.NodeSource.are_steps; store_keeps = g.met.S.NodeSource.keeps; store_caused = g.met.S.NodeSource.stays_caused; summer_steps = g.met.M.Summer.are_steps; summer_keeps = g.met.M.Summer.keeps; summer_caused = g.met.M.Summer.stays_caused } in
+    let i = g.M.Unit.Item in let s = g.S.NodeSource in let m = g.M.Summer in let s0 = c.args.store.now in let u0 = c.args.summer.now in
+    let same : c.args.low ≡ c.args.level = c.if-low-level.true in
+    let row = subst (λ l. AllGiven i s m first tree pieces s0 l c.args.row) same low_given in
+    (took_none i s m laws first tree pieces s0 s0 refl, each_join (Given i s m first tree pieces s0 (c.args.level - 1)) c.in_ok-join_nodes.field-0 c.args.node c.args.row c.in_ok-join_nodes.ensures.split given row)
+
+pub returns-in_err-join_nodes-clause-met : goal.returns-in_err-join_nodes-clause-met
+returns-in_err-join_nodes-clause-met g t c first tree pieces under low_given given =
+    let laws : Laws g.S.NodeSource g.M.Summer = record { store_steps = g.met.S.NodeSource.are_steps; store_keeps = g.met.S.NodeSource.keeps; store_caused = g.met.S.NodeSource.stays_caused; summer_steps = g.met.M.Summer.are_steps; summer_keeps = g.met.M.Summer.keeps; summer_caused = g.met.M.Summer.stays_caused } in
+    let i = g.M.Unit.Item in let s = g.S.NodeSource in let m = g.M.Summer in let s0 = c.args.store.now in let u0 = c.args.summer.now in
+    let p = err_from_is_err_and c.from_residual.result c.from_residual.ensures.1 in
+    took_fault i s m laws first tree pieces c.from_residual.result _ s0 s0 tree_fault.NoMemory p.0 p.2 p.1 (halts_quiet i s m laws first tree pieces s0 s0 tree_fault.NoMemory refl tt)
+
+pub returns-in_err-below-in-Inner-clause-met : goal.returns-in_err-below-in-Inner-clause-met
+returns-in_err-below-in-Inner-clause-met g t c first tree pieces under low_given given =
+    let laws : Laws g.S.NodeSource g.M.Summer = record { store_steps = g.met.S.NodeSource.are_steps; store_keeps = g.met.S.NodeSource.keeps; store_caused = g.met.S.NodeSource.stays_caused; summer_steps = g.met.M.Summer.are_steps; summer_keeps = g.met.M.Summer.keeps; summer_caused = g.met.M.Summer.stays_caused } in
+    let i = g.M.Unit.Item in let s = g.S.NodeSource in let m = g.M.Summer in let s0 = c.args.store.now in let u0 = c.args.summer.now in
+    let s1 = c.fetch.new.store in
+    let P0 = Given i s m first tree pieces s0 (c.args.level - 1) in
+    let e = sym c.into_vec-before.ensures ∙ c.take_last-child.ensures in
+    let cs = subst (All P0) e (subst (AreEach P0) c.in-Inner.is given) in
+    let child = All-head P0 c.take_last-child.result [] (all_back P0 c.take_last-child.new.list.items (c.take_last-child.result ∷ []) cs) in
+    let p = err_from_is_err_and c.from_residual-in_err-below-in-Inner.result c.from_residual-in_err-below-in-Inner.ensures.1 in
+    took_fault i s m laws first tree pieces c.from_residual-in_err-below-in-Inner.result _ s0 s1 c.in_err-below-in-Inner.field-0.0 p.0 p.2 p.1 (c.in_err-below-in-Inner.ensures.met first tree pieces under child).0
+
+pub returns-in_err-joined-in-Inner-clause-met : goal.returns-in_err-joined-in-Inner-clause-met
+returns-in_err-joined-in-Inner-clause-met g t c first tree pieces under low_given given =
+    let laws : Laws g.S.NodeSource g.M.Summer = record { store_steps = g.met.S.NodeSource.are_steps; store_keeps = g.met.S.NodeSource.keeps; store_caused = g.met.S.NodeSource.stays_caused; summer_steps = g.met.M.Summer.are_steps; summer_keeps = g.met.M.Summer.keeps; summer_caused = g.met.M.Summer.stays_caused } in
+    let i = g.M.Unit.Item in let s = g.S.NodeSource in let m = g.M.Summer in let s0 = c.args.store.now in let u0 = c.args.summer.now in
+    let s1 = c.fetch.new.store in
+    let P0 = Given i s m first tree pieces s0 (c.args.level - 1) in
+    let e = sym c.into_vec-before.ensures ∙ c.take_last-child.ensures in
+    let cs = subst (All P0) e (subst (AreEach P0) c.in-Inner.is given) in
+    let child = All-head P0 c.take_last-child.result [] (all_back P0 c.take_last-child.new.list.items (c.take_last-child.result ∷ []) cs) in
+    let s2 = c.join_back.new.store in let u1 = c.join_back.new.summer in let a = c.in_ok-below-in-Inner.ensures.ran in
+    let got = c.in_ok-below-in-Inner.ensures.met first tree pieces under child in
+    let p = err_from_is_err_and c.from_residual-in_err-joined-in-Inner.result c.from_residual-in_err-joined-in-Inner.ensures.1 in
+    took_later i s m laws first tree pieces c.from_residual-in_err-joined-in-Inner.result _ s0 s1 s2 u0 u0 u1 a got.0 c.in_err-joined-in-Inner.field-0.0 p.0 p.2 p.1 c.in_err-joined-in-Inner.ensures.ran
+    (c.in_err-joined-in-Inner.ensures.met first tree pieces (under_on i s m laws first tree pieces s0 s1 u0 u0 under a) (row_on i s m laws first tree pieces s0 s1 u0 u0 a c.args.low c.args.row low_given) got.1).0
+
+pub returns-in_err-placed-in-Inner-clause-met : goal.returns-in_err-placed-in-Inner-clause-met
+returns-in_err-placed-in-Inner-clause-met g t c first tree pieces under low_given given =
+    let laws : Laws g.S.NodeSource g.M.Summer = record { store_steps = g.met.S.NodeSource.are_steps; store_keeps = g.met.S.NodeSource.keeps; store_caused = g.met.S.NodeSource.stays_caused; summer_steps = g.met.M.Summer.are_steps; summer_keeps = g.met.M.Summer.keeps; summer_caused = g.met.M.Summer.stays_caused } in
+    let i = g.M.Unit.Item in let s = g.S.NodeSource in let m = g.M.Summer in let s0 = c.args.store.now in let u0 = c.args.summer.now in
+    let s1 = c.fetch.new.store in
+    let P0 = Given i s m first tree pieces s0 (c.args.level - 1) in
+    let e = sym c.into_vec-before.ensures ∙ c.take_last-child.ensures in
+    let cs = subst (All P0) e (subst (AreEach P0) c.in-Inner.is given) in
+    let child = All-head P0 c.take_last-child.result [] (all_back P0 c.take_last-child.new.list.items (c.take_last-child.result ∷ []) cs) in
+    let s2 = c.join_back.new.store in let u1 = c.join_back.new.summer in let a = c.in_ok-below-in-Inner.ensures.ran in
+    let got = c.in_ok-below-in-Inner.ensures.met first tree pieces under child in
+    let s3 = c.place_row.new.store in let u2 = c.place_row.new.summer in let b = c.in_ok-joined-in-Inner.ensures.ran in
+    let ab = goes_on i s m laws s0 s1 s2 u0 u0 u1 a b in
+    let made = c.in_ok-joined-in-Inner.ensures.met first tree pieces (under_on i s m laws first tree pieces s0 s1 u0 u0 under a) (row_on i s m laws first tree pieces s0 s1 u0 u0 a c.args.low c.args.row low_given) got.1 in
+    let taken = taken_on i s m laws first tree pieces s1 s2 u0 u1 b (s.gets s0) got.0 made.0 in
+    let p = err_from_is_err_and c.from_residual-in_err-placed-in-Inner.result c.from_residual-in_err-placed-in-Inner.ensures.1 in
+    took_quiet i s m laws first tree pieces c.from_residual-in_err-placed-in-Inner.result _ s0 s2 s3 u0 u1 u2 ab taken c.in_err-placed-in-Inner.field-0.0 p.0 p.2 p.1 c.in_err-placed-in-Inner.ensures.ran c.in_err-placed-in-Inner.ensures.gets c.in_err-placed-in-Inner.ensures.sound
+
+pub returns-in_err-add_all-in-Inner-clause-met : goal.returns-in_err-add_all-in-Inner-clause-met
+returns-in_err-add_all-in-Inner-clause-met g t c first tree pieces under low_given given =
+    let laws : Laws g.S.NodeSource g.M.Summer = record { store_steps = g.met.S.NodeSource.are_steps; store_keeps = g.met.S.NodeSource.keeps; store_caused = g.met.S.NodeSource.stays_caused; summer_steps = g.met.M.Summer.are_steps; summer_keeps = g.met.M.Summer.keeps; summer_caused = g.met.M.Summer.stays_caused } in
+    let i = g.M.Unit.Item in let s = g.S.NodeSource in let m = g.M.Summer in let s0 = c.args.store.now in let u0 = c.args.summer.now in
+    let s1 = c.fetch.new.store in
+    let P0 = Given i s m first tree pieces s0 (c.args.level - 1) in
+    let e = sym c.into_vec-before.ensures ∙ c.take_last-child.ensures in
+    let cs = subst (All P0) e (subst (AreEach P0) c.in-Inner.is given) in
+    let child = All-head P0 c.take_last-child.result [] (all_back P0 c.take_last-child.new.list.items (c.take_last-child.result ∷ []) cs) in
+    let s2 = c.join_back.new.store in let u1 = c.join_back.new.summer in let a = c.in_ok-below-in-Inner.ensures.ran in
+    let got = c.in_ok-below-in-Inner.ensures.met first tree pieces under child in
+    let s3 = c.place_row.new.store in let u2 = c.place_row.new.summer in let b = c.in_ok-joined-in-Inner.ensures.ran in let d = c.in_ok-placed-in-Inner.ensures.ran in
+    let ab = goes_on i s m laws s0 s1 s2 u0 u0 u1 a b in
+    let made = c.in_ok-joined-in-Inner.ensures.met first tree pieces (under_on i s m laws first tree pieces s0 s1 u0 u0 under a) (row_on i s m laws first tree pieces s0 s1 u0 u0 a c.args.low c.args.row low_given) got.1 in
+    let abd = goes_on i s m laws s0 s2 s3 u0 u1 u2 ab d in
+    let taken = taken_quiet i s m laws first tree pieces s2 s3 u1 u2 d (s.gets s0) c.in_ok-placed-in-Inner.ensures.gets (taken_on i s m laws first tree pieces s1 s2 u0 u1 b (s.gets s0) got.0 made.0) in
+    let p = err_from_is_err_and c.from_residual-in_err-add_all-in-Inner.result c.from_residual-in_err-add_all-in-Inner.ensures.1 in
+    took_quiet i s m laws first tree pieces c.from_residual-in_err-add_all-in-Inner.result _ s0 s3 s3 u0 u2 u2 abd taken tree_fault.NoMemory p.0 p.2 p.1 (fails_none i s m laws first tree pieces s3 u2) refl tt
+
+pub returns-in_ok-add_all-in-Inner-clause-met : goal.returns-in_ok-add_all-in-Inner-clause-met
+returns-in_ok-add_all-in-Inner-clause-met g t c first tree pieces under low_given given =
+    let laws : Laws g.S.NodeSource g.M.Summer = record { store_steps = g.met.S.NodeSource.are_steps; store_keeps = g.met.S.NodeSource.keeps; store_caused = g.met.S.NodeSource.stays_caused; summer_steps = g.met.M.Summer.are_steps; summer_keeps = g.met.M.Summer.keeps; summer_caused = g.met.M.Summer.stays_caused } in
+    let i = g.M.Unit.Item in let s = g.S.NodeSource in let m = g.M.Summer in let s0 = c.args.store.now in let u0 = c.args.summer.now in
+    let s1 = c.fetch.new.store in
+    let P0 = Given i s m first tree pieces s0 (c.args.level - 1) in
+    let e = sym c.into_vec-before.ensures ∙ c.take_last-child.ensures in
+    let cs = subst (All P0) e (subst (AreEach P0) c.in-Inner.is given) in
+    let child = All-head P0 c.take_last-child.result [] (all_back P0 c.take_last-child.new.list.items (c.take_last-child.result ∷ []) cs) in
+    let s2 = c.join_back.new.store in let u1 = c.join_back.new.summer in let a = c.in_ok-below-in-Inner.ensures.ran in
+    let got = c.in_ok-below-in-Inner.ensures.met first tree pieces under child in
+    let s3 = c.place_row.new.store in let u2 = c.place_row.new.summer in let b = c.in_ok-joined-in-Inner.ensures.ran in let d = c.in_ok-placed-in-Inner.ensures.ran in
+    let ab = goes_on i s m laws s0 s1 s2 u0 u0 u1 a b in
+    let abd = goes_on i s m laws s0 s2 s3 u0 u1 u2 ab d in
+    let made = c.in_ok-joined-in-Inner.ensures.met first tree pieces (under_on i s m laws first tree pieces s0 s1 u0 u0 under a) (row_on i s m laws first tree pieces s0 s1 u0 u0 a c.args.low c.args.row low_given) got.1 in
+    let taken = taken_quiet i s m laws first tree pieces s2 s3 u1 u2 d (s.gets s0) c.in_ok-placed-in-Inner.ensures.gets (taken_on i s m laws first tree pieces s1 s2 u0 u1 b (s.gets s0) got.0 made.0) in
+    let P3 = Given i s m first tree pieces s3 (c.args.level - 1) in
+    let placed = c.in_ok-placed-in-Inner.placed.items in
+    let new = c.in_ok-placed-in-Inner.ensures.given first tree pieces (c.args.level - 1) (under_on i s m laws first tree pieces s0 s2 u0 u1 under ab) c.in_ok-joined-in-Inner.ensures.kind c.in_ok-joined-in-Inner.ensures.large made.1 in
+    let old = all_on i s m laws first tree pieces s0 s3 u0 u2 abd (c.args.level - 1) c.take_last-child.new.list.items (all_front P0 c.take_last-child.new.list.items (c.take_last-child.result ∷ []) cs) in
+    let list : c.from_vec.result ≡ c.take_last-child.new.list.items ++ placed = c.from_vec.ensures ∙ c.in_ok-add_all-in-Inner.ensures in
+    (taken, subst (All P3) (sym list) (All-append P3 c.take_last-child.new.list.items placed old new))

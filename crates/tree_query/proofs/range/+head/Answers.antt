@@ -1,4 +1,4 @@
-use Rattle.std.proofs.Common.{◌≡◌, ◌≤◌, ◌∷◌, ◌++◌, ◌==◌, ◌-◌, suc, IfOk, take, length, sym, ap, subst, ◌∙◌, arith, append_assoc}
+use Rattle.std.proofs.Common.{◌≡◌, ◌≤◌, ◌∷◌, ◌++◌, ◌==◌, ◌-◌, suc, IfOk, take, length, sym, ap, subst, ◌∙◌, arith, refl, append_assoc}
 use Rattle.std.proofs.lemmas.List.{take-append-le}
 use Rattle.std.proofs.lemmas.Result.{err_from_is_err_and}
 use Rattle.tree_laws.specs.declared.node.Node.TheVariants.{Inner}
@@ -6,10 +6,13 @@ use Rattle.tree_laws.specs.declared.tree.Fill.TheVariants.{Below}
 use Rattle.tree_laws.specs.Nodes.{is_leaf}
 use Rattle.tree_laws.specs.SummerTrees.{AreChildren, Has, Stands}
 use Rattle.tree_query.specs.Ranges.{Gathered}
-use Rattle.tree_query.proofs.Lists.{level_above}
+use Rattle.tree_query.proofs.Lists.{level_above, none_long}
 use Rattle.tree_query.proofs.Ranges.{cutting}
 use Rattle.tree_query.proofs.Reached.{has_got}
-use Rattle.tree_query.proofs.Sums.{BothLaws, all_of, back_of, first_of, front_of, got_fails, later_of, node_got, read_fails, sum_none, sum_ran_err, sum_ran_on, summed_ran}
+use Rattle.tree_query.proofs.Sums.{BothLaws, all_of, back_of, first_of, front_of, got_fails, later_of, node_got, ok_is, ok_on, read_fails, sum_none, sum_ran_err, sum_ran_on, summed_ran}
+use Rattle.tree_laws.specs.Values.{values_of}
+use Rattle.tree_query.specs.Summaries.{RowIsRead, count_in}
+use Rattle.tree_query.proofs.Summaries.{is_leaf_read, node_read, row_after, row_head, row_none, row_whole}
 use Rattle.tree_query.proofs.range.+head.Goals as goal
 
 pub head-returns-in_ok-add_whole-in-Inner-clause-items : goal.head-returns-in_ok-add_whole-in-Inner-clause-items
@@ -171,3 +174,47 @@ head_row-returns-clause-items g t c first there done items is-told goes inside a
 pub head-returns-in_ok-add_whole-in-Inner-clause-fits : goal.head-returns-in_ok-add_whole-in-Inner-clause-fits
 head-returns-in_ok-add_whole-in-Inner-clause-fits g t c first goes h =
     c.head_row.ensures.fits first goes (c.in_ok-add_whole-in-Inner.ensures.fits first goes h)
+
+pub head-returns-in-Leaf-clause-sums : goal.head-returns-in-Leaf-clause-sums
+head-returns-in-Leaf-clause-sums g t c first there is-told goes =
+    ok_is _ c.add_leaf.result (is_leaf_read g.M.Unit.Item (values_of g.M.Summer first) there c.args.level c.args.node c.in-Leaf.items 0 c.args.to c.in-Leaf.is)
+
+pub head-returns-in_ok-add_whole-in-Inner-clause-sums : goal.head-returns-in_ok-add_whole-in-Inner-clause-sums
+head-returns-in_ok-add_whole-in-Inner-clause-sums g t c first there is-told goes =
+    let i = g.M.Unit.Item in
+    let m = g.M.Summer in
+    let v = values_of m first in
+    let cs = c.in-Inner.children in
+    let low = c.args.level - 1 in
+    let kind : is_leaf (Inner cs) ≡ (c.args.level == 0) = subst (λ x. is_leaf x ≡ (c.args.level == 0)) c.in-Inner.is c.requires.kind in
+    let up : c.args.level ≡ suc low = level_above c.args.level kind in
+    let front = c.cut-offset.result.0.now in
+    let back = c.cut-offset.result.1.now in
+    let o = c.cut-offset.result.2 in
+    let e : cs ≡ front ++ back = sym c.as_slice.ensures ∙ c.cut-offset.ensures.whole in
+    let to = c.args.to in
+    let whole = row_whole i v there low front 0 to refl (omega (arith, c.cut-offset.ensures.count)) (c.in_ok-add_whole-in-Inner.ensures.sums first goes) in
+    let ends : o ≡ to - count_in front = omega (arith, c.cut-offset.ensures.count) in
+    ok_on _ _ (λ h. node_read i v there c.args.level low c.args.node cs front back 0 to 0 o c.in-Inner.is up e (omega arith) ends whole h) c.head_row.result
+    (c.head_row.ensures.sums first there is-told goes c.cut-offset.ensures.inside)
+
+pub head_row-returns-then-to-eq0-clause-sums : goal.head_row-returns-then-to-eq0-clause-sums
+head_row-returns-then-to-eq0-clause-sums g t c first there is-told goes inside =
+    row_after g.M.Unit.Item (values_of g.M.Summer first) there c.args.low c.args.children.now 0 c.args.to (omega (arith, c.if-to-eq0.true))
+
+pub head_row-returns-in-None-clause-sums : goal.head_row-returns-in-None-clause-sums
+head_row-returns-in-None-clause-sums g t c first there is-told goes inside =
+    row_none g.M.Unit.Item (values_of g.M.Summer first) there c.args.low c.args.children.now 0 c.args.to (none_long c.args.children.now c.in-None.ensures.cases)
+
+pub head_row-returns-clause-sums : goal.head_row-returns-clause-sums
+head_row-returns-clause-sums g t c first there is-told goes inside =
+    let i = g.M.Unit.Item in
+    let m = g.M.Summer in
+    let v = values_of m first in
+    let low = c.args.low in
+    let child = c.in-Some.pair.0.now in
+    let after = c.in-Some.pair.1.now in
+    let e : c.args.children.now ≡ child ∷ after = c.in-Some.ensures.cases.0 in
+    let to = c.args.to in
+    let stands = c.in_ok-node.ensures.stands there is-told in
+    ok_on _ _ (λ h. subst (λ ds. RowIsRead i v there low ds 0 to) (sym e) (row_head i v there low child after c.in_ok-node.node stands 0 to h (inside child after e))) c.head.result (c.head.ensures.sums first there (c.in_ok-node.ensures.reads.nodes ∙ is-told) goes)

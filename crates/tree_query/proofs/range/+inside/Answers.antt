@@ -10,7 +10,10 @@ use Rattle.tree_query.specs.Ranges.{Gathered, numbered}
 use Rattle.tree_query.proofs.Lists.{level_above, none_from_test, none_long, some_from_test}
 use Rattle.tree_query.proofs.Ranges.{cutting, first_long, gathered_same, none_below, numbered_cut, numbered_empty, numbered_front, numbered_parted}
 use Rattle.tree_query.proofs.Reached.{has_got}
-use Rattle.tree_query.proofs.Sums.{BothLaws, all_of, back_of, first_of, front_of, got_fails, later_of, node_got, of_on, ok_on, sum_none, sum_ran_err, sum_ran_on, summed_ran}
+use Rattle.tree_query.proofs.Sums.{BothLaws, all_of, back_of, first_of, front_of, got_fails, later_of, node_got, of_on, ok_is, ok_on, sum_none, sum_ran_err, sum_ran_on, summed_ran}
+use Rattle.tree_laws.specs.Values.{values_of}
+use Rattle.tree_query.specs.Summaries.{RowIsRead, count_in}
+use Rattle.tree_query.proofs.Summaries.{first_within, is_leaf_read, node_read, row_append, row_before, row_head, row_none}
 use Rattle.tree_query.proofs.range.+inside.Goals as goal
 
 pub returns-in-Leaf-clause-ran : goal.returns-in-Leaf-clause-ran
@@ -265,3 +268,98 @@ pub returns-then-not-is_empty-clause-fits : goal.returns-then-not-is_empty-claus
 returns-then-not-is_empty-clause-fits g t c first goes h =
     let later = g.met.M.Summer.are_steps.both first c.args.summer.now c.tail_row.new.summer goes c.in_ok-tail_row-in-Inner.ensures.goes in
     c.head_row.ensures.fits first later (c.in_ok-tail_row-in-Inner.ensures.fits first goes h)
+
+pub returns-in-Leaf-clause-sums : goal.returns-in-Leaf-clause-sums
+returns-in-Leaf-clause-sums g t c first there is-told goes =
+    ok_is _ c.add_leaf.result (is_leaf_read g.M.Unit.Item (values_of g.M.Summer first) there c.args.level c.args.node c.in-Leaf.items c.args.from c.args.to c.in-Leaf.is)
+
+pub returns-then-not-is_empty-clause-sums : goal.returns-then-not-is_empty-clause-sums
+returns-then-not-is_empty-clause-sums g t c first there is-told goes =
+    let i = g.M.Unit.Item in
+    let m = g.M.Summer in
+    let v = values_of m first in
+    let cs = c.in-Inner.children in
+    let low = c.args.level - 1 in
+    let kind : is_leaf (Inner cs) ≡ (c.args.level == 0) = subst (λ x. is_leaf x ≡ (c.args.level == 0)) c.in-Inner.is c.requires.kind in
+    let up : c.args.level ≡ suc low = level_above c.args.level kind in
+    let front = c.cut-offset.result.0.now in
+    let rest = c.cut-offset.result.1.now in
+    let o = c.cut-offset.result.2 in
+    let e : cs ≡ front ++ rest = sym c.as_slice.ensures ∙ c.cut-offset.ensures.whole in
+    let mid = c.cut-left.result.0.now in
+    let after = c.cut-left.result.1.now in
+    let left = c.cut-left.result.2 in
+    let from = c.args.from in
+    let to = c.args.to in
+    let end = to - from + o in
+    let before = row_before i v there low front from to (omega (arith, c.cut-offset.ensures.count)) in
+    let begins : o ≡ from - count_in front = omega (arith, c.cut-offset.ensures.count) in
+    let ends : end ≡ to - count_in front = omega (arith, c.cut-offset.ensures.count, c.requires.range) in
+    let some : 0 < length mid = some_from_test (length mid) c.is_empty.result c.is_empty.ensures c.if-not-is_empty.true in
+    let within : (d : Child _) (ds : List (Child _)) → mid ≡ d ∷ ds → o < d.count = λ d ds w. c.cut-offset.ensures.inside d (ds ++ after) (c.cut-left.ensures.whole ∙ ap (λ t. t ++ after) w) in
+    let first_read = c.in_ok-tail_row-in-Inner.ensures.sums first there end is-told goes within (omega (arith, c.cut-left.ensures.count)) in
+    let later = g.met.M.Summer.are_steps.both first c.args.summer.now c.tail_row.new.summer goes c.in_ok-tail_row-in-Inner.ensures.goes in
+    let none : 0 ≡ o - count_in mid = omega (arith, first_within mid o some within) in
+    let over : left ≡ end - count_in mid = omega (arith, c.cut-left.ensures.count) in
+    ok_on _ _ (λ h. node_read i v there c.args.level low c.args.node cs front rest from to o end c.in-Inner.is up e begins ends before (subst (λ ds. RowIsRead i v there low ds o end) (sym c.cut-left.ensures.whole) (row_append i v there low mid after o end 0 left none over first_read h))) c.head_row.result
+    (c.head_row.ensures.sums first there (c.in_ok-tail_row-in-Inner.ensures.reads.nodes ∙ is-told) later c.cut-left.ensures.inside)
+
+pub returns-in-None-clause-sums : goal.returns-in-None-clause-sums
+returns-in-None-clause-sums g t c first there is-told goes =
+    let i = g.M.Unit.Item in
+    let m = g.M.Summer in
+    let v = values_of m first in
+    let cs = c.in-Inner.children in
+    let low = c.args.level - 1 in
+    let kind : is_leaf (Inner cs) ≡ (c.args.level == 0) = subst (λ x. is_leaf x ≡ (c.args.level == 0)) c.in-Inner.is c.requires.kind in
+    let up : c.args.level ≡ suc low = level_above c.args.level kind in
+    let front = c.cut-offset.result.0.now in
+    let rest = c.cut-offset.result.1.now in
+    let o = c.cut-offset.result.2 in
+    let e : cs ≡ front ++ rest = sym c.as_slice.ensures ∙ c.cut-offset.ensures.whole in
+    let mid = c.cut-left.result.0.now in
+    let after = c.cut-left.result.1.now in
+    let left = c.cut-left.result.2 in
+    let from = c.args.from in
+    let to = c.args.to in
+    let end = to - from + o in
+    let before = row_before i v there low front from to (omega (arith, c.cut-offset.ensures.count)) in
+    let begins : o ≡ from - count_in front = omega (arith, c.cut-offset.ensures.count) in
+    let ends : end ≡ to - count_in front = omega (arith, c.cut-offset.ensures.count, c.requires.range) in
+    let none : mid ≡ [] = none_long mid (none_from_test (length mid) c.is_empty.result c.is_empty.ensures c.if-not-is_empty.false) in
+    let empty : rest ≡ [] = c.cut-left.ensures.whole ∙ ap (λ t. t ++ after) none ∙ none_long after c.in-None.ensures.cases in
+    node_read i v there c.args.level low c.args.node cs front rest from to o end c.in-Inner.is up e begins ends before (row_none i v there low rest o end empty)
+
+pub returns-in_ok-below-in-Inner-clause-sums : goal.returns-in_ok-below-in-Inner-clause-sums
+returns-in_ok-below-in-Inner-clause-sums g t c first there is-told goes =
+    let i = g.M.Unit.Item in
+    let m = g.M.Summer in
+    let v = values_of m first in
+    let cs = c.in-Inner.children in
+    let low = c.args.level - 1 in
+    let kind : is_leaf (Inner cs) ≡ (c.args.level == 0) = subst (λ x. is_leaf x ≡ (c.args.level == 0)) c.in-Inner.is c.requires.kind in
+    let up : c.args.level ≡ suc low = level_above c.args.level kind in
+    let front = c.cut-offset.result.0.now in
+    let rest = c.cut-offset.result.1.now in
+    let o = c.cut-offset.result.2 in
+    let e : cs ≡ front ++ rest = sym c.as_slice.ensures ∙ c.cut-offset.ensures.whole in
+    let mid = c.cut-left.result.0.now in
+    let after = c.cut-left.result.1.now in
+    let left = c.cut-left.result.2 in
+    let from = c.args.from in
+    let to = c.args.to in
+    let end = to - from + o in
+    let before = row_before i v there low front from to (omega (arith, c.cut-offset.ensures.count)) in
+    let begins : o ≡ from - count_in front = omega (arith, c.cut-offset.ensures.count) in
+    let ends : end ≡ to - count_in front = omega (arith, c.cut-offset.ensures.count, c.requires.range) in
+    let none : mid ≡ [] = none_long mid (none_from_test (length mid) c.is_empty.result c.is_empty.ensures c.if-not-is_empty.false) in
+    let child = c.in-Some.pair.0.now in
+    let others = c.in-Some.pair.1.now in
+    let some : after ≡ child ∷ others = c.in-Some.ensures.cases.0 in
+    let is : rest ≡ child ∷ others = c.cut-left.ensures.whole ∙ ap (λ t. t ++ after) none ∙ some in
+    let zero_in : count_in mid ≡ 0 = ap count_in none in
+    let less : end < child.count = omega (arith, c.cut-left.ensures.inside child others some, c.cut-left.ensures.count, zero_in) in
+    let below = c.in_ok-below-in-Inner.below in
+    let stands = c.in_ok-below-in-Inner.ensures.stands there is-told in
+    ok_on _ _ (λ h. node_read i v there c.args.level low c.args.node cs front rest from to o end c.in-Inner.is up e begins ends before (subst (λ ds. RowIsRead i v there low ds o end) (sym is) (row_head i v there low child others below stands o end h less))) c.inside.result
+    (c.inside.ensures.sums first there (c.in_ok-below-in-Inner.ensures.reads.nodes ∙ is-told) goes)

@@ -1,4 +1,4 @@
-use Rattle.std.proofs.Common.{◌≡◌, ◌≤◌, ◌∷◌, ◌++◌, ◌==◌, ◌-◌, zero, suc, [], IfOk, drop, length, sym, ap, subst, ◌∙◌, arith, append_assoc}
+use Rattle.std.proofs.Common.{◌≡◌, ◌<◌, ◌≤◌, ◌∷◌, ◌++◌, ◌==◌, ◌-◌, zero, suc, [], IfOk, drop, length, sym, ap, subst, ◌∙◌, arith, refl, append_assoc}
 use Rattle.std.proofs.lemmas.List.{drop-append-le}
 use Rattle.std.proofs.lemmas.Result.{err_from_is_err_and}
 use Rattle.tree_laws.specs.declared.node.Node.TheVariants.{Inner}
@@ -6,10 +6,14 @@ use Rattle.tree_laws.specs.declared.tree.Fill.TheVariants.{Below}
 use Rattle.tree_laws.specs.Nodes.{is_leaf}
 use Rattle.tree_laws.specs.SummerTrees.{AreChildren, Has, Stands}
 use Rattle.tree_query.specs.Ranges.{Gathered}
-use Rattle.tree_query.proofs.Lists.{level_above}
+use Rattle.tree_query.proofs.Lists.{level_above, none_long}
 use Rattle.tree_query.proofs.Ranges.{cutting}
 use Rattle.tree_query.proofs.Reached.{has_got}
-use Rattle.tree_query.proofs.Sums.{BothLaws, all_of, back_of, first_of, got_fails, later_of, node_got, of_on, read_ran, sum_fails_on, sum_none, sum_ran_err, sum_ran_on, sum_went_on, summed_ran}
+use Rattle.tree_query.proofs.Sums.{BothLaws, all_of, back_of, first_of, got_fails, later_of, node_got, of_on, ok_is, ok_on, read_ran, sum_fails_on, sum_none, sum_ran_err, sum_ran_on, sum_went_on, summed_ran}
+use Rattle.tree_laws.specs.Values.{values_of}
+use Rattle.tree_laws.specs.Fitting.{item_count}
+use Rattle.tree_query.specs.Summaries.{RowIsRead, count_in}
+use Rattle.tree_query.proofs.Summaries.{back_within, count_cons, is_leaf_read, node_read, row_before, row_none, row_tail, row_whole}
 use Rattle.tree_query.proofs.range.+tail.Goals as goal
 
 pub tail-returns-in-Inner-clause-items : goal.tail-returns-in-Inner-clause-items
@@ -183,3 +187,57 @@ pub tail_row-returns-clause-fits : goal.tail_row-returns-clause-fits
 tail_row-returns-clause-fits g t c first goes h =
     let later = g.met.M.Summer.are_steps.both first c.args.summer.now c.tail.new.summer goes c.in_ok-tail.ensures.goes in
     c.add_whole-2.ensures.fits first later (c.in_ok-tail.ensures.fits first goes h)
+
+pub tail-returns-in-Leaf-clause-sums : goal.tail-returns-in-Leaf-clause-sums
+tail-returns-in-Leaf-clause-sums g t c first there to is-told goes long =
+    ok_is _ c.add_leaf.result (is_leaf_read g.M.Unit.Item (values_of g.M.Summer first) there c.args.level c.args.node c.in-Leaf.items c.args.from to c.in-Leaf.is)
+
+pub tail-returns-in-Inner-clause-sums : goal.tail-returns-in-Inner-clause-sums
+tail-returns-in-Inner-clause-sums g t c first there to is-told goes long =
+    let i = g.M.Unit.Item in
+    let m = g.M.Summer in
+    let v = values_of m first in
+    let cs = c.in-Inner.children in
+    let low = c.args.level - 1 in
+    let kind : is_leaf (Inner cs) ≡ (c.args.level == 0) = subst (λ x. is_leaf x ≡ (c.args.level == 0)) c.in-Inner.is c.requires.kind in
+    let up : c.args.level ≡ suc low = level_above c.args.level kind in
+    let front = c.cut-offset.result.0.now in
+    let back = c.cut-offset.result.1.now in
+    let o = c.cut-offset.result.2 in
+    let e : cs ≡ front ++ back = sym c.as_slice.ensures ∙ c.cut-offset.ensures.whole in
+    let from = c.args.from in
+    let before = row_before i v there low front from to (omega (arith, c.cut-offset.ensures.count)) in
+    let begins : o ≡ from - count_in front = omega (arith, c.cut-offset.ensures.count) in
+    ok_on _ _ (λ h. node_read i v there c.args.level low c.args.node cs front back from to o (to - count_in front) c.in-Inner.is up e begins refl before h) c.tail_row.result
+    (c.tail_row.ensures.sums first there (to - count_in front) is-told goes c.cut-offset.ensures.inside (back_within i v there c.args.node cs front back to c.in-Inner.is e long))
+
+pub tail_row-returns-then-from-eq0-clause-sums : goal.tail_row-returns-then-from-eq0-clause-sums
+tail_row-returns-then-from-eq0-clause-sums g t c first there to is-told goes inside long =
+    let i = g.M.Unit.Item in
+    let m = g.M.Summer in
+    let v = values_of m first in
+    let none : c.args.from ≡ 0 = omega (arith, c.if-from-eq0.true) in
+    ok_on _ _ (λ all. row_whole i v there c.args.low c.args.children.now c.args.from to none long all) c.add_whole.result (c.add_whole.ensures.sums first goes)
+
+pub tail_row-returns-in-None-clause-sums : goal.tail_row-returns-in-None-clause-sums
+tail_row-returns-in-None-clause-sums g t c first there to is-told goes inside long =
+    row_none g.M.Unit.Item (values_of g.M.Summer first) there c.args.low c.args.children.now c.args.from to (none_long c.args.children.now c.in-None.ensures.cases)
+
+pub tail_row-returns-clause-sums : goal.tail_row-returns-clause-sums
+tail_row-returns-clause-sums g t c first there to is-told goes inside long =
+    let i = g.M.Unit.Item in
+    let m = g.M.Summer in
+    let v = values_of m first in
+    let low = c.args.low in
+    let child = c.in-Some.pair.0.now in
+    let after = c.in-Some.pair.1.now in
+    let e : c.args.children.now ≡ child ∷ after = c.in-Some.ensures.cases.0 in
+    let from = c.args.from in
+    let node = c.in_ok-node.node in
+    let stands = c.in_ok-node.ensures.stands there is-told in
+    let some : 0 < from = omega (arith, c.if-from-eq0.false) in
+    let all : count_in (child ∷ after) ≤ to = subst (λ ds. count_in ds ≤ to) e long in
+    let many : item_count node ≤ to = omega (arith, stands.place.items, all, count_cons child after) in
+    let read = c.in_ok-tail.ensures.sums first there to (c.in_ok-node.ensures.reads.nodes ∙ is-told) goes many in
+    let later = g.met.M.Summer.are_steps.both first c.args.summer.now c.tail.new.summer goes c.in_ok-tail.ensures.goes in
+    ok_on _ _ (λ others. subst (λ ds. RowIsRead i v there low ds from to) (sym e) (row_tail i v there low child after node stands from to read some (inside child after e) all others)) c.add_whole-2.result (c.add_whole-2.ensures.sums first later)

@@ -2,6 +2,8 @@ use Rattle.std.proofs.Common.{All, subst, sym}
 use Rattle.std.proofs.lemmas.List.Elements.{All-append, All-weaker}
 use Rattle.tree_laws.specs.SummerTrees.{Stands}
 use Rattle.tree_query.proofs.Ranges.{gathered_all}
+use Rattle.tree_laws.specs.Values.{values_of}
+use Rattle.tree_query.proofs.Summaries.{all_before, all_read}
 use Rattle.tree_query.proofs.range.add_whole.Goals as goal
 
 pub returns-clause-items : goal.returns-clause-items
@@ -18,3 +20,10 @@ returns-clause-fits g c first goes h =
     let sums = c.in_ok-sums.sums.items in
     let own = All-weaker (g.M.Summer.fits u) fits (λ sum f. (g.met.M.Summer.keeps.fits first u sum goes).1 f) sums c.in_ok-sums.ensures.fits in
     subst (All fits) (sym c.in_ok-append_sums.ensures) (All-append fits c.args.parts.now.items sums h own)
+
+pub returns-clause-sums : goal.returns-clause-sums
+returns-clause-sums g c first goes =
+    let m = g.M.Summer in
+    let u = c.args.summer.now in
+    let cs = c.args.children.now in
+    all_before m g.met.M.Summer.keeps first u cs goes (all_read (values_of m u) cs c.in_ok-sums.sums.items c.in_ok-sums.ensures.spelled c.in_ok-sums.ensures.fits)

@@ -11,6 +11,8 @@ use Rattle.std.proofs.lemmas.List.Elements.{All-drop, All-nil, All-take}
 use Rattle.tree_laws.proofs.SummerTrees.{items_fit}
 use Rattle.tree_query.proofs.Lists.{some_height}
 use Rattle.tree_query.proofs.Since.{later_none}
+use Rattle.tree_laws.specs.Values.{values_of}
+use Rattle.tree_query.proofs.Summaries.{range_read}
 use Rattle.tree_query.proofs.range.reduce_range.Goals as goal
 
 pub overflow_sub-level : goal.overflow_sub-level
@@ -218,3 +220,11 @@ returns-clause-fits g c =
     let begun = subst (All fits) (sym c.new-parts.ensures.items) (All-nil fits) in
     let all = c.in_ok-inside.ensures.fits u0 (g.met.M.Summer.are_steps.none u0) begun in
     c.in_ok-sum.ensures.fits u0 c.in_ok-inside.ensures.goes (subst (All fits) (sym c.as_slice.ensures.value) all)
+
+pub returns-clause-sums : goal.returns-clause-sums
+returns-clause-sums g c there is-told =
+    let i = g.M.Unit.Item in
+    let m = g.M.Summer in
+    let u0 = c.args.summer.now in
+    let read = c.in_ok-inside.ensures.sums u0 there (c.in_ok-root.ensures.reads.nodes ∙ is-told) (g.met.M.Summer.are_steps.none u0) in
+    range_read i (values_of m u0) there g.met.M.Unit.Item.one_spelling c.args.tree c.args.from c.args.to c.in_ok-root.root (c.in_ok-root.ensures.stands there is-told) read

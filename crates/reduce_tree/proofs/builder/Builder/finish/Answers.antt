@@ -6,7 +6,9 @@ use Rattle.reduce_tree.specs.Calls.{places, IsKnown}
 use Rattle.reduce_tree.specs.Packed.{IsCut}
 use Rattle.reduce_tree.proofs.Stacks.{some_waits, stacked_counts}
 use Rattle.reduce_tree.proofs.Climb.{packed_of}
-use Rattle.reduce_tree.proofs.Working.{told_places}
+use Rattle.std.proofs.lemmas.Result.{err_from_is_err_and}
+use Rattle.reduce_tree.proofs.Calls.{Laws, ran_err}
+use Rattle.reduce_tree.proofs.Working.{kept_unless, ready_unless, refused_on, told_places}
 use Rattle.reduce_tree.proofs.builder.Builder.finish.Goals as goal
 
 pub rise-requires-clause-few : goal.rise-requires-clause-few
@@ -62,3 +64,36 @@ pub returns-clause-usable : goal.returns-clause-usable
 returns-clause-usable g c some =
     let waits = some_waits c.args.self c.requires.whole some in
     c.in_ok-tree.ensures.usable (omega (arith, waits, ap length c.from_vec.ensures))
+
+pub returns-in_err-tree-clause-ran : goal.returns-in_err-tree-clause-ran
+returns-in_err-tree-clause-ran g c =
+    let laws : Laws g.S.NodeSource g.M.Summer = record { store_steps = g.met.S.NodeSource.are_steps; store_keeps = g.met.S.NodeSource.keeps; store_caused = g.met.S.NodeSource.stays_caused; summer_steps = g.met.M.Summer.are_steps; summer_keeps = g.met.M.Summer.keeps; summer_caused = g.met.M.Summer.stays_caused } in
+    let p = err_from_is_err_and c.from_residual.result c.from_residual.ensures.1 in
+    ran_err g.T.Item g.S.NodeSource g.M.Summer laws c.args.store.now c.rise.new.store c.args.summer.now c.rise.new.summer c.from_residual.result c.in_err-tree.field-0.0 p.0 p.2 p.1 c.in_err-tree.ensures.ran
+
+pub returns-in_err-tree-clause-kept : goal.returns-in_err-tree-clause-kept
+returns-in_err-tree-clause-kept g c =
+    let laws : Laws g.S.NodeSource g.M.Summer = record { store_steps = g.met.S.NodeSource.are_steps; store_keeps = g.met.S.NodeSource.keeps; store_caused = g.met.S.NodeSource.stays_caused; summer_steps = g.met.M.Summer.are_steps; summer_keeps = g.met.M.Summer.keeps; summer_caused = g.met.M.Summer.stays_caused } in
+    kept_unless g.T.Item g.S.NodeSource g.M.Summer laws c.args.store.now c.rise.new.store c.args.summer.now c.rise.new.summer c.from_residual.result (returns-in_err-tree-clause-ran g c)
+
+pub returns-in_err-tree-clause-ready : goal.returns-in_err-tree-clause-ready
+returns-in_err-tree-clause-ready g c =
+    let laws : Laws g.S.NodeSource g.M.Summer = record { store_steps = g.met.S.NodeSource.are_steps; store_keeps = g.met.S.NodeSource.keeps; store_caused = g.met.S.NodeSource.stays_caused; summer_steps = g.met.M.Summer.are_steps; summer_keeps = g.met.M.Summer.keeps; summer_caused = g.met.M.Summer.stays_caused } in
+    ready_unless g.T.Item g.S.NodeSource g.M.Summer laws g.met.S.NodeSource.stays_ready c.args.store.now c.rise.new.store c.args.summer.now c.rise.new.summer c.from_residual.result c.requires.ready (returns-in_err-tree-clause-ran g c)
+
+pub returns-in_err-tree-clause-puts : goal.returns-in_err-tree-clause-puts
+returns-in_err-tree-clause-puts g c =
+    let w = c.requires.whole in
+    let few = c.in_err-tree.ensures.puts (omega (arith, w.few, ap length c.from_vec.ensures)) in
+    omega (arith, few)
+
+pub returns-clause-puts : goal.returns-clause-puts
+returns-clause-puts g c =
+    let w = c.requires.whole in
+    let few = c.in_ok-tree.ensures.puts (omega (arith, w.few, ap length c.from_vec.ensures)) in
+    omega (arith, few)
+
+pub returns-in_err-tree-clause-refused : goal.returns-in_err-tree-clause-refused
+returns-in_err-tree-clause-refused g c =
+    let p = err_from_is_err_and c.from_residual.result c.from_residual.ensures.1 in
+    refused_on _ _ c.from_residual.result c.in_err-tree.field-0.0 p.0 p.2 p.1 (λ h. h) c.in_err-tree.ensures.refused

@@ -1,6 +1,7 @@
 use Rattle.std.proofs.Common.{arith, ◌≤◌, ◌≡◌, ◌+◌, ◌∙◌, ◌∷◌, ◌++◌, [], zero, ap, sym, refl, subst, length, append_assoc, length-append}
 use Rattle.tree_laws.specs.declared.node.Node.TheVariants.{Leaf}
 use Rattle.tree_laws.specs.declared.tree.Fill.TheVariants.{Below}
+use Rattle.tree_laws.specs.declared.tree.TreeFault.TheVariants as tree_fault
 use Rattle.tree_laws.specs.Fitting.{IsFilled}
 use Rattle.tree_laws.specs.Nodes.{spelled_node}
 use Rattle.tree_laws.specs.Stores.{pieces_size}
@@ -9,10 +10,10 @@ use Rattle.reduce_tree.specs.Built.{Built, IsCutting}
 use Rattle.reduce_tree.specs.Calls.{places, IsKnown}
 use Rattle.reduce_tree.specs.Packed.{IsCut, StandsAt}
 use Rattle.std.proofs.lemmas.Result.{err_from_is_err_and}
-use Rattle.reduce_tree.proofs.Calls.{Laws, told_on}
+use Rattle.reduce_tree.proofs.Calls.{Laws, extends_on, fails_on, goes_none, goes_on, known_on, ran_err, told_on}
 use Rattle.reduce_tree.proofs.Climb.{grew_on, cut_put, cut_stays, cut_wait, climbs_stay}
 use Rattle.reduce_tree.proofs.Stacks.{stacked_stays}
-use Rattle.reduce_tree.proofs.Working.{both_none, both_on, kept_on, knows_on, refused_on, told_places, worked_err}
+use Rattle.reduce_tree.proofs.Working.{filled_none, filled_on, filled_wider, kept_unless, ready_unless, told_places}
 use Rattle.reduce_tree.proofs.builder.Builder.push.Goals as goal
 
 pub cut_full-requires : goal.cut_full-requires
@@ -84,7 +85,7 @@ returns-then-len-lt40-clause-kept g c = g.met.S.NodeSource.keeps c.args.store.no
 pub returns-then-len-lt40-clause-ran : goal.returns-then-len-lt40-clause-ran
 returns-then-len-lt40-clause-ran g c =
     let laws : Laws g.S.NodeSource g.M.Summer = record { store_steps = g.met.S.NodeSource.are_steps; store_keeps = g.met.S.NodeSource.keeps; store_caused = g.met.S.NodeSource.stays_caused; summer_steps = g.met.M.Summer.are_steps; summer_keeps = g.met.M.Summer.keeps; summer_caused = g.met.M.Summer.stays_caused } in
-    both_none g.S.NodeSource g.M.Summer laws c.args.store.now c.args.summer.now
+    goes_none g.T.Item g.S.NodeSource g.M.Summer laws c.args.store.now c.args.summer.now
 
 pub returns-clause-items : goal.returns-clause-items
 returns-clause-items g c first there items told goes built =
@@ -100,8 +101,8 @@ returns-clause-items g c first there items told goes built =
     let n0 = places (g.S.NodeSource.nodes s0) in
     let n1 = places (g.S.NodeSource.nodes s1) in
     let n2 = places (g.S.NodeSource.nodes s2) in
-    let e01 = kept_on g.S.NodeSource m laws s0 s1 u0 u1 c.in_ok-child.ensures.ran in
-    let e12 = kept_on g.S.NodeSource m laws s1 s2 u1 u2 c.in_ok-hand.ensures.ran in
+    let e01 = extends_on g.T.Item g.S.NodeSource m laws s0 s1 u0 u1 c.in_ok-child.ensures.ran in
+    let e12 = extends_on g.T.Item g.S.NodeSource m laws s1 s2 u1 u2 c.in_ok-hand.ensures.ran in
     let self = c.args.self.now in
     let one = c.args.item ∷ [] in
     let list = c.replace-list.result.items in
@@ -118,7 +119,7 @@ returns-clause-items g c first there items told goes built =
     let fill : IsFilled Below (Leaf c.from_vec.result) = record { least = omega (arith, own); most = omega (arith, own) } in
     let child = c.in_ok-child.ensures.child first zero full known fill has in
     let rows1 = stacked_stays i m first n0 n1 e01 zero self.rows.items h.front h.at_front in
-    let says = c.in_ok-hand.ensures.items first zero h.front full (knows_on g.S.NodeSource m laws i first s0 s1 u0 u1 known c.in_ok-child.ensures.ran) rows1 child in
+    let says = c.in_ok-hand.ensures.items first zero h.front full (known_on g.T.Item g.S.NodeSource m laws first s0 s1 u0 u1 known c.in_ok-child.ensures.ran) rows1 child in
     record {
       front = h.front ++ full;
       back = rest;
@@ -141,8 +142,8 @@ returns-clause-cut g c there items taken told cutting =
     let n0 = places (g.S.NodeSource.nodes s0) in
     let n1 = places (g.S.NodeSource.nodes s1) in
     let n2 = places (g.S.NodeSource.nodes s2) in
-    let e01 = kept_on g.S.NodeSource m laws s0 s1 u0 u1 c.in_ok-child.ensures.ran in
-    let e12 = kept_on g.S.NodeSource m laws s1 s2 u1 u2 c.in_ok-hand.ensures.ran in
+    let e01 = extends_on g.T.Item g.S.NodeSource m laws s0 s1 u0 u1 c.in_ok-child.ensures.ran in
+    let e12 = extends_on g.T.Item g.S.NodeSource m laws s1 s2 u1 u2 c.in_ok-hand.ensures.ran in
     let self = c.args.self.now in
     let one = c.args.item ∷ [] in
     let list = c.replace-list.result.items in
@@ -204,7 +205,7 @@ returns-clause-pushed g c =
 pub returns-clause-kept : goal.returns-clause-kept
 returns-clause-kept g c =
     let laws : Laws g.S.NodeSource g.M.Summer = record { store_steps = g.met.S.NodeSource.are_steps; store_keeps = g.met.S.NodeSource.keeps; store_caused = g.met.S.NodeSource.stays_caused; summer_steps = g.met.M.Summer.are_steps; summer_keeps = g.met.M.Summer.keeps; summer_caused = g.met.M.Summer.stays_caused } in
-    let ran = both_on g.S.NodeSource g.M.Summer laws c.args.store.now c.put_node.new.store c.hand.new.store c.args.summer.now c.put_node.new.summer c.hand.new.summer c.in_ok-child.ensures.ran c.in_ok-hand.ensures.ran in
+    let ran = goes_on g.T.Item g.S.NodeSource g.M.Summer laws c.args.store.now c.put_node.new.store c.hand.new.store c.args.summer.now c.put_node.new.summer c.hand.new.summer c.in_ok-child.ensures.ran c.in_ok-hand.ensures.ran in
     laws.store_keeps c.args.store.now c.hand.new.store ran.store
 
 pub returns-clause-grows : goal.returns-clause-grows
@@ -239,10 +240,92 @@ returns-clause-usable g c less =
 pub returns-clause-ran : goal.returns-clause-ran
 returns-clause-ran g c =
     let laws : Laws g.S.NodeSource g.M.Summer = record { store_steps = g.met.S.NodeSource.are_steps; store_keeps = g.met.S.NodeSource.keeps; store_caused = g.met.S.NodeSource.stays_caused; summer_steps = g.met.M.Summer.are_steps; summer_keeps = g.met.M.Summer.keeps; summer_caused = g.met.M.Summer.stays_caused } in
-    both_on g.S.NodeSource g.M.Summer laws c.args.store.now c.put_node.new.store c.hand.new.store c.args.summer.now c.put_node.new.summer c.hand.new.summer c.in_ok-child.ensures.ran c.in_ok-hand.ensures.ran
+    goes_on g.T.Item g.S.NodeSource g.M.Summer laws c.args.store.now c.put_node.new.store c.hand.new.store c.args.summer.now c.put_node.new.summer c.hand.new.summer c.in_ok-child.ensures.ran c.in_ok-hand.ensures.ran
 
 pub returns-in_err-hand-clause-ran : goal.returns-in_err-hand-clause-ran
 returns-in_err-hand-clause-ran g c =
     let laws : Laws g.S.NodeSource g.M.Summer = record { store_steps = g.met.S.NodeSource.are_steps; store_keeps = g.met.S.NodeSource.keeps; store_caused = g.met.S.NodeSource.stays_caused; summer_steps = g.met.M.Summer.are_steps; summer_keeps = g.met.M.Summer.keeps; summer_caused = g.met.M.Summer.stays_caused } in
     let p = err_from_is_err_and c.from_residual-in_err-hand.result c.from_residual-in_err-hand.ensures.1 in
-    worked_err g.S.NodeSource g.M.Summer laws _ _ _ _ c.from_residual-in_err-hand.result c.in_err-hand.field-0.0 p.0 p.2 p.1 (refused_on g.S.NodeSource g.M.Summer laws c.args.store.now c.put_node.new.store c.hand.new.store c.args.summer.now c.put_node.new.summer c.hand.new.summer c.in_ok-child.ensures.ran _ c.in_err-hand.ensures.ran)
+    ran_err g.T.Item g.S.NodeSource g.M.Summer laws _ _ _ _ c.from_residual-in_err-hand.result c.in_err-hand.field-0.0 p.0 p.2 p.1 (fails_on g.T.Item g.S.NodeSource g.M.Summer laws c.args.store.now c.put_node.new.store c.hand.new.store c.args.summer.now c.put_node.new.summer c.hand.new.summer c.in_ok-child.ensures.ran _ c.in_err-hand.ensures.ran)
+
+pub returns-in_err-add_last-clause-filled : goal.returns-in_err-add_last-clause-filled
+returns-in_err-add_last-clause-filled g c = filled_none g.T.Item _ _ (g.S.NodeSource.puts c.args.store.now)
+
+pub returns-then-len-lt40-clause-filled : goal.returns-then-len-lt40-clause-filled
+returns-then-len-lt40-clause-filled g c = filled_none g.T.Item _ _ (g.S.NodeSource.puts c.args.store.now)
+
+pub returns-in_err-full-clause-filled : goal.returns-in_err-full-clause-filled
+returns-in_err-full-clause-filled g c = filled_none g.T.Item _ _ (g.S.NodeSource.puts c.args.store.now)
+
+pub returns-in_err-add_last-clause-ran : goal.returns-in_err-add_last-clause-ran
+returns-in_err-add_last-clause-ran g c =
+    let laws : Laws g.S.NodeSource g.M.Summer = record { store_steps = g.met.S.NodeSource.are_steps; store_keeps = g.met.S.NodeSource.keeps; store_caused = g.met.S.NodeSource.stays_caused; summer_steps = g.met.M.Summer.are_steps; summer_keeps = g.met.M.Summer.keeps; summer_caused = g.met.M.Summer.stays_caused } in
+    let p = err_from_is_err_and c.from_residual.result c.from_residual.ensures.1 in
+    ran_err g.T.Item g.S.NodeSource g.M.Summer laws _ _ _ _ c.from_residual.result tree_fault.NoMemory p.0 p.2 p.1 (goes_none g.T.Item g.S.NodeSource g.M.Summer laws c.args.store.now c.args.summer.now)
+
+pub returns-in_err-add_last-clause-kept : goal.returns-in_err-add_last-clause-kept
+returns-in_err-add_last-clause-kept g c =
+    let laws : Laws g.S.NodeSource g.M.Summer = record { store_steps = g.met.S.NodeSource.are_steps; store_keeps = g.met.S.NodeSource.keeps; store_caused = g.met.S.NodeSource.stays_caused; summer_steps = g.met.M.Summer.are_steps; summer_keeps = g.met.M.Summer.keeps; summer_caused = g.met.M.Summer.stays_caused } in
+    kept_unless g.T.Item g.S.NodeSource g.M.Summer laws c.args.store.now c.args.store.now c.args.summer.now c.args.summer.now c.from_residual.result (returns-in_err-add_last-clause-ran g c)
+
+pub returns-in_err-add_last-clause-ready : goal.returns-in_err-add_last-clause-ready
+returns-in_err-add_last-clause-ready g c =
+    let laws : Laws g.S.NodeSource g.M.Summer = record { store_steps = g.met.S.NodeSource.are_steps; store_keeps = g.met.S.NodeSource.keeps; store_caused = g.met.S.NodeSource.stays_caused; summer_steps = g.met.M.Summer.are_steps; summer_keeps = g.met.M.Summer.keeps; summer_caused = g.met.M.Summer.stays_caused } in
+    ready_unless g.T.Item g.S.NodeSource g.M.Summer laws g.met.S.NodeSource.stays_ready c.args.store.now c.args.store.now c.args.summer.now c.args.summer.now c.from_residual.result c.requires.ready (returns-in_err-add_last-clause-ran g c)
+
+pub returns-in_err-full-clause-ran : goal.returns-in_err-full-clause-ran
+returns-in_err-full-clause-ran g c =
+    let laws : Laws g.S.NodeSource g.M.Summer = record { store_steps = g.met.S.NodeSource.are_steps; store_keeps = g.met.S.NodeSource.keeps; store_caused = g.met.S.NodeSource.stays_caused; summer_steps = g.met.M.Summer.are_steps; summer_keeps = g.met.M.Summer.keeps; summer_caused = g.met.M.Summer.stays_caused } in
+    let p = err_from_is_err_and c.from_residual-in_err-full.result c.from_residual-in_err-full.ensures.1 in
+    ran_err g.T.Item g.S.NodeSource g.M.Summer laws _ _ _ _ c.from_residual-in_err-full.result tree_fault.NoMemory p.0 p.2 p.1 (goes_none g.T.Item g.S.NodeSource g.M.Summer laws c.args.store.now c.args.summer.now)
+
+pub returns-in_err-full-clause-kept : goal.returns-in_err-full-clause-kept
+returns-in_err-full-clause-kept g c =
+    let laws : Laws g.S.NodeSource g.M.Summer = record { store_steps = g.met.S.NodeSource.are_steps; store_keeps = g.met.S.NodeSource.keeps; store_caused = g.met.S.NodeSource.stays_caused; summer_steps = g.met.M.Summer.are_steps; summer_keeps = g.met.M.Summer.keeps; summer_caused = g.met.M.Summer.stays_caused } in
+    kept_unless g.T.Item g.S.NodeSource g.M.Summer laws c.args.store.now c.args.store.now c.args.summer.now c.args.summer.now c.from_residual-in_err-full.result (returns-in_err-full-clause-ran g c)
+
+pub returns-in_err-full-clause-ready : goal.returns-in_err-full-clause-ready
+returns-in_err-full-clause-ready g c =
+    let laws : Laws g.S.NodeSource g.M.Summer = record { store_steps = g.met.S.NodeSource.are_steps; store_keeps = g.met.S.NodeSource.keeps; store_caused = g.met.S.NodeSource.stays_caused; summer_steps = g.met.M.Summer.are_steps; summer_keeps = g.met.M.Summer.keeps; summer_caused = g.met.M.Summer.stays_caused } in
+    ready_unless g.T.Item g.S.NodeSource g.M.Summer laws g.met.S.NodeSource.stays_ready c.args.store.now c.args.store.now c.args.summer.now c.args.summer.now c.from_residual-in_err-full.result c.requires.ready (returns-in_err-full-clause-ran g c)
+
+pub returns-in_err-child-clause-filled : goal.returns-in_err-child-clause-filled
+returns-in_err-child-clause-filled g c =
+    let own : length c.from_vec.result ≡ 32 = omega (arith, ap length c.from_vec.ensures, c.in_ok-full.ensures.full) in
+    filled_wider g.T.Item _ _ 32 32 (omega (arith, own)) (omega (arith, own)) _ _ c.in_err-child.ensures.filled
+
+pub returns-in_err-child-clause-ran : goal.returns-in_err-child-clause-ran
+returns-in_err-child-clause-ran g c =
+    let laws : Laws g.S.NodeSource g.M.Summer = record { store_steps = g.met.S.NodeSource.are_steps; store_keeps = g.met.S.NodeSource.keeps; store_caused = g.met.S.NodeSource.stays_caused; summer_steps = g.met.M.Summer.are_steps; summer_keeps = g.met.M.Summer.keeps; summer_caused = g.met.M.Summer.stays_caused } in
+    let p = err_from_is_err_and c.from_residual-in_err-child.result c.from_residual-in_err-child.ensures.1 in
+    ran_err g.T.Item g.S.NodeSource g.M.Summer laws c.args.store.now c.put_node.new.store c.args.summer.now c.put_node.new.summer c.from_residual-in_err-child.result c.in_err-child.field-0.0 p.0 p.2 p.1 c.in_err-child.ensures.ran
+
+pub returns-in_err-child-clause-kept : goal.returns-in_err-child-clause-kept
+returns-in_err-child-clause-kept g c =
+    let laws : Laws g.S.NodeSource g.M.Summer = record { store_steps = g.met.S.NodeSource.are_steps; store_keeps = g.met.S.NodeSource.keeps; store_caused = g.met.S.NodeSource.stays_caused; summer_steps = g.met.M.Summer.are_steps; summer_keeps = g.met.M.Summer.keeps; summer_caused = g.met.M.Summer.stays_caused } in
+    kept_unless g.T.Item g.S.NodeSource g.M.Summer laws c.args.store.now c.put_node.new.store c.args.summer.now c.put_node.new.summer c.from_residual-in_err-child.result (returns-in_err-child-clause-ran g c)
+
+pub returns-in_err-child-clause-ready : goal.returns-in_err-child-clause-ready
+returns-in_err-child-clause-ready g c =
+    let laws : Laws g.S.NodeSource g.M.Summer = record { store_steps = g.met.S.NodeSource.are_steps; store_keeps = g.met.S.NodeSource.keeps; store_caused = g.met.S.NodeSource.stays_caused; summer_steps = g.met.M.Summer.are_steps; summer_keeps = g.met.M.Summer.keeps; summer_caused = g.met.M.Summer.stays_caused } in
+    ready_unless g.T.Item g.S.NodeSource g.M.Summer laws g.met.S.NodeSource.stays_ready c.args.store.now c.put_node.new.store c.args.summer.now c.put_node.new.summer c.from_residual-in_err-child.result c.requires.ready (returns-in_err-child-clause-ran g c)
+
+pub returns-in_err-hand-clause-kept : goal.returns-in_err-hand-clause-kept
+returns-in_err-hand-clause-kept g c =
+    let laws : Laws g.S.NodeSource g.M.Summer = record { store_steps = g.met.S.NodeSource.are_steps; store_keeps = g.met.S.NodeSource.keeps; store_caused = g.met.S.NodeSource.stays_caused; summer_steps = g.met.M.Summer.are_steps; summer_keeps = g.met.M.Summer.keeps; summer_caused = g.met.M.Summer.stays_caused } in
+    kept_unless g.T.Item g.S.NodeSource g.M.Summer laws c.args.store.now c.hand.new.store c.args.summer.now c.hand.new.summer c.from_residual-in_err-hand.result (returns-in_err-hand-clause-ran g c)
+
+pub returns-in_err-hand-clause-ready : goal.returns-in_err-hand-clause-ready
+returns-in_err-hand-clause-ready g c =
+    let laws : Laws g.S.NodeSource g.M.Summer = record { store_steps = g.met.S.NodeSource.are_steps; store_keeps = g.met.S.NodeSource.keeps; store_caused = g.met.S.NodeSource.stays_caused; summer_steps = g.met.M.Summer.are_steps; summer_keeps = g.met.M.Summer.keeps; summer_caused = g.met.M.Summer.stays_caused } in
+    ready_unless g.T.Item g.S.NodeSource g.M.Summer laws g.met.S.NodeSource.stays_ready c.args.store.now c.hand.new.store c.args.summer.now c.hand.new.summer c.from_residual-in_err-hand.result c.requires.ready (returns-in_err-hand-clause-ran g c)
+
+pub returns-in_err-hand-clause-filled : goal.returns-in_err-hand-clause-filled
+returns-in_err-hand-clause-filled g c =
+    let own : length c.from_vec.result ≡ 32 = omega (arith, ap length c.from_vec.ensures, c.in_ok-full.ensures.full) in
+    filled_on g.T.Item 32 32 (g.S.NodeSource.puts c.args.store.now) (g.S.NodeSource.puts c.put_node.new.store) (g.S.NodeSource.puts c.hand.new.store) (filled_wider g.T.Item _ _ 32 32 (omega (arith, own)) (omega (arith, own)) _ _ c.in_ok-child.ensures.filled) c.in_err-hand.ensures.filled
+
+pub returns-clause-filled : goal.returns-clause-filled
+returns-clause-filled g c =
+    let own : length c.from_vec.result ≡ 32 = omega (arith, ap length c.from_vec.ensures, c.in_ok-full.ensures.full) in
+    filled_on g.T.Item 32 32 (g.S.NodeSource.puts c.args.store.now) (g.S.NodeSource.puts c.put_node.new.store) (g.S.NodeSource.puts c.hand.new.store) (filled_wider g.T.Item _ _ 32 32 (omega (arith, own)) (omega (arith, own)) _ _ c.in_ok-child.ensures.filled) c.in_ok-hand.ensures.filled
