@@ -44,6 +44,7 @@ impl BuiltinSummer {
 
 impl Summer for BuiltinSummer {
     ghost use Rattle.builtin_reduces.specs.SummerLaws.{same_are_steps, same_keeps, same_stays_caused, sums_spelled_once_under, sums_are_short};
+    ghost use Rattle.tree_laws.specs.Meaning.{nothing_noted};
 
     type Unit = RowItem;
 
@@ -62,6 +63,10 @@ impl Summer for BuiltinSummer {
     ghost goes = { λ a b. b ≡ a };
 
     ghost fails = { λ a b fault. (b ≡ a) × (a.kind ≡ builtin.Sum) };
+
+    ghost asked = { λ a b items. Unit {0} };
+
+    ghost gave = { λ a b sum. Unit {0} };
 
     fn leaf(&mut self, alloc: Global, items: &[RowItem]) -> Result<BuiltinSum, NoMemory> {
         leaf_of_items(alloc, self.kind, items)
@@ -106,6 +111,10 @@ impl Summer for BuiltinSummer {
     ghost keeps = { same_keeps _ _ _ _ };
 
     ghost stays_caused = { same_stays_caused (λ a b fault. (b ≡ a) × (a.kind ≡ builtin.Sum)) };
+
+    ghost stays_asked = { nothing_noted _ _ };
+
+    ghost stays_given = { nothing_noted _ _ };
 
     ghost one_spelling = { λ summer. sums_spelled_once_under summer.kind };
 

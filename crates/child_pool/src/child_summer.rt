@@ -57,6 +57,7 @@ impl<'a, C: Servers> Summer for ChildSummer<'a, C> {
     ghost use Rattle.child_pool.specs.SummerLaws.{child_keeps, child_lawful, child_stays_caused, child_steps, child_usable, meaning_of};
     ghost use Rattle.child_pool.specs.Summers.{ChildFails, ChildGoes};
     ghost use Rattle.view_ports.specs.Functions.{IsWithinBounds};
+    ghost use Rattle.tree_laws.specs.Meaning.{nothing_noted};
 
     type Unit = RowItem;
 
@@ -75,6 +76,10 @@ impl<'a, C: Servers> Summer for ChildSummer<'a, C> {
     ghost goes = { λ a b. ChildGoes C.Servers a b };
 
     ghost fails = { λ a b fault. ChildFails C.Servers a b fault };
+
+    ghost asked = { λ a b items. Unit {0} };
+
+    ghost gave = { λ a b sum. Unit {0} };
 
     fn leaf(&mut self, alloc: Global, items: &[RowItem]) -> Result<ChildSum, PoolFault> {
         match self.slot.reduce(alloc, self.language, self.source, items) {
@@ -107,6 +112,10 @@ impl<'a, C: Servers> Summer for ChildSummer<'a, C> {
     ghost keeps = { child_keeps C.Servers };
 
     ghost stays_caused = { child_stays_caused C.Servers };
+
+    ghost stays_asked = { nothing_noted _ _ };
+
+    ghost stays_given = { nothing_noted _ _ };
 
     ghost one_spelling = { λ summer. child_sums_spelled_once };
 

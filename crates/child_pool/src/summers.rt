@@ -48,6 +48,7 @@ impl<'a, 'd, C: Servers> Summer for Summers<'a, 'd, C> {
     ghost use Rattle.child_pool.specs.SummerLaws.{fits, lawful, means, summers_keep, summers_stay_caused, summers_steps, usable};
     ghost use Rattle.child_pool.specs.Summers.{SummersFail, SummersGo, reduce_of};
     ghost use Rattle.child_pool.specs.ViewSumLaws.{view_sums_are_short, view_sums_spelled_once};
+    ghost use Rattle.tree_laws.specs.Meaning.{nothing_noted};
 
     type Unit = RowItem;
 
@@ -66,6 +67,10 @@ impl<'a, 'd, C: Servers> Summer for Summers<'a, 'd, C> {
     ghost goes = { λ a b. SummersGo C.Servers a b };
 
     ghost fails = { λ a b fault. SummersFail C.Servers a b fault };
+
+    ghost asked = { λ a b items. Unit {0} };
+
+    ghost gave = { λ a b sum. Unit {0} };
 
     fn leaf(&mut self, alloc: Global, items: &[RowItem]) -> Result<ViewSum, PoolFault> {
         match reduce_at(self.design, self.view) {
@@ -124,6 +129,10 @@ impl<'a, 'd, C: Servers> Summer for Summers<'a, 'd, C> {
     ghost keeps = { summers_keep C.Servers };
 
     ghost stays_caused = { summers_stay_caused C.Servers };
+
+    ghost stays_asked = { nothing_noted _ _ };
+
+    ghost stays_given = { nothing_noted _ _ };
 
     ghost one_spelling = { λ summers. view_sums_spelled_once (reduce_of C.Servers summers) };
 

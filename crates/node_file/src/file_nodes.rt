@@ -1,7 +1,5 @@
 //! A file as a store of nodes.
 
-ghost use Rattle.std.specs.Prelude.{◌≡◌};
-
 use crate::cache::NodeCache;
 use crate::nodes::{get_node, put_node};
 use gate_file::{GateFault, GateFile};

@@ -1,6 +1,6 @@
 //! Putting nodes into a file, and getting them.
 
-ghost use Rattle.std.specs.Prelude.{◌≡◌, ◌≢◌, ◌⊎◌, ◌↔◌, ◌+◌, ◌<◌, ◌≤◌, ◌^◌, None, Some, length, IfErr, IfOk, IsTrue, OnErr, OnOk};
+ghost use Rattle.std.specs.Prelude.{◌≡◌, ◌≢◌, ◌↔◌, ◌+◌, ◌<◌, ◌≤◌, ◌^◌, None, Some, length, IfErr, IfOk, IsTrue, OnErr, OnOk};
 ghost use Rattle.gate_file.specs.Calls.{too_long, Appends, IsCounted, IsReadFault, KeepsIn, Moved, ReadsUpTo, Told};
 ghost use Rattle.gate_file.specs.GateFile.{appended, start_of};
 ghost use Rattle.gate_file.specs.Publish.{IsTooLong};

@@ -1,7 +1,7 @@
 -- Sums of what is charged.
 use Rattle.std.proofs.Common.{◌≡◌, ◌⊎◌, inl, inr, ℕ, zero, suc, ◌-◌, ◌+◌, ◌*◌, ◌<◌, ◌≤◌, ◌==◌, Bool, true, false, refl, ap, ◌∙◌, arith}
 use Rattle.std.proofs.lemmas.Bool.Decides.{nat_tests}
-use Rattle.reduce_tree.specs.Bounds.{slack, ready, pending, rounding}
+use Rattle.reduce_tree.specs.Charges.{slack, ready, pending, rounding}
 
 pub slack_most : (top level n : ℕ) → slack top level n ≤ top - level
 slack_most top level zero = omega arith

@@ -12,7 +12,8 @@ use Rattle.tree_laws.specs.Nodes.{spelled_node}
 use Rattle.tree_laws.specs.Stores.{Extends, Places, pieces_size}
 use Rattle.reduce_tree.specs.declared.builder.Builder.{Builder}
 use Rattle.reduce_tree.specs.Built.{HoldsNothing, IsCutting, IsPopped, pushed}
-use Rattle.reduce_tree.specs.Packed.{nodes_size, Grown, IsPacked, StandsAt, AreNodes, AreFull, IsCut, Climbs, Packs, PacksAt, IsPackedTree}
+use Rattle.tree_laws.specs.Packing.{IsPacked}
+use Rattle.reduce_tree.specs.Packed.{nodes_size, Grown, StandsAt, AreNodes, AreFull, IsCut, Climbs, Packs, PacksAt, IsPackedTree}
 use Rattle.reduce_tree.proofs.Fills.{is_packed_more, sizes_append}
 use Rattle.reduce_tree.proofs.Stacks.{none_row}
 

@@ -1,5 +1,5 @@
 -- How packed nodes are filled.
-use Rattle.std.proofs.Common.{◌≡◌, ◌⊎◌, inl, inr, ◌==◌, ℕ, suc, ◌+◌, ◌-◌, ◌/◌, ◌%◌, ◌<◌, ◌≤◌, nat_le, nat_lt, true, false, List, [], ◌∷◌, ◌++◌, length, map, refl, sym, ap, subst, ◌∙◌, length-append, arith}
+use Rattle.std.proofs.Common.{◌≡◌, ◌⊎◌, inl, inr, ◌==◌, ℕ, zero, suc, ◌+◌, ◌-◌, ◌/◌, ◌%◌, ◌<◌, ◌≤◌, nat_le, nat_lt, true, false, List, [], ◌∷◌, ◌++◌, length, map, refl, sym, ap, subst, ◌∙◌, length-append, arith}
 use Rattle.std.proofs.lemmas.List.{append-nil, map-append}
 use Rattle.std.proofs.lemmas.List.Sums.{sum_by-append}
 use Rattle.std.specs.List.{repeat, sum_by}
@@ -11,7 +11,8 @@ use Rattle.tree_laws.specs.declared.node.Node.{Node}
 use Rattle.tree_laws.specs.declared.node.Node.TheVariants.{Leaf, Inner}
 use Rattle.tree_laws.specs.Nodes.{entries, spelled_node}
 use Rattle.tree_laws.specs.Stores.{Places, pieces_size}
-use Rattle.reduce_tree.specs.Packed.{fills_of, fills, nodes_size, IsPacked, StandsAt, ArePacked}
+use Rattle.tree_laws.specs.Packing.{fills_of, fills, IsPacked}
+use Rattle.reduce_tree.specs.Packed.{nodes_size, StandsAt, ArePacked}
 use Rattle.reduce_tree.specs.Rows.{IsAtLevel, IsSplit, leaf_items}
 use Rattle.tree_laws.specs.declared.tree.Fill.TheVariants.{Root}
 use Rattle.tree_laws.specs.Fitting.{IsFilled}
@@ -35,7 +36,7 @@ zero_test n h = grind (arith, nat_tests)
 some_test : (n : ℕ) → 0 < n → (n == 0) ≡ false
 some_test n h = grind (arith, nat_tests)
 
-fills_few : (n : ℕ) → n ≤ 32 → fills n ≡ n ∷ []
+pub fills_few : (n : ℕ) → n ≤ 32 → fills n ≡ n ∷ []
 fills_few n h = rw (le_test n 32 h) refl
 
 fills_many : (n : ℕ) → 32 < n → fills n ≡ fills_of (n / 32) (n % 32)
@@ -98,6 +99,26 @@ cases_of n = elim (cases_lt n 32) [
       ]
     ]
   ]
+]
+
+full_long : (q : ℕ) → length {A = ℕ} (repeat q (32 ∷ [])) ≡ q
+full_long zero = refl
+full_long (suc q) = ap suc (full_long q)
+
+-- more than 32 entries fill two nodes at least, and fewer nodes than there are entries
+pub fills_fewer : (n : ℕ) → 32 < n → (1 < length (fills n)) × (length (fills n) < n)
+fills_fewer n h = elim (cases_of n) [
+  | few l ↦ absurd (omega (arith, h, l))
+  | one l ↦ absurd (omega (arith, h, l))
+  | none l z ↦
+      let e : length (fills n) ≡ n / 32 = ap length (fills_many n h ∙ fills_none (n / 32) (n % 32) z) ∙ full_long (n / 32) in
+      (omega (arith, h, z, e), omega (arith, h, z, e))
+  | short l s z ↦
+      let e : length (fills n) ≡ (n / 32 - 1) + 2 = ap length (fills_many n h ∙ fills_short (n / 32) (n % 32) s z) ∙ length-append (repeat (n / 32 - 1) (32 ∷ [])) (24 ∷ (8 + n % 32) ∷ []) ∙ ap (λ i. i + 2) (full_long (n / 32 - 1)) in
+      (omega (arith, h, e), omega (arith, h, e))
+  | long l z ↦
+      let e : length (fills n) ≡ n / 32 + 1 = ap length (fills_many n h ∙ fills_long (n / 32) (n % 32) z) ∙ length-append (repeat (n / 32) (32 ∷ [])) (n % 32 ∷ []) ∙ ap (λ i. i + 1) (full_long (n / 32)) in
+      (omega (arith, h, e), omega (arith, h, e))
 ]
 
 -- how much of a row its first node takes

@@ -1,5 +1,5 @@
 -- What entries lead to, over calls one after another.
-use Rattle.std.proofs.Common.{◌≡◌, ◌⊎◌, inl, inr, ℕ, zero, suc, ◌-◌, ◌+◌, ◌<◌, List, Some, ◌∷◌, ◌++◌, All, Contains, IfSome, Result, Err, refl, sym, ap, ◌∙◌, append_assoc, subst, arith}
+use Rattle.std.proofs.Common.{◌≡◌, ◌⊎◌, inl, inr, ℕ, zero, suc, ◌-◌, ◌<◌, List, Some, ◌∷◌, ◌++◌, All, Contains, IfSome, Result, Err, refl, sym, ap, ◌∙◌, append_assoc, subst, arith}
 use Rattle.std.proofs.lemmas.List.Elements.{All-append, All-contains, All-contains_itself, All-weaker, Contains-append_right}
 use Rattle.tree_laws.specs.declared.item.Item.{Ghosts as Items}
 use Rattle.tree_laws.specs.declared.store.NodeSource.{Ghosts as Sources}
@@ -15,11 +15,12 @@ use Rattle.tree_laws.specs.declared.tree.TreeFault.TheVariants as tree_fault
 use Rattle.tree_laws.specs.Fetching.{FetchFails, IsBadAt}
 use Rattle.tree_laws.specs.Fitting.{AreLarge, IsFilled, IsFitFor, item_count}
 use Rattle.tree_laws.specs.Nodes.{FitsNode, spelled_node}
-use Rattle.tree_laws.specs.Reaching.{GoesSoFar, IsFaulty, IsSound, Reaches, StandsFit, StopsAt, root, below, unfit, unread}
+use Rattle.tree_laws.specs.Reaching.{GoesSoFar, IsFaulty, Reaches, StandsFit, StopsAt, root, below, unfit, unread}
 use Rattle.tree_laws.specs.Spelled.{IsSpelledOnce}
 use Rattle.tree_laws.specs.Stores.{EachSince, Extends, IsSince, Places}
 use Rattle.tree_laws.specs.Values.{values_of}
-use Rattle.reduce_tree.specs.Calls.{places, BlamesNone, Fails, GoOn, KeepsBadSum}
+use Rattle.tree_laws.specs.SummerTrees.{KeepsBadSum}
+use Rattle.reduce_tree.specs.Calls.{places, BlamesNone, Fails, GoOn}
 use Rattle.reduce_tree.specs.Given.{AreEach, AreGiven, GotSoFar, Halts, IsGiven, IsOwnNode, IsTaken, IsUnderWay, LeadsTo, Leads, MayGet, Given, AllGiven, Took}
 use Rattle.reduce_tree.specs.Rows.{IsAtLevel, IsSplit}
 use Rattle.reduce_tree.specs.Pieces.{IsNodePiece, IsSummed, IsSumSpelled}
@@ -88,19 +89,16 @@ module _ {T M Sum G : Type 0} (i : Items T) (m : Summers M T Sum G) (first : M) 
     pub row_stays : (level : ℕ) (node : Node T) → AreGiven i m first n0 pieces old tree level node → AreGiven i m first n1 pieces new tree level node
     row_stays level node h = each_weaker (IsGiven i m first n0 pieces old tree (level - 1)) (IsGiven i m first n1 pieces new tree (level - 1)) (given_stays (level - 1)) node h
 
-    sound_stays : (at : ℕ) → IsSound i (values_of m first) n0 tree at → IsSound i (values_of m first) n1 tree at
-    sound_stays at h =
-        let k = h.met in
-        record {
-          level = h.level;
-          node = h.node;
-          met = record { count = k.count; fill = k.fill; reached = reaches_stays i n0 n1 e01 tree at h.level k.count k.fill k.reached; stands = fit_stays i n0 n1 e01 at h.level k.count k.fill h.node k.stands };
-          read = h.read;
-        }
-
     pub taken_stays : (at : ℕ) → IsTaken i m first n0 pieces old tree at → IsTaken i m first n1 pieces new tree at
-    taken_stays at (inl h) = inl (sound_stays at h)
-    taken_stays at (inr h) = inr (record { bytes = h.bytes; stand = e01 at h.bytes h.stand; since = since_later P h.bytes pieces old new h.since more })
+    taken_stays at h = record {
+      level = h.level;
+      count = h.count;
+      fill = h.fill;
+      leads = leads_stays h.level at h.count h.fill h.leads;
+      node = h.node;
+      stands = fit_stays i n0 n1 e01 at h.level h.count h.fill h.node h.stands;
+      read = h.read;
+    }
 
   module _ (there : Places) (now : List (List ℕ)) where
     -- a place that is reached
@@ -125,17 +123,11 @@ module _ {T M Sum G : Type 0} (i : Items T) (m : Summers M T Sum G) (first : M) 
     -- ---- a node that was got
 
     pub got_taken : (level at count : ℕ) (fill : Fill) (node : Node T) → LeadsTo i m first there pieces now tree level at count fill → StandsFit i there at level count fill node → (KeepsBadSum i m first node → ⊥) → IsTaken i m first there pieces now tree at
-    got_taken level at count fill node h stands read = elim (parts level at count fill h) [
-      | inl k ↦ inl (record { level = level; node = node; met = record { count = count; fill = fill; reached = k; stands = stands }; read = read })
-      | inr k ↦ let s = k.stands in inr (record { bytes = spelled_node i.spelled k.node; stand = s.bytes; since = k.since })
-    ]
+    got_taken level at count fill node h stands read = record { level = level; count = count; fill = fill; leads = h; node = node; stands = stands; read = read }
 
     -- it may be got
-    pub got_may : (level at count : ℕ) (fill : Fill) → LeadsTo i m first there pieces now tree level at count fill → MayGet i there pieces now tree at
-    got_may level at count fill h = elim (parts level at count fill h) [
-      | inl k ↦ inl (record { level = level; count = count; fill = fill; reached = k })
-      | inr k ↦ let s = k.stands in inr (record { bytes = spelled_node i.spelled k.node; stand = s.bytes; since = k.since })
-    ]
+    pub got_may : (level at count : ℕ) (fill : Fill) → LeadsTo i m first there pieces now tree level at count fill → MayGet i m first there pieces now tree at
+    got_may level at count fill h = record { level = level; count = count; fill = fill; leads = h }
 
     -- no node that the call put is blamed
     pub got_bad : (level at count : ℕ) (fill : Fill) → LeadsTo i m first there pieces now tree level at count fill → IsBadAt i level count fill there at → IsFaulty i (values_of m first) there tree at
@@ -204,7 +196,7 @@ module _ {T S F M Sum G : Type 0} (i : Items T) (s : Sources S F) (m : Summers M
   pub under_on : (a b : S) (u v : M) → IsUnderWay i s m first pieces u a → GoOn i s m a b u v → IsUnderWay i s m first pieces v b
   under_on a b u v h g = record {
     known = known_on i s m laws first a b u v h.known g;
-    since = since_both (λ x. Unit {0}) (IsNodePiece i m u) (λ x. Unit {0}) (λ x k. tt) (λ x k. tt) pieces (s.puts a) (s.puts b) h.since g.puts;
+    since = since_both (λ x. Unit {0}) (IsNodePiece i m u v) (λ x. Unit {0}) (λ x k. tt) (λ x k. tt) pieces (s.puts a) (s.puts b) h.since g.puts;
   }
 
   -- more pieces were put at c
@@ -212,21 +204,21 @@ module _ {T S F M Sum G : Type 0} (i : Items T) (s : Sources S F) (m : Summers M
   taken_at b c there e P more = taken_stays i m first tree pieces (places (s.nodes b)) there e (s.puts b) (s.puts c) P more
 
   taken_then : (b c : S) (v w : M) → GoOn i s m b c v w → (at : ℕ) → Taken b at → Taken c at
-  taken_then b c v w g = taken_at b c (places (s.nodes c)) (extends_on i s m laws b c v w g) (IsNodePiece i m v) g.puts
+  taken_then b c v w g = taken_at b c (places (s.nodes c)) (extends_on i s m laws b c v w g) (IsNodePiece i m v w) g.puts
 
   -- b is the store after a
   module _ (a b : S) (u v : M) (g : GoOn i s m a b u v) where
     pub leads_on : (level at count : ℕ) (fill : Fill) → Leads i s m first tree pieces a level at count fill → Leads i s m first tree pieces b level at count fill
-    leads_on = leads_stays i m first tree pieces (places (s.nodes a)) (places (s.nodes b)) (extends_on i s m laws a b u v g) (s.puts a) (s.puts b) (IsNodePiece i m u) g.puts
+    leads_on = leads_stays i m first tree pieces (places (s.nodes a)) (places (s.nodes b)) (extends_on i s m laws a b u v g) (s.puts a) (s.puts b) (IsNodePiece i m u v) g.puts
 
     pub given_on : (level : ℕ) (c : Child T) → Given i s m first tree pieces a level c → Given i s m first tree pieces b level c
     given_on level c h = leads_on level c.at c.count Below h
 
     pub all_on : (level : ℕ) (cs : List (Child T)) → All (Given i s m first tree pieces a level) cs → All (Given i s m first tree pieces b level) cs
-    all_on = all_stay i m first tree pieces (places (s.nodes a)) (places (s.nodes b)) (extends_on i s m laws a b u v g) (s.puts a) (s.puts b) (IsNodePiece i m u) g.puts
+    all_on = all_stay i m first tree pieces (places (s.nodes a)) (places (s.nodes b)) (extends_on i s m laws a b u v g) (s.puts a) (s.puts b) (IsNodePiece i m u v) g.puts
 
     pub row_on : (level : ℕ) (node : Node T) → AllGiven i s m first tree pieces a level node → AllGiven i s m first tree pieces b level node
-    row_on = row_stays i m first tree pieces (places (s.nodes a)) (places (s.nodes b)) (extends_on i s m laws a b u v g) (s.puts a) (s.puts b) (IsNodePiece i m u) g.puts
+    row_on = row_stays i m first tree pieces (places (s.nodes a)) (places (s.nodes b)) (extends_on i s m laws a b u v g) (s.puts a) (s.puts b) (IsNodePiece i m u v) g.puts
 
     -- what was got before a, and what from a to b
     pub taken_on : (before : List ℕ) → EachSince (Taken a) before (s.gets a) → EachSince (Taken b) (s.gets a) (s.gets b) → EachSince (Taken b) before (s.gets b)
@@ -239,24 +231,26 @@ module _ {T S F M Sum G : Type 0} (i : Items T) (s : Sources S F) (m : Summers M
     -- what was got from a to b was taken, and a call gave up later, at c
     pub halts_later : (c : S) (w : M) (fault : TreeFault F G) → Fails i s m b c v w fault → EachSince (Taken b) (s.gets a) (s.gets b) → Halts i s m first tree pieces b c fault → Halts i s m first tree pieces a c fault
     halts_later c w (tree_fault.Store fault) ran h k =
-        let May : ℕ → Type 0 = MayGet i k.held pieces (s.puts c) tree in
-        let Good : ℕ → Type 0 = IsTaken i m first k.held pieces (s.puts c) tree in
+        let d = k.fails in
+        let there = places (s.nodes d.mid) in
+        let May : ℕ → Type 0 = MayGet i m first there pieces (s.puts c) tree in
+        let Good : ℕ → Type 0 = IsTaken i m first there pieces (s.puts c) tree in
+        let stays = extends_places (s.nodes b) (s.nodes d.mid) (laws.store_keeps b d.mid d.went) in
         record {
-          held = k.held;
-          kept = λ at bytes stands. k.kept at bytes (extends_on i s m laws a b u v g at bytes stands);
-          got = so_far_later (Taken b) May Good (taken_at b c k.held k.kept (IsNodePiece i m v) ran.puts) (s.gets a) (s.gets b) (s.gets c) h k.got;
+          fails = record { mid = d.mid; went = laws.store_steps.both a b d.mid g.store d.went; failed = d.failed; call = d.call };
+          stood = so_far_later (Taken b) May Good (taken_at b c there stays (IsNodePiece i m v w) ran.puts) (s.gets a) (s.gets b) (s.gets c) h k.stood;
         }
     halts_later c w (tree_fault.BadNode at) ran h k = (k.0, stops_later (Taken b) (Taken c) (Taken c) (taken_then b c v w ran) (s.gets a) (s.gets b) (s.gets c) h at k.1)
     halts_later c w (tree_fault.Summer fault) ran h k =
-        good_later (Taken b) (Taken c) (Taken c) (taken_at b c (places (s.nodes c)) (extends_places (s.nodes b) (s.nodes c) (laws.store_keeps b c ran.store)) (IsNodePiece i m v) ran.puts) (s.gets a) (s.gets b) (s.gets c) h k
-    halts_later c w tree_fault.NoMemory ran h k = so_far_later (Taken b) (MayGet i (places (s.nodes c)) pieces (s.puts c) tree) (Taken c) (taken_then b c v w ran) (s.gets a) (s.gets b) (s.gets c) h k
+        good_later (Taken b) (Taken c) (Taken c) (taken_at b c (places (s.nodes c)) (extends_places (s.nodes b) (s.nodes c) (laws.store_keeps b c ran.store)) (IsNodePiece i m v w) ran.puts) (s.gets a) (s.gets b) (s.gets c) h k
+    halts_later c w tree_fault.NoMemory ran h k = so_far_later (Taken b) (MayGet i m first (places (s.nodes c)) pieces (s.puts c) tree) (Taken c) (taken_then b c v w ran) (s.gets a) (s.gets b) (s.gets c) h k
 
   -- a call that got nothing gave up
-  pub halts_quiet : (a b : S) (fault : TreeFault F G) → s.gets b ≡ s.gets a → BlamesNone fault → Halts i s m first tree pieces a b fault
-  halts_quiet a b (tree_fault.Store fault) e h = record { held = places (s.nodes a); kept = λ at bytes stands. stands; got = inl (since_none (IsTaken i m first (places (s.nodes a)) pieces (s.puts b) tree) (s.gets a) (s.gets b) e) }
-  halts_quiet a b (tree_fault.BadNode at) e h = absurd h
-  halts_quiet a b (tree_fault.Summer fault) e h = since_none (Taken b) (s.gets a) (s.gets b) e
-  halts_quiet a b tree_fault.NoMemory e h = inl (since_none (Taken b) (s.gets a) (s.gets b) e)
+  pub halts_quiet : (a b : S) (u v : M) (fault : TreeFault F G) → Fails i s m a b u v fault → s.gets b ≡ s.gets a → BlamesNone fault → Halts i s m first tree pieces a b fault
+  halts_quiet a b u v (tree_fault.Store fault) ran e h = (let k = ran.store in record { fails = k; stood = inl (since_none (IsTaken i m first (places (s.nodes k.mid)) pieces (s.puts b) tree) (s.gets a) (s.gets b) e) })
+  halts_quiet a b u v (tree_fault.BadNode at) ran e h = absurd h
+  halts_quiet a b u v (tree_fault.Summer fault) ran e h = since_none (Taken b) (s.gets a) (s.gets b) e
+  halts_quiet a b u v tree_fault.NoMemory ran e h = inl (since_none (Taken b) (s.gets a) (s.gets b) e)
 
   -- a call that did nothing at all found no memory
   pub fails_none : (a : S) (u : M) → Fails i s m a a u u tree_fault.NoMemory
@@ -277,7 +271,7 @@ module _ {T S F M Sum G : Type 0} (i : Items T) (s : Sources S F) (m : Summers M
   -- or it came later and got nothing
   pub took_quiet : {X : Type 0} (q : Result X (TreeFault F G)) (P : X → Type 0) (a b c : S) (u v w : M) → GoOn i s m a b u v → EachSince (Taken b) (s.gets a) (s.gets b) → (fault y : TreeFault F G) → y ≡ fault → q ≡ Err y → Fails i s m b c v w fault → s.gets c ≡ s.gets b → BlamesNone fault
       → Took i s m first tree pieces a c q P
-  took_quiet q P a b c u v w g k fault y e is ran none blames = took_later q P a b c u v w g k fault y e is ran (halts_quiet b c fault none blames)
+  took_quiet q P a b c u v w g k fault y e is ran none blames = took_later q P a b c u v w g k fault y e is ran (halts_quiet b c v w fault ran none blames)
 
   -- the root's place
   pub root_leads : (a : S) → 0 < tree.height → Leads i s m first tree pieces a (tree.height - 1) tree.root tree.count Root
@@ -302,21 +296,19 @@ module _ {T S F M Sum G : Type 0} (i : Items T) (s : Sources S F) (m : Summers M
   got_no_memory a b level count at fill leads f = got_last a b (places (s.nodes b)) level count at fill leads f
 
   -- why a node was not fetched
-  pub fetch_blames : (a b : S) (u : M) (level count at : ℕ) (fill : Fill) (fault : TreeFault F G) → IsUnderWay i s m first pieces u a → Leads i s m first tree pieces b level at count fill → s.nodes b ≡ s.nodes a → s.gets b ≡ at ∷ s.gets a
+  pub fetch_blames : (a b : S) (u : M) (level count at : ℕ) (fill : Fill) (fault : TreeFault F G) → IsUnderWay i s m first pieces u a → Leads i s m first tree pieces b level at count fill → s.nodes b ≡ s.nodes a → s.puts b ≡ s.puts a → s.gets b ≡ at ∷ s.gets a
       → FetchFails i level count fill s a b at fault → Halts i s m first tree pieces a b fault
-  fetch_blames a b u level count at fill (tree_fault.Store fault) under leads e f h = record {
-    held = places (s.nodes b);
-    kept = subst (λ n. Extends (places (s.nodes a)) (places n)) (sym e) (λ at bytes stands. stands);
-    got = got_last a b (places (s.nodes b)) level count at fill leads f;
-  }
-  fetch_blames a b u level count at fill (tree_fault.BadNode place) under leads e f h =
+  fetch_blames a b u level count at fill (tree_fault.Store fault) under leads e same f h =
+      let was = subst (λ n. LeadsTo i m first (places n) pieces (s.puts b) tree level at count fill) e leads in
+      record { fails = record { mid = a; went = laws.store_steps.none a; failed = h; call = inl (at, f, same) }; stood = got_last a b (places (s.nodes a)) level count at fill was f }
+  fetch_blames a b u level count at fill (tree_fault.BadNode place) under leads e same f h =
       let k = under.known in
       let bad0 : IsBadAt i level count fill (places (s.nodes a)) at = told_at (s.nodes a) (λ there. IsBadAt i level count fill there at) k.there h.1 k.told in
       let bad : IsBadAt i level count fill (places (s.nodes b)) at = subst (λ n. IsBadAt i level count fill (places n) at) (sym e) bad0 in
       let blamed : Faulty b at = got_bad i m first tree pieces (places (s.nodes b)) (s.puts b) level at count fill leads bad in
       subst (λ p. Halts i s m first tree pieces a b (tree_fault.BadNode p)) (sym h.0) (blamed, stops_one (Taken b) (s.gets a) (s.gets b) at f)
-  fetch_blames a b u level count at fill (tree_fault.Summer fault) under leads e f h = absurd h
-  fetch_blames a b u level count at fill tree_fault.NoMemory under leads e f h = got_no_memory a b level count at fill leads f
+  fetch_blames a b u level count at fill (tree_fault.Summer fault) under leads e same f h = absurd h
+  fetch_blames a b u level count at fill tree_fault.NoMemory under leads e same f h = got_no_memory a b level count at fill leads f
 
   module _ (a b : S) (u : M) (level count at : ℕ) (fill : Fill) (under : IsUnderWay i s m first pieces u a) (leads : Leads i s m first tree pieces b level at count fill) (e : s.nodes b ≡ s.nodes a) (f : s.gets b ≡ at ∷ s.gets a)
       (once : IsSpelledOnce (FitsNode i.fits i.spelled) (spelled_node i.spelled)) (node : Node T) (fits : FitsNode i.fits i.spelled node) (bytes : IfSome (s.nodes a) (λ there. there at ≡ Some (spelled_node i.spelled node))) (place : IsFitFor level count fill node) where
@@ -343,12 +335,12 @@ module _ {T S F M Sum G : Type 0} (i : Items T) (s : Sources S F) (m : Summers M
 
   -- ---- a put
 
-  module _ (a b : S) (u v : M) (under : IsUnderWay i s m first pieces u a) (g : GoOn i s m a b u v) (piece : List ℕ) (more : s.puts b ≡ piece ∷ s.puts a) (node : Node T) (spells : piece ≡ spelled_node i.spelled node) (fits : FitsNode i.fits i.spelled node) (summed : IsSummed i m u node) where
+  module _ (a b : S) (u v : M) (under : IsUnderWay i s m first pieces u a) (g : GoOn i s m a b u v) (piece : List ℕ) (more : s.puts b ≡ piece ∷ s.puts a) (node : Node T) (spells : piece ≡ spelled_node i.spelled node) (fits : FitsNode i.fits i.spelled node) (summed : IsSummed i m u v node) where
     no_bad_sum : (x : Node T) → x ≡ node → KeepsBadSum i m first x → ⊥
     no_bad_sum x same bad =
         let k = under.known in
         let own = bad_back i s m laws first u x k.goes bad in
-        let is : IsSummed i m u (Inner own.children) = subst (IsSummed i m u) (sym same ∙ own.inner) summed in
+        let is : IsSummed i m u v (Inner own.children) = subst (IsSummed i m u v) (sym same ∙ own.inner) summed in
         let sum = All-contains (λ (c : Child T). IsSumSpelled i m u c.sum) own.children own.child is own.inside in
         own.unread sum.sum sum.fits (sym sum.bytes_are)
 

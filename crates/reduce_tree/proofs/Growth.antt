@@ -18,11 +18,12 @@ use Rattle.tree_laws.specs.Nodes.{child_entry, entries, item_entry, number_bytes
 use Rattle.tree_laws.specs.Stores.{EachSince, Growing, Places, pieces_size}
 use Rattle.tree_laws.specs.SummerTrees.{AreChildren, Has}
 use Rattle.tree_laws.proofs.Prefixes.{number_long}
-use Rattle.reduce_tree.specs.Calls.{Ran}
+use Rattle.reduce_tree.specs.Calls.{places, Ran}
 use Rattle.reduce_tree.specs.Counts.{node_size}
-use Rattle.reduce_tree.specs.Pieces.{AreAmong, AreTreePieces, EndsIn, IsPiece, IsTried, WerePieces}
+use Rattle.reduce_tree.specs.Halted.{WerePieces}
+use Rattle.reduce_tree.specs.Pieces.{AreAmong, AreTreePieces, IsPiece, IsTried}
 use Rattle.reduce_tree.proofs.Quiet.{all_back, all_front}
-use Rattle.reduce_tree.proofs.Since.{since_both, since_none, since_weaker}
+use Rattle.reduce_tree.proofs.Since.{since_both, since_weaker}
 
 product_most : (k a b : ℕ) → a ≤ b → k * a ≤ k * b
 product_most k a b h =
@@ -126,29 +127,36 @@ module _ {T M Sum Fault : Type 0} (i : Items T) (m : Summers M T Sum Fault) (fir
         let filled = h.filled in
         subst IsSmall (sym h.bytes_are) (node_small there h.level h.node h.own h.has (own_small h.own h.items) filled.most)
 
-    ended_small : {F G : Type 0} (there : Places) (fault : TreeFault F G) (old new : List (List ℕ)) → EndsIn i m first among there fault old new → EachSince IsSmall old new
-    ended_small there (tree_fault.Store fault) old new h = since_weaker (IsTried i m first among there) IsSmall (tried_small there) old new h.0
-    ended_small there (tree_fault.BadNode at) old new h = since_none IsSmall old new h
-    ended_small there (tree_fault.Summer fault) old new h = since_none IsSmall old new h
-    ended_small there tree_fault.NoMemory old new h = since_none IsSmall old new h
+    module _ {S F : Type 0} (s : Sources S F) where
+      were_small : (a b : S) (fault : TreeFault F Fault) → WerePieces i s m first among a b fault → EachSince IsSmall (s.puts a) (s.puts b)
+      were_small a b (tree_fault.Store fault) h =
+          let t = h.stood in
+          let there = places (s.nodes h.fails.mid) in
+          since_both (IsPiece i m first among there Below) (IsTried i m first among there) IsSmall (piece_small there Below) (tried_small there) (s.puts a) t.until (s.puts b) t.pieces t.last
+      were_small a b (tree_fault.BadNode at) h = since_weaker (IsPiece i m first among (places (s.nodes b)) Below) IsSmall (piece_small (places (s.nodes b)) Below) (s.puts a) (s.puts b) h
+      were_small a b (tree_fault.Summer fault) h = since_weaker (IsPiece i m first among (places (s.nodes b)) Below) IsSmall (piece_small (places (s.nodes b)) Below) (s.puts a) (s.puts b) h
+      were_small a b tree_fault.NoMemory h = since_weaker (IsPiece i m first among (places (s.nodes b)) Below) IsSmall (piece_small (places (s.nodes b)) Below) (s.puts a) (s.puts b) h
 
-    pieces_small : {X F G : Type 0} (before now : Places) (old new : List (List ℕ)) (q : Result X (TreeFault F G))
-        → MatchResult q (λ _. AreTreePieces i m first among now old new) (λ fault. WerePieces i m first among before fault old new) → EachSince IsSmall old new
-    pieces_small before now old new (Ok value) h = since_both (IsPiece i m first among now Below) (IsPiece i m first among now Root) IsSmall (piece_small now Below) (piece_small now Root) old h.mid new h.below h.root
-    pieces_small before now old new (Err fault) h = since_both (IsPiece i m first among h.held Below) IsSmall IsSmall (piece_small h.held Below) (λ bytes s. s) old h.stood new h.pieces (ended_small h.held fault h.stood new h.last)
+      pieces_small : {X : Type 0} (now : Places) (a b : S) (q : Result X (TreeFault F Fault))
+          → MatchResult q (λ _. AreTreePieces i m first among now (s.puts a) (s.puts b)) (λ fault. WerePieces i s m first among a b fault) → EachSince IsSmall (s.puts a) (s.puts b)
+      pieces_small now a b (Ok value) h = since_both (IsPiece i m first among now Below) (IsPiece i m first among now Root) IsSmall (piece_small now Below) (piece_small now Root) (s.puts a) h.mid (s.puts b) h.below h.root
+      pieces_small now a b (Err fault) h = were_small a b fault h
 
-    pub grown : {X S F : Type 0} (s : Sources S F) (before now : Places) (a b : S) (q : Result X (TreeFault F Fault)) (most : ℕ)
-        → Growing (s.puts a) (s.puts b) (s.size a) (s.size b)
-        → MatchResult q (λ _. AreTreePieces i m first among now (s.puts a) (s.puts b)) (λ fault. WerePieces i m first among before fault (s.puts a) (s.puts b))
-        → length (s.puts b) ≤ length (s.puts a) + most → s.size b ≤ s.size a + most * node_size longest
-    grown s before now a b q most g h few = grown_by (node_size longest) most (s.size a) (s.size b) (s.puts a) (s.puts b) g (pieces_small before now (s.puts a) (s.puts b) q h) few
+      pub grown : {X : Type 0} (now : Places) (a b : S) (q : Result X (TreeFault F Fault)) (most : ℕ) → Growing (s.puts a) (s.puts b) (s.size a) (s.size b)
+          → MatchResult q (λ _. AreTreePieces i m first among now (s.puts a) (s.puts b)) (λ fault. WerePieces i s m first among a b fault)
+          → length (s.puts b) ≤ length (s.puts a) + most → s.size b ≤ s.size a + most * node_size longest
+      grown now a b q most g h few = grown_by (node_size longest) most (s.size a) (s.size b) (s.puts a) (s.puts b) g (pieces_small now a b q h) few
 
 -- whatever a call answered, no more bytes came than the pieces take
 pub ran_growing : {X T S F M Sum G : Type 0} (i : Items T) (s : Sources S F) (m : Summers M T Sum G)
     → ((a b : S) → s.goes a b → Growing (s.puts a) (s.puts b) (s.size a) (s.size b)) → ((a b : S) (fault : F) → s.fails a b fault → Growing (s.puts a) (s.puts b) (s.size a) (s.size b))
     → (a b : S) (u v : M) (q : Result X (TreeFault F G)) → Ran i s m a b u v q → Growing (s.puts a) (s.puts b) (s.size a) (s.size b)
 ran_growing i s m grows grew a b u v (Ok value) h = grows a b h.store
-ran_growing i s m grows grew a b u v (Err (tree_fault.Store fault)) h = grew a b fault h.store
+ran_growing i s m grows grew a b u v (Err (tree_fault.Store fault)) h =
+    let k = h.store in
+    let before = grows a k.mid k.went in
+    let last = grew k.mid b fault k.failed in
+    omega (arith, before, last)
 ran_growing i s m grows grew a b u v (Err (tree_fault.BadNode at)) h = grows a b h.store
 ran_growing i s m grows grew a b u v (Err (tree_fault.Summer fault)) h = grows a b h.store
 ran_growing i s m grows grew a b u v (Err tree_fault.NoMemory) h = grows a b h.store

@@ -1,4 +1,3 @@
-pub mod Alike
 pub mod Applied
 pub mod Calls
 pub mod Charge
@@ -6,6 +5,7 @@ pub mod Climb
 pub mod Fills
 pub mod Given
 pub mod Growth
+pub mod Had
 pub mod Lists
 pub mod Made
 pub mod Nodes
@@ -14,6 +14,7 @@ pub mod Pieces
 pub mod Puts
 pub mod Quiet
 pub mod Since
+pub mod Sizes
 pub mod Sound
 pub mod Stacks
 pub mod Summaries

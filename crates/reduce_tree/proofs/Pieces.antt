@@ -1,10 +1,11 @@
 -- What was put, over calls one after another.
-use Rattle.std.proofs.Common.{Result, Err, MatchResult, ◌≡◌, ℕ, List, [], ◌∷◌, ◌++◌, Contains, length, ◌+◌, arith, refl, ap, subst}
+use Rattle.std.proofs.Common.{Result, Err, MatchResult, ◌≡◌, inr, ℕ, List, [], ◌∷◌, ◌++◌, Contains, length, ◌+◌, arith, refl, ap, subst}
 use Rattle.std.proofs.lemmas.List.Elements.{All-append, All-filter, All-head, All-tail}
 use Rattle.std.specs.declared.cmp.Ordering.{Ordering}
 use Rattle.std.specs.List.Sorted.{IsStrictlySortedBy}
 use Rattle.std.specs.Ordering.{is_lt, is_gt}
 use Rattle.tree_laws.specs.declared.item.Item.{Ghosts as Items}
+use Rattle.tree_laws.specs.declared.store.NodeSource.{Ghosts as Sources}
 use Rattle.tree_laws.specs.declared.summer.Summer.{Ghosts as Summers}
 use Rattle.tree_laws.specs.declared.node.Child.{Child}
 use Rattle.tree_laws.specs.declared.tree.Fill.{Fill}
@@ -19,7 +20,10 @@ use Rattle.reduce_tree.specs.declared.edit.Edit.{Edit}
 use Rattle.reduce_tree.specs.Applied.{applied, edit_key, placed_of}
 use Rattle.reduce_tree.proofs.Order.{sorted_back, sorted_front}
 use Rattle.reduce_tree.proofs.Quiet.{all_back, all_front}
-use Rattle.reduce_tree.specs.Pieces.{AreAmong, ArePieces, InsertAmong, IsPiece, WerePieces, EndsIn, IsTried}
+use Rattle.reduce_tree.specs.Calls.{places, Fails, GoOn}
+use Rattle.reduce_tree.specs.Halted.{WerePieces}
+use Rattle.reduce_tree.specs.Pieces.{AreAmong, ArePieces, InsertAmong, IsPiece, IsTried}
+use Rattle.reduce_tree.proofs.Calls.{Laws, extends_places}
 
 module _ {T : Type 0} (order : T → T → Ordering) (among : List T) where
   pub applied_among : (es : List (Edit T)) (xs : List T) → InsertAmong among es → AreAmong among xs → AreAmong among (applied order es xs)
@@ -53,36 +57,6 @@ module _ {T M Sum Fault : Type 0} (i : Items T) (m : Summers M T Sum Fault) (fir
 
     pub pieces_one : (fill : Fill) (piece : List ℕ) (old new : List (List ℕ)) → new ≡ piece ∷ old → IsPiece i m first among there fill piece → ArePieces i m first among there fill old new
     pieces_one fill piece old new e p = since_one (IsPiece i m first among there fill) piece old new e p
-
-  module _ {F G : Type 0} where
-    ends_here : (there : Places) (fault : TreeFault F G) (pieces : List (List ℕ)) → EndsIn i m first among there fault pieces pieces
-    ends_here there (tree_fault.Store fault) pieces = (since_none (IsTried i m first among there) pieces pieces refl, omega arith)
-    ends_here there (tree_fault.BadNode at) pieces = refl
-    ends_here there (tree_fault.Summer fault) pieces = refl
-    ends_here there tree_fault.NoMemory pieces = refl
-
-    -- before is what stood at first
-    pub were_none : (before : Places) (fault : TreeFault F G) (old new : List (List ℕ)) → new ≡ old → WerePieces i m first among before fault old new
-    were_none before fault old new e = record { held = before; kept = λ at bytes s. s; stood = new; pieces = pieces_none before Below old new e; last = ends_here before fault new }
-
-    -- the store failed at its first put
-    pub were_tried : (before : Places) (fault : F) (piece : List ℕ) (old new : List (List ℕ)) → new ≡ piece ∷ old → IsTried i m first among before piece → WerePieces i m first among before {F = F} {G = G} (tree_fault.Store fault) old new
-    were_tried before fault piece old new e h = record {
-      held = before;
-      kept = λ at bytes s. s;
-      stood = old;
-      pieces = pieces_none before Below old old refl;
-      last = (since_one (IsTried i m first among before) piece old new e h, omega (arith, ap length e));
-    }
-
-    module _ (n0 n1 : Places) (e01 : Extends n0 n1) (fault : TreeFault F G) where
-      -- all calls on the store went on
-      pub were_done : (a b : List (List ℕ)) → ArePieces i m first among n1 Below a b → WerePieces i m first among n0 fault a b
-      were_done a b h = record { held = n1; kept = e01; stood = b; pieces = h; last = ends_here n1 fault b }
-
-      -- and then a call gave up
-      pub were_on : (a b c : List (List ℕ)) → ArePieces i m first among n1 Below a b → WerePieces i m first among n1 fault b c → WerePieces i m first among n0 fault a c
-      were_on a b c h k = record { held = k.held; kept = λ at bytes s. k.kept at bytes (e01 at bytes s); stood = k.stood; pieces = pieces_on n1 k.held k.kept Below a b k.stood h k.pieces; last = k.last }
 
   -- the items of the children left, which rise, and those that the edits left insert
   pub record Left (there : Places) (low : ℕ) (rest : List (Child T)) (left : List (Edit T)) : Type 0 where
@@ -124,6 +98,54 @@ module _ {T M Sum Fault : Type 0} (i : Items T) (m : Summers M T Sum Fault) (fir
           inserts = all_back I own others es;
         };
       }
+
+module _ {T S F M Sum G : Type 0} (i : Items T) (s : Sources S F) (m : Summers M T Sum G) (laws : Laws s m) (first : M) (among : List T) where
+  -- a call gave up that put nothing
+  pub were_none : (a b : S) (u v : M) (fault : TreeFault F G) → Fails i s m a b u v fault → s.puts b ≡ s.puts a → WerePieces i s m first among a b fault
+  were_none a b u v (tree_fault.Store fault) ran e =
+      let k = ran.store in
+      let there = places (s.nodes k.mid) in
+      record {
+        fails = k;
+        stood = record { until = s.puts b; pieces = pieces_none i m first among there Below (s.puts a) (s.puts b) e; last = since_none (IsTried i m first among there) (s.puts b) (s.puts b) refl; one = omega arith };
+      }
+  were_none a b u v (tree_fault.BadNode at) ran e = pieces_none i m first among (places (s.nodes b)) Below (s.puts a) (s.puts b) e
+  were_none a b u v (tree_fault.Summer fault) ran e = pieces_none i m first among (places (s.nodes b)) Below (s.puts a) (s.puts b) e
+  were_none a b u v tree_fault.NoMemory ran e = pieces_none i m first among (places (s.nodes b)) Below (s.puts a) (s.puts b) e
+
+  -- a put failed
+  pub were_tried : (a b : S) (fault : F) (piece : List ℕ) → s.fails a b fault → s.puts b ≡ piece ∷ s.puts a → s.gets b ≡ s.gets a → IsTried i m first among (places (s.nodes a)) piece → WerePieces i s m first among a b (tree_fault.Store fault)
+  were_tried a b fault piece failed e f h =
+      let there = places (s.nodes a) in
+      record {
+        fails = record { mid = a; went = laws.store_steps.none a; failed = failed; call = inr (piece, e, f) };
+        stood = record {
+          until = s.puts a;
+          pieces = pieces_none i m first among there Below (s.puts a) (s.puts a) refl;
+          last = since_one (IsTried i m first among there) piece (s.puts a) (s.puts b) e h;
+          one = omega (arith, ap length e);
+        };
+      }
+
+  -- pieces were put from a to b, and a call gave up later, at c
+  module _ (a b c : S) (u v w : M) (g : GoOn i s m a b u v) (h : ArePieces i m first among (places (s.nodes b)) Below (s.puts a) (s.puts b)) where
+    were_later : s.goes b c → ArePieces i m first among (places (s.nodes c)) Below (s.puts b) (s.puts c) → ArePieces i m first among (places (s.nodes c)) Below (s.puts a) (s.puts c)
+    were_later went k = pieces_on i m first among (places (s.nodes b)) (places (s.nodes c)) (extends_places (s.nodes b) (s.nodes c) (laws.store_keeps b c went)) Below (s.puts a) (s.puts b) (s.puts c) h k
+
+    pub were_on : (fault : TreeFault F G) → Fails i s m b c v w fault → WerePieces i s m first among b c fault → WerePieces i s m first among a c fault
+    were_on (tree_fault.Store fault) ran k =
+        let t = k.stood in
+        let n1 = places (s.nodes b) in
+        let d = k.fails in
+        let n2 = places (s.nodes d.mid) in
+        let stays = extends_places (s.nodes b) (s.nodes d.mid) (laws.store_keeps b d.mid d.went) in
+        record {
+          fails = record { mid = d.mid; went = laws.store_steps.both a b d.mid g.store d.went; failed = d.failed; call = d.call };
+          stood = record { until = t.until; pieces = pieces_on i m first among n1 n2 stays Below (s.puts a) (s.puts b) t.until h t.pieces; last = t.last; one = t.one };
+        }
+    were_on (tree_fault.BadNode at) ran k = were_later ran.store k
+    were_on (tree_fault.Summer fault) ran k = were_later ran.store k
+    were_on tree_fault.NoMemory ran k = were_later ran.store k
 
 -- what the exit of a `?` returns
 pub on_match : {X E : Type 0} (q : Result X E) (P : X → Type 0) (Q : E → Type 0) (fault y : E) → y ≡ fault → q ≡ Err y → Q fault → MatchResult q P Q

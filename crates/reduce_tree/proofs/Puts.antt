@@ -8,7 +8,7 @@ use Rattle.tree_laws.specs.Nodes.{entries, item_entry, number_bytes, spelled_nod
 use Rattle.tree_laws.proofs.Prefixes.{number_long}
 use Rattle.reduce_tree.specs.declared.edit.Edit.{Edit}
 use Rattle.reduce_tree.specs.Applied.{insertions}
-use Rattle.reduce_tree.specs.Bounds.{ArePut}
+use Rattle.reduce_tree.specs.Charges.{ArePut}
 use Rattle.reduce_tree.specs.Calls.{PutNone}
 use Rattle.reduce_tree.specs.Rows.{IsSplit, leaf_items, lone}
 

@@ -6,7 +6,7 @@ use Rattle.tree_laws.specs.declared.summer.Summer.{Ghosts as Summers}
 use Rattle.tree_laws.specs.declared.node.Child.{Child}
 use Rattle.tree_laws.specs.declared.node.Node.{Node}
 use Rattle.tree_laws.specs.declared.node.Node.TheVariants.{Leaf, Inner}
-use Rattle.tree_laws.specs.Meaning.{KeepsMeaning, Meaning}
+use Rattle.tree_laws.specs.Meaning.{KeepsMeaning, Meaning, StaysNoted}
 use Rattle.tree_laws.specs.Stores.{EachSince}
 use Rattle.reduce_tree.specs.Pieces.{IsNodePiece, IsSummed, IsSumSpelled}
 
@@ -46,9 +46,18 @@ module _ {T M Sum Fault : Type 0} (i : Items T) (m : Summers M T Sum Fault) wher
     spelled_back : (bytes : List ℕ) → IsSumSpelled i m v bytes → IsSumSpelled i m u bytes
     spelled_back bytes h = record { sum = h.sum; fits = (keeps.fits u v h.sum g).1 h.fits; bytes_are = h.bytes_are ∙ ap (λ (x : Meaning T Sum). x.spelled h.sum) (keeps.meaning u v g) }
 
-    summed_back : (node : Node T) → IsSummed i m v node → IsSummed i m u node
-    summed_back (Leaf items) h = keeps.usable u v g h
-    summed_back (Inner children) h = All-weaker (λ (c : Child T). IsSumSpelled i m v c.sum) (λ (c : Child T). IsSumSpelled i m u c.sum) (λ c p. spelled_back c.sum p) children h
+    summed_back : (w : M) → StaysNoted m.goes m.fails m.asked → (node : Node T) → IsSummed i m v w node → IsSummed i m u w node
+    summed_back w noted (Leaf items) h = (keeps.usable u v g h.0, noted.before u v w items g h.1)
+    summed_back w noted (Inner children) h = All-weaker (λ (c : Child T). IsSumSpelled i m v c.sum) (λ (c : Child T). IsSumSpelled i m u c.sum) (λ c p. spelled_back c.sum p) children h
 
-    pub node_back : (bytes : List ℕ) → IsNodePiece i m v bytes → IsNodePiece i m u bytes
-    node_back bytes h = record { node = h.node; fits = h.fits; bytes_are = h.bytes_are; most = h.most; summed = summed_back h.node h.summed }
+    pub node_back : (w : M) → StaysNoted m.goes m.fails m.asked → (bytes : List ℕ) → IsNodePiece i m v w bytes → IsNodePiece i m u w bytes
+    node_back w noted bytes h = record { node = h.node; fits = h.fits; bytes_are = h.bytes_are; most = h.most; summed = summed_back w noted h.node h.summed }
+
+  -- more was asked of the summer from v to w
+  module _ (u v w : M) (later : (items : List T) → m.asked u v items → m.asked u w items) where
+    summed_ahead : (node : Node T) → IsSummed i m u v node → IsSummed i m u w node
+    summed_ahead (Leaf items) h = (h.0, later items h.1)
+    summed_ahead (Inner children) h = h
+
+    pub node_ahead : (bytes : List ℕ) → IsNodePiece i m u v bytes → IsNodePiece i m u w bytes
+    node_ahead bytes h = record { node = h.node; fits = h.fits; bytes_are = h.bytes_are; most = h.most; summed = summed_ahead h.node h.summed }

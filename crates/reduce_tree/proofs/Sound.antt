@@ -13,10 +13,10 @@ use Rattle.tree_laws.specs.declared.tree.TreeFault.TheVariants as tree_fault
 use Rattle.tree_laws.specs.Fetching.{FetchFails, IsBadAt}
 use Rattle.tree_laws.specs.Meaning.{KeepsMeaning, Meaning}
 use Rattle.tree_laws.specs.Stores.{Places}
-use Rattle.tree_laws.specs.SummerTrees.{AreChildren, Has, IsAt, IsChild, Stands}
+use Rattle.tree_laws.specs.SummerTrees.{AreChildren, Has, IsAt, IsChild, Stands, KeepsBadSum}
 use Rattle.tree_laws.proofs.SummerTrees.{children_split}
 use Rattle.tree_laws.proofs.SummerTrees.{has_fits}
-use Rattle.reduce_tree.specs.Calls.{places, BlamesNone, IfSound, IsKnown, KeepsBadSum, Summed}
+use Rattle.reduce_tree.specs.Calls.{places, BlamesNone, IfSound, IsKnown, Summed}
 use Rattle.reduce_tree.proofs.Calls.{told_at}
 use Rattle.reduce_tree.proofs.Order.{sorted_front}
 

@@ -11,6 +11,7 @@ use Rattle.tree_laws.specs.Nodes.{entries, FitsNode, spelled_node}
 use Rattle.tree_laws.specs.Stores.{EachSince, Places}
 use Rattle.tree_laws.specs.SummerTrees.{AreChildren, Joins, Stands}
 use Rattle.reduce_tree.specs.declared.builder.Builder.{Builder}
+use Rattle.reduce_tree.specs.Counts.{ReadsFor}
 use Rattle.reduce_tree.specs.Packed.{IsCut, Climbs}
 
 module _ {T : Type 0} where
@@ -71,10 +72,9 @@ module _ {T : Type 0} (i : Items T) (there : Places) where
       (given : List (Child T)) × (own : ℕ) × (more : ℕ)
       × IsCut i there Leaf items builder.leaf.items given own × Climbs i there builder.rows.items [] given more × (taken ≡ own + more)
 
--- A put makes two reads at most, and takes 10 bytes at least: the reads never fall, and rise by one at most for each 5 bytes by
--- which the size rises.
-abbrev pub ReadsForBytes : ℕ → ℕ → ℕ → ℕ → Type 0
-ReadsForBytes before now small large = (before ≤ now) × (5 * now + small ≤ 5 * before + large)
+-- the reads never fall, and rise by two at most for each piece put, or tried
+abbrev pub ReadsForPuts : ℕ → ℕ → List (List ℕ) → List (List ℕ) → Type 0
+ReadsForPuts before now old new = ReadsFor before now (length old) (length new)
 
 module _ {T : Type 0} (i : Items T) where
   -- the bytes of a node that can be spelled, of so many entries at least and so many at most

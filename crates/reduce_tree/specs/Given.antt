@@ -1,5 +1,5 @@
 -- Where the nodes stand that a call on a tree gets: what entries lead to.
-use Rattle.std.specs.Prelude.{◌≡◌, ◌⊎◌, ◌-◌, ℕ, zero, suc, List, Some, All, Result, Ok, Err, IfOk}
+use Rattle.std.specs.Prelude.{◌⊎◌, ◌-◌, ℕ, zero, suc, List, All, Result, Ok, Err, IfOk}
 use Rattle.tree_laws.specs.declared.item.Item.{Ghosts as Items}
 use Rattle.tree_laws.specs.declared.store.NodeSource.{Ghosts as Sources}
 use Rattle.tree_laws.specs.declared.summer.Summer.{Ghosts as Summers}
@@ -13,20 +13,11 @@ use Rattle.tree_laws.specs.declared.tree.TreeFault.{TreeFault}
 use Rattle.tree_laws.specs.declared.tree.TreeFault.TheVariants as tree_fault
 use Rattle.tree_laws.specs.Fetching.{KeepsBadSum}
 use Rattle.tree_laws.specs.Nodes.{spelled_node}
-use Rattle.tree_laws.specs.Reaching.{GoesSoFar, IsFaulty, IsReached, IsSound, Reaches, StandsFit, StopsAt}
-use Rattle.tree_laws.specs.Stores.{EachSince, Extends, IsSince, Places}
+use Rattle.tree_laws.specs.Reaching.{GoesSoFar, IsFaulty, Reaches, StandsFit, StopsAt}
+use Rattle.tree_laws.specs.Stores.{EachSince, IsSince, Places}
 use Rattle.tree_laws.specs.Values.{values_of}
 use Rattle.reduce_tree.specs.Calls.{places, IsKnown}
-
--- a piece stands at the place that was put since
-pub record IsOwn (there : Places) (old new : List (List ℕ)) (at : ℕ) : Type 0 where
-  pub bytes : List ℕ
-  pub stand : there at ≡ Some bytes
-  pub since : IsSince bytes old new
-
--- the place is reached from the tree's root, or the call put what stands there
-abbrev pub MayGet : {T : Type 0} → Items T → Places → List (List ℕ) → List (List ℕ) → Tree → ℕ → Type 0
-MayGet i there old new tree at = IsReached i there tree at ⊎ IsOwn there old new at
+use Rattle.reduce_tree.specs.Halted.{FailedWhere}
 
 -- such a fact of each entry of an inner node
 abbrev pub AreEach : {T : Type 0} → (Child T → Type 0) → Node T → Type 0
@@ -34,10 +25,6 @@ AreEach P (Leaf items) = Unit {0}
 AreEach P (Inner children) = All P children
 
 module _ {T M Sum Fault : Type 0} (i : Items T) (m : Summers M T Sum Fault) (first : M) (there : Places) (old new : List (List ℕ)) where
-  -- a node that fits stands at the place, reached from the tree's root, and each of its summaries is read; or the call put what stands there
-  abbrev pub IsTaken : Tree → ℕ → Type 0
-  IsTaken tree at = IsSound i (values_of m first) there tree at ⊎ IsOwn there old new at
-
   -- a node that the call put: it fits at the place, its summaries are read, and such a fact holds of its entries
   pub record IsOwnNode (P : Child T → Type 0) (at level count : ℕ) (fill : Fill) : Type 0 where
     pub node : Node T
@@ -51,6 +38,23 @@ module _ {T M Sum Fault : Type 0} (i : Items T) (m : Summers M T Sum Fault) (fir
     abbrev pub LeadsTo : ℕ → ℕ → ℕ → Fill → Type 0
     LeadsTo zero at count fill = Reaches i there tree at zero count fill ⊎ IsOwnNode (λ c. Unit {0}) at zero count fill
     LeadsTo (suc level) at count fill = Reaches i there tree at (suc level) count fill ⊎ IsOwnNode (λ c. LeadsTo level c.at c.count Below) at (suc level) count fill
+
+    -- a node is to stand at the place, which is one of these
+    pub record MayGet (at : ℕ) : Type 0 where
+      pub level : ℕ
+      pub count : ℕ
+      pub fill : Fill
+      pub leads : LeadsTo level at count fill
+
+    -- and a node that fits there stands at it, of which each summary is read: the one that the call put, where it put one there
+    pub record IsTaken (at : ℕ) : Type 0 where
+      pub level : ℕ
+      pub count : ℕ
+      pub fill : Fill
+      pub leads : LeadsTo level at count fill
+      pub node : Node T
+      pub stands : StandsFit i there at level count fill node
+      pub read : KeepsBadSum (values_of m first) node → ⊥
 
     -- an entry leads to such a place, where a node of this level is to stand
     abbrev pub IsGiven : ℕ → Child T → Type 0
@@ -77,21 +81,15 @@ module _ {T S F M Sum G : Type 0} (i : Items T) (s : Sources S F) (m : Summers M
 
   -- or each but the last, which the call may get
   abbrev pub GotSoFar : S → S → Places → Type 0
-  GotSoFar old new there = GoesSoFar (MayGet i there pieces (s.puts new) tree) (IsTaken i m first there pieces (s.puts new) tree) (s.gets old) (s.gets new)
+  GotSoFar old new there = GoesSoFar (MayGet i m first there pieces (s.puts new) tree) (IsTaken i m first there pieces (s.puts new) tree) (s.gets old) (s.gets new)
 
   -- the last is bad, and each other is good
   abbrev pub GotBad : S → S → Places → ℕ → Type 0
   GotBad old new there at = IsFaulty i (values_of m first) there tree at × StopsAt (IsTaken i m first there pieces (s.puts new) tree) (s.gets old) (s.gets new) at
 
-  -- the same of a store that failed, by what stood in it then, with all that stood there at first
-  pub record GotTillThen (old new : S) : Type 0 where
-    pub held : Places
-    pub kept : Extends (places (s.nodes old)) held
-    pub got : GotSoFar old new held
-
-  -- how a call that gave up took what it got
+  -- how a call that gave up took what it got: where the store failed, by what stood in it when it did
   abbrev pub Halts : S → S → TreeFault F G → Type 0
-  Halts old new (tree_fault.Store fault) = GotTillThen old new
+  Halts old new (tree_fault.Store fault) = FailedWhere s (GotSoFar old new) old new fault
   Halts old new (tree_fault.BadNode at) = GotBad old new (places (s.nodes new)) at
   Halts old new (tree_fault.Summer fault) = GotGood old new (places (s.nodes new))
   Halts old new tree_fault.NoMemory = GotSoFar old new (places (s.nodes new))

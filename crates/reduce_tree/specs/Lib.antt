@@ -1,9 +1,11 @@
 pub mod Applied
-pub mod Bounds
 pub mod Built
 pub mod Calls
+pub mod Charges
 pub mod Counts
 pub mod Given
+pub mod Halted
 pub mod Packed
 pub mod Pieces
 pub mod Rows
+pub mod Sums

@@ -1,6 +1,5 @@
--- Where a list is cut into the nodes of a packed tree, and how many bytes they take.
-use Rattle.std.specs.Prelude.{◌≡◌, ◌==◌, ℕ, zero, suc, ◌+◌, ◌-◌, ◌/◌, ◌%◌, ◌<◌, ◌≤◌, nat_le, nat_lt, if◌then◌else◌, Some, List, [], ◌∷◌, ◌++◌, length, map}
-use Rattle.std.specs.List.{repeat}
+-- The nodes of a packed tree, where they stand, and how many bytes they take.
+use Rattle.std.specs.Prelude.{◌≡◌, ℕ, zero, suc, ◌+◌, ◌<◌, ◌≤◌, Some, List, [], ◌∷◌, ◌++◌, length, map}
 use Rattle.tree_laws.specs.declared.item.Item.{Ghosts as Items}
 use Rattle.tree_laws.specs.declared.node.Child.{Child}
 use Rattle.tree_laws.specs.declared.node.Node.{Node}
@@ -8,20 +7,8 @@ use Rattle.tree_laws.specs.declared.node.Node.TheVariants.{Leaf, Inner}
 use Rattle.tree_laws.specs.declared.tree.Tree.{Tree}
 use Rattle.tree_laws.specs.Meaning.{joined}
 use Rattle.tree_laws.specs.Nodes.{FitsNode, spelled_node}
+use Rattle.tree_laws.specs.Packing.{IsPacked}
 use Rattle.tree_laws.specs.Stores.{Places, pieces_size}
-
--- q nodes of 32, where r entries remain; too few of them take 8 of the last node's
-abbrev pub fills_of : ℕ → ℕ → List ℕ
-fills_of q r = if r == 0 then repeat q (32 ∷ []) else if nat_lt r 8 then repeat (q - 1) (32 ∷ []) ++ (24 ∷ (8 + r) ∷ []) else repeat q (32 ∷ []) ++ (r ∷ [])
-
--- how many entries each node takes of n
-abbrev pub fills : ℕ → List ℕ
-fills n = if nat_le n 32 then n ∷ [] else fills_of (n / 32) (n % 32)
-
--- the pieces are the list cut so
-pub record IsPacked {X : Type 0} (pieces : List (List X)) (xs : List X) : Type 0 where
-  pub whole : xs ≡ joined pieces
-  pub cut : map length pieces ≡ fills (length xs)
 
 -- how many bytes the nodes of pieces take in a store: their own, and 8 more for each
 abbrev pub nodes_size : {T X : Type 0} → Items T → (List X → Node T) → List (List X) → ℕ

@@ -6,11 +6,9 @@ use Rattle.tree_laws.specs.declared.node.Node.{Node}
 use Rattle.tree_laws.specs.declared.node.Node.TheVariants.{Leaf, Inner}
 use Rattle.tree_laws.specs.declared.tree.Fill.{Fill}
 use Rattle.tree_laws.specs.declared.tree.Fill.TheVariants.{Root, Below}
-use Rattle.tree_laws.specs.declared.tree.TreeFault.{TreeFault}
-use Rattle.tree_laws.specs.declared.tree.TreeFault.TheVariants as tree_fault
 use Rattle.tree_laws.specs.Nodes.{entries, FitsNode, spelled_node}
 use Rattle.tree_laws.specs.Fitting.{IsFilled}
-use Rattle.tree_laws.specs.Stores.{EachSince, Extends, Places}
+use Rattle.tree_laws.specs.Stores.{EachSince, Places}
 use Rattle.tree_laws.specs.SummerTrees.{Has, IsAt}
 use Rattle.reduce_tree.specs.declared.edit.Edit.{Edit}
 use Rattle.reduce_tree.specs.Applied.{placed_of}
@@ -30,10 +28,12 @@ module _ {T M Sum Fault : Type 0} (i : Items T) (m : Summers M T Sum Fault) (sum
     pub fits : m.fits summer sum
     pub bytes_are : bytes ≡ (m.meaning summer).spelled sum
 
-  -- a leaf is there only where the summer is usable; the summaries of an inner node are those of values that fit
+module _ {T M Sum Fault : Type 0} (i : Items T) (m : Summers M T Sum Fault) (before after : M) where
+  -- A leaf is there only where the summer was usable, and from the one state to the other the summer was asked for the value of exactly
+  -- its items. The summaries of an inner node are those of values that fit.
   abbrev pub IsSummed : Node T → Type 0
-  IsSummed (Leaf items) = m.usable summer
-  IsSummed (Inner children) = All (λ child. IsSumSpelled child.sum) children
+  IsSummed (Leaf items) = m.usable before × m.asked before after items
+  IsSummed (Inner children) = All (λ child. IsSumSpelled i m before child.sum) children
 
   -- the bytes of such a node, of 32 entries at most
   pub record IsNodePiece (bytes : List ℕ) : Type 0 where
@@ -65,13 +65,6 @@ module _ {T M Sum Fault : Type 0} (i : Items T) (m : Summers M T Sum Fault) (fir
     pub has : Has i m first there level node own
     pub items : AreAmong among own
 
-  -- a store that failed may have been given one such node at last
-  abbrev pub EndsIn : {F G : Type 0} → TreeFault F G → List (List ℕ) → List (List ℕ) → Type 0
-  EndsIn (tree_fault.Store fault) old new = EachSince IsTried old new × (length new ≤ length old + 1)
-  EndsIn (tree_fault.BadNode at) old new = new ≡ old
-  EndsIn (tree_fault.Summer fault) old new = new ≡ old
-  EndsIn tree_fault.NoMemory old new = new ≡ old
-
   -- the pieces that were put since are such
   abbrev pub ArePieces : Fill → List (List ℕ) → List (List ℕ) → Type 0
   ArePieces fill = EachSince (IsPiece fill)
@@ -82,13 +75,3 @@ module _ {T M Sum Fault : Type 0} (i : Items T) (m : Summers M T Sum Fault) (fir
     pub below : ArePieces Below old mid
     pub root : ArePieces Root mid new
     pub one : length new ≤ length mid + 1
-
-module _ {T M Sum Fault : Type 0} (i : Items T) (m : Summers M T Sum Fault) (first : M) (among : List T) (before : Places) where
-  -- what a call put that gave up: nodes below a root, which stood, with all that stood before, when the last of them was put, and
-  -- behind them the node that the store may have failed at
-  pub record WerePieces {F G : Type 0} (fault : TreeFault F G) (old new : List (List ℕ)) : Type 0 where
-    pub held : Places
-    pub kept : Extends before held
-    pub stood : List (List ℕ)
-    pub pieces : ArePieces i m first among held Below old stood
-    pub last : EndsIn i m first among held fault stood new

@@ -3,10 +3,12 @@
 ghost use Rattle.tree_laws.specs.declared.tree.Tree.{Tree};
 ghost use Rattle.reduce_tree.specs.Given.{AllGiven, Given, IsUnderWay, Took};
 ghost use Rattle.tree_laws.specs.declared.tree.Fill.TheVariants.{Below};
-ghost use Rattle.reduce_tree.specs.Pieces.{ArePieces, AreAmong, InsertAmong, WerePieces};
+ghost use Rattle.reduce_tree.specs.Pieces.{ArePieces, AreAmong, InsertAmong};
+ghost use Rattle.reduce_tree.specs.Halted.{WerePieces};
 ghost use Rattle.reduce_tree.specs.Applied.{applied, edit_key, insertions, RemoveNone};
-ghost use Rattle.reduce_tree.specs.Bounds.{slack, ready, pending, rounding, ArePut, Spent};
+ghost use Rattle.reduce_tree.specs.Charges.{slack, ready, pending, rounding, ArePut, Spent};
 ghost use Rattle.reduce_tree.specs.Counts.{ReadsFor};
+ghost use Rattle.reduce_tree.specs.Sums.{IsOnTheWay, KnowsNode, KnowsPieces, KnowsRow, KnowsSum};
 ghost use Rattle.reduce_tree.specs.Calls.{places, IsKnown, Ran, PutNone, BlamesNone, IfSound};
 ghost use Rattle.reduce_tree.specs.Rows.{IsAtLevel, Carries, leaf_items};
 ghost use Rattle.reduce_tree.specs.declared.edit.Edit.{Edit};
@@ -94,13 +96,15 @@ fn settle<S: NodeStore, M: Summer, L: Ledger>(
     ensures steps { OnOk result (31 * steps.new + vec_len done.new ≤ 31 * steps.old + (vec_len done.old + (entries row.node + rounding (entries row.node)))) }
     ensures once { OnOk result (93 * length (S.puts store.new) + (vec_len done.new + 62 * steps.old) ≤ 93 * length (S.puts store.old) + (62 * steps.new + (vec_len done.old + (entries row.node + rounding (entries row.node))))) }
     ensures spent { OnErr result (Spent steps.old steps.new (length (S.puts store.old)) (length (S.puts store.new)) (vec_len done.old + (entries row.node + rounding (entries row.node))) (vec_len done.old + (entries row.node + rounding (entries row.node)))) }
-    ensures pieces { (first : M) (items among : List M.Unit) → IsKnown M.Unit.Item S.NodeSource M.Summer first summer.old store.old → Carries M.Unit.Item M.Summer first (places (S.nodes store.old)) low done.old.items row.level row.node items → AreAmong among items → MatchResult result (λ _. ArePieces M.Unit.Item M.Summer first among (places (S.nodes store.new)) Below (S.puts store.old) (S.puts store.new)) (λ fault. WerePieces M.Unit.Item M.Summer first among (places (S.nodes store.old)) fault (S.puts store.old) (S.puts store.new)) }
+    ensures pieces { (first : M) (items among : List M.Unit) → IsKnown M.Unit.Item S.NodeSource M.Summer first summer.old store.old → Carries M.Unit.Item M.Summer first (places (S.nodes store.old)) low done.old.items row.level row.node items → AreAmong among items → MatchResult result (λ _. ArePieces M.Unit.Item M.Summer first among (places (S.nodes store.new)) Below (S.puts store.old) (S.puts store.new)) (λ fault. WerePieces M.Unit.Item S.NodeSource M.Summer first among store.old store.new fault) }
     ensures leaf { OnOk result (ArePut (S.size store.old) (S.size store.new) (M.usable summer.old) (leaf_items row.node) 0) }
     ensures unput { entries row.node ≡ 0 → OnOk result (PutNone S.NodeSource store.old store.new) }
     ensures gets { S.gets store.new ≡ S.gets store.old }
     ensures given { (first : M) (tree : Tree) (pieces : List (List ℕ)) → IsUnderWay M.Unit.Item S.NodeSource M.Summer first pieces summer.old store.old → All (Given M.Unit.Item S.NodeSource M.Summer first tree pieces store.old low) done.old.items → AllGiven M.Unit.Item S.NodeSource M.Summer first tree pieces store.old row.level row.node → OnOk result (All (Given M.Unit.Item S.NodeSource M.Summer first tree pieces store.new low) done.new.items) }
     ensures reads { ReadsFor (S.reads store.old) (S.reads store.new) steps.old steps.new }
     ensures sound { IfErr result BlamesNone }
+    ensures sums { (first : M) (begun : S) → KnowsNode M.Unit.Item S.NodeSource M.Summer first begun summer.old store.old row.node → KnowsPieces M.Unit.Item S.NodeSource M.Summer first begun summer.new store.new (S.puts store.old) (S.puts store.new) }
+    ensures known { (first : M) (begun : S) → M.goes first summer.old → KnowsRow M.Unit.Item S.NodeSource M.Summer first begun summer.old store.old done.old.items → OnOk result (KnowsRow M.Unit.Item S.NodeSource M.Summer first begun summer.new store.new done.new.items) }
     ensures ran { Ran M.Unit.Item S.NodeSource M.Summer store.old store.new summer.old summer.new result }
     ensures ready { OnOk result (S.is_ready store.new) }
 {
@@ -142,13 +146,15 @@ fn keep_child<S: NodeStore, M: Summer, L: Ledger>(
     ensures steps { OnOk result (31 * steps.new + vec_len done.new ≤ 31 * steps.old + (vec_len done.old + (1 + (entries carry.node + rounding (entries carry.node))))) }
     ensures once { OnOk result (93 * length (S.puts store.new) + (vec_len done.new + 62 * steps.old) ≤ 93 * length (S.puts store.old) + (62 * steps.new + (vec_len done.old + (1 + (entries carry.node + rounding (entries carry.node)))))) }
     ensures spent { OnErr result (Spent steps.old steps.new (length (S.puts store.old)) (length (S.puts store.new)) (vec_len done.old + (1 + (entries carry.node + rounding (entries carry.node)))) (vec_len done.old + (1 + (entries carry.node + rounding (entries carry.node))))) }
-    ensures pieces { (first : M) (items among : List M.Unit) → IsKnown M.Unit.Item S.NodeSource M.Summer first summer.old store.old → Carries M.Unit.Item M.Summer first (places (S.nodes store.old)) low done.old.items carry.level carry.node items → AreAmong among items → MatchResult result (λ _. ArePieces M.Unit.Item M.Summer first among (places (S.nodes store.new)) Below (S.puts store.old) (S.puts store.new)) (λ fault. WerePieces M.Unit.Item M.Summer first among (places (S.nodes store.old)) fault (S.puts store.old) (S.puts store.new)) }
+    ensures pieces { (first : M) (items among : List M.Unit) → IsKnown M.Unit.Item S.NodeSource M.Summer first summer.old store.old → Carries M.Unit.Item M.Summer first (places (S.nodes store.old)) low done.old.items carry.level carry.node items → AreAmong among items → MatchResult result (λ _. ArePieces M.Unit.Item M.Summer first among (places (S.nodes store.new)) Below (S.puts store.old) (S.puts store.new)) (λ fault. WerePieces M.Unit.Item S.NodeSource M.Summer first among store.old store.new fault) }
     ensures leaf { OnOk result (ArePut (S.size store.old) (S.size store.new) (M.usable summer.old) (leaf_items carry.node) 0) }
     ensures unput { IfOk result (λ row. row.same ≡ true → PutNone S.NodeSource store.old store.new) }
     ensures gets { S.gets store.new ≡ S.gets store.old }
     ensures given { (first : M) (tree : Tree) (pieces : List (List ℕ)) → IsUnderWay M.Unit.Item S.NodeSource M.Summer first pieces summer.old store.old → All (Given M.Unit.Item S.NodeSource M.Summer first tree pieces store.old low) done.old.items → AllGiven M.Unit.Item S.NodeSource M.Summer first tree pieces store.old carry.level carry.node → Given M.Unit.Item S.NodeSource M.Summer first tree pieces store.old low child → OnOk result (All (Given M.Unit.Item S.NodeSource M.Summer first tree pieces store.new low) done.new.items) }
     ensures reads { ReadsFor (S.reads store.old) (S.reads store.new) steps.old steps.new }
     ensures sound { IfErr result BlamesNone }
+    ensures sums { (first : M) (begun : S) → KnowsNode M.Unit.Item S.NodeSource M.Summer first begun summer.old store.old carry.node → KnowsPieces M.Unit.Item S.NodeSource M.Summer first begun summer.new store.new (S.puts store.old) (S.puts store.new) }
+    ensures known { (first : M) (begun : S) → M.goes first summer.old → KnowsRow M.Unit.Item S.NodeSource M.Summer first begun summer.old store.old done.old.items → KnowsSum M.Unit.Item S.NodeSource M.Summer first begun summer.old store.old child.sum → OnOk result (KnowsRow M.Unit.Item S.NodeSource M.Summer first begun summer.new store.new done.new.items) }
     ensures ran { Ran M.Unit.Item S.NodeSource M.Summer store.old store.new summer.old summer.new result }
     ensures ready { OnOk result (S.is_ready store.new) }
 {
@@ -195,7 +201,7 @@ fn edit_child<S: NodeStore, M: Summer, L: Ledger>(
     ensures once { IfOk result (λ row. 93 * length (S.puts store.new) + (vec_len done.new + (entries row.node + (rounding (entries row.node) + 62 * steps.old))) ≤ 93 * length (S.puts store.old) + (vec_len done.old + (1 + (entries carry.node + (rounding (entries carry.node) + (62 * steps.new + length edits.now)))))) }
     ensures spent { OnErr result (Spent steps.old steps.new (length (S.puts store.old)) (length (S.puts store.new)) (vec_len done.old + (1 + (entries carry.node + (rounding (entries carry.node) + (93 * pending low carry.level (entries carry.node) + (length edits.now + 186 * ((low + 1) * length edits.now))))))) (vec_len done.old + (1 + (entries carry.node + (rounding (entries carry.node) + length edits.now))))) }
     ensures pieces { (first : M) (items mid among : List M.Unit) → IsKnown M.Unit.Item S.NodeSource M.Summer first summer.old store.old → IsStrictlySortedBy M.Unit.order mid → Carries M.Unit.Item M.Summer first (places (S.nodes store.old)) low done.old.items carry.level carry.node items
-        → IsChild M.Unit.Item M.Summer first (Stands M.Unit.Item M.Summer first (places (S.nodes store.old)) low) child mid → AreAmong among items → AreAmong among mid → InsertAmong among edits.now → MatchResult result (λ _. ArePieces M.Unit.Item M.Summer first among (places (S.nodes store.new)) Below (S.puts store.old) (S.puts store.new)) (λ fault. WerePieces M.Unit.Item M.Summer first among (places (S.nodes store.old)) fault (S.puts store.old) (S.puts store.new)) }
+        → IsChild M.Unit.Item M.Summer first (Stands M.Unit.Item M.Summer first (places (S.nodes store.old)) low) child mid → AreAmong among items → AreAmong among mid → InsertAmong among edits.now → MatchResult result (λ _. ArePieces M.Unit.Item M.Summer first among (places (S.nodes store.new)) Below (S.puts store.old) (S.puts store.new)) (λ fault. WerePieces M.Unit.Item S.NodeSource M.Summer first among store.old store.new fault) }
     ensures leaf { IfOk result (λ row. ArePut (S.size store.old) (S.size store.new) (M.usable summer.old) (leaf_items carry.node + insertions edits.now) (leaf_items row.node)) }
     ensures unput { IfOk result (λ row. row.same ≡ true → PutNone S.NodeSource store.old store.new) }
     ensures inserts { IfOk result (λ row. row.same ≡ true → insertions edits.now ≡ 0) }
@@ -204,6 +210,8 @@ fn edit_child<S: NodeStore, M: Summer, L: Ledger>(
     ensures met { (first : M) (tree : Tree) (pieces : List (List ℕ)) → IsUnderWay M.Unit.Item S.NodeSource M.Summer first pieces summer.old store.old → All (Given M.Unit.Item S.NodeSource M.Summer first tree pieces store.old low) done.old.items → AllGiven M.Unit.Item S.NodeSource M.Summer first tree pieces store.old carry.level carry.node → Given M.Unit.Item S.NodeSource M.Summer first tree pieces store.old low child
         → Took M.Unit.Item S.NodeSource M.Summer first tree pieces store.old store.new result (λ row. All (Given M.Unit.Item S.NodeSource M.Summer first tree pieces store.new low) done.new.items × AllGiven M.Unit.Item S.NodeSource M.Summer first tree pieces store.new row.level row.node) }
     ensures reads { ReadsFor (S.reads store.old) (S.reads store.new) steps.old steps.new }
+    ensures sums { (first : M) (begun : S) → IsOnTheWay S.NodeSource M.Summer first begun summer.old store.old → KnowsNode M.Unit.Item S.NodeSource M.Summer first begun summer.old store.old carry.node → KnowsPieces M.Unit.Item S.NodeSource M.Summer first begun summer.new store.new (S.puts store.old) (S.puts store.new) }
+    ensures known { (first : M) (begun : S) → IsOnTheWay S.NodeSource M.Summer first begun summer.old store.old → KnowsRow M.Unit.Item S.NodeSource M.Summer first begun summer.old store.old done.old.items → KnowsNode M.Unit.Item S.NodeSource M.Summer first begun summer.old store.old carry.node → KnowsSum M.Unit.Item S.NodeSource M.Summer first begun summer.old store.old child.sum → IfOk result (λ row. KnowsRow M.Unit.Item S.NodeSource M.Summer first begun summer.new store.new done.new.items × KnowsNode M.Unit.Item S.NodeSource M.Summer first begun summer.new store.new row.node) }
     ensures ran { Ran M.Unit.Item S.NodeSource M.Summer store.old store.new summer.old summer.new result }
     ensures ready { OnOk result (S.is_ready store.new) }
 {
@@ -259,7 +267,7 @@ fn edit_children<S: NodeStore, M: Summer, L: Ledger>(
     ensures once { IfOk result (λ row. 93 * length (S.puts store.new) + (entries row.node + 62 * steps.old) ≤ 93 * length (S.puts store.old) + (62 * steps.new + (vec_len children + length edits.now))) }
     ensures spent { OnErr result (Spent steps.old steps.new (length (S.puts store.old)) (length (S.puts store.new)) (vec_len children + (length edits.now + 186 * ((low + 1) * length edits.now))) (vec_len children + length edits.now)) }
     ensures pieces { (first : M) (items among : List M.Unit) → IsKnown M.Unit.Item S.NodeSource M.Summer first summer.old store.old → IsStrictlySortedBy M.Unit.order items → AreChildren M.Unit.Item M.Summer first (Stands M.Unit.Item M.Summer first (places (S.nodes store.old)) low) children.items items
-        → AreAmong among items → InsertAmong among edits.now → MatchResult result (λ _. ArePieces M.Unit.Item M.Summer first among (places (S.nodes store.new)) Below (S.puts store.old) (S.puts store.new)) (λ fault. WerePieces M.Unit.Item M.Summer first among (places (S.nodes store.old)) fault (S.puts store.old) (S.puts store.new)) }
+        → AreAmong among items → InsertAmong among edits.now → MatchResult result (λ _. ArePieces M.Unit.Item M.Summer first among (places (S.nodes store.new)) Below (S.puts store.old) (S.puts store.new)) (λ fault. WerePieces M.Unit.Item S.NodeSource M.Summer first among store.old store.new fault) }
     ensures leaf { IfOk result (λ row. ArePut (S.size store.old) (S.size store.new) (M.usable summer.old) (insertions edits.now) (leaf_items row.node)) }
     ensures unput { IfOk result (λ row. row.same ≡ true → PutNone S.NodeSource store.old store.new) }
     ensures inserts { IfOk result (λ row. row.same ≡ true → insertions edits.now ≡ 0) }
@@ -267,6 +275,8 @@ fn edit_children<S: NodeStore, M: Summer, L: Ledger>(
         → IfOk result (λ row. row.same ≡ true) }
     ensures met { (first : M) (tree : Tree) (pieces : List (List ℕ)) → IsUnderWay M.Unit.Item S.NodeSource M.Summer first pieces summer.old store.old → All (Given M.Unit.Item S.NodeSource M.Summer first tree pieces store.old low) children.items → Took M.Unit.Item S.NodeSource M.Summer first tree pieces store.old store.new result (λ row. AllGiven M.Unit.Item S.NodeSource M.Summer first tree pieces store.new row.level row.node) }
     ensures reads { ReadsFor (S.reads store.old) (S.reads store.new) steps.old steps.new }
+    ensures sums { (first : M) (begun : S) → IsOnTheWay S.NodeSource M.Summer first begun summer.old store.old → KnowsRow M.Unit.Item S.NodeSource M.Summer first begun summer.old store.old children.items → KnowsPieces M.Unit.Item S.NodeSource M.Summer first begun summer.new store.new (S.puts store.old) (S.puts store.new) }
+    ensures known { (first : M) (begun : S) → IsOnTheWay S.NodeSource M.Summer first begun summer.old store.old → KnowsRow M.Unit.Item S.NodeSource M.Summer first begun summer.old store.old children.items → IfOk result (λ row. KnowsNode M.Unit.Item S.NodeSource M.Summer first begun summer.new store.new row.node) }
     ensures ran { Ran M.Unit.Item S.NodeSource M.Summer store.old store.new summer.old summer.new result }
     ensures ready { OnOk result (S.is_ready store.new) }
 {
@@ -317,12 +327,14 @@ fn finish<S: NodeStore, M: Summer, L: Ledger>(
     ensures steps { IfOk result (λ row. 31 * steps.new + (entries row.node + 93 * slack (low + 1) row.level (entries row.node)) ≤ 31 * steps.old + (vec_len done + (entries carry.node + (rounding (entries carry.node) + 93 * pending low carry.level (entries carry.node))))) }
     ensures once { IfOk result (λ row. 93 * length (S.puts store.new) + (entries row.node + 62 * steps.old) ≤ 93 * length (S.puts store.old) + (62 * steps.new + (vec_len done + (entries carry.node + rounding (entries carry.node))))) }
     ensures spent { OnErr result (Spent steps.old steps.new (length (S.puts store.old)) (length (S.puts store.new)) (vec_len done + (entries carry.node + (rounding (entries carry.node) + 93 * pending low carry.level (entries carry.node)))) (vec_len done + (entries carry.node + rounding (entries carry.node)))) }
-    ensures pieces { (first : M) (items among : List M.Unit) → IsKnown M.Unit.Item S.NodeSource M.Summer first summer.old store.old → Carries M.Unit.Item M.Summer first (places (S.nodes store.old)) low done.items carry.level carry.node items → AreAmong among items → MatchResult result (λ _. ArePieces M.Unit.Item M.Summer first among (places (S.nodes store.new)) Below (S.puts store.old) (S.puts store.new)) (λ fault. WerePieces M.Unit.Item M.Summer first among (places (S.nodes store.old)) fault (S.puts store.old) (S.puts store.new)) }
+    ensures pieces { (first : M) (items among : List M.Unit) → IsKnown M.Unit.Item S.NodeSource M.Summer first summer.old store.old → Carries M.Unit.Item M.Summer first (places (S.nodes store.old)) low done.items carry.level carry.node items → AreAmong among items → MatchResult result (λ _. ArePieces M.Unit.Item M.Summer first among (places (S.nodes store.new)) Below (S.puts store.old) (S.puts store.new)) (λ fault. WerePieces M.Unit.Item S.NodeSource M.Summer first among store.old store.new fault) }
     ensures leaf { IfOk result (λ row. ArePut (S.size store.old) (S.size store.new) (M.usable summer.old) (leaf_items carry.node) (leaf_items row.node)) }
     ensures unput { IfOk result (λ row. row.same ≡ true → PutNone S.NodeSource store.old store.new) }
     ensures quiet { carry.same ≡ true → IfOk result (λ row. row.same ≡ true) }
     ensures met { (first : M) (tree : Tree) (pieces : List (List ℕ)) → IsUnderWay M.Unit.Item S.NodeSource M.Summer first pieces summer.old store.old → All (Given M.Unit.Item S.NodeSource M.Summer first tree pieces store.old low) done.items → AllGiven M.Unit.Item S.NodeSource M.Summer first tree pieces store.old carry.level carry.node → Took M.Unit.Item S.NodeSource M.Summer first tree pieces store.old store.new result (λ row. AllGiven M.Unit.Item S.NodeSource M.Summer first tree pieces store.new row.level row.node) }
     ensures reads { ReadsFor (S.reads store.old) (S.reads store.new) steps.old steps.new }
+    ensures sums { (first : M) (begun : S) → IsOnTheWay S.NodeSource M.Summer first begun summer.old store.old → KnowsRow M.Unit.Item S.NodeSource M.Summer first begun summer.old store.old done.items → KnowsNode M.Unit.Item S.NodeSource M.Summer first begun summer.old store.old carry.node → KnowsPieces M.Unit.Item S.NodeSource M.Summer first begun summer.new store.new (S.puts store.old) (S.puts store.new) }
+    ensures known { (first : M) (begun : S) → IsOnTheWay S.NodeSource M.Summer first begun summer.old store.old → KnowsRow M.Unit.Item S.NodeSource M.Summer first begun summer.old store.old done.items → KnowsNode M.Unit.Item S.NodeSource M.Summer first begun summer.old store.old carry.node → IfOk result (λ row. KnowsNode M.Unit.Item S.NodeSource M.Summer first begun summer.new store.new row.node) }
     ensures ran { Ran M.Unit.Item S.NodeSource M.Summer store.old store.new summer.old summer.new result }
     ensures ready { OnOk result (S.is_ready store.new) }
 {
@@ -373,13 +385,15 @@ pub(crate) fn edit_row<S: NodeStore, M: Summer, L: Ledger>(
     ensures steps { IfOk result (λ row. 31 * steps.new + (entries row.node + 93 * slack level row.level (entries row.node)) ≤ 31 * steps.old + (entries node + (length edits.now + 186 * (level * length edits.now)))) }
     ensures once { IfOk result (λ row. 93 * length (S.puts store.new) + (entries row.node + 62 * steps.old) ≤ 93 * length (S.puts store.old) + (62 * steps.new + (entries node + length edits.now))) }
     ensures spent { OnErr result (Spent steps.old steps.new (length (S.puts store.old)) (length (S.puts store.new)) (entries node + (length edits.now + 186 * (level * length edits.now))) (entries node + length edits.now)) }
-    ensures pieces { (first : M) (items among : List M.Unit) → IsKnown M.Unit.Item S.NodeSource M.Summer first summer.old store.old → IsStrictlySortedBy M.Unit.order items → Has M.Unit.Item M.Summer first (places (S.nodes store.old)) level node items → AreAmong among items → InsertAmong among edits.now → MatchResult result (λ _. ArePieces M.Unit.Item M.Summer first among (places (S.nodes store.new)) Below (S.puts store.old) (S.puts store.new)) (λ fault. WerePieces M.Unit.Item M.Summer first among (places (S.nodes store.old)) fault (S.puts store.old) (S.puts store.new)) }
+    ensures pieces { (first : M) (items among : List M.Unit) → IsKnown M.Unit.Item S.NodeSource M.Summer first summer.old store.old → IsStrictlySortedBy M.Unit.order items → Has M.Unit.Item M.Summer first (places (S.nodes store.old)) level node items → AreAmong among items → InsertAmong among edits.now → MatchResult result (λ _. ArePieces M.Unit.Item M.Summer first among (places (S.nodes store.new)) Below (S.puts store.old) (S.puts store.new)) (λ fault. WerePieces M.Unit.Item S.NodeSource M.Summer first among store.old store.new fault) }
     ensures leaf { IfOk result (λ row. ArePut (S.size store.old) (S.size store.new) (M.usable summer.old) (insertions edits.now) (leaf_items row.node)) }
     ensures unput { IfOk result (λ row. row.same ≡ true → PutNone S.NodeSource store.old store.new) }
     ensures inserts { IfOk result (λ row. row.same ≡ true → insertions edits.now ≡ 0) }
     ensures quiet { (first : M) (items : List M.Unit) → IsKnown M.Unit.Item S.NodeSource M.Summer first summer.old store.old → Has M.Unit.Item M.Summer first (places (S.nodes store.old)) level node items → RemoveNone M.Unit.order edits.now items → IfOk result (λ row. row.same ≡ true) }
     ensures met { (first : M) (tree : Tree) (pieces : List (List ℕ)) → IsUnderWay M.Unit.Item S.NodeSource M.Summer first pieces summer.old store.old → AllGiven M.Unit.Item S.NodeSource M.Summer first tree pieces store.old level node → Took M.Unit.Item S.NodeSource M.Summer first tree pieces store.old store.new result (λ row. AllGiven M.Unit.Item S.NodeSource M.Summer first tree pieces store.new row.level row.node) }
     ensures reads { ReadsFor (S.reads store.old) (S.reads store.new) steps.old steps.new }
+    ensures sums { (first : M) (begun : S) → IsOnTheWay S.NodeSource M.Summer first begun summer.old store.old → KnowsNode M.Unit.Item S.NodeSource M.Summer first begun summer.old store.old node → KnowsPieces M.Unit.Item S.NodeSource M.Summer first begun summer.new store.new (S.puts store.old) (S.puts store.new) }
+    ensures known { (first : M) (begun : S) → IsOnTheWay S.NodeSource M.Summer first begun summer.old store.old → KnowsNode M.Unit.Item S.NodeSource M.Summer first begun summer.old store.old node → IfOk result (λ row. KnowsNode M.Unit.Item S.NodeSource M.Summer first begun summer.new store.new row.node) }
     ensures ran { Ran M.Unit.Item S.NodeSource M.Summer store.old store.new summer.old summer.new result }
     ensures ready { OnOk result (S.is_ready store.new) }
 {

@@ -1,14 +1,16 @@
 //! Building a tree of items that come in order.
 
-ghost use Rattle.reduce_tree.specs.Built.{HoldsNothing, row_items, pushed, waiting, levels_of, AreRows, IsWhole, IsPopped, Stacked, Built, IsCutting, ReadsForBytes, HasEntries, ArePutFull, ArePutPacked};
+ghost use Rattle.reduce_tree.specs.Built.{HoldsNothing, row_items, pushed, waiting, levels_of, AreRows, IsWhole, IsPopped, Stacked, Built, IsCutting, ReadsForPuts, HasEntries, ArePutFull, ArePutPacked};
 ghost use Rattle.reduce_tree.specs.Calls.{places, IsKnown, Ran, BlamesNone, UnlessStore};
 ghost use Rattle.reduce_tree.specs.Packed.{Grown, StandsAt, ArePacked, IsCut, Climbs, PacksAt, IsPackedTree};
 ghost use Rattle.reduce_tree.specs.Rows.{IsAtLevel, leaf_items};
+ghost use Rattle.reduce_tree.specs.Sums.{ArePiecesHad, IsSumGiven, IsSumHad, KeepsHad, RowsHad, sums_of};
 ghost use Rattle.reduce_tree.specs.declared.builder.Builder.{Builder};
 ghost use Rattle.std.specs.List.Sorted.{IsStrictlySortedBy};
-ghost use Rattle.std.specs.Prelude.{ℕ, ◌≡◌, ◌+◌, ◌*◌, ◌<◌, ◌≤◌, ◌^◌, ◌∷◌, ◌++◌, true, false, List, [], Some, IfErr, IfOk, OnOk, OnErr, length, vec_len};
+ghost use Rattle.std.specs.Prelude.{Contains, All, ℕ, ◌≡◌, ◌+◌, ◌*◌, ◌<◌, ◌≤◌, ◌^◌, ◌∷◌, ◌++◌, true, false, List, [], Some, IfErr, IfOk, OnOk, OnErr, length, vec_len};
 ghost use Rattle.tree_laws.specs.Fitting.{AreLarge, item_count};
 ghost use Rattle.tree_laws.specs.Nodes.{entries, spelled_node};
+ghost use Rattle.tree_laws.specs.Packing.{packed_size};
 ghost use Rattle.tree_laws.specs.Stores.{EachSince, Extends, KeepsPlaces, Places, pieces_size};
 ghost use Rattle.tree_laws.specs.Values.{PassFor, values_of};
 ghost use Rattle.tree_laws.specs.SummerTrees.{AreChildren, Has, HasRoot, IsChild, IsTree, IsTreeSize, Stands};
@@ -81,11 +83,13 @@ fn pack_row<S: NodeStore, M: Summer>(
     ensures packed { (there : Places) → S.nodes store.old ≡ Some there → IfOk result (λ children. Grown (S.size store.old) (S.size store.new) 0 (ArePacked M.Unit.Item (places (S.nodes store.new)) node children.items)) }
     ensures leaf { OnOk result (S.size store.old + 8 * leaf_items node ≤ S.size store.new) }
     ensures usable { 0 < leaf_items node → OnOk result (M.usable summer.old) }
-    ensures reads { OnOk result (ReadsForBytes (S.reads store.old) (S.reads store.new) (S.size store.old) (S.size store.new)) }
-    ensures tried { OnErr result (ReadsForBytes (S.reads store.old) (S.reads store.new) (S.size store.old) (S.size store.new + 10)) }
+    ensures gets { S.gets store.new ≡ S.gets store.old }
+    ensures reads { ReadsForPuts (S.reads store.old) (S.reads store.new) (S.puts store.old) (S.puts store.new) }
     ensures pieces { IfOk result (λ children. 32 * vec_len children ≤ entries node + 31) }
     ensures puts { 32 * length (S.puts store.new) ≤ 32 * length (S.puts store.old) + (entries node + 31) }
     ensures filled { EachSince (HasEntries M.Unit.Item 8 32) (S.puts store.old) (S.puts store.new) }
+    ensures sums { (first : M) (had : List (List ℕ)) → KeepsHad M.Unit.Item M.Summer (Contains had) first summer.old node → ArePiecesHad M.Unit.Item M.Summer (Contains had) first summer.new (S.puts store.old) (S.puts store.new) }
+    ensures given { (first : M) → M.goes first summer.old → IfOk result (λ children. All (λ child. IsSumGiven M.Summer first summer.new child.sum) children.items) }
     ensures sound { IfErr result BlamesNone }
     ensures ran { Ran M.Unit.Item S.NodeSource M.Summer store.old store.new summer.old summer.new result }
     ensures ready { OnOk result (S.is_ready store.new) }
@@ -142,10 +146,13 @@ fn hand<S: NodeStore, M: Summer>(
         → IfOk result (λ _. Grown (S.size store.old) (S.size store.new) taken (Climbs M.Unit.Item (places (S.nodes store.new)) rows.new.items [] (below ++ child ∷ []))) }
     ensures rows { (low : ℕ) → AreRows low rows.old.items → 8 ^ (low + 1) ≤ child.count → OnOk result (AreRows low rows.new.items) }
     ensures count { OnOk result (row_items rows.new.items ≡ row_items rows.old.items + child.count) }
-    ensures reads { OnOk result (ReadsForBytes (S.reads store.old) (S.reads store.new) (S.size store.old) (S.size store.new)) }
-    ensures tried { OnErr result (ReadsForBytes (S.reads store.old) (S.reads store.new) (S.size store.old) (S.size store.new + 10)) }
+    ensures grows { OnOk result (S.size store.old ≤ S.size store.new) }
+    ensures gets { S.gets store.new ≡ S.gets store.old }
+    ensures reads { ReadsForPuts (S.reads store.old) (S.reads store.new) (S.puts store.old) (S.puts store.new) }
     ensures puts { length (S.puts store.new) ≤ length (S.puts store.old) + length rows.old.items }
     ensures filled { ArePutFull M.Unit.Item (S.puts store.old) (S.puts store.new) }
+    ensures sums { (first : M) (had : List (List ℕ)) → M.goes first summer.old → RowsHad M.Unit.Item M.Summer (Contains had) first summer.old rows.old.items → IsSumHad M.Unit.Item M.Summer (Contains had) first summer.old child.sum → ArePiecesHad M.Unit.Item M.Summer (Contains had) first summer.new (S.puts store.old) (S.puts store.new) }
+    ensures held { (first : M) (had : List (List ℕ)) → M.goes first summer.old → RowsHad M.Unit.Item M.Summer (Contains had) first summer.old rows.old.items → IsSumHad M.Unit.Item M.Summer (Contains had) first summer.old child.sum → OnOk result (RowsHad M.Unit.Item M.Summer (Contains had) first summer.new rows.new.items) }
     ensures sound { IfErr result BlamesNone }
     ensures ran { Ran M.Unit.Item S.NodeSource M.Summer store.old store.new summer.old summer.new result }
     ensures ready { OnOk result (S.is_ready store.new) }
@@ -200,11 +207,12 @@ fn put_top<S: NodeStore, M: Summer>(
     ensures none { entries node ≡ 0 → OnOk result (S.size store.new ≡ S.size store.old) }
     ensures leaf { OnOk result (S.size store.old + 8 * leaf_items node ≤ S.size store.new) }
     ensures usable { 0 < leaf_items node → OnOk result (M.usable summer.old) }
-    ensures reads { OnOk result (ReadsForBytes (S.reads store.old) (S.reads store.new) (S.size store.old) (S.size store.new)) }
-    ensures tried { OnErr result (ReadsForBytes (S.reads store.old) (S.reads store.new) (S.size store.old) (S.size store.new + 10)) }
+    ensures gets { S.gets store.new ≡ S.gets store.old }
+    ensures reads { ReadsForPuts (S.reads store.old) (S.reads store.new) (S.puts store.old) (S.puts store.new) }
     ensures puts { length (S.puts store.new) ≤ length (S.puts store.old) + 1 }
     ensures filled { EachSince (HasEntries M.Unit.Item 1 32) (S.puts store.old) (S.puts store.new) }
     ensures refused { OnErr result (UnlessStore result (S.puts store.new ≡ S.puts store.old)) }
+    ensures sums { (first : M) (had : List (List ℕ)) → KeepsHad M.Unit.Item M.Summer (Contains had) first summer.old node → ArePiecesHad M.Unit.Item M.Summer (Contains had) first summer.new (S.puts store.old) (S.puts store.new) }
     ensures sound { IfErr result BlamesNone }
     ensures ran { Ran M.Unit.Item S.NodeSource M.Summer store.old store.new summer.old summer.new result }
     ensures ready { OnOk result (S.is_ready store.new) }
@@ -252,12 +260,13 @@ fn rise<S: NodeStore, M: Summer>(
     ensures none { length rows.items ≡ 0 → entries node ≡ 0 → OnOk result (S.size store.new ≡ S.size store.old) }
     ensures grows { OnOk result (S.size store.old + 8 * leaf_items node ≤ S.size store.new) }
     ensures usable { 0 < leaf_items node → OnOk result (M.usable summer.old) }
-    ensures reads { OnOk result (ReadsForBytes (S.reads store.old) (S.reads store.new) (S.size store.old) (S.size store.new)) }
-    ensures tried { OnErr result (ReadsForBytes (S.reads store.old) (S.reads store.new) (S.size store.old) (S.size store.new + 10)) }
+    ensures gets { S.gets store.new ≡ S.gets store.old }
+    ensures reads { ReadsForPuts (S.reads store.old) (S.reads store.new) (S.puts store.old) (S.puts store.new) }
     ensures once { length rows.items ≡ 0 → entries node ≤ 32 → length (S.puts store.new) ≤ length (S.puts store.old) + 1 }
     ensures puts { entries node ≤ 41 → length (S.puts store.new) ≤ length (S.puts store.old) + (2 * length rows.items + 3) }
     ensures filled { ArePutPacked M.Unit.Item (S.puts store.old) (S.puts store.new) }
     ensures refused { OnErr result (UnlessStore result (EachSince (HasEntries M.Unit.Item 8 32) (S.puts store.old) (S.puts store.new))) }
+    ensures sums { (first : M) (had : List (List ℕ)) → M.goes first summer.old → RowsHad M.Unit.Item M.Summer (Contains had) first summer.old rows.items → KeepsHad M.Unit.Item M.Summer (Contains had) first summer.old node → ArePiecesHad M.Unit.Item M.Summer (Contains had) first summer.new (S.puts store.old) (S.puts store.new) }
     ensures sound { IfErr result BlamesNone }
     ensures ran { Ran M.Unit.Item S.NodeSource M.Summer store.old store.new summer.old summer.new result }
     ensures ready { OnOk result (S.is_ready store.new) }
@@ -295,13 +304,15 @@ impl<T: Item> Builder<T> {
     /// as they are full, and those that are there stay.
     ///
     /// All summers that one builder is given are to have the same values and the same spelling of them: each is a later state of one
-    /// that was there first. A put makes two reads at most, whatever is answered. For each item pushed that does not wait any more the
-    /// store grew by 8 bytes at least, and it was given to a summer that was usable. The store grows by what the nodes that are put
-    /// take, their bytes and 8 more for each, and by nothing else.
+    /// that was there first. Nothing is got from the store. Its reads never fall, and rise by two at most for each piece put, whatever is
+    /// answered. For each item pushed that does not wait any more the store grew by 8 bytes at least, and it was given to a summer that
+    /// was usable. The store grows by what the nodes that are put take, their bytes and 8 more for each, and by nothing else.
     ///
     /// Each piece put, before a refusal too, is a node of exactly 32 entries. Whatever is answered there is one at most for each level
-    /// at which entries wait, the items' own among them. A leaf is put only where the summer was usable, and each summary in an inner
-    /// node is that of a value that fits. A piece at which the store fails is such a node too, and counts.
+    /// at which entries wait, the items' own among them. A leaf is put only where the summer was usable, and in this call `leaf` was
+    /// given exactly its items. Each summary in an inner node is that of a value that fits, and the builder kept it before, or the
+    /// summer answered its value in this call; and so with each summary that the builder keeps afterwards. A piece at which the store
+    /// fails is such a node too, and counts.
     ///
     /// `Store` and `Summer` hand on what the store and the summer answered in this call, and the other of the two has gone on, as
     /// both have where memory runs out. `BadNode` never comes. After each refusal but `Store` the store is ready and keeps what stood
@@ -326,10 +337,12 @@ impl<T: Item> Builder<T> {
         ensures kept { UnlessStore result (KeepsPlaces (S.nodes store.old) (S.nodes store.new)) }
         ensures grows { OnOk result (S.size store.old + 8 * (waiting self.old + 1) ≤ S.size store.new + 8 * waiting self.new) }
         ensures usable { OnOk result (waiting self.new ≤ waiting self.old → M.usable summer.old) }
-        ensures reads { OnOk result (ReadsForBytes (S.reads store.old) (S.reads store.new) (S.size store.old) (S.size store.new)) }
-        ensures tried { OnErr result (ReadsForBytes (S.reads store.old) (S.reads store.new) (S.size store.old) (S.size store.new + 10)) }
+        ensures gets { S.gets store.new ≡ S.gets store.old }
+        ensures reads { ReadsForPuts (S.reads store.old) (S.reads store.new) (S.puts store.old) (S.puts store.new) }
         ensures puts { length (S.puts store.new) ≤ length (S.puts store.old) + levels_of self.old }
         ensures filled { ArePutFull T.Item (S.puts store.old) (S.puts store.new) }
+        ensures sums { ArePiecesHad T.Item M.Summer (Contains (sums_of self.old)) summer.old summer.new (S.puts store.old) (S.puts store.new) }
+        ensures held { OnOk result (RowsHad T.Item M.Summer (Contains (sums_of self.old)) summer.old summer.new self.new.rows.items) }
         ensures sound { IfErr result BlamesNone }
         ensures ran { Ran T.Item S.NodeSource M.Summer store.old store.new summer.old summer.new result }
         ensures ready { UnlessStore result (S.is_ready store.new) }
@@ -349,8 +362,8 @@ impl<T: Item> Builder<T> {
 
     /// The tree of the items pushed, packed: each level is cut into nodes of 32, and where 1 to 7 entries remain, the last full node
     /// gives up its last 8 to them. It holds them where they rise strictly. The conditions, the reads, the faults and what they leave
-    /// are those of `push`; the store grows by 8 bytes at least for each item that waits. Over all pushes and this call the store
-    /// grows by exactly what the nodes of this tree take: no other node is put.
+    /// are those of `push`, and nothing is got either; the store grows by 8 bytes at least for each item that waits. Over all pushes
+    /// and this call the store grows by exactly what the nodes of this tree take: no other node is put.
     ///
     /// Each piece put, before a refusal too, is a node of 8 to 32 entries, but for the newest, which may be the root and have fewer.
     /// After a refusal but `Store` none has fewer. Whatever is answered there are two pieces at most for each of the levels, and one
@@ -374,11 +387,12 @@ impl<T: Item> Builder<T> {
         ensures kept { UnlessStore result (KeepsPlaces (S.nodes store.old) (S.nodes store.new)) }
         ensures grows { OnOk result (S.size store.old + 8 * waiting self ≤ S.size store.new) }
         ensures usable { 0 < pushed self → OnOk result (M.usable summer.old) }
-        ensures reads { OnOk result (ReadsForBytes (S.reads store.old) (S.reads store.new) (S.size store.old) (S.size store.new)) }
-        ensures tried { OnErr result (ReadsForBytes (S.reads store.old) (S.reads store.new) (S.size store.old) (S.size store.new + 10)) }
+        ensures gets { S.gets store.new ≡ S.gets store.old }
+        ensures reads { ReadsForPuts (S.reads store.old) (S.reads store.new) (S.puts store.old) (S.puts store.new) }
         ensures puts { length (S.puts store.new) ≤ length (S.puts store.old) + (2 * levels_of self + 1) }
         ensures filled { ArePutPacked T.Item (S.puts store.old) (S.puts store.new) }
         ensures refused { OnErr result (UnlessStore result (EachSince (HasEntries T.Item 8 32) (S.puts store.old) (S.puts store.new))) }
+        ensures sums { ArePiecesHad T.Item M.Summer (Contains (sums_of self)) summer.old summer.new (S.puts store.old) (S.puts store.new) }
         ensures sound { IfErr result BlamesNone }
         ensures ran { Ran T.Item S.NodeSource M.Summer store.old store.new summer.old summer.new result }
         ensures ready { UnlessStore result (S.is_ready store.new) }
@@ -412,10 +426,9 @@ pub fn builders_pass<M: Summer, N: Summer<Unit = M::Unit, Sum = M::Sum>>()
         → Built M.Unit.Item M.Summer first there builder items → Built M.Unit.Item N.Summer other there builder items }
 {}
 
-/// How many bytes a packed tree takes is told by its items alone: two packed trees of the same items, whose summaries are spelled from
-/// the same lawful values, take as many, wherever their nodes stand.
-pub fn packed_trees_take_the_same<M: Summer>()
-    ensures { (first : M) (here there : Places) (one other : Tree) (items : List M.Unit) (size other_size : ℕ) → M.lawful first
-        → IsTree M.Unit.Item M.Summer first here one items → IsTree M.Unit.Item M.Summer first there other items
-        → IsPackedTree M.Unit.Item here one items size → IsPackedTree M.Unit.Item there other items other_size → size ≡ other_size }
+/// A packed tree whose summaries are spelled from lawful values takes exactly the packed length of its items, wherever its nodes stand.
+pub fn packed_trees_have_their_size<M: Summer>()
+    ensures { (first : M) (there : Places) (tree : Tree) (items : List M.Unit) (size : ℕ) → M.lawful first
+        → IsTree M.Unit.Item M.Summer first there tree items → IsPackedTree M.Unit.Item there tree items size
+        → size ≡ packed_size M.Unit.spelled (M.meaning first) items }
 {}

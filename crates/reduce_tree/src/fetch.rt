@@ -1,11 +1,12 @@
 //! Getting a node and looking at the summaries that it keeps.
 
 ghost use Rattle.reduce_tree.specs.Counts.{ReadsFor};
-ghost use Rattle.reduce_tree.specs.Calls.{places, IsKnown, Ran, IsUnread, KeepsBadSum, BlamesNone};
+ghost use Rattle.reduce_tree.specs.Sums.{IsOnTheWay, KnowsNode};
+ghost use Rattle.reduce_tree.specs.Calls.{places, IsKnown, Ran, BlamesNone};
 ghost use Rattle.reduce_tree.specs.Given.{AllGiven, IsUnderWay, Leads, Took};
 ghost use Rattle.std.specs.Prelude.{true, false, ◌≡◌, ◌+◌, ◌∷◌, ℕ, All, List, IfOk, OnOk, IfErr, length};
 ghost use Rattle.tree_laws.specs.Fitting.{IsFitFor};
-ghost use Rattle.tree_laws.specs.SummerTrees.{Has, IsAt};
+ghost use Rattle.tree_laws.specs.SummerTrees.{Has, IsAt, IsUnread, KeepsBadSum};
 ghost use Rattle.tree_laws.specs.declared.node.Node.TheVariants.{Inner};
 ghost use Rattle.tree_laws.specs.declared.tree.Fill.{Fill};
 ghost use Rattle.tree_laws.specs.declared.tree.Tree.{Tree};
@@ -41,6 +42,7 @@ pub(crate) fn fetch<S: NodeStore, M: Summer, L: Ledger>(
     ensures reads { ReadsFor (S.reads store.old) (S.reads store.new) steps.old steps.new }
     ensures sound { (first : M) (items : List M.Unit) → IsKnown M.Unit.Item S.NodeSource M.Summer first summer.now store.old
         → IsAt M.Unit.Item M.Summer first (places (S.nodes store.old)) (Has M.Unit.Item M.Summer first (places (S.nodes store.old)) level) fill at items → count ≡ length items → IfErr result BlamesNone }
+    ensures known { (first : M) (begun : S) → IsOnTheWay S.NodeSource M.Summer first begun summer.now store.old → IfOk result (KnowsNode M.Unit.Item S.NodeSource M.Summer first begun summer.now store.new) }
     ensures ran { Ran M.Unit.Item S.NodeSource M.Summer store.old store.new summer.now summer.now result }
     ensures ready { OnOk result (S.is_ready store.new) }
 {

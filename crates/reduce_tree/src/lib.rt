@@ -21,6 +21,6 @@ mod tell;
 
 pub use apply_edits::apply;
 pub use builder::{
-    Builder, builders_pass, builders_stay, new_builders_are_empty, packed_trees_take_the_same,
+    Builder, builders_pass, builders_stay, new_builders_are_empty, packed_trees_have_their_size,
 };
 pub use edit::{Edit, edits_are_made};

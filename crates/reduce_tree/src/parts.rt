@@ -55,6 +55,7 @@ pub(crate) fn join_nodes<T: Drop>(left: Node<T>, right: Node<T>) -> Result<Node<
             all.append(&mut back)?;
             Ok(Node::Inner(Children::from_vec(all)))
         }
+        // Nodes of two kinds don't come.
         (left, _) => Ok(left),
     }
 }

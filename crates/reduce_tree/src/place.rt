@@ -2,9 +2,11 @@
 
 ghost use Rattle.tree_laws.specs.declared.tree.Tree.{Tree};
 ghost use Rattle.reduce_tree.specs.Given.{AllGiven, Given, IsUnderWay};
-ghost use Rattle.reduce_tree.specs.Pieces.{ArePieces, AreAmong, WerePieces};
-ghost use Rattle.reduce_tree.specs.Bounds.{ArePut, Spent};
+ghost use Rattle.reduce_tree.specs.Pieces.{ArePieces, AreAmong};
+ghost use Rattle.reduce_tree.specs.Halted.{WerePieces};
+ghost use Rattle.reduce_tree.specs.Charges.{ArePut, Spent};
 ghost use Rattle.reduce_tree.specs.Counts.{ReadsFor};
+ghost use Rattle.reduce_tree.specs.Sums.{IsSumGiven, KnowsNode, KnowsPieces};
 ghost use Rattle.reduce_tree.specs.Calls.{places, IsKnown, Ran, BlamesNone};
 ghost use Rattle.reduce_tree.specs.Rows.{IsAtLevel, leaf_items};
 ghost use Rattle.std.specs.Prelude.{ℕ, ◌≡◌, ◌+◌, ◌*◌, ◌<◌, ◌≤◌, ◌^◌, List, IfOk, OnOk, vec_len, IfErr, OnErr, MatchResult, length, All};
@@ -53,12 +55,14 @@ pub(crate) fn place<S: NodeStore, M: Summer, L: Ledger>(
     ensures puts { OnOk result (length (S.puts store.new) ≤ length (S.puts store.old) + 1) }
     ensures steps { OnOk result (steps.new ≡ steps.old + 1) }
     ensures spent { OnErr result (Spent steps.old steps.new (length (S.puts store.old)) (length (S.puts store.new)) 31 31) }
-    ensures pieces { (first : M) (level : ℕ) (fill : Fill) (items among : List M.Unit) → IsKnown M.Unit.Item S.NodeSource M.Summer first summer.old store.old → IsFilled fill node → Has M.Unit.Item M.Summer first (places (S.nodes store.old)) level node items → AreAmong among items → MatchResult result (λ _. ArePieces M.Unit.Item M.Summer first among (places (S.nodes store.new)) fill (S.puts store.old) (S.puts store.new)) (λ fault. WerePieces M.Unit.Item M.Summer first among (places (S.nodes store.old)) fault (S.puts store.old) (S.puts store.new)) }
+    ensures pieces { (first : M) (level : ℕ) (fill : Fill) (items among : List M.Unit) → IsKnown M.Unit.Item S.NodeSource M.Summer first summer.old store.old → IsFilled fill node → Has M.Unit.Item M.Summer first (places (S.nodes store.old)) level node items → AreAmong among items → MatchResult result (λ _. ArePieces M.Unit.Item M.Summer first among (places (S.nodes store.new)) fill (S.puts store.old) (S.puts store.new)) (λ fault. WerePieces M.Unit.Item S.NodeSource M.Summer first among store.old store.new fault) }
     ensures leaf { OnOk result (ArePut (S.size store.old) (S.size store.new) (M.usable summer.old) (leaf_items node) 0) }
     ensures gets { S.gets store.new ≡ S.gets store.old }
     ensures given { (first : M) (tree : Tree) (pieces : List (List ℕ)) (level : ℕ) → IsUnderWay M.Unit.Item S.NodeSource M.Summer first pieces summer.old store.old → IsAtLevel level node → AreLarge level node → IsFilled Below node → AllGiven M.Unit.Item S.NodeSource M.Summer first tree pieces store.old level node → IfOk result (Given M.Unit.Item S.NodeSource M.Summer first tree pieces store.new level) }
     ensures reads { ReadsFor (S.reads store.old) (S.reads store.new) steps.old steps.new }
     ensures sound { IfErr result BlamesNone }
+    ensures sums { (first : M) (begun : S) → KnowsNode M.Unit.Item S.NodeSource M.Summer first begun summer.old store.old node → KnowsPieces M.Unit.Item S.NodeSource M.Summer first begun summer.new store.new (S.puts store.old) (S.puts store.new) }
+    ensures gave { IfOk result (λ child. IsSumGiven M.Summer summer.old summer.new child.sum) }
     ensures ran { Ran M.Unit.Item S.NodeSource M.Summer store.old store.new summer.old summer.new result }
     ensures ready { OnOk result (S.is_ready store.new) }
 {
@@ -97,12 +101,14 @@ fn place_all<S: NodeStore, M: Summer, L: Ledger>(
     ensures puts { IfOk result (λ children. length (S.puts store.new) ≤ length (S.puts store.old) + vec_len children) }
     ensures steps { IfOk result (λ children. steps.new ≡ steps.old + vec_len children) }
     ensures spent { OnErr result (Spent steps.old steps.new (length (S.puts store.old)) (length (S.puts store.new)) (entries node + 31) (entries node + 31)) }
-    ensures pieces { (first : M) (level : ℕ) (items among : List M.Unit) → IsKnown M.Unit.Item S.NodeSource M.Summer first summer.old store.old → Has M.Unit.Item M.Summer first (places (S.nodes store.old)) level node items → AreAmong among items → MatchResult result (λ _. ArePieces M.Unit.Item M.Summer first among (places (S.nodes store.new)) Below (S.puts store.old) (S.puts store.new)) (λ fault. WerePieces M.Unit.Item M.Summer first among (places (S.nodes store.old)) fault (S.puts store.old) (S.puts store.new)) }
+    ensures pieces { (first : M) (level : ℕ) (items among : List M.Unit) → IsKnown M.Unit.Item S.NodeSource M.Summer first summer.old store.old → Has M.Unit.Item M.Summer first (places (S.nodes store.old)) level node items → AreAmong among items → MatchResult result (λ _. ArePieces M.Unit.Item M.Summer first among (places (S.nodes store.new)) Below (S.puts store.old) (S.puts store.new)) (λ fault. WerePieces M.Unit.Item S.NodeSource M.Summer first among store.old store.new fault) }
     ensures leaf { OnOk result (ArePut (S.size store.old) (S.size store.new) (M.usable summer.old) (leaf_items node) 0) }
     ensures gets { S.gets store.new ≡ S.gets store.old }
     ensures given { (first : M) (tree : Tree) (pieces : List (List ℕ)) (level : ℕ) → IsUnderWay M.Unit.Item S.NodeSource M.Summer first pieces summer.old store.old → IsAtLevel level node → AreLarge level node → AllGiven M.Unit.Item S.NodeSource M.Summer first tree pieces store.old level node → IfOk result (λ children. All (Given M.Unit.Item S.NodeSource M.Summer first tree pieces store.new level) children.items) }
     ensures reads { ReadsFor (S.reads store.old) (S.reads store.new) steps.old steps.new }
     ensures sound { IfErr result BlamesNone }
+    ensures sums { (first : M) (begun : S) → KnowsNode M.Unit.Item S.NodeSource M.Summer first begun summer.old store.old node → KnowsPieces M.Unit.Item S.NodeSource M.Summer first begun summer.new store.new (S.puts store.old) (S.puts store.new) }
+    ensures answered { (first : M) → M.goes first summer.old → IfOk result (λ children. All (λ child. IsSumGiven M.Summer first summer.new child.sum) children.items) }
     ensures ran { Ran M.Unit.Item S.NodeSource M.Summer store.old store.new summer.old summer.new result }
     ensures ready { OnOk result (S.is_ready store.new) }
 {
@@ -137,12 +143,14 @@ pub(crate) fn place_row<S: NodeStore, M: Summer, L: Ledger>(
     ensures puts { IfOk result (λ children. length (S.puts store.new) ≤ length (S.puts store.old) + vec_len children) }
     ensures steps { IfOk result (λ children. steps.new ≡ steps.old + vec_len children) }
     ensures spent { OnErr result (Spent steps.old steps.new (length (S.puts store.old)) (length (S.puts store.new)) (entries node + 31) (entries node + 31)) }
-    ensures pieces { (first : M) (level : ℕ) (items among : List M.Unit) → IsKnown M.Unit.Item S.NodeSource M.Summer first summer.old store.old → Has M.Unit.Item M.Summer first (places (S.nodes store.old)) level node items → AreAmong among items → MatchResult result (λ _. ArePieces M.Unit.Item M.Summer first among (places (S.nodes store.new)) Below (S.puts store.old) (S.puts store.new)) (λ fault. WerePieces M.Unit.Item M.Summer first among (places (S.nodes store.old)) fault (S.puts store.old) (S.puts store.new)) }
+    ensures pieces { (first : M) (level : ℕ) (items among : List M.Unit) → IsKnown M.Unit.Item S.NodeSource M.Summer first summer.old store.old → Has M.Unit.Item M.Summer first (places (S.nodes store.old)) level node items → AreAmong among items → MatchResult result (λ _. ArePieces M.Unit.Item M.Summer first among (places (S.nodes store.new)) Below (S.puts store.old) (S.puts store.new)) (λ fault. WerePieces M.Unit.Item S.NodeSource M.Summer first among store.old store.new fault) }
     ensures leaf { OnOk result (ArePut (S.size store.old) (S.size store.new) (M.usable summer.old) (leaf_items node) 0) }
     ensures gets { S.gets store.new ≡ S.gets store.old }
     ensures given { (first : M) (tree : Tree) (pieces : List (List ℕ)) (level : ℕ) → IsUnderWay M.Unit.Item S.NodeSource M.Summer first pieces summer.old store.old → IsAtLevel level node → AreLarge level node → AllGiven M.Unit.Item S.NodeSource M.Summer first tree pieces store.old level node → IfOk result (λ children. All (Given M.Unit.Item S.NodeSource M.Summer first tree pieces store.new level) children.items) }
     ensures reads { ReadsFor (S.reads store.old) (S.reads store.new) steps.old steps.new }
     ensures sound { IfErr result BlamesNone }
+    ensures sums { (first : M) (begun : S) → KnowsNode M.Unit.Item S.NodeSource M.Summer first begun summer.old store.old node → KnowsPieces M.Unit.Item S.NodeSource M.Summer first begun summer.new store.new (S.puts store.old) (S.puts store.new) }
+    ensures answered { (first : M) → M.goes first summer.old → IfOk result (λ children. All (λ child. IsSumGiven M.Summer first summer.new child.sum) children.items) }
     ensures ran { Ran M.Unit.Item S.NodeSource M.Summer store.old store.new summer.old summer.new result }
     ensures ready { OnOk result (S.is_ready store.new) }
 {

@@ -1,10 +1,11 @@
 //! Putting one node, for a tree that is built anew.
 
-ghost use Rattle.reduce_tree.specs.Built.{HasEntries, ReadsForBytes};
+ghost use Rattle.reduce_tree.specs.Built.{HasEntries, ReadsForPuts};
 ghost use Rattle.reduce_tree.specs.Calls.{places, IsKnown, Ran, BlamesNone, UnlessStore};
 ghost use Rattle.reduce_tree.specs.Packed.{StandsAt};
 ghost use Rattle.reduce_tree.specs.Rows.{leaf_items};
-ghost use Rattle.std.specs.Prelude.{ℕ, ◌≡◌, ◌+◌, ◌*◌, ◌<◌, ◌≤◌, ◌^◌, ◌∷◌, List, [], Some, IfErr, IfOk, OnOk, OnErr, length};
+ghost use Rattle.reduce_tree.specs.Sums.{ArePiecesHad, IsSumGiven, KeepsHad};
+ghost use Rattle.std.specs.Prelude.{Contains, ℕ, ◌≡◌, ◌+◌, ◌*◌, ◌<◌, ◌≤◌, ◌^◌, ◌∷◌, List, [], Some, IfErr, IfOk, OnOk, OnErr, length};
 ghost use Rattle.tree_laws.specs.Fitting.{IsFilled, item_count};
 ghost use Rattle.tree_laws.specs.Nodes.{entries, spelled_node};
 ghost use Rattle.tree_laws.specs.Stores.{EachSince, Places, pieces_size};
@@ -37,11 +38,13 @@ pub(crate) fn put_node<S: NodeStore, M: Summer>(
     ensures takes { OnOk result (S.size store.new ≡ S.size store.old + pieces_size (spelled_node M.Unit.spelled node ∷ [])) }
     ensures leaf { OnOk result (S.size store.old + 8 * leaf_items node ≤ S.size store.new) }
     ensures usable { 0 < leaf_items node → OnOk result (M.usable summer.old) }
-    ensures reads { OnOk result (ReadsForBytes (S.reads store.old) (S.reads store.new) (S.size store.old) (S.size store.new)) }
-    ensures tried { OnErr result (ReadsForBytes (S.reads store.old) (S.reads store.new) (S.size store.old) (S.size store.new + 10)) }
+    ensures gets { S.gets store.new ≡ S.gets store.old }
+    ensures reads { ReadsForPuts (S.reads store.old) (S.reads store.new) (S.puts store.old) (S.puts store.new) }
     ensures puts { length (S.puts store.new) ≤ length (S.puts store.old) + 1 }
     ensures filled { EachSince (HasEntries M.Unit.Item (entries node) (entries node)) (S.puts store.old) (S.puts store.new) }
     ensures refused { OnErr result (UnlessStore result (S.puts store.new ≡ S.puts store.old)) }
+    ensures sums { (first : M) (had : List (List ℕ)) → KeepsHad M.Unit.Item M.Summer (Contains had) first summer.old node → ArePiecesHad M.Unit.Item M.Summer (Contains had) first summer.new (S.puts store.old) (S.puts store.new) }
+    ensures gave { IfOk result (λ child. IsSumGiven M.Summer summer.old summer.new child.sum) }
     ensures sound { IfErr result BlamesNone }
     ensures ran { Ran M.Unit.Item S.NodeSource M.Summer store.old store.new summer.old summer.new result }
     ensures ready { OnOk result (S.is_ready store.new) }

@@ -3,10 +3,12 @@
 ghost use Rattle.tree_laws.specs.declared.tree.Tree.{Tree};
 ghost use Rattle.reduce_tree.specs.Given.{AllGiven, IsUnderWay, Took};
 ghost use Rattle.tree_laws.specs.declared.tree.Fill.TheVariants.{Below, Root};
-ghost use Rattle.reduce_tree.specs.Pieces.{ArePieces, AreAmong, InsertAmong, AreTreePieces, WerePieces};
+ghost use Rattle.reduce_tree.specs.Pieces.{ArePieces, AreAmong, InsertAmong, AreTreePieces};
+ghost use Rattle.reduce_tree.specs.Halted.{WerePieces};
 ghost use Rattle.reduce_tree.specs.Applied.{applied, insertions, RemoveNone};
-ghost use Rattle.reduce_tree.specs.Bounds.{slack, ArePut, Spent};
+ghost use Rattle.reduce_tree.specs.Charges.{slack, ArePut, Spent};
 ghost use Rattle.reduce_tree.specs.Counts.{ReadsFor};
+ghost use Rattle.reduce_tree.specs.Sums.{IsOnTheWay, KnowsNode, KnowsPieces};
 ghost use Rattle.reduce_tree.specs.Calls.{places, IsKnown, Ran, PutNone, BlamesNone};
 ghost use Rattle.reduce_tree.specs.Rows.{IsAtLevel, leaf_items};
 ghost use Rattle.std.specs.List.Sorted.{IsStrictlySortedBy};
@@ -48,12 +50,13 @@ fn put_root<S: NodeStore, M: Summer, L: Ledger>(
     ensures steps { IfOk result (λ tree. 31 * steps.new ≤ 31 * steps.old + (entries node + 31 * (tree.height - level))) }
     ensures once { IfOk result (λ tree. 93 * length (S.puts store.new) + 62 * steps.old ≤ 93 * length (S.puts store.old) + (62 * steps.new + (entries node + 31 * (tree.height - level)))) }
     ensures within { (top : ℕ) → item_count node < 8 ^ top → Spent steps.old steps.new (length (S.puts store.old)) (length (S.puts store.new)) (entries node + 31 * slack top level (entries node)) (entries node + 31 * slack top level (entries node)) }
-    ensures pieces { (first : M) (items among : List M.Unit) → IsKnown M.Unit.Item S.NodeSource M.Summer first summer.old store.old → Has M.Unit.Item M.Summer first (places (S.nodes store.old)) level node items → AreAmong among items → MatchResult result (λ _. ArePieces M.Unit.Item M.Summer first among (places (S.nodes store.new)) Root (S.puts store.old) (S.puts store.new)) (λ fault. WerePieces M.Unit.Item M.Summer first among (places (S.nodes store.old)) fault (S.puts store.old) (S.puts store.new)) }
+    ensures pieces { (first : M) (items among : List M.Unit) → IsKnown M.Unit.Item S.NodeSource M.Summer first summer.old store.old → Has M.Unit.Item M.Summer first (places (S.nodes store.old)) level node items → AreAmong among items → MatchResult result (λ _. ArePieces M.Unit.Item M.Summer first among (places (S.nodes store.new)) Root (S.puts store.old) (S.puts store.new)) (λ fault. WerePieces M.Unit.Item S.NodeSource M.Summer first among store.old store.new fault) }
     ensures one { OnOk result (length (S.puts store.new) ≤ length (S.puts store.old) + 1) }
     ensures leaf { OnOk result (ArePut (S.size store.old) (S.size store.new) (M.usable summer.old) (leaf_items node) 0) }
     ensures gets { S.gets store.new ≡ S.gets store.old }
     ensures reads { ReadsFor (S.reads store.old) (S.reads store.new) steps.old steps.new }
     ensures sound { IfErr result BlamesNone }
+    ensures sums { (first : M) (begun : S) → KnowsNode M.Unit.Item S.NodeSource M.Summer first begun summer.old store.old node → KnowsPieces M.Unit.Item S.NodeSource M.Summer first begun summer.new store.new (S.puts store.old) (S.puts store.new) }
     ensures ran { Ran M.Unit.Item S.NodeSource M.Summer store.old store.new summer.old summer.new result }
     ensures ready { OnOk result (S.is_ready store.new) }
 {
@@ -101,11 +104,12 @@ pub(crate) fn raise<S: NodeStore, M: Summer, L: Ledger>(
     ensures steps { IfOk result (λ tree. 31 * steps.new ≤ 31 * steps.old + (entries node + 31 * (tree.height - level))) }
     ensures once { IfOk result (λ tree. 93 * length (S.puts store.new) + 62 * steps.old ≤ 93 * length (S.puts store.old) + (62 * steps.new + (entries node + 31 * (tree.height - level)))) }
     ensures within { (top : ℕ) → item_count node < 8 ^ top → Spent steps.old steps.new (length (S.puts store.old)) (length (S.puts store.new)) (entries node + 31 * slack top level (entries node)) (entries node + 31 * slack top level (entries node)) }
-    ensures pieces { (first : M) (items among : List M.Unit) → IsKnown M.Unit.Item S.NodeSource M.Summer first summer.old store.old → Has M.Unit.Item M.Summer first (places (S.nodes store.old)) level node items → AreAmong among items → MatchResult result (λ _. AreTreePieces M.Unit.Item M.Summer first among (places (S.nodes store.new)) (S.puts store.old) (S.puts store.new)) (λ fault. WerePieces M.Unit.Item M.Summer first among (places (S.nodes store.old)) fault (S.puts store.old) (S.puts store.new)) }
+    ensures pieces { (first : M) (items among : List M.Unit) → IsKnown M.Unit.Item S.NodeSource M.Summer first summer.old store.old → Has M.Unit.Item M.Summer first (places (S.nodes store.old)) level node items → AreAmong among items → MatchResult result (λ _. AreTreePieces M.Unit.Item M.Summer first among (places (S.nodes store.new)) (S.puts store.old) (S.puts store.new)) (λ fault. WerePieces M.Unit.Item S.NodeSource M.Summer first among store.old store.new fault) }
     ensures leaf { OnOk result (ArePut (S.size store.old) (S.size store.new) (M.usable summer.old) (leaf_items node) 0) }
     ensures gets { S.gets store.new ≡ S.gets store.old }
     ensures reads { ReadsFor (S.reads store.old) (S.reads store.new) steps.old steps.new }
     ensures sound { IfErr result BlamesNone }
+    ensures sums { (first : M) (begun : S) → M.goes first summer.old → KnowsNode M.Unit.Item S.NodeSource M.Summer first begun summer.old store.old node → KnowsPieces M.Unit.Item S.NodeSource M.Summer first begun summer.new store.new (S.puts store.old) (S.puts store.new) }
     ensures ran { Ran M.Unit.Item S.NodeSource M.Summer store.old store.new summer.old summer.new result }
     ensures ready { OnOk result (S.is_ready store.new) }
 {
@@ -143,7 +147,7 @@ pub(crate) fn edit_root<S: NodeStore, M: Summer, L: Ledger>(
     ensures once { IfOk result (λ row. 93 * length (S.puts store.new) + (entries row.node + 62 * steps.old) ≤ 93 * length (S.puts store.old) + (62 * steps.new + (32 + length edits.now))) }
     ensures spent { OnErr result (Spent steps.old steps.new (length (S.puts store.old)) (length (S.puts store.new)) (63 + (length edits.now + 186 * ((tree.height - 1) * length edits.now))) (32 + length edits.now)) }
     ensures pieces { (first : M) (items among : List M.Unit) → IsKnown M.Unit.Item S.NodeSource M.Summer first summer.old store.old → IsStrictlySortedBy M.Unit.order items → HasRoot M.Unit.Item M.Summer first (places (S.nodes store.old)) tree.root tree.height items
-        → AreAmong among items → InsertAmong among edits.now → MatchResult result (λ _. ArePieces M.Unit.Item M.Summer first among (places (S.nodes store.new)) Below (S.puts store.old) (S.puts store.new)) (λ fault. WerePieces M.Unit.Item M.Summer first among (places (S.nodes store.old)) fault (S.puts store.old) (S.puts store.new)) }
+        → AreAmong among items → InsertAmong among edits.now → MatchResult result (λ _. ArePieces M.Unit.Item M.Summer first among (places (S.nodes store.new)) Below (S.puts store.old) (S.puts store.new)) (λ fault. WerePieces M.Unit.Item S.NodeSource M.Summer first among store.old store.new fault) }
     ensures leaf { IfOk result (λ row. ArePut (S.size store.old) (S.size store.new) (M.usable summer.old) (insertions edits.now) (leaf_items row.node)) }
     ensures unput { IfOk result (λ row. row.same ≡ true → PutNone S.NodeSource store.old store.new) }
     ensures inserts { IfOk result (λ row. row.same ≡ true → insertions edits.now ≡ 0) }
@@ -152,6 +156,8 @@ pub(crate) fn edit_root<S: NodeStore, M: Summer, L: Ledger>(
     ensures reads { ReadsFor (S.reads store.old) (S.reads store.new) steps.old steps.new }
     ensures sound { (first : M) (items : List M.Unit) → IsKnown M.Unit.Item S.NodeSource M.Summer first summer.old store.old → IsStrictlySortedBy M.Unit.order items → HasRoot M.Unit.Item M.Summer first (places (S.nodes store.old)) tree.root tree.height items
         → tree.count ≡ length items → IfErr result BlamesNone }
+    ensures sums { (first : M) (begun : S) → IsOnTheWay S.NodeSource M.Summer first begun summer.old store.old → KnowsPieces M.Unit.Item S.NodeSource M.Summer first begun summer.new store.new (S.puts store.old) (S.puts store.new) }
+    ensures known { (first : M) (begun : S) → IsOnTheWay S.NodeSource M.Summer first begun summer.old store.old → IfOk result (λ row. KnowsNode M.Unit.Item S.NodeSource M.Summer first begun summer.new store.new row.node) }
     ensures ran { Ran M.Unit.Item S.NodeSource M.Summer store.old store.new summer.old summer.new result }
     ensures ready { OnOk result (S.is_ready store.new) }
 {

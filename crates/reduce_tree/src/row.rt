@@ -3,9 +3,11 @@
 ghost use Rattle.tree_laws.specs.declared.tree.Tree.{Tree};
 ghost use Rattle.reduce_tree.specs.Given.{AllGiven, IsUnderWay, Took};
 ghost use Rattle.tree_laws.specs.declared.tree.Fill.TheVariants.{Below};
-ghost use Rattle.reduce_tree.specs.Pieces.{ArePieces, AreAmong, WerePieces};
-ghost use Rattle.reduce_tree.specs.Bounds.{slack, ArePut, Spent};
+ghost use Rattle.reduce_tree.specs.Pieces.{ArePieces, AreAmong};
+ghost use Rattle.reduce_tree.specs.Halted.{WerePieces};
+ghost use Rattle.reduce_tree.specs.Charges.{slack, ArePut, Spent};
 ghost use Rattle.reduce_tree.specs.Counts.{ReadsFor};
+ghost use Rattle.reduce_tree.specs.Sums.{IsOnTheWay, KnowsNode, KnowsPieces};
 ghost use Rattle.reduce_tree.specs.Calls.{places, IsKnown, Ran, IfSound};
 ghost use Rattle.reduce_tree.specs.Rows.{IsAtLevel, leaf_items};
 ghost use Rattle.std.specs.Prelude.{false, ℕ, ◌≡◌, ◌+◌, ◌*◌, ◌<◌, ◌≤◌, ◌^◌, ◌++◌, List, [], IfOk, OnOk, OnErr, ◌-◌, MatchResult, length};
@@ -72,11 +74,13 @@ fn join_front<S: NodeStore, M: Summer, L: Ledger>(
     ensures steps { IfOk result (λ after. 31 * steps.new + (entries after + 93 * low) ≤ 31 * steps.old + (entries node + (entries row + 93 * level))) }
     ensures once { IfOk result (λ after. 93 * length (S.puts store.new) + (entries after + 62 * steps.old) ≤ 93 * length (S.puts store.old) + (62 * steps.new + (entries node + entries row))) }
     ensures spent { OnErr result (Spent steps.old steps.new (length (S.puts store.old)) (length (S.puts store.new)) (entries node + (entries row + 93 * (level - low))) (entries node + entries row)) }
-    ensures pieces { (first : M) (xs ys among : List M.Unit) → IsKnown M.Unit.Item S.NodeSource M.Summer first summer.old store.old → Has M.Unit.Item M.Summer first (places (S.nodes store.old)) low row xs → Has M.Unit.Item M.Summer first (places (S.nodes store.old)) level node ys → AreAmong among xs → AreAmong among ys → MatchResult result (λ _. ArePieces M.Unit.Item M.Summer first among (places (S.nodes store.new)) Below (S.puts store.old) (S.puts store.new)) (λ fault. WerePieces M.Unit.Item M.Summer first among (places (S.nodes store.old)) fault (S.puts store.old) (S.puts store.new)) }
+    ensures pieces { (first : M) (xs ys among : List M.Unit) → IsKnown M.Unit.Item S.NodeSource M.Summer first summer.old store.old → Has M.Unit.Item M.Summer first (places (S.nodes store.old)) low row xs → Has M.Unit.Item M.Summer first (places (S.nodes store.old)) level node ys → AreAmong among xs → AreAmong among ys → MatchResult result (λ _. ArePieces M.Unit.Item M.Summer first among (places (S.nodes store.new)) Below (S.puts store.old) (S.puts store.new)) (λ fault. WerePieces M.Unit.Item S.NodeSource M.Summer first among store.old store.new fault) }
     ensures leaf { IfOk result (λ after. ArePut (S.size store.old) (S.size store.new) (M.usable summer.old) (leaf_items row + leaf_items node) (leaf_items after)) }
     ensures met { (first : M) (tree : Tree) (pieces : List (List ℕ)) → IsUnderWay M.Unit.Item S.NodeSource M.Summer first pieces summer.old store.old → AllGiven M.Unit.Item S.NodeSource M.Summer first tree pieces store.old low row → AllGiven M.Unit.Item S.NodeSource M.Summer first tree pieces store.old level node
         → Took M.Unit.Item S.NodeSource M.Summer first tree pieces store.old store.new result (AllGiven M.Unit.Item S.NodeSource M.Summer first tree pieces store.new level) }
     ensures reads { ReadsFor (S.reads store.old) (S.reads store.new) steps.old steps.new }
+    ensures sums { (first : M) (begun : S) → IsOnTheWay S.NodeSource M.Summer first begun summer.old store.old → KnowsNode M.Unit.Item S.NodeSource M.Summer first begun summer.old store.old row → KnowsNode M.Unit.Item S.NodeSource M.Summer first begun summer.old store.old node → KnowsPieces M.Unit.Item S.NodeSource M.Summer first begun summer.new store.new (S.puts store.old) (S.puts store.new) }
+    ensures known { (first : M) (begun : S) → IsOnTheWay S.NodeSource M.Summer first begun summer.old store.old → KnowsNode M.Unit.Item S.NodeSource M.Summer first begun summer.old store.old row → KnowsNode M.Unit.Item S.NodeSource M.Summer first begun summer.old store.old node → IfOk result (KnowsNode M.Unit.Item S.NodeSource M.Summer first begun summer.new store.new) }
     ensures ran { Ran M.Unit.Item S.NodeSource M.Summer store.old store.new summer.old summer.new result }
     ensures ready { OnOk result (S.is_ready store.new) }
 {
@@ -84,6 +88,7 @@ fn join_front<S: NodeStore, M: Summer, L: Ledger>(
         return Ok(join_nodes(row, node)?);
     }
     match node {
+        // The row is of a lower level, so this is no leaf.
         Node::Leaf(items) => Ok(Node::Leaf(items)),
         Node::Inner(children) => {
             let mut after = children.into_vec();
@@ -134,11 +139,13 @@ fn join_back<S: NodeStore, M: Summer, L: Ledger>(
     ensures steps { IfOk result (λ after. 31 * steps.new + (entries after + 93 * low) ≤ 31 * steps.old + (entries node + (entries row + 93 * level))) }
     ensures once { IfOk result (λ after. 93 * length (S.puts store.new) + (entries after + 62 * steps.old) ≤ 93 * length (S.puts store.old) + (62 * steps.new + (entries node + entries row))) }
     ensures spent { OnErr result (Spent steps.old steps.new (length (S.puts store.old)) (length (S.puts store.new)) (entries node + (entries row + 93 * (level - low))) (entries node + entries row)) }
-    ensures pieces { (first : M) (xs ys among : List M.Unit) → IsKnown M.Unit.Item S.NodeSource M.Summer first summer.old store.old → Has M.Unit.Item M.Summer first (places (S.nodes store.old)) low row xs → Has M.Unit.Item M.Summer first (places (S.nodes store.old)) level node ys → AreAmong among xs → AreAmong among ys → MatchResult result (λ _. ArePieces M.Unit.Item M.Summer first among (places (S.nodes store.new)) Below (S.puts store.old) (S.puts store.new)) (λ fault. WerePieces M.Unit.Item M.Summer first among (places (S.nodes store.old)) fault (S.puts store.old) (S.puts store.new)) }
+    ensures pieces { (first : M) (xs ys among : List M.Unit) → IsKnown M.Unit.Item S.NodeSource M.Summer first summer.old store.old → Has M.Unit.Item M.Summer first (places (S.nodes store.old)) low row xs → Has M.Unit.Item M.Summer first (places (S.nodes store.old)) level node ys → AreAmong among xs → AreAmong among ys → MatchResult result (λ _. ArePieces M.Unit.Item M.Summer first among (places (S.nodes store.new)) Below (S.puts store.old) (S.puts store.new)) (λ fault. WerePieces M.Unit.Item S.NodeSource M.Summer first among store.old store.new fault) }
     ensures leaf { IfOk result (λ after. ArePut (S.size store.old) (S.size store.new) (M.usable summer.old) (leaf_items row + leaf_items node) (leaf_items after)) }
     ensures met { (first : M) (tree : Tree) (pieces : List (List ℕ)) → IsUnderWay M.Unit.Item S.NodeSource M.Summer first pieces summer.old store.old → AllGiven M.Unit.Item S.NodeSource M.Summer first tree pieces store.old low row → AllGiven M.Unit.Item S.NodeSource M.Summer first tree pieces store.old level node
         → Took M.Unit.Item S.NodeSource M.Summer first tree pieces store.old store.new result (AllGiven M.Unit.Item S.NodeSource M.Summer first tree pieces store.new level) }
     ensures reads { ReadsFor (S.reads store.old) (S.reads store.new) steps.old steps.new }
+    ensures sums { (first : M) (begun : S) → IsOnTheWay S.NodeSource M.Summer first begun summer.old store.old → KnowsNode M.Unit.Item S.NodeSource M.Summer first begun summer.old store.old row → KnowsNode M.Unit.Item S.NodeSource M.Summer first begun summer.old store.old node → KnowsPieces M.Unit.Item S.NodeSource M.Summer first begun summer.new store.new (S.puts store.old) (S.puts store.new) }
+    ensures known { (first : M) (begun : S) → IsOnTheWay S.NodeSource M.Summer first begun summer.old store.old → KnowsNode M.Unit.Item S.NodeSource M.Summer first begun summer.old store.old row → KnowsNode M.Unit.Item S.NodeSource M.Summer first begun summer.old store.old node → IfOk result (KnowsNode M.Unit.Item S.NodeSource M.Summer first begun summer.new store.new) }
     ensures ran { Ran M.Unit.Item S.NodeSource M.Summer store.old store.new summer.old summer.new result }
     ensures ready { OnOk result (S.is_ready store.new) }
 {
@@ -146,6 +153,7 @@ fn join_back<S: NodeStore, M: Summer, L: Ledger>(
         return Ok(join_nodes(node, row)?);
     }
     match node {
+        // The row is of a lower level, so this is no leaf.
         Node::Leaf(items) => Ok(Node::Leaf(items)),
         Node::Inner(children) => {
             let mut before = children.into_vec();
@@ -195,11 +203,13 @@ pub(crate) fn join_rows<S: NodeStore, M: Summer, L: Ledger>(
     ensures high { front.level ≤ back.level → 0 < entries back.node → IfOk result (λ row. row.level ≡ back.level) }
     ensures least { front.level ≤ back.level → 0 < entries back.node → IfOk result (λ row. entries back.node ≤ entries row.node) }
     ensures spent { (top : ℕ) → front.level ≤ top → back.level ≤ top → OnErr result (Spent steps.old steps.new (length (S.puts store.old)) (length (S.puts store.new)) (entries front.node + (entries back.node + (93 * slack top front.level (entries front.node) + 93 * slack top back.level (entries back.node)))) (entries front.node + entries back.node)) }
-    ensures pieces { (first : M) (xs ys among : List M.Unit) → IsKnown M.Unit.Item S.NodeSource M.Summer first summer.old store.old → Has M.Unit.Item M.Summer first (places (S.nodes store.old)) front.level front.node xs → Has M.Unit.Item M.Summer first (places (S.nodes store.old)) back.level back.node ys → AreAmong among xs → AreAmong among ys → MatchResult result (λ _. ArePieces M.Unit.Item M.Summer first among (places (S.nodes store.new)) Below (S.puts store.old) (S.puts store.new)) (λ fault. WerePieces M.Unit.Item M.Summer first among (places (S.nodes store.old)) fault (S.puts store.old) (S.puts store.new)) }
+    ensures pieces { (first : M) (xs ys among : List M.Unit) → IsKnown M.Unit.Item S.NodeSource M.Summer first summer.old store.old → Has M.Unit.Item M.Summer first (places (S.nodes store.old)) front.level front.node xs → Has M.Unit.Item M.Summer first (places (S.nodes store.old)) back.level back.node ys → AreAmong among xs → AreAmong among ys → MatchResult result (λ _. ArePieces M.Unit.Item M.Summer first among (places (S.nodes store.new)) Below (S.puts store.old) (S.puts store.new)) (λ fault. WerePieces M.Unit.Item S.NodeSource M.Summer first among store.old store.new fault) }
     ensures leaf { IfOk result (λ row. ArePut (S.size store.old) (S.size store.new) (M.usable summer.old) (leaf_items front.node + leaf_items back.node) (leaf_items row.node)) }
     ensures met { (first : M) (tree : Tree) (pieces : List (List ℕ)) → IsUnderWay M.Unit.Item S.NodeSource M.Summer first pieces summer.old store.old → AllGiven M.Unit.Item S.NodeSource M.Summer first tree pieces store.old front.level front.node → AllGiven M.Unit.Item S.NodeSource M.Summer first tree pieces store.old back.level back.node
         → Took M.Unit.Item S.NodeSource M.Summer first tree pieces store.old store.new result (λ row. AllGiven M.Unit.Item S.NodeSource M.Summer first tree pieces store.new row.level row.node) }
     ensures reads { ReadsFor (S.reads store.old) (S.reads store.new) steps.old steps.new }
+    ensures sums { (first : M) (begun : S) → IsOnTheWay S.NodeSource M.Summer first begun summer.old store.old → KnowsNode M.Unit.Item S.NodeSource M.Summer first begun summer.old store.old front.node → KnowsNode M.Unit.Item S.NodeSource M.Summer first begun summer.old store.old back.node → KnowsPieces M.Unit.Item S.NodeSource M.Summer first begun summer.new store.new (S.puts store.old) (S.puts store.new) }
+    ensures known { (first : M) (begun : S) → IsOnTheWay S.NodeSource M.Summer first begun summer.old store.old → KnowsNode M.Unit.Item S.NodeSource M.Summer first begun summer.old store.old front.node → KnowsNode M.Unit.Item S.NodeSource M.Summer first begun summer.old store.old back.node → IfOk result (λ row. KnowsNode M.Unit.Item S.NodeSource M.Summer first begun summer.new store.new row.node) }
     ensures ran { Ran M.Unit.Item S.NodeSource M.Summer store.old store.new summer.old summer.new result }
     ensures ready { OnOk result (S.is_ready store.new) }
 {

@@ -2,6 +2,7 @@
 
 ghost use Rattle.reduce_tree.specs.Pieces.{IsSummed, IsSumSpelled};
 ghost use Rattle.reduce_tree.specs.Calls.{Summed};
+ghost use Rattle.reduce_tree.specs.Sums.{IsSumGiven};
 ghost use Rattle.reduce_tree.specs.Rows.{Tells, leaf_items};
 ghost use Rattle.std.specs.List.{sum_by};
 ghost use Rattle.std.specs.Prelude.{ℕ, ◌≡◌, ◌<◌, ◌≤◌, ◌^◌, List, IfOk, OnOk, All, length, map};
@@ -35,7 +36,8 @@ pub(crate) fn tell<F, M: Summer>(
         → FitsNode M.Unit.fits M.Unit.spelled node.now → Has M.Unit.Item M.Summer first there level node.now items
         → IfOk result (λ told. Tells M.Unit.Item M.Summer first told.count told.last told.sum items) }
     ensures usable { 0 < leaf_items node.now → OnOk result (M.usable summer.old) }
-    ensures summed { OnOk result (IsSummed M.Unit.Item M.Summer summer.old node.now) }
+    ensures summed { OnOk result (IsSummed M.Unit.Item M.Summer summer.old summer.new node.now) }
+    ensures gave { IfOk result (λ told. IsSumGiven M.Summer summer.old summer.new told.sum) }
     ensures ran { Summed M.Summer summer.old summer.new result }
 {
     match node {
@@ -59,6 +61,8 @@ fn tell_leaf<F, M: Summer>(
     ensures count { IfOk result (λ told. told.count ≡ length items.now) }
     ensures tells { (first : M) → M.goes first summer.old → length items.now ≤ 2 ^ 63 → IfOk result (λ told. Tells M.Unit.Item M.Summer first told.count told.last told.sum items.now) }
     ensures usable { OnOk result (M.usable summer.old) }
+    ensures asked { OnOk result (M.asked summer.old summer.new items.now) }
+    ensures gave { IfOk result (λ told. IsSumGiven M.Summer summer.old summer.new told.sum) }
     ensures ran { Summed M.Summer summer.old summer.new result }
 {
     let sum = match summer.leaf(alloc, items) {
@@ -86,6 +90,7 @@ fn tell_inner<F, M: Summer>(
         → All M.Unit.fits items → AreChildren M.Unit.Item M.Summer first (Stands M.Unit.Item M.Summer first there level) children.now items
         → IfOk result (λ told. Tells M.Unit.Item M.Summer first told.count told.last told.sum items) }
     ensures summed { OnOk result (All (λ child. IsSumSpelled M.Unit.Item M.Summer summer.old child.sum) children.now) }
+    ensures gave { IfOk result (λ told. IsSumGiven M.Summer summer.old summer.new told.sum) }
     ensures ran { Summed M.Summer summer.old summer.new result }
 {
     let sums = read_sums(alloc, summer, children)?;

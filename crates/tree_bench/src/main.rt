@@ -1,8 +1,8 @@
 //! tree_bench: builds a tree of rows in batches, replaces rows of it one by one, and prints what that took of its store.
 //!
-//! `tree_bench ORDER ITEMS BATCH EDITS memory|file QUESTION TIMES` with ORDER `rising` or `random`; with `sort` in its place the same rows are only
-//! sorted and spelled. The nodes stand in memory, or in the file `docs.0` of the folder that it runs in. QUESTION is `count`,
-//! `reduce`, `walk` or `decode`. Without words a small tree is built in memory and asked for a few counts.
+//! `tree_bench ORDER ITEMS BATCH EDITS memory|file QUESTION TIMES` with ORDER `rising` or `random`; with `sort` in its place the
+//! same rows are only sorted and spelled. The nodes stand in memory, or in the file `docs.0` of the folder that it runs in.
+//! QUESTION is `count`, `reduce`, `walk` or `decode`. Without words a small tree is built in memory and asked for a few counts.
 #![tactic(auto)]
 
 mod ask;

@@ -6,7 +6,7 @@ use json_terms::NoMemory;
 use reduce_tree::Edit;
 use std::alloc::Global;
 use tree_laws::Item;
-use tree_tools::named_item;
+use tree_tools::text_item;
 
 /// The value of each row, with which it has 100 bytes.
 const VALUE: &str =
@@ -45,14 +45,14 @@ pub fn sorted_keys(
 
 /// The row that comes at a place.
 pub fn row_at(alloc: Global, order: Order, place: u32) -> Result<RowItem, NoMemory> {
-    named_item(alloc, key_at(order, place), VALUE)
+    text_item(alloc, key_at(order, place), VALUE)
 }
 
 /// An insertion of each of these keys.
 pub fn insertions(alloc: Global, keys: &[i64]) -> Result<Vec<Edit<RowItem>>, NoMemory> {
     let mut edits = Vec::new(alloc);
     for key in keys {
-        edits.push(Edit::Insert(named_item(alloc, *key, VALUE)?))?;
+        edits.push(Edit::Insert(text_item(alloc, *key, VALUE)?))?;
     }
     Ok(edits)
 }
@@ -62,7 +62,7 @@ pub fn sort_and_spell(alloc: Global, task: &Task) -> Result<usize, NoMemory> {
     let keys = sorted_keys(alloc, task.order, 0, task.items)?;
     let mut bytes = Vec::new(alloc);
     for key in &keys {
-        named_item(alloc, *key, VALUE)?.encode(alloc, &mut bytes)?;
+        text_item(alloc, *key, VALUE)?.encode(alloc, &mut bytes)?;
     }
     Ok(bytes.len())
 }

@@ -1,8 +1,9 @@
 pub mod Fetched
 pub mod Parts
 pub mod Prefixes
+pub mod Reached
 pub mod Sizes
 pub mod Structure
 pub mod SummerTrees
 mod Taking
-mod NoFields
+pub mod NoFields

@@ -29,8 +29,8 @@ item_count (Leaf items) = length items
 item_count (Inner children) = sum_by (λ child. child.count) children
 
 -- a node fits at this level of a tree, where so many items are to stand in and below it
-pub record IsFitFor {T : Type 0} (level count : ℕ) (place : Fill) (node : Node T) : Type 0 where
+pub record IsFitFor {T : Type 0} (level count : ℕ) (fill : Fill) (node : Node T) : Type 0 where
   pub kind : is_leaf node ≡ (level == 0)
-  pub filled : IsFilled place node
+  pub filled : IsFilled fill node
   pub large : AreLarge level node
   pub items : item_count node ≡ count

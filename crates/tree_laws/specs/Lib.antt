@@ -8,6 +8,7 @@ pub mod Trees
 pub mod SummerTrees
 pub mod Fitting
 pub mod Fetching
+pub mod Packing
 pub mod Reaching
 pub mod Memory
 pub mod MemoryLaws

@@ -45,6 +45,17 @@ pub record AreSteps {A : Type 0} (Goes : A → A → Type 0) : Type 0 where
 abbrev pub StaysCaused : {A F : Type 0} → (A → A → Type 0) → (A → A → F → Type 0) → Type 0
 StaysCaused {A} {F} Goes Fails = (a b c : A) (fault : F) → Goes a b → Fails b c fault → Fails a c fault
 
+-- what is noted of the way from one state to another stays noted with more steps behind it or before it, and with a call behind it that
+-- failed
+pub record StaysNoted {A F X : Type 0} (Goes : A → A → Type 0) (Fails : A → A → F → Type 0) (Notes : A → A → X → Type 0) : Type 0 where
+  pub behind : (a b c : A) (x : X) → Notes a b x → Goes b c → Notes a c x
+  pub before : (a b c : A) (x : X) → Goes a b → Notes b c x → Notes a c x
+  pub failed : (a b c : A) (x : X) (fault : F) → Notes a b x → Fails b c fault → Notes a c x
+
+-- so it does where nothing is noted
+pub nothing_noted : {A F X : Type 0} (Goes : A → A → Type 0) (Fails : A → A → F → Type 0) → StaysNoted Goes Fails (λ (a b : A) (x : X). Unit {0})
+nothing_noted Goes Fails = record { behind = λ a b c x noted goes. tt; before = λ a b c x goes noted. tt; failed = λ a b c x fault noted fails. tt }
+
 -- no step changes what values mean and which of them fit; where they were lawful they stay so, and where they can be had they could be
 -- had before
 pub record KeepsMeaning {A T S : Type 0} (Goes : A → A → Type 0) (means : A → Meaning T S) (Lawful Usable : A → Type 0) (Fits : A → S → Type 0) : Type 0 where

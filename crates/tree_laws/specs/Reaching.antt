@@ -69,13 +69,6 @@ module _ {T S : Type 0} (i : Items T) (v : Values T S) (there : Places) (tree : 
     unfit : IsUnfit i there tree at → IsFaulty at
     unread : KeepsUnread at → IsFaulty at
 
-  -- a node that fits stands at a place that is reached, and each of its summaries has the bytes of a value
-  pub record IsSound (at : ℕ) : Type 0 where
-    pub level : ℕ
-    pub node : Node T
-    pub met : IsMet i there tree at level node
-    pub read : KeepsBadSum v node → ⊥
-
 -- Between two lists of places that were got, the newest first: this place was got last, and each other that was got since is good.
 pub record StopsAt (Good : ℕ → Type 0) (since now : List ℕ) (at : ℕ) : Type 0 where
   pub before : List ℕ

@@ -1,6 +1,6 @@
 //! Reading nodes from bytes.
 
-ghost use Rattle.std.specs.Prelude.{◌≡◌, IfOk};
+ghost use Rattle.std.specs.Prelude.{IfOk};
 ghost use Rattle.tree_laws.specs.Nodes.{FitsNode, spelled_node};
 ghost use Rattle.tree_laws.specs.Reading.{IsTaken};
 ghost use Rattle.tree_laws.specs.Spelled.{IsReadBack};

@@ -11,6 +11,7 @@ ghost use Rattle.tree_laws.specs.declared.tree.Tree.{Tree};
 ghost use Rattle.tree_laws.specs.Fetching.{HasBadSum, IsBadAt};
 ghost use Rattle.tree_laws.specs.Fitting.{IsFilled};
 ghost use Rattle.tree_laws.specs.Nodes.{FitsNode, spelled_node};
+ghost use Rattle.tree_laws.specs.Reaching.{Reaches, StandsFit};
 ghost use Rattle.tree_laws.specs.Spelled.{IsPrefixFree, IsSpelledOnce};
 ghost use Rattle.tree_laws.specs.Stores.{Extends, Places};
 ghost use Rattle.tree_laws.specs.Trees.{Has, IsTree, IsTreeSize, Stands, StandsAs};
@@ -83,6 +84,18 @@ pub fn nodes_of_trees_are_fetched<M: Summer>()
         → Has M.Unit.Item (values_of M.Summer first) there level node items × IsFilled fill node }
 {}
 
+/// At each place that is reached over a tree stands a node that fits there, with as many items as are wanted.
+pub fn places_of_trees_have_nodes<M: Summer>()
+    ensures fit { (first : M) (there : Places) (tree : Tree) (items : List M.Unit) (at level count : ℕ) (fill : Fill)
+        → IsTree M.Unit.Item (values_of M.Summer first) there tree items
+        → Reaches M.Unit.Item there tree at level count fill
+        → ((node : Node M.Unit) × StandsFit M.Unit.Item there at level count fill node) }
+    ensures items { (first : M) (there : Places) (tree : Tree) (items : List M.Unit) (at level count : ℕ) (fill : Fill)
+        → IsTree M.Unit.Item (values_of M.Summer first) there tree items
+        → Reaches M.Unit.Item there tree at level count fill
+        → ((own : List M.Unit) × (length own ≡ count) × StandsAs M.Unit.Item (values_of M.Summer first) there fill level at own) }
+{}
+
 /// The numbers of a tree of 2^40 items at most are those that a call may be given.
 pub fn trees_have_sizes<M: Summer>()
     ensures { (first : M) (there : Places) (tree : Tree) (items : List M.Unit)
@@ -112,6 +125,18 @@ pub fn nodes_of_bare_trees_are_fetched<T: Item>()
         → StandsAs T.Item no_values there fill level at items
         → FitsNode T.fits T.spelled node → there at ≡ Some (spelled_node T.spelled node)
         → Has T.Item no_values there level node items × IsFilled fill node }
+{}
+
+/// At each place that is reached over a bare tree stands a node that fits there, with as many items as are wanted.
+pub fn places_of_bare_trees_have_nodes<T: Item>()
+    ensures fit { (there : Places) (tree : Tree) (items : List T) (at level count : ℕ) (fill : Fill)
+        → IsTree T.Item no_values there tree items
+        → Reaches T.Item there tree at level count fill
+        → ((node : Node T) × StandsFit T.Item there at level count fill node) }
+    ensures items { (there : Places) (tree : Tree) (items : List T) (at level count : ℕ) (fill : Fill)
+        → IsTree T.Item no_values there tree items
+        → Reaches T.Item there tree at level count fill
+        → ((own : List T) × (length own ≡ count) × StandsAs T.Item no_values there fill level at own) }
 {}
 
 /// The numbers of a bare tree of 2^40 items at most are those that a call may be given.

@@ -32,8 +32,8 @@ pub use item::{Item, ItemFault};
 pub use laws::{
     bare_trees_have_sizes, bare_trees_stay, nodes_are_prefix_free, nodes_are_spelled_once,
     nodes_of_bare_trees_are_fetched, nodes_of_bare_trees_fit, nodes_of_trees_are_fetched,
-    nodes_of_trees_fit, sums_of_trees_fit, trees_are_bare, trees_have_sizes, trees_pass,
-    trees_stay,
+    nodes_of_trees_fit, places_of_bare_trees_have_nodes, places_of_trees_have_nodes,
+    sums_of_trees_fit, trees_are_bare, trees_have_sizes, trees_pass, trees_stay,
 };
 pub use log::NodeLog;
 pub use memory::{MemoryFault, MemoryNodes};

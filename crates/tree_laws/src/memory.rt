@@ -1,6 +1,6 @@
 //! A store in memory.
 
-ghost use Rattle.std.specs.Prelude.{◌≡◌, ◌+◌, ◌≤◌, ◌↔◌, ◌⊎◌, [], ◌++◌, ◌∷◌, IfErr, IfOk, IsErr, IsTrue, OnErr, OnOk, Some, is_err, length};
+ghost use Rattle.std.specs.Prelude.{◌≡◌, ◌+◌, ◌≤◌, ◌↔◌, ◌⊎◌, [], ◌++◌, ◌∷◌, IfErr, IfOk, IsTrue, OnErr, OnOk, Some, is_err, length};
 ghost use Rattle.tree_laws.specs.Memory.{Fails, Goes, IsMissing, MemoryState, is_listed, next_count, nodes_size, places};
 ghost use Rattle.tree_laws.specs.declared.memory.MemoryFault.TheVariants.{NoMemory as OutOfMemory};
 ghost use Rattle.tree_laws.specs.Stores.{Extends, RisesBy};

@@ -1,6 +1,6 @@
 //! Taking the parts of a node from the front of bytes.
 
-ghost use Rattle.std.specs.Prelude.{◌≡◌, ◌↔◌, [], IfOk, IsTrue};
+ghost use Rattle.std.specs.Prelude.{◌≡◌, ◌↔◌, [], IsTrue};
 ghost use Rattle.std.specs.List.{flat_map};
 ghost use Rattle.std.specs.Result.{result_map_both};
 ghost use Rattle.tree_laws.specs.declared.reader.ReadFault.TheVariants.{NoMemory as OutOfMemory};

@@ -7,11 +7,11 @@ use Rattle.std.specs.List.Sorted.{IsStrictlySortedBy}
 use Rattle.std.specs.declared.cmp.Ordering.{Ordering}
 use Rattle.std.specs.declared.cmp.Ordering.TheVariants.{Less}
 use Rattle.tree_laws.specs.declared.item.Item.{Ghosts as Items}
-use Rattle.tree_laws.specs.declared.summer.Summer.{Ghosts as Summers}
 use Rattle.tree_laws.specs.declared.node.Child.{Child}
-use Rattle.tree_laws.specs.SummerTrees.{AreChildren, IsChild, Joins}
-use Rattle.tree_laws.proofs.SummerTrees.{children_split}
-use Rattle.tree_laws.proofs.SummerTrees.{counts_add}
+use Rattle.tree_laws.specs.Meaning.{Values}
+use Rattle.tree_laws.specs.Trees.{AreChildren, IsChild, Joins}
+use Rattle.tree_laws.proofs.Parts.{children_split}
+use Rattle.tree_laws.proofs.Sizes.{counts_add}
 use Rattle.tree_query.proofs.Lists.{false_unless}
 use Rattle.tree_query.proofs.Order.{filter_all, filter_none, sorted_across, sorted_back, sorted_front, sorted_upto}
 
@@ -48,8 +48,8 @@ module _ {T : Type 0} (order : T → T → Ordering) (p : T → Bool) (law : (x 
       let f : filter p xs ≡ take n xs = ap (filter p) (sym e) ∙ filter-append p (take n xs) (drop n xs) ∙ ap (λ t. t ++ filter p (drop n xs)) (filter_all p (take n xs) a) ∙ ap (λ t. take n xs ++ t) (filter_none p (drop n xs) back) ∙ append-nil (take n xs) in
       omega (arith, ap length f, length_taken n xs h)
 
-module _ {T M Sum Fault : Type 0} (i : Items T) (m : Summers M T Sum Fault) (first : M) (P : ℕ → List T → Type 0) (p : T → Bool) (law : (x y : T) → i.order x y ≡ Less → p y ≡ true → p x ≡ true) where
-  pub passed_front : (cs : List (Child T)) (xs : List T) → AreChildren i m first P cs xs → IsStrictlySortedBy i.order xs → All (λ c. p c.last ≡ true) cs → All (λ y. p y ≡ true) xs
+module _ {T S : Type 0} (i : Items T) (v : Values T S) (P : ℕ → List T → Type 0) (p : T → Bool) (law : (x y : T) → i.order x y ≡ Less → p y ≡ true → p x ≡ true) where
+  pub passed_front : (cs : List (Child T)) (xs : List T) → AreChildren v P cs xs → IsStrictlySortedBy i.order xs → All (λ c. p c.last ≡ true) cs → All (λ y. p y ≡ true) xs
   passed_front [] xs h s a = rw h (All-nil (λ y. p y ≡ true))
   passed_front (c ∷ cs) xs h s a =
       let s1 : IsStrictlySortedBy i.order (h.front ++ h.back) = rw (← h.whole) s in
@@ -58,24 +58,24 @@ module _ {T M Sum Fault : Type 0} (i : Items T) (m : Summers M T Sum Fault) (fir
       let more = passed_front cs h.back h.at_back (sorted_back i.order h.front h.back s1) (All-tail (λ c. p c.last ≡ true) c cs a) in
       rw h.whole (All-append (λ y. p y ≡ true) h.front h.back one more)
 
-  pub count_all : (cs rest : List (Child T)) (xs : List T) → rest ≡ [] → AreChildren i m first P (cs ++ rest) xs → IsStrictlySortedBy i.order xs → All (λ c. p c.last ≡ true) cs → (sum_by (λ c. c.count) cs ≡ length (filter p xs)) × (sum_by (λ c. c.count) cs ≡ length xs)
+  pub count_all : (cs rest : List (Child T)) (xs : List T) → rest ≡ [] → AreChildren v P (cs ++ rest) xs → IsStrictlySortedBy i.order xs → All (λ c. p c.last ≡ true) cs → (sum_by (λ c. c.count) cs ≡ length (filter p xs)) × (sum_by (λ c. c.count) cs ≡ length xs)
   count_all cs rest xs e h s a =
-      let h' : AreChildren i m first P cs xs = rw (append-nil cs) at (rw e at h) in
+      let h' : AreChildren v P cs xs = rw (append-nil cs) at (rw e at h) in
       let f = ap length (filter_all p xs (passed_front cs xs h' s a)) in
-      let k = counts_add i m first P cs xs h' in
+      let k = counts_add i v P cs xs h' in
       (omega (arith, f, k), k)
 
   pub record Cut (cs : List (Child T)) (c : Child T) (xs : List T) : Type 0 where
     pub mid : List T
-    pub at_mid : IsChild i m first P c mid
+    pub at_mid : IsChild v P c mid
     pub sorted : IsStrictlySortedBy i.order mid
     pub few : sum_by (λ c. c.count) cs + length mid ≤ length xs
     pub count : length (filter p xs) ≡ sum_by (λ c. c.count) cs + length (filter p mid)
 
-  pub count_cut : (cs : List (Child T)) (c : Child T) (rest : List (Child T)) (xs : List T) → AreChildren i m first P (cs ++ (c ∷ rest)) xs → IsStrictlySortedBy i.order xs → All (λ c. p c.last ≡ true) cs → p c.last ≡ false → Cut cs c xs
+  pub count_cut : (cs : List (Child T)) (c : Child T) (rest : List (Child T)) (xs : List T) → AreChildren v P (cs ++ (c ∷ rest)) xs → IsStrictlySortedBy i.order xs → All (λ c. p c.last ≡ true) cs → p c.last ≡ false → Cut cs c xs
   count_cut cs c rest xs h s a n =
-      let j = children_split i m first P cs (c ∷ rest) xs h in
-      let k : Joins (IsChild i m first P c) (AreChildren i m first P rest) j.back = j.at_back in
+      let j = children_split i v P cs (c ∷ rest) xs h in
+      let k : Joins (IsChild v P c) (AreChildren v P rest) j.back = j.at_back in
       let e : xs ≡ j.front ++ (k.front ++ k.back) = j.whole ∙ ap (λ t. j.front ++ t) k.whole in
       let s1 : IsStrictlySortedBy i.order (j.front ++ (k.front ++ k.back)) = rw (← e) s in
       let s2 = sorted_back i.order j.front (k.front ++ k.back) s1 in
@@ -85,7 +85,7 @@ module _ {T M Sum Fault : Type 0} (i : Items T) (m : Summers M T Sum Fault) (fir
       let all = filter_all p j.front (passed_front cs j.front j.at_front (sorted_front i.order j.front (k.front ++ k.back) s1) a) in
       let f : filter p xs ≡ j.front ++ filter p k.front = ap (filter p) e ∙ filter-append p j.front (k.front ++ k.back) ∙ ap (λ t. t ++ filter p (k.front ++ k.back)) all
       ∙ ap (λ t. j.front ++ t) (filter-append p k.front k.back ∙ ap (λ t. filter p k.front ++ t) none ∙ append-nil (filter p k.front)) in
-      let counts = counts_add i m first P cs j.front j.at_front in
+      let counts = counts_add i v P cs j.front j.at_front in
       record {
         mid = k.front;
         at_mid = k.at_front;

@@ -11,7 +11,8 @@ use Rattle.tree_laws.specs.Fetching.{FetchFails, IsBadAt}
 use Rattle.tree_laws.specs.Meaning.{AreSteps, StaysCaused}
 use Rattle.tree_laws.specs.Reaching.{GoesSoFar, HasNode, IsReached, IsUnfit, Reaches, StandsFit, StopsAt, StopsShort}
 use Rattle.tree_laws.specs.Stores.{EachSince, Places, WhereTold}
-use Rattle.tree_query.specs.Calls.{Fails, Ran, WentOver}
+use Rattle.tree_query.specs.Calls.{Caused, Fails, IsCaused, Ran, WentOver}
+use Rattle.tree_query.specs.Leading.{Blames}
 use Rattle.tree_query.proofs.Since.{each_none, each_on, each_one}
 
 -- the laws of a source
@@ -24,6 +25,37 @@ told_at told P h there e = subst (λ o. IfSome o P) e h
 
 pub told_same : (told : Option Places) (a b : Places) → told ≡ Some a → told ≡ Some b → a ≡ b
 told_same told a b e f = let both : Some a ≡ Some b = sym e ∙ f in cc
+
+-- what a call left of the store
+module _ {S F : Type 0} (s : Sources S F) (laws : Laws s) where
+  pub caused_on : {M : Type 0} (a b c : S) (fault : TreeFault F M) → s.goes a b → IsCaused s b c fault → IsCaused s a c fault
+  caused_on a b c (tree_fault.Store fault) g h = laws.caused a b c fault g h
+  caused_on a b c (tree_fault.BadNode at) g h = laws.steps.both a b c g h
+  caused_on a b c (tree_fault.Summer fault) g h = absurd h
+  caused_on a b c tree_fault.NoMemory g h = laws.steps.both a b c g h
+
+  pub call_caused_on : {X M : Type 0} (a b c : S) (result : Result X (TreeFault F M)) → s.goes a b → Caused s b c result → Caused s a c result
+  call_caused_on a b c (Ok value) g h = laws.steps.both a b c g h
+  call_caused_on a b c (Err fault) g h = caused_on a b c fault g h
+
+  -- what the exit of a `?` returns
+  pub caused_err : {X M : Type 0} (a b : S) (q : Result X (TreeFault F M)) (fault y : TreeFault F M) → y ≡ fault → q ≡ Err y → IsCaused s a b fault → Caused s a b q
+  caused_err a b q fault y e is h = rw is (rw e h)
+
+-- a node that wasn't got
+module _ {T S F : Type 0} (i : Items T) (s : Sources S F) where
+  pub fetch_caused : {M : Type 0} (a b : S) (level count : ℕ) (fill : Fill) (at : ℕ) (fault : TreeFault F M) → FetchFails i level count fill s a b at fault → IsCaused s a b fault
+  fetch_caused a b level count fill at (tree_fault.Store fault) h = h
+  fetch_caused a b level count fill at (tree_fault.BadNode place) h = h.2
+  fetch_caused a b level count fill at (tree_fault.Summer fault) h = absurd h
+  fetch_caused a b level count fill at tree_fault.NoMemory h = h
+
+  pub fetch_blames : {M : Type 0} (a b : S) (there : Places) (level count : ℕ) (fill : Fill) (at : ℕ) (fault : TreeFault F M) → s.nodes a ≡ Some there → FetchFails i level count fill s a b at fault
+      → Blames (λ place. (place ≡ at) × IsBadAt i level count fill there at) fault
+  fetch_blames a b there level count fill at (tree_fault.Store fault) told h = tt
+  fetch_blames a b there level count fill at (tree_fault.BadNode place) told h = (h.0, told_at (s.nodes a) (λ there. IsBadAt i level count fill there at) h.1 there told)
+  fetch_blames a b there level count fill at (tree_fault.Summer fault) told h = tt
+  fetch_blames a b there level count fill at tree_fault.NoMemory told h = tt
 
 -- where a call stopped
 module _ {T : Type 0} (i : Items T) (there : Places) (tree : Tree) where

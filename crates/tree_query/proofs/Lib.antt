@@ -1,11 +1,14 @@
 pub mod Before
 pub mod Calls
+pub mod Counts
+pub mod Leading
 pub mod Lists
+pub mod Numbers
 pub mod Order
 pub mod Ranges
 pub mod Reached
 pub mod Since
+pub mod Stops
 pub mod Summaries
 pub mod Sums
-pub mod Unsummed
 pub mod Walks

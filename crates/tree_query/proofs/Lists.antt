@@ -18,6 +18,9 @@ level_above (suc level) e = omega arith
 pub none_from_test : (n : ℕ) (b : Bool) → b ≡ (n == 0) → b ≡ true → n ≡ 0
 none_from_test n b e h = grind (arith, nat_tests)
 
+pub level_of_leaves : (level : ℕ) → true ≡ (level == 0) → level ≡ 0
+level_of_leaves level e = none_from_test level true e refl
+
 pub some_from_test : (n : ℕ) (b : Bool) → b ≡ (n == 0) → b ≡ false → 0 < n
 some_from_test n b e h = grind (arith, nat_tests)
 

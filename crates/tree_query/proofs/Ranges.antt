@@ -14,6 +14,7 @@ use Rattle.tree_laws.specs.SummerTrees.{AreChildren}
 use Rattle.tree_laws.proofs.SummerTrees.{AreParts, children_split, parts_of}
 use Rattle.tree_laws.proofs.SummerTrees.{counts_add}
 use Rattle.tree_query.specs.Ranges.{Gathered, numbered}
+use Rattle.tree_query.specs.Summaries.{BeginsInFirst}
 
 pub numbered_none : {T : Type 0} (n : ℕ) (xs : List T) → numbered n n xs ≡ []
 numbered_none zero xs = refl
@@ -61,7 +62,7 @@ module _ {T M Sum Fault : Type 0} (i : Items T) (m : Summers M T Sum Fault) (fir
         taken = ap (take n) j.whole ∙ ap (λ i. take i (j.front ++ j.back)) (sym n') ∙ take-append-add j.front j.back offset;
       }
 
-  pub first_long : (cs : List (Child T)) (zs : List T) (o : ℕ) → AreChildren i m first P cs zs → 0 < length cs → ((c : Child T) (ds : List (Child T)) → cs ≡ c ∷ ds → o < c.count) → o ≤ length zs
+  pub first_long : (cs : List (Child T)) (zs : List T) (o : ℕ) → AreChildren i m first P cs zs → 0 < length cs → BeginsInFirst cs o → o ≤ length zs
   first_long [] zs o h some f = absurd (omega arith)
   first_long (c ∷ cs) zs o h some f = omega (arith, f c cs refl, h.at_front.count, ap length h.whole, length-append h.front h.back)
 

@@ -1,8 +1,7 @@
 -- What stands at the places that a call on a tree reaches.
-use Rattle.std.proofs.Common.{◌≡◌, ◌-◌, ◌<◌, ℕ, zero, suc, Option, List, [], ◌∷◌, ◌++◌, All, Contains, length, subst, arith}
-use Rattle.std.proofs.lemmas.List.Elements.{All-cons, All-contains, All-contains_itself, All-head, All-nil, All-tail, All-weaker}
+use Rattle.std.proofs.Common.{◌≡◌, ◌-◌, ◌<◌, ℕ, zero, suc, Option, List, [], ◌∷◌, ◌++◌, Contains, subst, arith}
+use Rattle.std.proofs.lemmas.List.Elements.{All-contains_itself, All-head, All-tail, All-weaker}
 use Rattle.tree_laws.specs.declared.item.Item.{Ghosts as Items}
-use Rattle.tree_laws.specs.declared.summer.Summer.{Ghosts as Summers}
 use Rattle.tree_laws.specs.declared.node.Child.{Child}
 use Rattle.tree_laws.specs.declared.node.Node.{Node}
 use Rattle.tree_laws.specs.declared.node.Node.TheVariants.{Inner, Leaf}
@@ -10,13 +9,14 @@ use Rattle.tree_laws.specs.declared.tree.Fill.{Fill}
 use Rattle.tree_laws.specs.declared.tree.Fill.TheVariants.{Root, Below}
 use Rattle.tree_laws.specs.declared.tree.Tree.{Tree}
 use Rattle.tree_laws.specs.Fetching.{IsBadAt}
+use Rattle.tree_laws.specs.Meaning.{Values}
+use Rattle.tree_laws.specs.Reaching.{IsMet, IsUnfit, Reaches, StandsFit, below, root}
 use Rattle.tree_laws.specs.Spelled.{IsSpelledOnce}
 use Rattle.tree_laws.specs.Stores.{Places, WhereTold}
-use Rattle.tree_laws.specs.SummerTrees.{AreChildren, Has, HasRoot, IsAt, IsChild, IsTree, Stands}
-use Rattle.tree_laws.specs.Values.{values_of}
-use Rattle.tree_laws.proofs.SummerTrees.{same_node}
-use Rattle.tree_laws.proofs.SummerTrees.{below_not_bad, root_not_bad}
-use Rattle.tree_laws.specs.Reaching.{IsMet, IsUnfit, Reaches, StandsFit, below, root}
+use Rattle.tree_laws.specs.Trees.{Has, HasRoot, IsAt, IsTree}
+use Rattle.tree_laws.proofs.Parts.{same_node}
+use Rattle.tree_laws.proofs.Reached.{met_own, reached_there}
+use Rattle.tree_laws.proofs.Sizes.{below_not_bad, root_not_bad}
 use Rattle.tree_query.specs.Reaching.{AreReached}
 use Rattle.tree_query.specs.Summaries.{IsRead}
 
@@ -33,57 +33,32 @@ module _ {T : Type 0} (i : Items T) (there : Places) (tree : Tree) where
   pub reached_first : (level : ℕ) (c : Child T) (cs : List (Child T)) → AreReached i there tree level (c ∷ cs) → Reaches i there tree c.at level c.count Below
   reached_first level c cs h = All-head (λ child. Reaches i there tree child.at level child.count Below) c cs h
 
-module _ {T M Sum Fault : Type 0} (i : Items T) (m : Summers M T Sum Fault) (first : M) (there : Places) where
-  pub has_leaf : (level : ℕ) (xs items : List T) → Has i m first there level (Leaf xs) items → items ≡ xs
+module _ {T S : Type 0} (i : Items T) (v : Values T S) (there : Places) where
+  pub has_leaf : (level : ℕ) (xs items : List T) → Has i v there level (Leaf xs) items → items ≡ xs
   has_leaf zero xs items h = h
   has_leaf (suc level) xs items h = absurd h
 
-module _ {T M Sum Fault : Type 0} (i : Items T) (m : Summers M T Sum Fault) (first : M) (once : IsSpelledOnce i.fits i.spelled) (there : Places) where
+module _ {T S : Type 0} (i : Items T) (v : Values T S) (once : IsSpelledOnce i.fits i.spelled) (there : Places) where
   -- a node that was got has the items of the one that stands there
-  pub has_got : (P : Node T → List T → Type 0) (at level count : ℕ) (fill place : Fill) (items : List T) (node : Node T) → StandsFit i there at level count fill node → IsAt i m first there P place at items → P node items
-  has_got P at level count fill place items node s h = same_node i m first there once P place at items node s.fits s.bytes h
+  pub has_got : (P : Node T → List T → Type 0) (at level count : ℕ) (fill place : Fill) (items : List T) (node : Node T) → StandsFit i there at level count fill node → IsAt i there P place at items → P node items
+  has_got P at level count fill place items node s h = same_node i v there once P place at items node s.fits s.bytes h
 
-  -- a child with the items below it
-  record IsOwn (P : ℕ → List T → Type 0) (child : Child T) : Type 0 where
-    pub items : List T
-    pub is : IsChild i m first P child items
-
-  all_own : (P : ℕ → List T → Type 0) (children : List (Child T)) (items : List T) → AreChildren i m first P children items → All (IsOwn P) children
-  all_own P [] items h = All-nil (IsOwn P)
-  all_own P (c ∷ cs) items h = All-cons (IsOwn P) c cs (record { items = h.front; is = h.at_front }) (all_own P cs h.back h.at_back)
-
-  -- a node with the right items stands at the place
-  record IsThere (at level count : ℕ) (fill : Fill) : Type 0 where
-    pub items : List T
-    pub stands : IsAt i m first there (Has i m first there level) fill at items
-    pub counted : count ≡ length items
-
-  pub root_at : (place height : ℕ) (items : List T) → 0 < height → HasRoot i m first there place height items → IsAt i m first there (Has i m first there (height - 1)) Root place items
+  pub root_at : (place height : ℕ) (items : List T) → 0 < height → HasRoot i v there place height items → IsAt i there (Has i v there (height - 1)) Root place items
   root_at place zero items some h = absurd (omega arith)
-  root_at place (suc level) items some h = subst (λ l. IsAt i m first there (Has i m first there l) Root place items) (omega arith) h
+  root_at place (suc level) items some h = subst (λ l. IsAt i there (Has i v there l) Root place items) (omega arith) h
 
-  module _ (tree : Tree) (items : List T) (is : IsTree i m first there tree items) where
-    met_own : (at level count : ℕ) (fill : Fill) (children : List (Child T)) (child : Child T) → IsThere at (suc level) count fill → StandsFit i there at (suc level) count fill (Inner children) → Contains children child → IsOwn (Stands i m first there level) child
-    met_own at level count fill children child k s inside =
-        All-contains (IsOwn (Stands i m first there level)) children child (all_own (Stands i m first there level) children k.items (has_got (Has i m first there (suc level)) at (suc level) count fill fill k.items (Inner children) s k.stands)) inside
-
-    reached_there : (at level count : ℕ) (fill : Fill) → Reaches i there tree at level count fill → IsThere at level count fill
-    reached_there at level count fill (root some) = record { items = items; stands = root_at tree.root tree.height items some is.root; counted = is.count }
-    reached_there at level count fill (below up low n place children child r s inside) =
-        let own = met_own up low n place children child (reached_there up (suc low) n place r) s inside in
-        record { items = own.items; stands = own.is.stands; counted = own.is.count }
-
+  module _ (tree : Tree) (items : List T) (is : IsTree i v there tree items) where
     reached_not_bad : (at level count : ℕ) (fill : Fill) → Reaches i there tree at level count fill → IsBadAt i level count fill there at → ⊥
-    reached_not_bad at level count fill (root some) b = root_not_bad i m first there tree items is some b
+    reached_not_bad at level count fill (root some) b = root_not_bad i v there tree items is some b
     reached_not_bad at level count fill (below up low n place children child r s inside) b =
-        let own = met_own up low n place children child (reached_there up (suc low) n place r) s inside in
-        below_not_bad i m first there low child.at own.items own.is.stands (subst (λ k. IsBadAt i low k Below there child.at) own.is.count b)
+        let own = met_own i v there once up low n place children child (reached_there i v there once tree items is up (suc low) n place r) s inside in
+        below_not_bad i v there low child.at own.items own.is.stands (subst (λ k. IsBadAt i low k Below there child.at) own.is.count b)
 
     -- what a node that is met keeps of a child is the bytes of a value
-    pub met_summary : (at level : ℕ) (children : List (Child T)) (child : Child T) → IsMet i there tree at level (Inner children) → Contains children child → IsRead (values_of m first) child.sum
+    pub met_summary : (at level : ℕ) (children : List (Child T)) (child : Child T) → IsMet i there tree at level (Inner children) → Contains children child → IsRead v child.sum
     met_summary at zero children child h inside = let k = h.stands.place.kind in absurd (cc)
     met_summary at (suc level) children child h inside =
-        let own = met_own at level h.count h.fill children child (reached_there at (suc level) h.count h.fill h.reached) h.stands inside in
+        let own = met_own i v there once at level h.count h.fill children child (reached_there i v there once tree items is at (suc level) h.count h.fill h.reached) h.stands inside in
         record { sum = own.is.sum.sum; fits = own.is.sum.fits; bytes_are = own.is.sum.bytes_are }
 
     -- no place that is reached over a tree is bad

@@ -2,7 +2,6 @@
 use Rattle.std.proofs.Common.{◌≡◌, ◌+◌, ◌-◌, ◌^◌, ◌<◌, ◌≤◌, ℕ, zero, suc, List, [], ◌∷◌, ◌++◌, All, Some, length, map, refl, sym, ap, ◌∙◌, subst, arith}
 use Rattle.std.proofs.Math.Nat.{pow-succ'}
 use Rattle.std.proofs.lemmas.List.Elements.{All-cons, All-head, All-nil, All-tail, All-weaker}
-use Rattle.std.proofs.lemmas.List.Sums.{sum_by-append, sum_by-cons}
 use Rattle.tree_laws.specs.declared.item.Item.{Ghosts as Items}
 use Rattle.tree_laws.specs.declared.summer.Summer.{Ghosts as Summers}
 use Rattle.tree_laws.specs.declared.node.Child.{Child}
@@ -19,16 +18,12 @@ use Rattle.tree_laws.specs.Spelled.{IsSpelledOnce}
 use Rattle.tree_laws.specs.Stores.{Places}
 use Rattle.tree_laws.specs.Values.{values_of}
 use Rattle.tree_laws.proofs.Prefixes.{node_once}
-use Rattle.tree_query.specs.Summaries.{ChildIsRead, IsCut, IsRead, IsWhole, LeadsTo, NodeIsRead, RangeIsRead, RowIsRead, count_in, to_child, to_root}
-
-pub count_cons : {T : Type 0} (c : Child T) (cs : List (Child T)) → count_in (c ∷ cs) ≡ c.count + count_in cs
-count_cons c cs = sum_by-cons (λ (child : Child _). child.count) c cs
-
-count_append : {T : Type 0} (cs ds : List (Child T)) → count_in (cs ++ ds) ≡ count_in cs + count_in ds
-count_append cs ds = sum_by-append (λ (child : Child _). child.count) cs ds
+use Rattle.tree_query.specs.Leading.{to_child, to_root}
+use Rattle.tree_query.specs.Summaries.{BeginsInFirst, ChildIsRead, IsCut, IsRead, IsWhole, NodeIsRead, RangeIsRead, RangeLeads, RowIsRead, count_in}
+use Rattle.tree_query.proofs.Counts.{count_append, count_cons}
 
 -- more items than the number where a range begins in the first child
-pub first_within : {T : Type 0} (cs : List (Child T)) (o : ℕ) → 0 < length cs → ((c : Child T) (ds : List (Child T)) → cs ≡ c ∷ ds → o < c.count) → o ≤ count_in cs
+pub first_within : {T : Type 0} (cs : List (Child T)) (o : ℕ) → 0 < length cs → BeginsInFirst cs o → o ≤ count_in cs
 first_within [] o some f = absurd (omega arith)
 first_within (c ∷ cs) o some f = omega (arith, f c cs refl, count_cons c cs)
 
@@ -189,7 +184,7 @@ module _ {T S : Type 0} (i : Items T) (v : Values T S) (there : Places) where
         omega (arith, many, power_some (suc level))
 
     module _ (root : Node T) (stands : StandsFit i there tree.root (tree.height - 1) tree.count Root root) (read : NodeIsRead i v there (tree.height - 1) root from to) where
-      led : (at level count start : ℕ) (fill : Fill) → LeadsTo i there tree from to at level count start fill → IsLed at level count start fill
+      led : (at level count start : ℕ) (fill : Fill) → RangeLeads i there tree from to at level count start fill → IsLed at level count start fill
       led at level count start fill (to_root some) =
           let begins : from ≡ from - 0 = omega arith in
           let ends : to ≡ to - 0 = omega arith in

@@ -174,10 +174,10 @@ module _ {T S F M Sum G : Type 0} (i : Items T) (s : Sources S F) (m : Summers M
 module _ {T M Sum G : Type 0} (i : Items T) (m : Summers M T Sum G) (first : M) (once : IsSpelledOnce i.fits i.spelled) (there : Places) (tree : Tree) (items : List T) (is : IsTree i m first there tree items) where
   -- no place is blamed over a tree of this summer
   pub none_blamed : (since old now : List ℕ) (at : ℕ) → IsBlamed i m first there tree since old now at → ⊥
-  none_blamed since old now at (unfit u stops) = none_unfit i m first once there tree items is at u
+  none_blamed since old now at (unfit u stops) = none_unfit i (values_of m first) once there tree items is at u
   none_blamed since old now at (unread u got good) =
       let met = subst (λ n. IsMet i there tree at u.level n) u.bad.inner u.met in
-      let own = met_summary i m first once there tree items is at u.level u.bad.children u.bad.child met u.bad.inside in
+      let own = met_summary i (values_of m first) once there tree items is at u.level u.bad.children u.bad.child met u.bad.inside in
       u.bad.unread own.sum own.fits (sym own.bytes_are)
 
 -- what the exit of a `?` returns

@@ -10,15 +10,16 @@ use Rattle.tree_laws.specs.declared.node.Child.{Child}
 use Rattle.tree_laws.specs.declared.tree.Fill.TheVariants.{Below}
 use Rattle.tree_laws.specs.declared.tree.Tree.{Tree}
 use Rattle.tree_laws.specs.Stores.{Extends, Places}
-use Rattle.tree_laws.specs.SummerTrees.{AreChildren, IsChild, Joins}
-use Rattle.tree_laws.proofs.SummerTrees.{child_stays, stands_stays}
+use Rattle.tree_laws.specs.Trees.{AreChildren, IsChild, Joins}
+use Rattle.tree_laws.specs.Values.{no_values}
+use Rattle.tree_laws.proofs.Structure.{child_passes, same_sums, stands_passes}
 use Rattle.tree_query.specs.declared.walk.NextChild.{NextChild}
 use Rattle.tree_query.specs.declared.walk.WalkRow.{WalkRow}
 use Rattle.tree_query.specs.declared.walk.Walk.{Walk}
+use Rattle.tree_query.specs.Bare.{StandItems}
 use Rattle.tree_query.specs.Ranges.{numbered}
 use Rattle.tree_laws.specs.Reaching.{Reaches, below, root}
 use Rattle.tree_query.specs.Reaching.{AreReached}
-use Rattle.tree_query.specs.Unsummed.{StandItems, unsummed}
 use Rattle.tree_query.specs.Walking.{Ahead, AreOver, AreTurned, Finds, FindsReached, IsAt, IsOver, IsRest, turned}
 
 pub turned_twice : {X : Type 0} (flag : Bool) (xs : List X) → turned flag (turned flag xs) ≡ xs
@@ -29,8 +30,8 @@ pub turned_length : {X : Type 0} (flag : Bool) (xs : List X) → length (turned 
 turned_length false xs = refl
 turned_length true xs = length-reverse xs
 
-module _ {T : Type 0} (i : Items T) (flag : Bool) (P : ℕ → List T → Type 0) where
-  pub turned_append : (cs ds : List (Child T)) (xs ys : List T) → AreTurned i flag P cs xs → AreTurned i flag P ds ys → AreTurned i flag P (cs ++ ds) (xs ++ ys)
+module _ {T : Type 0} (flag : Bool) (P : ℕ → List T → Type 0) where
+  pub turned_append : (cs ds : List (Child T)) (xs ys : List T) → AreTurned flag P cs xs → AreTurned flag P ds ys → AreTurned flag P (cs ++ ds) (xs ++ ys)
   turned_append [] ds xs ys h k = rw h k
   turned_append (c ∷ cs) ds xs ys h k = record {
     front = h.front;
@@ -40,7 +41,7 @@ module _ {T : Type 0} (i : Items T) (flag : Bool) (P : ℕ → List T → Type 0
     at_back = turned_append cs ds h.back ys h.at_back k;
   }
 
-  pub turned_split : (cs ds : List (Child T)) (xs : List T) → AreTurned i flag P (cs ++ ds) xs → Joins (AreTurned i flag P cs) (AreTurned i flag P ds) xs
+  pub turned_split : (cs ds : List (Child T)) (xs : List T) → AreTurned flag P (cs ++ ds) xs → Joins (AreTurned flag P cs) (AreTurned flag P ds) xs
   turned_split [] ds xs h = record { front = []; back = xs; whole = refl; at_front = refl; at_back = h }
   turned_split (c ∷ cs) ds xs h =
       let k = turned_split cs ds h.back h.at_back in
@@ -52,37 +53,37 @@ module _ {T : Type 0} (i : Items T) (flag : Bool) (P : ℕ → List T → Type 0
         at_back = k.at_back;
       }
 
-  pub turned_count : (cs : List (Child T)) (xs : List T) → AreTurned i flag P cs xs → sum_by (λ c. c.count) cs ≡ length xs
+  pub turned_count : (cs : List (Child T)) (xs : List T) → AreTurned flag P cs xs → sum_by (λ c. c.count) cs ≡ length xs
   turned_count [] xs h = sym (ap length h)
   turned_count (c ∷ cs) xs h =
       omega (arith, sum_by-cons (λ (d : Child T). d.count) c cs, turned_count cs h.back h.at_back, h.at_front.count, turned_length flag h.front, ap length h.whole, length-append h.front h.back)
 
-module _ {T : Type 0} (i : Items T) (P : ℕ → List T → Type 0) where
-  as_they_are : (cs : List (Child T)) (xs : List T) → AreChildren i unsummed tt P cs xs → AreTurned i false P cs xs
+module _ {T : Type 0} (P : ℕ → List T → Type 0) where
+  as_they_are : (cs : List (Child T)) (xs : List T) → AreChildren no_values P cs xs → AreTurned false P cs xs
   as_they_are [] xs h = h
   as_they_are (c ∷ cs) xs h = record { front = h.front; back = h.back; whole = h.whole; at_front = h.at_front; at_back = as_they_are cs h.back h.at_back }
 
-  reversed : (cs : List (Child T)) (xs : List T) → AreChildren i unsummed tt P cs xs → AreTurned i true P (reverse cs) (reverse xs)
+  reversed : (cs : List (Child T)) (xs : List T) → AreChildren no_values P cs xs → AreTurned true P (reverse cs) (reverse xs)
   reversed [] xs h = rw h refl
   reversed (c ∷ cs) xs h =
-      let one : AreTurned i true P (c ∷ []) (reverse h.front) = record {
+      let one : AreTurned true P (c ∷ []) (reverse h.front) = record {
         front = reverse h.front;
         back = [];
         whole = sym (append-nil (reverse h.front));
-        at_front = subst (λ ys. IsChild i unsummed tt P c ys) (sym (reverse-reverse h.front)) h.at_front;
+        at_front = subst (λ ys. IsChild no_values P c ys) (sym (reverse-reverse h.front)) h.at_front;
         at_back = refl;
       } in
-      let all = turned_append i true P (reverse cs) (c ∷ []) (reverse h.back) (reverse h.front) (reversed cs h.back h.at_back) one in
+      let all = turned_append true P (reverse cs) (c ∷ []) (reverse h.back) (reverse h.front) (reversed cs h.back h.at_back) one in
       let e1 : reverse (c ∷ cs) ≡ reverse cs ++ (c ∷ []) = reverse-append (c ∷ []) cs in
       let e2 : reverse xs ≡ reverse h.back ++ reverse h.front = ap reverse h.whole ∙ reverse-append h.front h.back in
-      subst (λ ys. AreTurned i true P (reverse (c ∷ cs)) ys) (sym e2) (subst (λ ds. AreTurned i true P ds (reverse h.back ++ reverse h.front)) (sym e1) all)
+      subst (λ ys. AreTurned true P (reverse (c ∷ cs)) ys) (sym e2) (subst (λ ds. AreTurned true P ds (reverse h.back ++ reverse h.front)) (sym e1) all)
 
-  pub children_turned : (flag : Bool) (cs : List (Child T)) (xs : List T) → AreChildren i unsummed tt P cs (turned flag xs) → AreTurned i flag P (turned flag cs) xs
+  pub children_turned : (flag : Bool) (cs : List (Child T)) (xs : List T) → AreChildren no_values P cs (turned flag xs) → AreTurned flag P (turned flag cs) xs
   children_turned false cs xs h = as_they_are cs xs h
-  children_turned true cs xs h = subst (λ ys. AreTurned i true P (reverse cs) ys) (reverse-reverse xs) (reversed cs (reverse xs) h)
+  children_turned true cs xs h = subst (λ ys. AreTurned true P (reverse cs) ys) (reverse-reverse xs) (reversed cs (reverse xs) h)
 
 module _ {T : Type 0} (i : Items T) (flag : Bool) (there : Places) where
-  pub ahead_push : (rows : List (WalkRow T)) (row : WalkRow T) (xs ys : List T) → AreTurned i flag (StandItems i there row.level) row.children xs → Ahead i flag there rows ys → Ahead i flag there (rows ++ (row ∷ [])) (xs ++ ys)
+  pub ahead_push : (rows : List (WalkRow T)) (row : WalkRow T) (xs ys : List T) → AreTurned flag (StandItems i there row.level) row.children xs → Ahead i flag there rows ys → Ahead i flag there (rows ++ (row ∷ [])) (xs ++ ys)
   ahead_push [] row xs ys h k = record { front = []; back = xs; whole = ap (λ t. xs ++ t) k ∙ append-nil xs; at_front = refl; at_back = h }
   ahead_push (r ∷ rows) row xs ys h k = record {
     front = xs ++ k.front;
@@ -102,7 +103,7 @@ module _ {T : Type 0} (i : Items T) (flag : Bool) (there : Places) where
     at_back = k.at_back;
   }
 
-  pub ahead_pop : (rows : List (WalkRow T)) (row : WalkRow T) (xs : List T) → Ahead i flag there (rows ++ (row ∷ [])) xs → Joins (AreTurned i flag (StandItems i there row.level) row.children) (Ahead i flag there rows) xs
+  pub ahead_pop : (rows : List (WalkRow T)) (row : WalkRow T) (xs : List T) → Ahead i flag there (rows ++ (row ∷ [])) xs → Joins (AreTurned flag (StandItems i there row.level) row.children) (Ahead i flag there rows) xs
   ahead_pop [] row xs h = record { front = h.back; back = []; whole = h.whole ∙ ap (λ t. t ++ h.back) h.at_front ∙ sym (append-nil h.back); at_front = h.at_back; at_back = refl }
   ahead_pop (r ∷ rows) row xs h =
       let k = ahead_pop rows row h.front h.at_front in
@@ -146,17 +147,17 @@ range_turned false from to skip xs h k e = rw e (range_swap from to xs h)
 range_turned true from to skip xs h k e = rw e (range_back from to xs h k)
 
 -- the rest of a row after the first items
-pub record Reached {T : Type 0} (i : Items T) (flag : Bool) (P : ℕ → List T → Type 0) (rest : List (Child T)) (skip offset : ℕ) (items : List T) : Type 0 where
+pub record Reached {T : Type 0} (flag : Bool) (P : ℕ → List T → Type 0) (rest : List (Child T)) (skip offset : ℕ) (items : List T) : Type 0 where
   pub back : List T
-  pub at_back : AreTurned i flag P rest back
+  pub at_back : AreTurned flag P rest back
   pub dropped : drop skip items ≡ drop offset back
   pub long : length items + offset ≡ skip + length back
 
-module _ {T : Type 0} (i : Items T) (flag : Bool) (P : ℕ → List T → Type 0) where
-  pub reached : (list rest : List (Child T)) (skip offset : ℕ) (items : List T) → AreTurned i flag P list items → IsRest list skip rest offset → Reached i flag P rest skip offset items
+module _ {T : Type 0} (flag : Bool) (P : ℕ → List T → Type 0) where
+  pub reached : (list rest : List (Child T)) (skip offset : ℕ) (items : List T) → AreTurned flag P list items → IsRest list skip rest offset → Reached flag P rest skip offset items
   reached list rest skip offset items h r =
-      let j = turned_split i flag P r.front rest items (subst (λ ds. AreTurned i flag P ds items) r.whole h) in
-      let n = turned_count i flag P r.front j.front j.at_front in
+      let j = turned_split flag P r.front rest items (subst (λ ds. AreTurned flag P ds items) r.whole h) in
+      let n = turned_count flag P r.front j.front j.at_front in
       let e : skip ≡ length j.front + offset = omega (arith, n, r.count) in
       record {
         back = j.back;
@@ -165,7 +166,7 @@ module _ {T : Type 0} (i : Items T) (flag : Bool) (P : ℕ → List T → Type 0
         long = omega (arith, e, ap length j.whole, length-append j.front j.back);
       }
 
-  pub turned_none : (cs : List (Child T)) (xs : List T) → AreTurned i flag P cs xs → cs ≡ [] → xs ≡ []
+  pub turned_none : (cs : List (Child T)) (xs : List T) → AreTurned flag P cs xs → cs ≡ [] → xs ≡ []
   turned_none [] xs h e = h
   turned_none (c ∷ cs) xs h e = absurd (cc)
 
@@ -226,13 +227,16 @@ all_front P (x ∷ xs) ys h = All-cons P x xs (All-head P x (xs ++ ys) h) (all_f
 -- ---- a store that was added to
 
 module _ {T : Type 0} (i : Items T) (old new : Places) (e : Extends old new) where
-  turned_stay : (flag : Bool) (level : ℕ) (cs : List (Child T)) (xs : List T) → AreTurned i flag (StandItems i old level) cs xs → AreTurned i flag (StandItems i new level) cs xs
+  stand_items : (level at : ℕ) (items : List T) → StandItems i old level at items → StandItems i new level at items
+  stand_items = stands_passes i no_values no_values (same_sums no_values) old new e Below
+
+  turned_stay : (flag : Bool) (level : ℕ) (cs : List (Child T)) (xs : List T) → AreTurned flag (StandItems i old level) cs xs → AreTurned flag (StandItems i new level) cs xs
   turned_stay flag level [] xs h = h
   turned_stay flag level (c ∷ cs) xs h = record {
     front = h.front;
     back = h.back;
     whole = h.whole;
-    at_front = child_stays i unsummed tt (StandItems i old level) (StandItems i new level) (stands_stays i unsummed tt old new e level) c (turned flag h.front) h.at_front;
+    at_front = child_passes no_values no_values (same_sums no_values) (StandItems i old level) (StandItems i new level) (stand_items level) c (turned flag h.front) h.at_front;
     at_back = turned_stay flag level cs h.back h.at_back;
   }
 
@@ -246,14 +250,14 @@ module _ {T : Type 0} (i : Items T) (old new : Places) (e : Extends old new) whe
     front = h.front;
     back = h.back;
     whole = h.whole;
-    at_front = child_stays i unsummed tt (StandItems i old next.level) (StandItems i new next.level) (stands_stays i unsummed tt old new e next.level) next.child (turned flag h.front) h.at_front;
+    at_front = child_passes no_values no_values (same_sums no_values) (StandItems i old next.level) (StandItems i new next.level) (stand_items next.level) next.child (turned flag h.front) h.at_front;
     at_back = ahead_stays flag rows h.back h.at_back;
   }
 
   pub walk_stays : (walk : Walk T) (items : List T) → IsAt i old walk items → IsAt i new walk items
   walk_stays walk items h = record {
     all = h.all;
-    leads = record { front = h.leads.front; back = h.leads.back; whole = h.leads.whole; at_front = h.leads.at_front; at_back = finds_stays walk.descending walk.next walk.rows.items h.leads.back h.leads.at_back };
+    brings = record { front = h.brings.front; back = h.brings.back; whole = h.brings.whole; at_front = h.brings.at_front; at_back = finds_stays walk.descending walk.next walk.rows.items h.brings.back h.brings.at_back };
     whole = h.whole;
     count = h.count;
   }

@@ -18,6 +18,18 @@ pub record OnlyReads {S F : Type 0} (s : Sources S F) (most : ℕ) (old new : S)
   pub steps : RisesBy most before after
   pub reads : RisesBy (2 * (after - before)) (s.reads old) (s.reads new)
 
+-- What a call on a store alone leaves of it, wherever it went: after a fault of the store what that fault says, and else the store goes on.
+module _ {S F : Type 0} (s : Sources S F) where
+  abbrev pub IsCaused : {M : Type 0} → S → S → TreeFault F M → Type 0
+  IsCaused old new (tree_fault.Store fault) = s.fails old new fault
+  IsCaused old new (tree_fault.BadNode at) = s.goes old new
+  IsCaused old new (tree_fault.Summer fault) = ⊥
+  IsCaused old new tree_fault.NoMemory = s.goes old new
+
+  abbrev pub Caused : {X M : Type 0} → S → S → Result X (TreeFault F M) → Type 0
+  Caused old new (Ok value) = s.goes old new
+  Caused old new (Err fault) = IsCaused old new fault
+
 module _ {T S F : Type 0} (i : Items T) (s : Sources S F) (tree : Tree) where
   -- the store goes on, and at each place that was got a node stands that is reached and fits
   pub record WentOver (old new : S) : Type 0 where

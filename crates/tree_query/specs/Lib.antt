@@ -1,6 +1,9 @@
+pub mod Bare
+pub mod Bounds
 pub mod Calls
+pub mod Leading
+pub mod Numbers
 pub mod Ranges
 pub mod Reaching
 pub mod Summaries
-pub mod Unsummed
 pub mod Walking

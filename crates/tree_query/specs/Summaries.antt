@@ -1,20 +1,18 @@
 -- What a value of a range of items rests on.
 use Rattle.std.specs.Prelude.{◌≡◌, ◌+◌, ◌-◌, ◌<◌, ◌≤◌, ℕ, zero, suc, List, [], ◌∷◌, ◌++◌}
-use Rattle.std.specs.List.{sum_by}
 use Rattle.tree_laws.specs.declared.item.Item.{Ghosts as Items}
 use Rattle.tree_laws.specs.declared.node.Child.{Child}
 use Rattle.tree_laws.specs.declared.node.Node.{Node}
 use Rattle.tree_laws.specs.declared.node.Node.TheVariants.{Inner, Leaf}
 use Rattle.tree_laws.specs.declared.tree.Fill.{Fill}
-use Rattle.tree_laws.specs.declared.tree.Fill.TheVariants.{Below, Root}
+use Rattle.tree_laws.specs.declared.tree.Fill.TheVariants.{Below}
 use Rattle.tree_laws.specs.declared.tree.Tree.{Tree}
+use Rattle.tree_laws.specs.Fetching.{IsBadAt, IsUnread}
 use Rattle.tree_laws.specs.Meaning.{Values}
 use Rattle.tree_laws.specs.Reaching.{StandsFit}
 use Rattle.tree_laws.specs.Stores.{Places}
-
--- how many items these children have
-abbrev pub count_in : {T : Type 0} → List (Child T) → ℕ
-count_in children = sum_by (λ child. child.count) children
+use Rattle.tree_query.specs.Leading.{Leads}
+pub use Rattle.tree_query.specs.Leading.{count_in}
 
 -- the bytes of a value
 pub record IsRead {T S : Type 0} (v : Values T S) (bytes : List ℕ) : Type 0 where
@@ -37,25 +35,39 @@ module _ (from to start count : ℕ) where
 
 -- ---- by the numbers that the items of a tree have
 
+-- the children that the range cuts are picked
+abbrev pub Cuts : {T : Type 0} → (from to : ℕ) → ℕ → List (Child T) → Child T → Type 0
+Cuts from to start front child = IsCut from to (start + count_in front) child.count
+
 module _ {T : Type 0} (i : Items T) (there : Places) (tree : Tree) (from to : ℕ) where
   -- The range leads to the root, and on from each node that stands there and fits to those of its children that it cuts. A node of
   -- this level is to stand at the place, with so many items in and below it, of which the first has the number `start`.
-  pub data LeadsTo : (at level count start : ℕ) → Fill → Type 0 where
-    to_root : 0 < tree.height → LeadsTo tree.root (tree.height - 1) tree.count 0 Root
-    to_child : (at level count start : ℕ) (fill : Fill) (front back : List (Child T)) (child : Child T) → LeadsTo at (suc level) count start fill
-        → StandsFit i there at (suc level) count fill (Inner (front ++ child ∷ back)) → IsCut from to (start + count_in front) child.count
-        → LeadsTo child.at level child.count (start + count_in front) Below
+  abbrev pub RangeLeads : (at level count start : ℕ) → Fill → Type 0
+  RangeLeads = Leads i there tree (Cuts from to)
 
-  -- What a value of the range rests on: wherever the range leads a node stands that fits, and what such a node keeps of each of its
-  -- children whose items are all of the range is the bytes of a value.
-  pub record RangeIsRead {S : Type 0} (v : Values T S) : Type 0 where
-    pub nodes : (at level count start : ℕ) (fill : Fill) → LeadsTo at level count start fill
-        → (node : Node T) × StandsFit i there at level count fill node
-    pub sums : (at level count start : ℕ) (fill : Fill) (front back : List (Child T)) (child : Child T) → LeadsTo at (suc level) count start fill
-        → StandsFit i there at (suc level) count fill (Inner (front ++ child ∷ back)) → IsWhole from to (start + count_in front) child.count
-        → IsRead v child.sum
+  module _ {S : Type 0} (v : Values T S) where
+    -- What a value of the range rests on: wherever the range leads a node stands that fits, and what such a node keeps of each of its
+    -- children whose items are all of the range is the bytes of a value.
+    pub record RangeIsRead : Type 0 where
+      pub nodes : (at level count start : ℕ) (fill : Fill) → RangeLeads at level count start fill
+          → (node : Node T) × StandsFit i there at level count fill node
+      pub sums : (at level count start : ℕ) (fill : Fill) (front back : List (Child T)) (child : Child T) → RangeLeads at (suc level) count start fill
+          → StandsFit i there at (suc level) count fill (Inner (front ++ child ∷ back)) → IsWhole from to (start + count_in front) child.count
+          → IsRead v child.sum
+
+    -- Why a place is bad for a value of the range: the range leads there, and no node stands there that fits, or one does, and what it
+    -- keeps of a child whose items are all of the range is the bytes of no value.
+    pub data RangeStops (at : ℕ) : Type 0 where
+      no_node : (level count start : ℕ) (fill : Fill) → RangeLeads at level count start fill → IsBadAt i level count fill there at → RangeStops at
+      no_value : (level count start : ℕ) (fill : Fill) (front back : List (Child T)) (child : Child T) → RangeLeads at (suc level) count start fill
+          → StandsFit i there at (suc level) count fill (Inner (front ++ child ∷ back)) → IsWhole from to (start + count_in front) child.count
+          → IsUnread v child.sum → RangeStops at
 
 -- ---- by the numbers that the items of a node have, or those of children of one level
+
+-- the item with this number is below the first of these children, if there are any
+abbrev pub BeginsInFirst : {T : Type 0} → List (Child T) → ℕ → Type 0
+BeginsInFirst {T} children number = (child : Child T) (others : List (Child T)) → children ≡ child ∷ others → number < child.count
 
 -- a fact of each child, with the range counted from its first item
 abbrev pub EachPart : {T : Type 0} → (Child T → ℕ → ℕ → Type 0) → List (Child T) → ℕ → ℕ → Type 0

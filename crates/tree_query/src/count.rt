@@ -7,17 +7,19 @@ ghost use Rattle.tree_laws.specs.Fitting.{item_count};
 ghost use Rattle.tree_laws.specs.Nodes.{is_leaf};
 ghost use Rattle.tree_laws.specs.Reaching.{IsMet};
 ghost use Rattle.tree_laws.specs.Stores.{Places, WhereTold};
-ghost use Rattle.tree_laws.specs.SummerTrees.{IsTree, IsTreeSize};
+ghost use Rattle.tree_laws.specs.Trees.{IsTreeSize};
 ghost use Rattle.tree_laws.specs.declared.node.Child.{Child};
 ghost use Rattle.tree_laws.specs.declared.tree.Tree.{Tree};
+ghost use Rattle.tree_query.specs.Bare.{HasItems, HoldsItems};
+ghost use Rattle.tree_query.specs.Bounds.{FirstNotBefore};
 ghost use Rattle.tree_query.specs.Calls.{OnlyReads, Ran};
-ghost use Rattle.tree_query.specs.Unsummed.{HasItems, HoldsItems};
+ghost use Rattle.tree_query.specs.Leading.{GoesDown, IsLedTo};
 
 use crate::fetch::fetch;
 use json_terms::NoMemory;
 use std::alloc::Global;
 use std::sync::ledger::Ledger;
-use tree_laws::{Bound, Child, Fill, Node, NodeSource, Steps, Summer, Tree, TreeFault};
+use tree_laws::{Bound, Child, Fill, Node, NodeSource, Steps, Tree, TreeFault};
 
 // How many items from the front stand before the bound.
 fn count_front<B: Bound>(items: &[B::Unit], bound: &B) -> usize
@@ -90,6 +92,9 @@ fn count_node<S: NodeSource, B: Bound, L: Ledger>(
     ensures reads { OnlyReads S.NodeSource level store.old store.new steps.old steps.new }
     ensures ran { (tree : Tree) (at : ℕ) → WhereTold (S.nodes store.old) (λ there. IsMet B.Unit.Item there tree at level node)
         → Ran B.Unit.Item S.NodeSource tree store.old store.new result }
+    ensures down { (tree : Tree) (there : Places) (at start : ℕ) → S.nodes store.old ≡ Some there
+        → IsLedTo B.Unit.Item there tree (FirstNotBefore (B.front bound.now)) at level start node
+        → GoesDown B.Unit.Item there tree (FirstNotBefore (B.front bound.now)) result }
     ensures ready { OnOk result (S.is_ready store.new) }
 {
     match node {
@@ -111,10 +116,12 @@ fn count_node<S: NodeSource, B: Bound, L: Ledger>(
 
 /// How many items of a tree stand before the bound. On any nodes it is no more than the tree's count.
 ///
-/// It takes `height` steps at most, and answers a number only where each node that it got fits its place. It gives up at once: each
-/// node that it got before the last fits in any case. `Store` hands on what the store answered in this call, at a place on the way
-/// down from the root. `BadNode` names the last place that it got on this way, where no node stands that fits, and never comes where
-/// the tree has items. `NoMemory` comes where memory runs out, and `Summer` never.
+/// The bound leads to the root, and on from each node that fits to the first child whose last item doesn't stand before it. It takes
+/// `height` steps at most, and answers a number only where a node that fits stands wherever the bound leads, at the level and with the
+/// number of items that are wanted there. It gives up at once: each node that it got before the last fits in any case. `Store` hands on
+/// what the store answered in this call, at a place on the way down from the root. `BadNode` names the last place that it got, to which
+/// the bound leads and where no node stands that fits there, and never comes where the tree has items. `NoMemory` comes where memory
+/// runs out, and `Summer` never.
 pub fn count_before<S: NodeSource, B: Bound, L: Ledger>(
     alloc: Global,
     store: &mut S,
@@ -129,6 +136,7 @@ pub fn count_before<S: NodeSource, B: Bound, L: Ledger>(
     ensures within { IfOk result (λ n. n ≤ tree.count) }
     ensures reads { OnlyReads S.NodeSource tree.height store.old store.new steps.old steps.new }
     ensures ran { Ran B.Unit.Item S.NodeSource tree store.old store.new result }
+    ensures down { WhereTold (S.nodes store.old) (λ there. GoesDown B.Unit.Item there tree (FirstNotBefore (B.front bound.now)) result) }
     ensures sound { (there : Places) (items : List B.Unit) (at : ℕ) → S.nodes store.old ≡ Some there → HoldsItems B.Unit.Item there tree items
         → result ≡ Err (TreeFault.BadNode at) → ⊥ }
     ensures ready { OnOk result (S.is_ready store.new) }
@@ -148,9 +156,3 @@ pub fn count_before<S: NodeSource, B: Bound, L: Ledger>(
     )?;
     count_node(alloc, store, level, root, bound, steps)
 }
-
-/// A tree of any summer has its items whatever is kept of their values.
-pub fn items_stand_alone<M: Summer>()
-    ensures { (first : M) (there : Places) (tree : Tree) (items : List M.Unit)
-        → IsTree M.Unit.Item M.Summer first there tree items → HoldsItems M.Unit.Item there tree items }
-{}

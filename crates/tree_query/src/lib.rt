@@ -7,6 +7,6 @@ mod fetch;
 mod range;
 mod walk;
 
-pub use count::{count_before, items_stand_alone};
+pub use count::count_before;
 pub use range::reduce_range;
 pub use walk::{Walk, walks_stay};

@@ -1,7 +1,7 @@
 //! The value of a range of the items of a tree.
 
 ghost use Rattle.std.specs.List.{sum_by};
-ghost use Rattle.std.specs.Prelude.{true, false, ◌≡◌, ◌≢◌, ◌↔◌, ℕ, ◌+◌, ◌-◌, ◌*◌, ◌==◌, ◌<◌, ◌≤◌, ◌^◌, ◌∷◌, ◌++◌, min, List, [], Option, None, Some, All, IfErr, IfOk, IfSome, OnOk, length, map, take, drop, slice_index_or};
+ghost use Rattle.std.specs.Prelude.{◌≡◌, ◌≢◌, ◌↔◌, ℕ, ◌+◌, ◌-◌, ◌*◌, ◌==◌, ◌<◌, ◌≤◌, ◌^◌, ◌∷◌, ◌++◌, min, List, [], Option, None, Some, All, IfErr, IfOk, IfSome, OnOk, length, map, take, drop, slice_index_or};
 ghost use Rattle.tree_laws.specs.Fitting.{item_count};
 ghost use Rattle.tree_laws.specs.Nodes.{entries, is_leaf};
 ghost use Rattle.tree_laws.specs.Stores.{Places, WhereTold};
@@ -10,9 +10,10 @@ ghost use Rattle.tree_laws.specs.Values.{values_of};
 ghost use Rattle.tree_laws.specs.declared.node.Child.{Child};
 ghost use Rattle.tree_laws.specs.declared.tree.Tree.{Tree};
 ghost use Rattle.tree_query.specs.Calls.{OnlyReads, SumRan, Summed};
+ghost use Rattle.tree_query.specs.Leading.{AreLedTo, Blames, IsLedTo, count_in};
 ghost use Rattle.tree_query.specs.Ranges.{Gathered, IsValue, numbered};
 ghost use Rattle.tree_query.specs.Reaching.{AreOf, IsGot, IsUnreadAt, ReadFails};
-ghost use Rattle.tree_query.specs.Summaries.{IsRead, NodeIsRead, RangeIsRead, RowIsRead, count_in};
+ghost use Rattle.tree_query.specs.Summaries.{BeginsInFirst, Cuts, IsRead, NodeIsRead, RangeIsRead, RangeStops, RowIsRead};
 
 use crate::fetch::fetch;
 use json_terms::NoMemory;
@@ -40,7 +41,7 @@ pub(crate) fn count_within<T>(children: &[Child<T>], n: u64) -> (usize, u64)
 fn cut<'a, T>(children: &'a [Child<T>], n: u64) -> (&'a [Child<T>], &'a [Child<T>], u64)
     ensures whole { children.now ≡ result.0.now ++ result.1.now }
     ensures count { sum_by (λ c. c.count) result.0.now + result.2 ≡ n }
-    ensures inside { (c : Child T) (cs : List (Child T)) → result.1.now ≡ c ∷ cs → result.2 < c.count }
+    ensures inside { BeginsInFirst result.1.now result.2 }
 {
     let (at, left) = count_within(children, n);
     let (front, back) = children.split_at(at);
@@ -78,7 +79,7 @@ fn add_leaf<F, M: Summer>(
 ) -> Result<(), TreeFault<F, M::Fault>>
     requires { length items.now ≤ 32 }
     ensures items { (first : M) (done : List M.Unit) → M.goes first summer.old → Gathered M.Summer first parts.old.items done
-        → IfOk result (λ _. Gathered M.Summer first parts.new.items (done ++ items.now)) }
+        → OnOk result (Gathered M.Summer first parts.new.items (done ++ items.now)) }
     ensures fits { (first : M) → M.goes first summer.old → All (M.fits first) parts.old.items → OnOk result (All (M.fits first) parts.new.items) }
     ensures ran { Summed M.Summer summer.old summer.new result }
 {
@@ -139,7 +140,7 @@ fn add_whole<F, M: Summer>(
 ) -> Result<(), TreeFault<F, M::Fault>>
     ensures items { (first : M) (there : Places) (low : ℕ) (done items : List M.Unit) → M.goes first summer.now
         → AreChildren M.Unit.Item M.Summer first (Stands M.Unit.Item M.Summer first there low) children.now items → Gathered M.Summer first parts.old.items done
-        → IfOk result (λ _. Gathered M.Summer first parts.new.items (done ++ items)) }
+        → OnOk result (Gathered M.Summer first parts.new.items (done ++ items)) }
     ensures fits { (first : M) → M.goes first summer.now → All (M.fits first) parts.old.items → OnOk result (All (M.fits first) parts.new.items) }
     ensures sums { (first : M) → M.goes first summer.now → OnOk result (All (λ child. IsRead (values_of M.Summer first) child.sum) children.now) }
     ensures cause { IfErr result (ReadFails M.Summer summer.now at children.now) }
@@ -167,13 +168,16 @@ fn tail<S: NodeSource, M: Summer, L: Ledger>(
     requires most { entries node ≤ 32 }
     ensures items { (first : M) (there : Places) (done items : List M.Unit) → S.nodes store.old ≡ Some there → M.goes first summer.old
         → from ≤ length items → Has M.Unit.Item M.Summer first there level node items → Gathered M.Summer first parts.old.items done
-        → IfOk result (λ _. Gathered M.Summer first parts.new.items (done ++ drop from items)) }
+        → OnOk result (Gathered M.Summer first parts.new.items (done ++ drop from items)) }
     ensures fits { (first : M) → M.goes first summer.old → All (M.fits first) parts.old.items → OnOk result (All (M.fits first) parts.new.items) }
     ensures sums { (first : M) (there : Places) (to : ℕ) → S.nodes store.old ≡ Some there → M.goes first summer.old → item_count node ≤ to
         → OnOk result (NodeIsRead M.Unit.Item (values_of M.Summer first) there level node from to) }
     ensures reads { OnlyReads S.NodeSource level store.old store.new steps.old steps.new }
     ensures ran { (first : M) (tree : Tree) (since : List ℕ) → M.goes first summer.old → WhereTold (S.nodes store.old) (λ there. IsGot M.Unit.Item there tree since (S.gets store.old) at level node)
         → SumRan M.Unit.Item S.NodeSource M.Summer first tree since store.old store.new summer.old summer.new result }
+    ensures stops { (first : M) (tree : Tree) (there : Places) (begin end start : ℕ) → S.nodes store.old ≡ Some there → M.goes first summer.old
+        → IsLedTo M.Unit.Item there tree (Cuts begin end) at level start node → from ≡ begin - start → start + item_count node ≤ end
+        → IfErr result (Blames (RangeStops M.Unit.Item there tree begin end (values_of M.Summer first))) }
     ensures goes { OnOk result (M.goes summer.old summer.new) }
     ensures ready { OnOk result (S.is_ready store.new) }
 {
@@ -215,15 +219,20 @@ fn tail_row<S: NodeSource, M: Summer, L: Ledger>(
 ) -> Result<(), TreeFault<S::Fault, M::Fault>>
     requires ready { S.is_ready store.old }
     ensures items { (first : M) (there : Places) (done items : List M.Unit) → S.nodes store.old ≡ Some there → M.goes first summer.old
-        → ((c : Child M.Unit) (cs : List (Child M.Unit)) → children.now ≡ c ∷ cs → from < c.count) → AreChildren M.Unit.Item M.Summer first (Stands M.Unit.Item M.Summer first there low) children.now items → Gathered M.Summer first parts.old.items done
-        → IfOk result (λ _. Gathered M.Summer first parts.new.items (done ++ drop from items)) }
+        → BeginsInFirst children.now from → AreChildren M.Unit.Item M.Summer first (Stands M.Unit.Item M.Summer first there low) children.now items → Gathered M.Summer first parts.old.items done
+        → OnOk result (Gathered M.Summer first parts.new.items (done ++ drop from items)) }
     ensures fits { (first : M) → M.goes first summer.old → All (M.fits first) parts.old.items → OnOk result (All (M.fits first) parts.new.items) }
     ensures sums { (first : M) (there : Places) (to : ℕ) → S.nodes store.old ≡ Some there → M.goes first summer.old
-        → ((c : Child M.Unit) (cs : List (Child M.Unit)) → children.now ≡ c ∷ cs → from < c.count) → count_in children.now ≤ to
+        → BeginsInFirst children.now from → count_in children.now ≤ to
         → OnOk result (RowIsRead M.Unit.Item (values_of M.Summer first) there low children.now from to) }
     ensures reads { OnlyReads S.NodeSource (low + 1) store.old store.new steps.old steps.new }
     ensures ran { (first : M) (tree : Tree) (since : List ℕ) → M.goes first summer.old → WhereTold (S.nodes store.old) (λ there. AreOf M.Unit.Item there tree since (S.gets store.old) at low children.now)
         → SumRan M.Unit.Item S.NodeSource M.Summer first tree since store.old store.new summer.old summer.new result }
+    ensures stops { (first : M) (tree : Tree) (there : Places) (begin end start : ℕ) → S.nodes store.old ≡ Some there → M.goes first summer.old
+        → AreLedTo M.Unit.Item there tree (Cuts begin end) at low start children.now
+        → BeginsInFirst children.now from
+        → from ≡ begin - start → start + count_in children.now ≤ end
+        → IfErr result (Blames (RangeStops M.Unit.Item there tree begin end (values_of M.Summer first))) }
     ensures goes { OnOk result (M.goes summer.old summer.new) }
     ensures ready { OnOk result (S.is_ready store.new) }
 {
@@ -259,13 +268,16 @@ fn head<S: NodeSource, M: Summer, L: Ledger>(
     requires most { entries node ≤ 32 }
     ensures items { (first : M) (there : Places) (done items : List M.Unit) → S.nodes store.old ≡ Some there → M.goes first summer.old
         → to ≤ length items → Has M.Unit.Item M.Summer first there level node items → Gathered M.Summer first parts.old.items done
-        → IfOk result (λ _. Gathered M.Summer first parts.new.items (done ++ take to items)) }
+        → OnOk result (Gathered M.Summer first parts.new.items (done ++ take to items)) }
     ensures fits { (first : M) → M.goes first summer.old → All (M.fits first) parts.old.items → OnOk result (All (M.fits first) parts.new.items) }
     ensures sums { (first : M) (there : Places) → S.nodes store.old ≡ Some there → M.goes first summer.old
         → OnOk result (NodeIsRead M.Unit.Item (values_of M.Summer first) there level node 0 to) }
     ensures reads { OnlyReads S.NodeSource level store.old store.new steps.old steps.new }
     ensures ran { (first : M) (tree : Tree) (since : List ℕ) → M.goes first summer.old → WhereTold (S.nodes store.old) (λ there. IsGot M.Unit.Item there tree since (S.gets store.old) at level node)
         → SumRan M.Unit.Item S.NodeSource M.Summer first tree since store.old store.new summer.old summer.new result }
+    ensures stops { (first : M) (tree : Tree) (there : Places) (begin end start : ℕ) → S.nodes store.old ≡ Some there → M.goes first summer.old
+        → IsLedTo M.Unit.Item there tree (Cuts begin end) at level start node → begin ≤ start → start + to ≡ end
+        → IfErr result (Blames (RangeStops M.Unit.Item there tree begin end (values_of M.Summer first))) }
     ensures goes { OnOk result (M.goes summer.old summer.new) }
     ensures ready { OnOk result (S.is_ready store.new) }
 {
@@ -297,15 +309,20 @@ fn head_row<S: NodeSource, M: Summer, L: Ledger>(
 ) -> Result<(), TreeFault<S::Fault, M::Fault>>
     requires ready { S.is_ready store.old }
     ensures items { (first : M) (there : Places) (done items : List M.Unit) → S.nodes store.old ≡ Some there → M.goes first summer.old
-        → ((c : Child M.Unit) (cs : List (Child M.Unit)) → children.now ≡ c ∷ cs → to < c.count) → AreChildren M.Unit.Item M.Summer first (Stands M.Unit.Item M.Summer first there low) children.now items → Gathered M.Summer first parts.old.items done
-        → IfOk result (λ _. Gathered M.Summer first parts.new.items (done ++ take to items)) }
+        → BeginsInFirst children.now to → AreChildren M.Unit.Item M.Summer first (Stands M.Unit.Item M.Summer first there low) children.now items → Gathered M.Summer first parts.old.items done
+        → OnOk result (Gathered M.Summer first parts.new.items (done ++ take to items)) }
     ensures fits { (first : M) → M.goes first summer.old → All (M.fits first) parts.old.items → OnOk result (All (M.fits first) parts.new.items) }
     ensures sums { (first : M) (there : Places) → S.nodes store.old ≡ Some there → M.goes first summer.old
-        → ((c : Child M.Unit) (cs : List (Child M.Unit)) → children.now ≡ c ∷ cs → to < c.count)
+        → BeginsInFirst children.now to
         → OnOk result (RowIsRead M.Unit.Item (values_of M.Summer first) there low children.now 0 to) }
     ensures reads { OnlyReads S.NodeSource (low + 1) store.old store.new steps.old steps.new }
     ensures ran { (first : M) (tree : Tree) (since : List ℕ) (at : ℕ) → M.goes first summer.old → WhereTold (S.nodes store.old) (λ there. AreOf M.Unit.Item there tree since (S.gets store.old) at low children.now)
         → SumRan M.Unit.Item S.NodeSource M.Summer first tree since store.old store.new summer.old summer.new result }
+    ensures stops { (first : M) (tree : Tree) (there : Places) (begin end at start : ℕ) → S.nodes store.old ≡ Some there → M.goes first summer.old
+        → AreLedTo M.Unit.Item there tree (Cuts begin end) at low start children.now
+        → BeginsInFirst children.now to
+        → begin ≤ start → start + to ≡ end
+        → IfErr result (Blames (RangeStops M.Unit.Item there tree begin end (values_of M.Summer first))) }
     ensures goes { OnOk result (M.goes summer.old summer.new) }
     ensures ready { OnOk result (S.is_ready store.new) }
 {
@@ -339,13 +356,16 @@ fn inside<S: NodeSource, M: Summer, L: Ledger>(
     requires range { from ≤ to }
     ensures items { (first : M) (there : Places) (done items : List M.Unit) → S.nodes store.old ≡ Some there → M.goes first summer.old
         → to ≤ length items → Has M.Unit.Item M.Summer first there level node items → Gathered M.Summer first parts.old.items done
-        → IfOk result (λ _. Gathered M.Summer first parts.new.items (done ++ numbered from to items)) }
+        → OnOk result (Gathered M.Summer first parts.new.items (done ++ numbered from to items)) }
     ensures fits { (first : M) → M.goes first summer.old → All (M.fits first) parts.old.items → OnOk result (All (M.fits first) parts.new.items) }
     ensures sums { (first : M) (there : Places) → S.nodes store.old ≡ Some there → M.goes first summer.old
         → OnOk result (NodeIsRead M.Unit.Item (values_of M.Summer first) there level node from to) }
     ensures reads { OnlyReads S.NodeSource (2 * level) store.old store.new steps.old steps.new }
     ensures ran { (first : M) (tree : Tree) (since : List ℕ) → M.goes first summer.old → WhereTold (S.nodes store.old) (λ there. IsGot M.Unit.Item there tree since (S.gets store.old) at level node)
         → SumRan M.Unit.Item S.NodeSource M.Summer first tree since store.old store.new summer.old summer.new result }
+    ensures stops { (first : M) (tree : Tree) (there : Places) (begin end start : ℕ) → S.nodes store.old ≡ Some there → M.goes first summer.old
+        → IsLedTo M.Unit.Item there tree (Cuts begin end) at level start node → from < to → from ≡ begin - start → start + to ≡ end
+        → IfErr result (Blames (RangeStops M.Unit.Item there tree begin end (values_of M.Summer first))) }
     ensures goes { OnOk result (M.goes summer.old summer.new) }
     ensures ready { OnOk result (S.is_ready store.new) }
 {
@@ -367,6 +387,7 @@ fn inside<S: NodeSource, M: Summer, L: Ledger>(
             }
             let (child, _) = match after.split_first() {
                 Some(pair) => pair,
+                // A child has the items of the range, so this doesn't come.
                 None => return Ok(()),
             };
             let below = fetch(alloc, store, child.at, low, child.count, Fill::Below, steps)?;
@@ -400,9 +421,9 @@ fn join_parts<F, M: Summer>(
 /// takes twice the `height` in steps at most. It answers a value, which fits, only where each node that it got fits its place, a node
 /// that fits stands wherever the range leads, and what such a node keeps of each child that lies whole in the range is the bytes of a
 /// value. It gives up at once: each node that it got before the last fits in any case. `Store` and `Summer` hand on what the store and
-/// the summer answered in this call, and the other of them goes on. `BadNode` names the last place that it got on the way down from
-/// the root, where no node stands that fits, or one that it got where all fit, whose node keeps the bytes of no value, and never comes
-/// over a tree of this summer. `NoMemory` comes where memory runs out.
+/// the summer answered in this call, and the other of them goes on. `BadNode` names a place to which the range leads: the last one that
+/// it got, where no node stands that fits there, or one that it got where all fit, whose node keeps the bytes of no value for a child
+/// that lies whole in the range. It never comes over a tree of this summer. `NoMemory` comes where memory runs out.
 pub fn reduce_range<S: NodeSource, M: Summer, L: Ledger>(
     alloc: Global,
     store: &mut S,
@@ -424,6 +445,8 @@ pub fn reduce_range<S: NodeSource, M: Summer, L: Ledger>(
     ensures none { IfOk result (λ sum. (sum ≡ None) ↔ (from ≡ to)) }
     ensures reads { OnlyReads S.NodeSource (2 * tree.height) store.old store.new steps.old steps.new }
     ensures ran { SumRan M.Unit.Item S.NodeSource M.Summer summer.old tree (S.gets store.old) store.old store.new summer.old summer.new result }
+    ensures stops { WhereTold (S.nodes store.old) (λ there.
+        IfErr result (Blames (RangeStops M.Unit.Item there tree from to (values_of M.Summer summer.old)))) }
     ensures sound { (first : M) (there : Places) (items : List M.Unit) (at : ℕ) → S.nodes store.old ≡ Some there → M.goes first summer.old
         → IsTree M.Unit.Item M.Summer first there tree items → result ≡ Err (TreeFault.BadNode at) → ⊥ }
     ensures ready { OnOk result (S.is_ready store.new) }

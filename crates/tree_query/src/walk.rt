@@ -1,18 +1,20 @@
 //! Walks over the items of a range of a tree.
 
-ghost use Rattle.std.specs.Prelude.{true, false, ◌≡◌, ◌↔◌, ℕ, ◌+◌, ◌-◌, ◌==◌, ◌<◌, ◌≤◌, ◌∷◌, ◌++◌, Bool, List, [], Option, Some, None, IfOk, OnErr, OnOk, length, drop, vec_capacity, vec_len, if◌then◌else◌};
+ghost use Rattle.std.specs.Prelude.{◌≡◌, ◌↔◌, ℕ, ◌+◌, ◌-◌, ◌==◌, ◌<◌, ◌≤◌, ◌∷◌, ◌++◌, Bool, List, Option, Some, None, IfErr, IfOk, OnErr, OnOk, drop, vec_capacity, vec_len, if◌then◌else◌};
 ghost use Rattle.std.specs.List.{sum_by};
 ghost use Rattle.tree_laws.specs.Fitting.{item_count};
 ghost use Rattle.tree_laws.specs.Nodes.{is_leaf};
 ghost use Rattle.tree_laws.specs.Reaching.{IsMet};
 ghost use Rattle.tree_laws.specs.Stores.{Extends, Places, WhereTold};
-ghost use Rattle.tree_laws.specs.SummerTrees.{IsTreeSize};
+ghost use Rattle.tree_laws.specs.Trees.{IsTreeSize};
 ghost use Rattle.tree_laws.specs.declared.tree.Tree.{Tree};
-ghost use Rattle.tree_query.specs.Calls.{OnlyReads, Ran};
+ghost use Rattle.tree_query.specs.Bare.{HasItems, HoldsItems, StandItems};
+ghost use Rattle.tree_query.specs.Calls.{Caused, OnlyReads, Ran};
+ghost use Rattle.tree_query.specs.Leading.{Blames, GoesDown, IsGap};
+ghost use Rattle.tree_query.specs.Numbers.{AreNext, BringsFrom, FindsNext, GoesFrom, HasNumber, IsAtEdge, IsLedByAll, IsPast, RowsNext, edge_after, first_edge, lower, number_at};
 ghost use Rattle.tree_query.specs.Ranges.{numbered};
 ghost use Rattle.tree_query.specs.Reaching.{AreReached};
-ghost use Rattle.tree_query.specs.Unsummed.{HasItems, HoldsItems, StandItems};
-ghost use Rattle.tree_query.specs.Walking.{Ahead, AreOver, AreTurned, Finds, FindsReached, IsAt, IsOver, IsRest, Leads, LeadsOn, count_at_hand, height_of, left_of, turned};
+ghost use Rattle.tree_query.specs.Walking.{Ahead, AreOver, AreTurned, Brings, BringsOn, Finds, FindsReached, IsAt, IsOver, IsRest, count_at_hand, height_of, is_descending, left_of, turned};
 ghost use Rattle.tree_query.specs.declared.walk.Walk.{Walk};
 ghost use Rattle.tree_query.specs.declared.walk.WalkRow.{WalkRow};
 
@@ -92,10 +94,12 @@ fn push_row<T: Item>(
     level: u32,
     children: Vec<Child<T>>,
 ) -> Result<(), NoMemory>
-    ensures items { (there : Places) (flag : Bool) (xs ys : List T) → AreTurned T.Item flag (StandItems T.Item there level) children.items xs → Ahead T.Item flag there rows.old.items ys
+    ensures items { (there : Places) (flag : Bool) (xs ys : List T) → AreTurned flag (StandItems T.Item there level) children.items xs → Ahead T.Item flag there rows.old.items ys
         → OnOk result (Ahead T.Item flag there rows.new.items (xs ++ ys)) }
     ensures over { (there : Places) (tree : Tree) → AreReached T.Item there tree level children.items → AreOver T.Item there tree rows.old.items
         → OnOk result (AreOver T.Item there tree rows.new.items) }
+    ensures edge { (there : Places) (tree : Tree) (flag : Bool) (from mid to : ℕ) → AreNext T.Item there tree flag level children.items from mid
+        → RowsNext T.Item there tree flag rows.old.items mid to → OnOk result (RowsNext T.Item there tree flag rows.new.items from to) }
 {
     rows.push(WalkRow {
         level,
@@ -119,13 +123,21 @@ fn go_to<S: NodeSource, T: Item, L: Ledger>(
     requires kind { is_leaf node ≡ (level == 0) }
     requires inside { skip < item_count node }
     ensures items { (there : Places) (items later : List T) → S.nodes store.old ≡ Some there → HasItems T.Item there level node (turned descending items) → Ahead T.Item descending there rows.old.items later
-        → IfOk result (λ leaf. Leads T.Item descending there leaf.items rows.new.items (drop skip items ++ later)) }
+        → IfOk result (λ leaf. Brings T.Item descending there leaf.items rows.new.items (drop skip items ++ later)) }
     ensures some { IfOk result (λ leaf. 0 < vec_len leaf) }
     ensures reads { OnlyReads S.NodeSource level store.old store.new steps.old steps.new }
     ensures over { (tree : Tree) (at : ℕ) (there : Places) → S.nodes store.old ≡ Some there → IsMet T.Item there tree at level node → AreOver T.Item there tree rows.old.items
         → OnOk result (AreOver T.Item there tree rows.new.items) }
     ensures ran { (tree : Tree) (at : ℕ) → WhereTold (S.nodes store.old) (λ there. IsMet T.Item there tree at level node)
         → Ran T.Item S.NodeSource tree store.old store.new result }
+    ensures edge { (tree : Tree) (there : Places) (at from to edge after : ℕ) → S.nodes store.old ≡ Some there
+        → IsLedByAll T.Item there tree at level (lower descending from to) node → IsPast descending from (item_count node) to
+        → IsPast descending from skip edge → RowsNext T.Item there tree descending rows.old.items to after
+        → IfOk result (λ leaf. BringsFrom T.Item there tree descending leaf.items rows.new.items edge after) }
+    ensures gap { (tree : Tree) (there : Places) (at from to edge : ℕ) → S.nodes store.old ≡ Some there
+        → IsLedByAll T.Item there tree at level (lower descending from to) node → IsPast descending from (item_count node) to
+        → IsPast descending from skip edge → IfErr result (Blames (IsGap T.Item there tree (HasNumber (number_at descending edge)))) }
+    ensures cause { Caused S.NodeSource store.old store.new result }
     ensures ready { OnOk result (S.is_ready store.new) }
 {
     match node {
@@ -151,6 +163,8 @@ fn go_to<S: NodeSource, T: Item, L: Ledger>(
 fn next_child<T: Item>(rows: &mut Vec<WalkRow<T>>) -> Option<NextChild<T>>
     ensures items { (there : Places) (flag : Bool) (items : List T) → Ahead T.Item flag there rows.old.items items → Finds T.Item flag there result rows.new.items items }
     ensures over { (there : Places) (tree : Tree) → AreOver T.Item there tree rows.old.items → FindsReached T.Item there tree result rows.new.items }
+    ensures edge { (there : Places) (tree : Tree) (flag : Bool) (from to : ℕ) → RowsNext T.Item there tree flag rows.old.items from to
+        → FindsNext T.Item there tree flag result rows.new.items from to }
 {
     let row = match rows.pop() {
         Some(row) => row,
@@ -208,13 +222,20 @@ fn refill<S: NodeSource, T: Item, L: Ledger>(
 ) -> Result<(Vec<T>, Vec<WalkRow<T>>), TreeFault<S::Fault, NoMemory>>
     requires { S.is_ready store.old }
     ensures items { (there : Places) (later : List (WalkRow T)) (items : List T) → S.nodes store.old ≡ Some there → Finds T.Item descending there next.now later items
-        → IfOk result (λ fresh. Leads T.Item descending there fresh.0.items (later ++ fresh.1.items) items) }
+        → IfOk result (λ fresh. Brings T.Item descending there fresh.0.items (later ++ fresh.1.items) items) }
     ensures some { IfOk result (λ fresh. 0 < vec_len fresh.0) }
     ensures reads { OnlyReads S.NodeSource height store.old store.new steps.old steps.new }
     ensures over { (tree : Tree) (there : Places) (later : List (WalkRow T)) → S.nodes store.old ≡ Some there → FindsReached T.Item there tree next.now later
         → IfOk result (λ fresh. AreOver T.Item there tree (later ++ fresh.1.items)) }
     ensures ran { (tree : Tree) (later : List (WalkRow T)) → WhereTold (S.nodes store.old) (λ there. FindsReached T.Item there tree next.now later)
         → Ran T.Item S.NodeSource tree store.old store.new result }
+    ensures edge { (tree : Tree) (there : Places) (later : List (WalkRow T)) (from to : ℕ) → S.nodes store.old ≡ Some there
+        → FindsNext T.Item there tree descending next.now later from to
+        → IfOk result (λ fresh. BringsFrom T.Item there tree descending fresh.0.items (later ++ fresh.1.items) from to) }
+    ensures gap { (tree : Tree) (there : Places) (later : List (WalkRow T)) (from to : ℕ) → S.nodes store.old ≡ Some there
+        → FindsNext T.Item there tree descending next.now later from to
+        → IfErr result (Blames (IsGap T.Item there tree (HasNumber (number_at descending from)))) }
+    ensures cause { Caused S.NodeSource store.old store.new result }
     ensures ready { OnOk result (S.is_ready store.new) }
 {
     let found = match next {
@@ -236,6 +257,7 @@ fn refill<S: NodeSource, T: Item, L: Ledger>(
     Ok((leaf, rows))
 }
 
+// How many items of the tree come before the range in the order of the walk.
 fn skipped(count: u64, from: u64, to: u64, descending: bool) -> u64
     requires { to ≤ count }
     ensures { result ≡ (if descending then count - to else from) }
@@ -246,9 +268,11 @@ fn skipped(count: u64, from: u64, to: u64, descending: bool) -> u64
 impl<T: Item> Walk<T> {
     /// A walk over the items with the numbers `from` to `to - 1` of a tree, from the last to the first where `descending`.
     ///
-    /// It takes `height` steps at most. It answers a walk only where each node that it got fits its place. It gives up at once: each
-    /// node that it got before the last fits in any case. `Store` hands on what the store answered in this call, at a place on the
-    /// way down from the root. `BadNode` names the last place that it got on this way, where no node stands that fits, and never
+    /// The number of an item leads to the root, and on from each node that fits to the child that has the item of this number. It takes
+    /// `height` steps at most. Unless the range is empty it answers a walk only where a node that fits stands wherever the number of the
+    /// first item leads, at the level and with the number of items that are wanted there. It gives up at once: each node that it got
+    /// before the last fits in any case. `Store` hands on what the store answered in this call, at a place on the way down from the
+    /// root. `BadNode` names the last place that it got, to which this number leads and where no node stands that fits there, and never
     /// comes where the tree has items. `NoMemory` comes where memory runs out, and `Summer` never.
     pub fn start<S: NodeSource, L: Ledger>(
         alloc: Global,
@@ -268,9 +292,14 @@ impl<T: Item> Walk<T> {
         ensures left { IfOk result (λ walk. left_of walk ≡ to - from) }
         ensures at_hand { IfOk result (λ walk. 0 < left_of walk → 0 < count_at_hand walk) }
         ensures height { IfOk result (λ walk. height_of walk ≡ tree.height) }
+        ensures order { IfOk result (λ walk. is_descending walk ≡ descending) }
         ensures reads { OnlyReads S.NodeSource tree.height store.old store.new steps.old steps.new }
         ensures over { (there : Places) → S.nodes store.old ≡ Some there → IfOk result (IsOver T.Item there tree) }
         ensures ran { Ran T.Item S.NodeSource tree store.old store.new result }
+        ensures edge { (there : Places) → S.nodes store.old ≡ Some there
+            → IfOk result (λ walk. IsAtEdge T.Item there tree walk (first_edge descending from to)) }
+        ensures down { (there : Places) → S.nodes store.old ≡ Some there → from < to
+            → GoesDown T.Item there tree (HasNumber (number_at descending (first_edge descending from to))) result }
         ensures sound { (there : Places) (items : List T) (at : ℕ) → S.nodes store.old ≡ Some there → HoldsItems T.Item there tree items
             → result ≡ Err (TreeFault.BadNode at) → ⊥ }
         ensures ready { OnOk result (S.is_ready store.new) }
@@ -319,8 +348,8 @@ impl<T: Item> Walk<T> {
         steps: &mut Steps<L>,
     ) -> Result<(), TreeFault<S::Fault, NoMemory>>
         requires { S.is_ready store.old }
-        ensures leads { (there : Places) (items : List T) → S.nodes store.old ≡ Some there → LeadsOn T.Item self.old.descending there self.old.leaf.items self.old.next self.old.rows.items items
-            → OnOk result (LeadsOn T.Item self.old.descending there self.new.leaf.items self.new.next self.new.rows.items items) }
+        ensures brings { (there : Places) (items : List T) → S.nodes store.old ≡ Some there → BringsOn T.Item self.old.descending there self.old.leaf.items self.old.next self.old.rows.items items
+            → OnOk result (BringsOn T.Item self.old.descending there self.new.leaf.items self.new.next self.new.rows.items items) }
         ensures some { OnOk result (0 < count_at_hand self.new) }
         ensures left { left_of self.new ≡ left_of self.old }
         ensures height { height_of self.new ≡ height_of self.old }
@@ -331,6 +360,13 @@ impl<T: Item> Walk<T> {
         ensures over { (tree : Tree) (there : Places) → S.nodes store.old ≡ Some there → IsOver T.Item there tree self.old → OnOk result (IsOver T.Item there tree self.new) }
         ensures ran { (tree : Tree) → WhereTold (S.nodes store.old) (λ there. IsOver T.Item there tree self.old)
             → Ran T.Item S.NodeSource tree store.old store.new result }
+        ensures edge { (tree : Tree) (there : Places) (from to : ℕ) → S.nodes store.old ≡ Some there
+            → GoesFrom T.Item there tree self.old.descending self.old.leaf.items self.old.next self.old.rows.items from to
+            → OnOk result (GoesFrom T.Item there tree self.old.descending self.new.leaf.items self.new.next self.new.rows.items from to) }
+        ensures gap { (tree : Tree) (there : Places) (from to : ℕ) → S.nodes store.old ≡ Some there
+            → GoesFrom T.Item there tree self.old.descending self.old.leaf.items self.old.next self.old.rows.items from to
+            → IfErr result (Blames (IsGap T.Item there tree (HasNumber (number_at self.old.descending from)))) }
+        ensures cause { Caused S.NodeSource store.old store.new result }
         ensures ready { OnOk result (S.is_ready store.new) }
     {
         if !self.leaf.is_empty() {
@@ -358,9 +394,11 @@ impl<T: Item> Walk<T> {
     /// again.
     ///
     /// It takes no step while there is an item at hand, as at first, or none is left, and else `height` at most. It answers an item
-    /// only where each node that it got fits its place. It gives up at once: each node that it got before the last fits in any case.
-    /// `Store` hands on what the store answered in this call, at a place below the root. `BadNode` names the last place that it got,
-    /// where no node stands that fits, and never comes where the tree has items. `NoMemory` comes where memory runs out, and
+    /// only where a node that fits stands wherever the number of this item leads: the first is that of the range in the order of the
+    /// walk, and each item answered brings the walk one number on (`IsAtEdge`). It gives up at once: each node that it got before the
+    /// last fits in any case. `Store` hands on what the store answered in this call, at a place below the root; after each other answer
+    /// the store goes on, wherever the walk went. `BadNode` names the last place that it got, to which the number of the next item leads
+    /// and where no node stands that fits there, and never comes where the tree has items. `NoMemory` comes where memory runs out, and
     /// `Summer` never.
     pub fn next<S: NodeSource, L: Ledger>(
         &mut self,
@@ -381,6 +419,12 @@ impl<T: Item> Walk<T> {
         ensures over { (tree : Tree) (there : Places) → S.nodes store.old ≡ Some there → IsOver T.Item there tree self.old → OnOk result (IsOver T.Item there tree self.new) }
         ensures ran { (tree : Tree) → WhereTold (S.nodes store.old) (λ there. IsOver T.Item there tree self.old)
             → Ran T.Item S.NodeSource tree store.old store.new result }
+        ensures edge { (tree : Tree) (there : Places) (edge : ℕ) → S.nodes store.old ≡ Some there → IsAtEdge T.Item there tree self.old edge
+            → IfOk result (λ got. IsAtEdge T.Item there tree self.new (edge_after (is_descending self.old) edge got)) }
+        ensures down { (tree : Tree) (there : Places) (edge : ℕ) → S.nodes store.old ≡ Some there → IsAtEdge T.Item there tree self.old edge
+            → 0 < left_of self.old → GoesDown T.Item there tree (HasNumber (number_at (is_descending self.old) edge)) result }
+        ensures order { is_descending self.new ≡ is_descending self.old }
+        ensures cause { Caused S.NodeSource store.old store.new result }
         ensures sound { (tree : Tree) (there : Places) (items : List T) (at : ℕ) → S.nodes store.old ≡ Some there → IsOver T.Item there tree self.old → HoldsItems T.Item there tree items
             → result ≡ Err (TreeFault.BadNode at) → ⊥ }
         ensures ready { OnOk result (S.is_ready store.new) }
@@ -399,4 +443,6 @@ impl<T: Item> Walk<T> {
 pub fn walks_stay<T: Item>()
     ensures at { (old new : Places) (walk : Walk T) (items : List T) → Extends old new → IsAt T.Item old walk items → IsAt T.Item new walk items }
     ensures over { (old new : Places) (tree : Tree) (walk : Walk T) → Extends old new → IsOver T.Item old tree walk → IsOver T.Item new tree walk }
+    ensures edge { (old new : Places) (tree : Tree) (walk : Walk T) (edge : ℕ) → Extends old new → IsAtEdge T.Item old tree walk edge
+        → IsAtEdge T.Item new tree walk edge }
 {}

@@ -7,7 +7,6 @@ use builtin_reduces::RowItem;
 use design_docs::Builtin;
 use reduce_tree::edits_are_made;
 use std::alloc::Global;
-use std::collections::BTreeMap;
 use std::marker::Brand;
 use std::sync::ledger::{Blank, Ledger};
 use std::test::Fail;

@@ -1,9 +1,7 @@
 //! A tree in memory beside a map of the same pairs.
 
-ghost use Rattle.std.specs.Prelude.{◌≡◌};
-
+use crate::items::{items_in, pair_of};
 use crate::pairs::{change, edits_of};
-use crate::walk::{items_in, pair_of};
 use builtin_reduces::{BuiltinSummer, RowItem};
 use design_docs::Builtin;
 use reduce_tree::Edit;

@@ -14,7 +14,7 @@ use std::test::Fail;
 use tree_laws::{MemoryFault, Steps, TreeFault};
 use tree_tools::{Chance, edited};
 
-/// So many keys, each the first times `step` and then one more than a multiple of that, inserted or removed.
+/// So many keys from `first` on in steps of `step`, inserted with their numbers as values, or removed.
 fn changes_of(
     alloc: Global,
     count: i64,

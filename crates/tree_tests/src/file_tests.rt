@@ -4,8 +4,8 @@ ghost use Rattle.std.specs.Prelude.{◌≡◌, ◌<◌, IfOk, OnOk};
 ghost use Rattle.crash_disk.specs.State.{calls_told, told};
 ghost use Rattle.gate_file.specs.Calls.{KeepsIn, Told};
 
+use crate::items::{items_in, pair_of};
 use crate::pairs::edits_of;
-use crate::walk::{items_in, pair_of};
 use builtin_reduces::BuiltinSummer;
 use crash_disk::MemoryFolder;
 use design_docs::Builtin;

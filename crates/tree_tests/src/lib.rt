@@ -10,10 +10,12 @@ mod edit_tests;
 #[cfg(test)]
 mod file_tests;
 #[cfg(test)]
+mod items;
+#[cfg(test)]
+mod noting_tests;
+#[cfg(test)]
 mod pack_tests;
 #[cfg(test)]
 mod pairs;
 #[cfg(test)]
 mod query_tests;
-#[cfg(test)]
-mod walk;

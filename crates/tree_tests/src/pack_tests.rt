@@ -3,11 +3,11 @@
 ghost use Rattle.std.specs.Prelude.{◌≡◌, ◌<◌, IfOk};
 ghost use Rattle.tree_laws.specs.SummerTrees.{IsTreeSize};
 
-use crate::walk::{items_in, pair_of};
+use crate::items::{items_in, pair_of};
 use builtin_reduces::{BuiltinSummer, RowItem};
 use design_docs::Builtin;
 use json_terms::NoMemory;
-use reduce_tree::{Builder, builders_stay, new_builders_are_empty, packed_trees_take_the_same};
+use reduce_tree::{Builder, builders_stay, new_builders_are_empty, packed_trees_have_their_size};
 use std::alloc::Global;
 use std::marker::Brand;
 use std::sync::ledger::{Blank, Ledger};
@@ -121,7 +121,7 @@ fn pack<L: Ledger>(alloc: Global, blank: Blank) -> Result<(), Fail>
 {
     new_builders_are_empty::<BuiltinSummer>();
     builders_stay::<BuiltinSummer>();
-    packed_trees_take_the_same::<BuiltinSummer>();
+    packed_trees_have_their_size::<BuiltinSummer>();
     let mut steps = Steps::<L>::new(blank);
     for (count, height, nodes) in PACKED {
         let mut store = MemoryNodes::new(alloc, Vec::new(alloc));

@@ -3,7 +3,7 @@
 ghost use Rattle.std.specs.Prelude.{◌≡◌, ◌<◌};
 
 use crate::case::{Case, changes_by_chance};
-use crate::walk::pair_of;
+use crate::items::pair_of;
 use builtin_reduces::{BuiltinSum, BuiltinSummer, RowItem};
 use design_docs::Builtin;
 use std::alloc::Global;
@@ -11,7 +11,7 @@ use std::collections::BTreeMap;
 use std::marker::Brand;
 use std::sync::ledger::{Blank, Ledger};
 use std::test::Fail;
-use tree_laws::{MemoryNodes, Steps, Tree};
+use tree_laws::{MemoryNodes, Steps};
 use tree_query::{Walk, count_before, reduce_range, walks_stay};
 use tree_tools::{BeforeItem, Chance, SizedTree, item_of};
 

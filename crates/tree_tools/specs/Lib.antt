@@ -1,1 +1,3 @@
 pub mod BeforeLaws
+pub mod Noting
+pub mod NotingLaws

@@ -4,13 +4,13 @@ use builtin_reduces::RowItem;
 use json_terms::{Chars, NoMemory, Row, Term};
 use std::alloc::Global;
 
-/// The row with this key and this value, or none where memory runs out.
+/// The row with this key and this value.
 pub fn item_of(alloc: Global, key: i64, value: i64) -> Result<RowItem, NoMemory> {
     kept(alloc, key, Term::Int(value))
 }
 
 /// The row with this key and this text as its value.
-pub fn named_item(alloc: Global, key: i64, value: &str) -> Result<RowItem, NoMemory> {
+pub fn text_item(alloc: Global, key: i64, value: &str) -> Result<RowItem, NoMemory> {
     kept(alloc, key, Term::Text(Chars::from_text(alloc, value)?))
 }
 

@@ -16,9 +16,9 @@ use Rattle.reduce_tree.proofs.Pieces.{applied_among, pieces_none, pieces_on, wer
 use Rattle.tree_laws.specs.declared.tree.Fill.TheVariants.{Below, Root}
 use Rattle.tree_laws.specs.declared.tree.Fill.{Fill}
 use Rattle.tree_laws.specs.Fitting.{item_count}
-use Rattle.reduce_tree.specs.Pieces.{WerePieces}
 use Rattle.reduce_tree.proofs.Given.{begins, taken_quiet, took_fault, took_none, took_quiet}
 use Rattle.reduce_tree.proofs.Growth.{grown, ran_growing}
+use Rattle.reduce_tree.proofs.Had.{way_begins, known_goes, known_fails, known_none}
 use Rattle.reduce_tree.proofs.apply_edits.apply.Goals as goal
 
 pub returns-then-is_empty-clause-tree : goal.returns-then-is_empty-clause-tree
@@ -29,7 +29,7 @@ returns-then-is_empty-clause-tree g c first there items told goes edits tree =
 
 pub returns-then-is_empty-clause-ran : goal.returns-then-is_empty-clause-ran
 returns-then-is_empty-clause-ran g c =
-    let laws : Laws g.S.NodeSource g.M.Summer = record { store_steps = g.met.S.NodeSource.are_steps; store_keeps = g.met.S.NodeSource.keeps; store_caused = g.met.S.NodeSource.stays_caused; summer_steps = g.met.M.Summer.are_steps; summer_keeps = g.met.M.Summer.keeps; summer_caused = g.met.M.Summer.stays_caused } in
+    let laws : Laws g.S.NodeSource g.M.Summer = record { store_steps = g.met.S.NodeSource.are_steps; store_keeps = g.met.S.NodeSource.keeps; store_caused = g.met.S.NodeSource.stays_caused; summer_steps = g.met.M.Summer.are_steps; summer_keeps = g.met.M.Summer.keeps; summer_caused = g.met.M.Summer.stays_caused; summer_asked = g.met.M.Summer.stays_asked; summer_gave = g.met.M.Summer.stays_given } in
     goes_none g.M.Unit.Item g.S.NodeSource g.M.Summer laws c.args.store.now c.args.summer.now
 
 pub returns-then-is_empty-clause-kept : goal.returns-then-is_empty-clause-kept
@@ -37,7 +37,7 @@ returns-then-is_empty-clause-kept g c = g.met.S.NodeSource.keeps c.args.store.no
 
 pub returns-then-row-clause-tree : goal.returns-then-row-clause-tree
 returns-then-row-clause-tree g c first there items told goes edits tree =
-    let laws : Laws g.S.NodeSource g.M.Summer = record { store_steps = g.met.S.NodeSource.are_steps; store_keeps = g.met.S.NodeSource.keeps; store_caused = g.met.S.NodeSource.stays_caused; summer_steps = g.met.M.Summer.are_steps; summer_keeps = g.met.M.Summer.keeps; summer_caused = g.met.M.Summer.stays_caused } in
+    let laws : Laws g.S.NodeSource g.M.Summer = record { store_steps = g.met.S.NodeSource.are_steps; store_keeps = g.met.S.NodeSource.keeps; store_caused = g.met.S.NodeSource.stays_caused; summer_steps = g.met.M.Summer.are_steps; summer_keeps = g.met.M.Summer.keeps; summer_caused = g.met.M.Summer.stays_caused; summer_asked = g.met.M.Summer.stays_asked; summer_gave = g.met.M.Summer.stays_given } in
     let i = g.M.Unit.Item in
     let m = g.M.Summer in
     let s0 = c.args.store.now in
@@ -68,7 +68,7 @@ returns-then-row-clause-steps g c =
 
 pub returns-clause-tree : goal.returns-clause-tree
 returns-clause-tree g c first there items told goes edits tree =
-    let laws : Laws g.S.NodeSource g.M.Summer = record { store_steps = g.met.S.NodeSource.are_steps; store_keeps = g.met.S.NodeSource.keeps; store_caused = g.met.S.NodeSource.stays_caused; summer_steps = g.met.M.Summer.are_steps; summer_keeps = g.met.M.Summer.keeps; summer_caused = g.met.M.Summer.stays_caused } in
+    let laws : Laws g.S.NodeSource g.M.Summer = record { store_steps = g.met.S.NodeSource.are_steps; store_keeps = g.met.S.NodeSource.keeps; store_caused = g.met.S.NodeSource.stays_caused; summer_steps = g.met.M.Summer.are_steps; summer_keeps = g.met.M.Summer.keeps; summer_caused = g.met.M.Summer.stays_caused; summer_asked = g.met.M.Summer.stays_asked; summer_gave = g.met.M.Summer.stays_given } in
     let i = g.M.Unit.Item in
     let m = g.M.Summer in
     let s0 = c.args.store.now in
@@ -90,17 +90,17 @@ returns-clause-tree g c first there items told goes edits tree =
 
 pub returns-clause-kept : goal.returns-clause-kept
 returns-clause-kept g c =
-    let laws : Laws g.S.NodeSource g.M.Summer = record { store_steps = g.met.S.NodeSource.are_steps; store_keeps = g.met.S.NodeSource.keeps; store_caused = g.met.S.NodeSource.stays_caused; summer_steps = g.met.M.Summer.are_steps; summer_keeps = g.met.M.Summer.keeps; summer_caused = g.met.M.Summer.stays_caused } in
+    let laws : Laws g.S.NodeSource g.M.Summer = record { store_steps = g.met.S.NodeSource.are_steps; store_keeps = g.met.S.NodeSource.keeps; store_caused = g.met.S.NodeSource.stays_caused; summer_steps = g.met.M.Summer.are_steps; summer_keeps = g.met.M.Summer.keeps; summer_caused = g.met.M.Summer.stays_caused; summer_asked = g.met.M.Summer.stays_asked; summer_gave = g.met.M.Summer.stays_given } in
     g.met.S.NodeSource.keeps c.args.store.now c.raise.new.store (goes_on g.M.Unit.Item g.S.NodeSource g.M.Summer laws c.args.store.now c.edit_root.new.store c.raise.new.store c.args.summer.now c.edit_root.new.summer c.raise.new.summer c.in_ok-row.ensures.ran c.in_ok-after.ensures.ran).store
 
 pub returns-clause-ran : goal.returns-clause-ran
 returns-clause-ran g c =
-    let laws : Laws g.S.NodeSource g.M.Summer = record { store_steps = g.met.S.NodeSource.are_steps; store_keeps = g.met.S.NodeSource.keeps; store_caused = g.met.S.NodeSource.stays_caused; summer_steps = g.met.M.Summer.are_steps; summer_keeps = g.met.M.Summer.keeps; summer_caused = g.met.M.Summer.stays_caused } in
+    let laws : Laws g.S.NodeSource g.M.Summer = record { store_steps = g.met.S.NodeSource.are_steps; store_keeps = g.met.S.NodeSource.keeps; store_caused = g.met.S.NodeSource.stays_caused; summer_steps = g.met.M.Summer.are_steps; summer_keeps = g.met.M.Summer.keeps; summer_caused = g.met.M.Summer.stays_caused; summer_asked = g.met.M.Summer.stays_asked; summer_gave = g.met.M.Summer.stays_given } in
     goes_on g.M.Unit.Item g.S.NodeSource g.M.Summer laws c.args.store.now c.edit_root.new.store c.raise.new.store c.args.summer.now c.edit_root.new.summer c.raise.new.summer c.in_ok-row.ensures.ran c.in_ok-after.ensures.ran
 
 pub returns-in_err-after-clause-ran : goal.returns-in_err-after-clause-ran
 returns-in_err-after-clause-ran g c =
-    let laws : Laws g.S.NodeSource g.M.Summer = record { store_steps = g.met.S.NodeSource.are_steps; store_keeps = g.met.S.NodeSource.keeps; store_caused = g.met.S.NodeSource.stays_caused; summer_steps = g.met.M.Summer.are_steps; summer_keeps = g.met.M.Summer.keeps; summer_caused = g.met.M.Summer.stays_caused } in
+    let laws : Laws g.S.NodeSource g.M.Summer = record { store_steps = g.met.S.NodeSource.are_steps; store_keeps = g.met.S.NodeSource.keeps; store_caused = g.met.S.NodeSource.stays_caused; summer_steps = g.met.M.Summer.are_steps; summer_keeps = g.met.M.Summer.keeps; summer_caused = g.met.M.Summer.stays_caused; summer_asked = g.met.M.Summer.stays_asked; summer_gave = g.met.M.Summer.stays_given } in
     let p = err_from_is_err_and c.from_residual-in_err-after.result c.from_residual-in_err-after.ensures.1 in
     ran_err g.M.Unit.Item g.S.NodeSource g.M.Summer laws _ _ _ _ c.from_residual-in_err-after.result c.in_err-after.field-0.0 p.0 p.2 p.1 (fails_on g.M.Unit.Item g.S.NodeSource g.M.Summer laws c.args.store.now c.edit_root.new.store c.raise.new.store c.args.summer.now c.edit_root.new.summer c.raise.new.summer c.in_ok-row.ensures.ran _ c.in_err-after.ensures.ran)
 
@@ -216,7 +216,7 @@ returns-then-row-clause-pieces g c first there items among told goes tree ai ae 
 
 pub returns-clause-pieces : goal.returns-clause-pieces
 returns-clause-pieces g c first there items among told goes tree ai ae =
-    let laws : Laws g.S.NodeSource g.M.Summer = record { store_steps = g.met.S.NodeSource.are_steps; store_keeps = g.met.S.NodeSource.keeps; store_caused = g.met.S.NodeSource.stays_caused; summer_steps = g.met.M.Summer.are_steps; summer_keeps = g.met.M.Summer.keeps; summer_caused = g.met.M.Summer.stays_caused } in
+    let laws : Laws g.S.NodeSource g.M.Summer = record { store_steps = g.met.S.NodeSource.are_steps; store_keeps = g.met.S.NodeSource.keeps; store_caused = g.met.S.NodeSource.stays_caused; summer_steps = g.met.M.Summer.are_steps; summer_keeps = g.met.M.Summer.keeps; summer_caused = g.met.M.Summer.stays_caused; summer_asked = g.met.M.Summer.stays_asked; summer_gave = g.met.M.Summer.stays_given } in
     let i = g.M.Unit.Item in
     let m = g.M.Summer in
     let s0 = c.args.store.now in
@@ -239,28 +239,28 @@ returns-clause-pieces g c first there items among told goes tree ai ae =
 
 pub returns-in_err-row-clause-ran : goal.returns-in_err-row-clause-ran
 returns-in_err-row-clause-ran g c =
-    let laws : Laws g.S.NodeSource g.M.Summer = record { store_steps = g.met.S.NodeSource.are_steps; store_keeps = g.met.S.NodeSource.keeps; store_caused = g.met.S.NodeSource.stays_caused; summer_steps = g.met.M.Summer.are_steps; summer_keeps = g.met.M.Summer.keeps; summer_caused = g.met.M.Summer.stays_caused } in
+    let laws : Laws g.S.NodeSource g.M.Summer = record { store_steps = g.met.S.NodeSource.are_steps; store_keeps = g.met.S.NodeSource.keeps; store_caused = g.met.S.NodeSource.stays_caused; summer_steps = g.met.M.Summer.are_steps; summer_keeps = g.met.M.Summer.keeps; summer_caused = g.met.M.Summer.stays_caused; summer_asked = g.met.M.Summer.stays_asked; summer_gave = g.met.M.Summer.stays_given } in
     let p = err_from_is_err_and c.from_residual.result c.from_residual.ensures.1 in
     ran_err g.M.Unit.Item g.S.NodeSource g.M.Summer laws _ _ _ _ c.from_residual.result c.in_err-row.field-0.0 p.0 p.2 p.1 c.in_err-row.ensures.ran
 
 pub returns-in_err-row-clause-kept : goal.returns-in_err-row-clause-kept
 returns-in_err-row-clause-kept g c =
-    let laws : Laws g.S.NodeSource g.M.Summer = record { store_steps = g.met.S.NodeSource.are_steps; store_keeps = g.met.S.NodeSource.keeps; store_caused = g.met.S.NodeSource.stays_caused; summer_steps = g.met.M.Summer.are_steps; summer_keeps = g.met.M.Summer.keeps; summer_caused = g.met.M.Summer.stays_caused } in
+    let laws : Laws g.S.NodeSource g.M.Summer = record { store_steps = g.met.S.NodeSource.are_steps; store_keeps = g.met.S.NodeSource.keeps; store_caused = g.met.S.NodeSource.stays_caused; summer_steps = g.met.M.Summer.are_steps; summer_keeps = g.met.M.Summer.keeps; summer_caused = g.met.M.Summer.stays_caused; summer_asked = g.met.M.Summer.stays_asked; summer_gave = g.met.M.Summer.stays_given } in
     unless_on _ _ c.from_residual.result (λ went. g.met.S.NodeSource.keeps c.args.store.now c.edit_root.new.store went) (ran_goes g.M.Unit.Item g.S.NodeSource g.M.Summer laws c.args.store.now c.edit_root.new.store c.args.summer.now c.edit_root.new.summer c.from_residual.result (returns-in_err-row-clause-ran g c))
 
 pub returns-in_err-row-clause-ready : goal.returns-in_err-row-clause-ready
 returns-in_err-row-clause-ready g c =
-    let laws : Laws g.S.NodeSource g.M.Summer = record { store_steps = g.met.S.NodeSource.are_steps; store_keeps = g.met.S.NodeSource.keeps; store_caused = g.met.S.NodeSource.stays_caused; summer_steps = g.met.M.Summer.are_steps; summer_keeps = g.met.M.Summer.keeps; summer_caused = g.met.M.Summer.stays_caused } in
+    let laws : Laws g.S.NodeSource g.M.Summer = record { store_steps = g.met.S.NodeSource.are_steps; store_keeps = g.met.S.NodeSource.keeps; store_caused = g.met.S.NodeSource.stays_caused; summer_steps = g.met.M.Summer.are_steps; summer_keeps = g.met.M.Summer.keeps; summer_caused = g.met.M.Summer.stays_caused; summer_asked = g.met.M.Summer.stays_asked; summer_gave = g.met.M.Summer.stays_given } in
     unless_on _ _ c.from_residual.result (λ went. g.met.S.NodeSource.stays_ready c.args.store.now c.edit_root.new.store went c.requires.ready) (ran_goes g.M.Unit.Item g.S.NodeSource g.M.Summer laws c.args.store.now c.edit_root.new.store c.args.summer.now c.edit_root.new.summer c.from_residual.result (returns-in_err-row-clause-ran g c))
 
 pub returns-in_err-after-clause-kept : goal.returns-in_err-after-clause-kept
 returns-in_err-after-clause-kept g c =
-    let laws : Laws g.S.NodeSource g.M.Summer = record { store_steps = g.met.S.NodeSource.are_steps; store_keeps = g.met.S.NodeSource.keeps; store_caused = g.met.S.NodeSource.stays_caused; summer_steps = g.met.M.Summer.are_steps; summer_keeps = g.met.M.Summer.keeps; summer_caused = g.met.M.Summer.stays_caused } in
+    let laws : Laws g.S.NodeSource g.M.Summer = record { store_steps = g.met.S.NodeSource.are_steps; store_keeps = g.met.S.NodeSource.keeps; store_caused = g.met.S.NodeSource.stays_caused; summer_steps = g.met.M.Summer.are_steps; summer_keeps = g.met.M.Summer.keeps; summer_caused = g.met.M.Summer.stays_caused; summer_asked = g.met.M.Summer.stays_asked; summer_gave = g.met.M.Summer.stays_given } in
     unless_on _ _ c.from_residual-in_err-after.result (λ went. g.met.S.NodeSource.keeps c.args.store.now c.raise.new.store went) (ran_goes g.M.Unit.Item g.S.NodeSource g.M.Summer laws c.args.store.now c.raise.new.store c.args.summer.now c.raise.new.summer c.from_residual-in_err-after.result (returns-in_err-after-clause-ran g c))
 
 pub returns-in_err-after-clause-ready : goal.returns-in_err-after-clause-ready
 returns-in_err-after-clause-ready g c =
-    let laws : Laws g.S.NodeSource g.M.Summer = record { store_steps = g.met.S.NodeSource.are_steps; store_keeps = g.met.S.NodeSource.keeps; store_caused = g.met.S.NodeSource.stays_caused; summer_steps = g.met.M.Summer.are_steps; summer_keeps = g.met.M.Summer.keeps; summer_caused = g.met.M.Summer.stays_caused } in
+    let laws : Laws g.S.NodeSource g.M.Summer = record { store_steps = g.met.S.NodeSource.are_steps; store_keeps = g.met.S.NodeSource.keeps; store_caused = g.met.S.NodeSource.stays_caused; summer_steps = g.met.M.Summer.are_steps; summer_keeps = g.met.M.Summer.keeps; summer_caused = g.met.M.Summer.stays_caused; summer_asked = g.met.M.Summer.stays_asked; summer_gave = g.met.M.Summer.stays_given } in
     unless_on _ _ c.from_residual-in_err-after.result (λ went. g.met.S.NodeSource.stays_ready c.args.store.now c.raise.new.store went c.requires.ready) (ran_goes g.M.Unit.Item g.S.NodeSource g.M.Summer laws c.args.store.now c.raise.new.store c.args.summer.now c.raise.new.summer c.from_residual-in_err-after.result (returns-in_err-after-clause-ran g c))
 
 pub returns-then-is_empty-clause-most_puts : goal.returns-then-is_empty-clause-most_puts
@@ -332,18 +332,17 @@ returns-in_err-row-clause-pieces g c first there items among told goes tree ai a
     let i = g.M.Unit.Item in
     let m = g.M.Summer in
     let s0 = c.args.store.now in
-    let s1 = c.edit_root.new.store in
     let u0 = c.args.summer.now in
     let n0 = places (g.S.NodeSource.nodes s0) in
     let known : IsKnown i g.S.NodeSource m first u0 s0 = record { goes = goes; there = there; told = told } in
     let here : IsTree i m first n0 c.args.tree items = subst (λ p. IsTree i m first p c.args.tree items) (sym (ap places told)) tree in
     let p = err_from_is_err_and c.from_residual.result c.from_residual.ensures.1 in
     on_match c.from_residual.result _ _ _ p.0 p.2 p.1
-    (subst (λ b. WerePieces i m first among b c.in_err-row.field-0.0 (g.S.NodeSource.puts s0) (g.S.NodeSource.puts s1)) (ap places told) (c.in_err-row.ensures.pieces first items among known here.rises here.root ai ae))
+    (c.in_err-row.ensures.pieces first items among known here.rises here.root ai ae)
 
 pub returns-in_err-after-clause-pieces : goal.returns-in_err-after-clause-pieces
 returns-in_err-after-clause-pieces g c first there items among told goes tree ai ae =
-    let laws : Laws g.S.NodeSource g.M.Summer = record { store_steps = g.met.S.NodeSource.are_steps; store_keeps = g.met.S.NodeSource.keeps; store_caused = g.met.S.NodeSource.stays_caused; summer_steps = g.met.M.Summer.are_steps; summer_keeps = g.met.M.Summer.keeps; summer_caused = g.met.M.Summer.stays_caused } in
+    let laws : Laws g.S.NodeSource g.M.Summer = record { store_steps = g.met.S.NodeSource.are_steps; store_keeps = g.met.S.NodeSource.keeps; store_caused = g.met.S.NodeSource.stays_caused; summer_steps = g.met.M.Summer.are_steps; summer_keeps = g.met.M.Summer.keeps; summer_caused = g.met.M.Summer.stays_caused; summer_asked = g.met.M.Summer.stays_asked; summer_gave = g.met.M.Summer.stays_given } in
     let i = g.M.Unit.Item in
     let m = g.M.Summer in
     let s0 = c.args.store.now in
@@ -359,21 +358,20 @@ returns-in_err-after-clause-pieces g c first there items among told goes tree ai
     let row = c.in_ok-row.ensures.items first items known here.rises here.root in
     let known1 = known_on i g.S.NodeSource m laws first s0 s1 u0 u1 known c.in_ok-row.ensures.ran in
     let one = c.in_ok-row.ensures.pieces first items among known here.rises here.root ai ae in
-    let e01 = extends_on g.M.Unit.Item g.S.NodeSource g.M.Summer laws s0 s1 u0 u1 c.in_ok-row.ensures.ran in
     let p = err_from_is_err_and c.from_residual-in_err-after.result c.from_residual-in_err-after.ensures.1 in
     on_match c.from_residual-in_err-after.result _ _ _ p.0 p.2 p.1
-    (subst (λ b. WerePieces i m first among b c.in_err-after.field-0.0 (g.S.NodeSource.puts s0) (g.S.NodeSource.puts s2)) (ap places told) (were_on i m first among n0 n1 e01 _ (g.S.NodeSource.puts s0) (g.S.NodeSource.puts s1) (g.S.NodeSource.puts s2) one (c.in_err-after.ensures.pieces first (applied i.order edits items) among known1 row (applied_among i.order among edits items ae ai))))
+    (were_on i g.S.NodeSource m laws first among s0 s1 s2 u0 u1 c.raise.new.summer c.in_ok-row.ensures.ran one c.in_err-after.field-0.0 c.in_err-after.ensures.ran (c.in_err-after.ensures.pieces first (applied i.order edits items) among known1 row (applied_among i.order among edits items ae ai)))
 
 pub returns-then-is_empty-clause-met : goal.returns-then-is_empty-clause-met
 returns-then-is_empty-clause-met g c there told =
-    let laws : Laws g.S.NodeSource g.M.Summer = record { store_steps = g.met.S.NodeSource.are_steps; store_keeps = g.met.S.NodeSource.keeps; store_caused = g.met.S.NodeSource.stays_caused; summer_steps = g.met.M.Summer.are_steps; summer_keeps = g.met.M.Summer.keeps; summer_caused = g.met.M.Summer.stays_caused } in
+    let laws : Laws g.S.NodeSource g.M.Summer = record { store_steps = g.met.S.NodeSource.are_steps; store_keeps = g.met.S.NodeSource.keeps; store_caused = g.met.S.NodeSource.stays_caused; summer_steps = g.met.M.Summer.are_steps; summer_keeps = g.met.M.Summer.keeps; summer_caused = g.met.M.Summer.stays_caused; summer_asked = g.met.M.Summer.stays_asked; summer_gave = g.met.M.Summer.stays_given } in
     let i = g.M.Unit.Item in let s = g.S.NodeSource in let m = g.M.Summer in let s0 = c.args.store.now in let u0 = c.args.summer.now in
     let tree = c.args.tree in let pieces = s.puts s0 in
     took_none i s m laws u0 tree pieces s0 s0 refl
 
 pub returns-then-row-clause-met : goal.returns-then-row-clause-met
 returns-then-row-clause-met g c there told =
-    let laws : Laws g.S.NodeSource g.M.Summer = record { store_steps = g.met.S.NodeSource.are_steps; store_keeps = g.met.S.NodeSource.keeps; store_caused = g.met.S.NodeSource.stays_caused; summer_steps = g.met.M.Summer.are_steps; summer_keeps = g.met.M.Summer.keeps; summer_caused = g.met.M.Summer.stays_caused } in
+    let laws : Laws g.S.NodeSource g.M.Summer = record { store_steps = g.met.S.NodeSource.are_steps; store_keeps = g.met.S.NodeSource.keeps; store_caused = g.met.S.NodeSource.stays_caused; summer_steps = g.met.M.Summer.are_steps; summer_keeps = g.met.M.Summer.keeps; summer_caused = g.met.M.Summer.stays_caused; summer_asked = g.met.M.Summer.stays_asked; summer_gave = g.met.M.Summer.stays_given } in
     let i = g.M.Unit.Item in let s = g.S.NodeSource in let m = g.M.Summer in let s0 = c.args.store.now in let u0 = c.args.summer.now in
     let tree = c.args.tree in let pieces = s.puts s0 in
     let under = begins i s m laws s0 u0 there told in
@@ -381,7 +379,7 @@ returns-then-row-clause-met g c there told =
 
 pub returns-clause-met : goal.returns-clause-met
 returns-clause-met g c there told =
-    let laws : Laws g.S.NodeSource g.M.Summer = record { store_steps = g.met.S.NodeSource.are_steps; store_keeps = g.met.S.NodeSource.keeps; store_caused = g.met.S.NodeSource.stays_caused; summer_steps = g.met.M.Summer.are_steps; summer_keeps = g.met.M.Summer.keeps; summer_caused = g.met.M.Summer.stays_caused } in
+    let laws : Laws g.S.NodeSource g.M.Summer = record { store_steps = g.met.S.NodeSource.are_steps; store_keeps = g.met.S.NodeSource.keeps; store_caused = g.met.S.NodeSource.stays_caused; summer_steps = g.met.M.Summer.are_steps; summer_keeps = g.met.M.Summer.keeps; summer_caused = g.met.M.Summer.stays_caused; summer_asked = g.met.M.Summer.stays_asked; summer_gave = g.met.M.Summer.stays_given } in
     let i = g.M.Unit.Item in let s = g.S.NodeSource in let m = g.M.Summer in let s0 = c.args.store.now in let u0 = c.args.summer.now in
     let tree = c.args.tree in let pieces = s.puts s0 in
     let under = begins i s m laws s0 u0 there told in
@@ -390,7 +388,7 @@ returns-clause-met g c there told =
 
 pub returns-in_err-row-clause-met : goal.returns-in_err-row-clause-met
 returns-in_err-row-clause-met g c there told =
-    let laws : Laws g.S.NodeSource g.M.Summer = record { store_steps = g.met.S.NodeSource.are_steps; store_keeps = g.met.S.NodeSource.keeps; store_caused = g.met.S.NodeSource.stays_caused; summer_steps = g.met.M.Summer.are_steps; summer_keeps = g.met.M.Summer.keeps; summer_caused = g.met.M.Summer.stays_caused } in
+    let laws : Laws g.S.NodeSource g.M.Summer = record { store_steps = g.met.S.NodeSource.are_steps; store_keeps = g.met.S.NodeSource.keeps; store_caused = g.met.S.NodeSource.stays_caused; summer_steps = g.met.M.Summer.are_steps; summer_keeps = g.met.M.Summer.keeps; summer_caused = g.met.M.Summer.stays_caused; summer_asked = g.met.M.Summer.stays_asked; summer_gave = g.met.M.Summer.stays_given } in
     let i = g.M.Unit.Item in let s = g.S.NodeSource in let m = g.M.Summer in let s0 = c.args.store.now in let u0 = c.args.summer.now in
     let tree = c.args.tree in let pieces = s.puts s0 in
     let under = begins i s m laws s0 u0 there told in
@@ -399,7 +397,7 @@ returns-in_err-row-clause-met g c there told =
 
 pub returns-in_err-after-clause-met : goal.returns-in_err-after-clause-met
 returns-in_err-after-clause-met g c there told =
-    let laws : Laws g.S.NodeSource g.M.Summer = record { store_steps = g.met.S.NodeSource.are_steps; store_keeps = g.met.S.NodeSource.keeps; store_caused = g.met.S.NodeSource.stays_caused; summer_steps = g.met.M.Summer.are_steps; summer_keeps = g.met.M.Summer.keeps; summer_caused = g.met.M.Summer.stays_caused } in
+    let laws : Laws g.S.NodeSource g.M.Summer = record { store_steps = g.met.S.NodeSource.are_steps; store_keeps = g.met.S.NodeSource.keeps; store_caused = g.met.S.NodeSource.stays_caused; summer_steps = g.met.M.Summer.are_steps; summer_keeps = g.met.M.Summer.keeps; summer_caused = g.met.M.Summer.stays_caused; summer_asked = g.met.M.Summer.stays_asked; summer_gave = g.met.M.Summer.stays_given } in
     let i = g.M.Unit.Item in let s = g.S.NodeSource in let m = g.M.Summer in let s0 = c.args.store.now in let u0 = c.args.summer.now in
     let tree = c.args.tree in let pieces = s.puts s0 in
     let under = begins i s m laws s0 u0 there told in
@@ -410,29 +408,92 @@ returns-in_err-after-clause-met g c there told =
 pub returns-then-is_empty-clause-bytes : goal.returns-then-is_empty-clause-bytes
 returns-then-is_empty-clause-bytes g c first there items among longest h told goes tree ai ae all high few =
     let i = g.M.Unit.Item in let s = g.S.NodeSource in let m = g.M.Summer in let s0 = c.args.store.now in let u0 = c.args.summer.now in
-    grown i m first (g.met.M.Summer.is_short first) longest among all s there (places (s.nodes s0)) s0 s0 (Ok c.args.tree) _ (ran_growing i s m g.met.S.NodeSource.grows g.met.S.NodeSource.grew s0 s0 u0 u0 (Ok c.args.tree) (returns-then-is_empty-clause-ran g c))
+    grown i m first (g.met.M.Summer.is_short first) longest among all s (places (s.nodes s0)) s0 s0 (Ok c.args.tree) _ (ran_growing i s m g.met.S.NodeSource.grows g.met.S.NodeSource.grew s0 s0 u0 u0 (Ok c.args.tree) (returns-then-is_empty-clause-ran g c))
     (returns-then-is_empty-clause-pieces g c first there items among told goes tree ai ae) (returns-then-is_empty-clause-most_puts g c h high few)
 
 pub returns-then-row-clause-bytes : goal.returns-then-row-clause-bytes
 returns-then-row-clause-bytes g c first there items among longest h told goes tree ai ae all high few =
     let i = g.M.Unit.Item in let s = g.S.NodeSource in let m = g.M.Summer in let s0 = c.args.store.now in let u0 = c.args.summer.now in
-    grown i m first (g.met.M.Summer.is_short first) longest among all s there (places (s.nodes c.edit_root.new.store)) s0 c.edit_root.new.store (Ok c.args.tree) _ (ran_growing i s m g.met.S.NodeSource.grows g.met.S.NodeSource.grew s0 c.edit_root.new.store u0 c.edit_root.new.summer (Ok c.args.tree) c.in_ok-row.ensures.ran)
+    grown i m first (g.met.M.Summer.is_short first) longest among all s (places (s.nodes c.edit_root.new.store)) s0 c.edit_root.new.store (Ok c.args.tree) _ (ran_growing i s m g.met.S.NodeSource.grows g.met.S.NodeSource.grew s0 c.edit_root.new.store u0 c.edit_root.new.summer (Ok c.args.tree) c.in_ok-row.ensures.ran)
     (returns-then-row-clause-pieces g c first there items among told goes tree ai ae) (returns-then-row-clause-most_puts g c h high few)
 
 pub returns-clause-bytes : goal.returns-clause-bytes
 returns-clause-bytes g c first there items among longest h told goes tree ai ae all high few =
     let i = g.M.Unit.Item in let s = g.S.NodeSource in let m = g.M.Summer in let s0 = c.args.store.now in let u0 = c.args.summer.now in
-    grown i m first (g.met.M.Summer.is_short first) longest among all s there (places (s.nodes c.raise.new.store)) s0 c.raise.new.store (Ok c.in_ok-after.after) _ (ran_growing i s m g.met.S.NodeSource.grows g.met.S.NodeSource.grew s0 c.raise.new.store u0 c.raise.new.summer (Ok c.in_ok-after.after) (returns-clause-ran g c))
+    grown i m first (g.met.M.Summer.is_short first) longest among all s (places (s.nodes c.raise.new.store)) s0 c.raise.new.store (Ok c.in_ok-after.after) _ (ran_growing i s m g.met.S.NodeSource.grows g.met.S.NodeSource.grew s0 c.raise.new.store u0 c.raise.new.summer (Ok c.in_ok-after.after) (returns-clause-ran g c))
     (returns-clause-pieces g c first there items among told goes tree ai ae) (returns-clause-most_puts g c h high few)
 
 pub returns-in_err-row-clause-bytes : goal.returns-in_err-row-clause-bytes
 returns-in_err-row-clause-bytes g c first there items among longest h told goes tree ai ae all high few =
     let i = g.M.Unit.Item in let s = g.S.NodeSource in let m = g.M.Summer in let s0 = c.args.store.now in let u0 = c.args.summer.now in
-    grown i m first (g.met.M.Summer.is_short first) longest among all s there (places (s.nodes c.edit_root.new.store)) s0 c.edit_root.new.store c.from_residual.result _ (ran_growing i s m g.met.S.NodeSource.grows g.met.S.NodeSource.grew s0 c.edit_root.new.store u0 c.edit_root.new.summer c.from_residual.result (returns-in_err-row-clause-ran g c))
+    grown i m first (g.met.M.Summer.is_short first) longest among all s (places (s.nodes c.edit_root.new.store)) s0 c.edit_root.new.store c.from_residual.result _ (ran_growing i s m g.met.S.NodeSource.grows g.met.S.NodeSource.grew s0 c.edit_root.new.store u0 c.edit_root.new.summer c.from_residual.result (returns-in_err-row-clause-ran g c))
     (returns-in_err-row-clause-pieces g c first there items among told goes tree ai ae) (returns-in_err-row-clause-most_puts g c h high few)
 
 pub returns-in_err-after-clause-bytes : goal.returns-in_err-after-clause-bytes
 returns-in_err-after-clause-bytes g c first there items among longest h told goes tree ai ae all high few =
     let i = g.M.Unit.Item in let s = g.S.NodeSource in let m = g.M.Summer in let s0 = c.args.store.now in let u0 = c.args.summer.now in
-    grown i m first (g.met.M.Summer.is_short first) longest among all s there (places (s.nodes c.raise.new.store)) s0 c.raise.new.store c.from_residual-in_err-after.result _ (ran_growing i s m g.met.S.NodeSource.grows g.met.S.NodeSource.grew s0 c.raise.new.store u0 c.raise.new.summer c.from_residual-in_err-after.result (returns-in_err-after-clause-ran g c))
+    grown i m first (g.met.M.Summer.is_short first) longest among all s (places (s.nodes c.raise.new.store)) s0 c.raise.new.store c.from_residual-in_err-after.result _ (ran_growing i s m g.met.S.NodeSource.grows g.met.S.NodeSource.grew s0 c.raise.new.store u0 c.raise.new.summer c.from_residual-in_err-after.result (returns-in_err-after-clause-ran g c))
     (returns-in_err-after-clause-pieces g c first there items among told goes tree ai ae) (returns-in_err-after-clause-most_puts g c h high few)
+
+pub returns-then-is_empty-clause-done_bytes : goal.returns-then-is_empty-clause-done_bytes
+returns-then-is_empty-clause-done_bytes g c first there items among longest told goes tree ai ae all =
+    let i = g.M.Unit.Item in let s = g.S.NodeSource in let m = g.M.Summer in let s0 = c.args.store.now in let u0 = c.args.summer.now in
+    let growing = ran_growing i s m g.met.S.NodeSource.grows g.met.S.NodeSource.grew s0 s0 u0 u0 (Ok c.args.tree) (returns-then-is_empty-clause-ran g c) in
+    grown i m first (g.met.M.Summer.is_short first) longest among all s (places (s.nodes s0)) s0 s0 (Ok c.args.tree) _ growing
+    (returns-then-is_empty-clause-pieces g c first there items among told goes tree ai ae) (omega arith)
+
+pub returns-then-row-clause-done_bytes : goal.returns-then-row-clause-done_bytes
+returns-then-row-clause-done_bytes g c first there items among longest told goes tree ai ae all =
+    let i = g.M.Unit.Item in let s = g.S.NodeSource in let m = g.M.Summer in let s0 = c.args.store.now in let u0 = c.args.summer.now in
+    let growing = ran_growing i s m g.met.S.NodeSource.grows g.met.S.NodeSource.grew s0 c.edit_root.new.store u0 c.edit_root.new.summer (Ok c.args.tree) (c.in_ok-row.ensures.ran) in
+    grown i m first (g.met.M.Summer.is_short first) longest among all s (places (s.nodes c.edit_root.new.store)) s0 c.edit_root.new.store (Ok c.args.tree) _ growing
+    (returns-then-row-clause-pieces g c first there items among told goes tree ai ae) (returns-then-row-clause-puts g c)
+
+pub returns-clause-done_bytes : goal.returns-clause-done_bytes
+returns-clause-done_bytes g c first there items among longest told goes tree ai ae all =
+    let i = g.M.Unit.Item in let s = g.S.NodeSource in let m = g.M.Summer in let s0 = c.args.store.now in let u0 = c.args.summer.now in
+    let growing = ran_growing i s m g.met.S.NodeSource.grows g.met.S.NodeSource.grew s0 c.raise.new.store u0 c.raise.new.summer (Ok c.in_ok-after.after) (returns-clause-ran g c) in
+    grown i m first (g.met.M.Summer.is_short first) longest among all s (places (s.nodes c.raise.new.store)) s0 c.raise.new.store (Ok c.in_ok-after.after) _ growing
+    (returns-clause-pieces g c first there items among told goes tree ai ae) (returns-clause-puts g c)
+
+pub returns-then-is_empty-clause-sums : goal.returns-then-is_empty-clause-sums
+returns-then-is_empty-clause-sums g c =
+    let laws : Laws g.S.NodeSource g.M.Summer = record { store_steps = g.met.S.NodeSource.are_steps; store_keeps = g.met.S.NodeSource.keeps; store_caused = g.met.S.NodeSource.stays_caused; summer_steps = g.met.M.Summer.are_steps; summer_keeps = g.met.M.Summer.keeps; summer_caused = g.met.M.Summer.stays_caused; summer_asked = g.met.M.Summer.stays_asked; summer_gave = g.met.M.Summer.stays_given } in
+    let i = g.M.Unit.Item in let s = g.S.NodeSource in let m = g.M.Summer in let s0 = c.args.store.now in let u0 = c.args.summer.now in
+    known_none i s m laws u0 s0 u0 s0 s0 refl
+
+pub returns-in_err-row-clause-sums : goal.returns-in_err-row-clause-sums
+returns-in_err-row-clause-sums g c =
+    let laws : Laws g.S.NodeSource g.M.Summer = record { store_steps = g.met.S.NodeSource.are_steps; store_keeps = g.met.S.NodeSource.keeps; store_caused = g.met.S.NodeSource.stays_caused; summer_steps = g.met.M.Summer.are_steps; summer_keeps = g.met.M.Summer.keeps; summer_caused = g.met.M.Summer.stays_caused; summer_asked = g.met.M.Summer.stays_asked; summer_gave = g.met.M.Summer.stays_given } in
+    let i = g.M.Unit.Item in let s = g.S.NodeSource in let m = g.M.Summer in let s0 = c.args.store.now in let u0 = c.args.summer.now in
+    let way = way_begins i s m laws u0 s0 in
+    c.in_err-row.ensures.sums u0 s0 way
+
+pub returns-then-row-clause-sums : goal.returns-then-row-clause-sums
+returns-then-row-clause-sums g c =
+    let laws : Laws g.S.NodeSource g.M.Summer = record { store_steps = g.met.S.NodeSource.are_steps; store_keeps = g.met.S.NodeSource.keeps; store_caused = g.met.S.NodeSource.stays_caused; summer_steps = g.met.M.Summer.are_steps; summer_keeps = g.met.M.Summer.keeps; summer_caused = g.met.M.Summer.stays_caused; summer_asked = g.met.M.Summer.stays_asked; summer_gave = g.met.M.Summer.stays_given } in
+    let i = g.M.Unit.Item in let s = g.S.NodeSource in let m = g.M.Summer in let s0 = c.args.store.now in let u0 = c.args.summer.now in
+    let way = way_begins i s m laws u0 s0 in
+    c.in_ok-row.ensures.sums u0 s0 way
+
+pub returns-in_err-after-clause-sums : goal.returns-in_err-after-clause-sums
+returns-in_err-after-clause-sums g c =
+    let laws : Laws g.S.NodeSource g.M.Summer = record { store_steps = g.met.S.NodeSource.are_steps; store_keeps = g.met.S.NodeSource.keeps; store_caused = g.met.S.NodeSource.stays_caused; summer_steps = g.met.M.Summer.are_steps; summer_keeps = g.met.M.Summer.keeps; summer_caused = g.met.M.Summer.stays_caused; summer_asked = g.met.M.Summer.stays_asked; summer_gave = g.met.M.Summer.stays_given } in
+    let i = g.M.Unit.Item in let s = g.S.NodeSource in let m = g.M.Summer in let s0 = c.args.store.now in let u0 = c.args.summer.now in
+    let way = way_begins i s m laws u0 s0 in
+    let s1 = c.edit_root.new.store in let s2 = c.raise.new.store in let u1 = c.edit_root.new.summer in let u2 = c.raise.new.summer in
+    let k = c.in_ok-row.ensures in
+    let one = k.sums u0 s0 way in
+    let row = k.known u0 s0 way in
+    known_fails i s m laws u0 s0 s0 s1 s2 u1 u2 c.in_err-after.field-0.0 c.in_err-after.ensures.ran one (c.in_err-after.ensures.sums u0 s0 k.ran.summer row)
+
+pub returns-clause-sums : goal.returns-clause-sums
+returns-clause-sums g c =
+    let laws : Laws g.S.NodeSource g.M.Summer = record { store_steps = g.met.S.NodeSource.are_steps; store_keeps = g.met.S.NodeSource.keeps; store_caused = g.met.S.NodeSource.stays_caused; summer_steps = g.met.M.Summer.are_steps; summer_keeps = g.met.M.Summer.keeps; summer_caused = g.met.M.Summer.stays_caused; summer_asked = g.met.M.Summer.stays_asked; summer_gave = g.met.M.Summer.stays_given } in
+    let i = g.M.Unit.Item in let s = g.S.NodeSource in let m = g.M.Summer in let s0 = c.args.store.now in let u0 = c.args.summer.now in
+    let way = way_begins i s m laws u0 s0 in
+    let s1 = c.edit_root.new.store in let s2 = c.raise.new.store in let u1 = c.edit_root.new.summer in let u2 = c.raise.new.summer in
+    let k = c.in_ok-row.ensures in
+    let one = k.sums u0 s0 way in
+    let row = k.known u0 s0 way in
+    known_goes i s m laws u0 s0 s0 s1 s2 u1 u2 c.in_ok-after.ensures.ran one (c.in_ok-after.ensures.sums u0 s0 k.ran.summer row)

@@ -5,13 +5,14 @@ use Rattle.tree_laws.specs.Fitting.{AreLarge, item_count}
 use Rattle.tree_laws.specs.Nodes.{entries}
 use Rattle.tree_laws.specs.SummerTrees.{AreChildren, Stands}
 use Rattle.reduce_tree.specs.Applied.{applied, insertions, RemoveNone}
-use Rattle.reduce_tree.specs.Bounds.{pending, rounding, ArePut}
+use Rattle.reduce_tree.specs.Charges.{pending, rounding, ArePut}
 use Rattle.reduce_tree.specs.Counts.{ReadsFor}
 use Rattle.reduce_tree.specs.Given.{AllGiven, Given, IsTaken, IsUnderWay}
 use Rattle.tree_laws.specs.declared.tree.Tree.{Tree}
 use Rattle.tree_laws.specs.Stores.{EachSince}
 use Rattle.reduce_tree.specs.Calls.{places, GoOn, IsKnown, PutNone}
 use Rattle.reduce_tree.specs.Rows.{IsAtLevel, leaf_items}
+use Rattle.reduce_tree.specs.Sums.{IsOnTheWay, KnowsNode, KnowsPieces, KnowsRow}
 use Rattle.reduce_tree.specs.Pieces.{AreAmong, ArePieces, InsertAmong}
 use Rattle.reduce_tree.proofs.Pieces.{Left}
 use Rattle.reduce_tree.proofs.Quiet.{Still}
@@ -58,6 +59,11 @@ invariant-edit_children-loop-left g l =
           × All (Given g.M.Unit.Item g.S.NodeSource g.M.Summer first tree pieces l.store l.low) l.done.items
           × AllGiven g.M.Unit.Item g.S.NodeSource g.M.Summer first tree pieces l.store l.carry.level l.carry.node
           × All (Given g.M.Unit.Item g.S.NodeSource g.M.Summer first tree pieces l.store l.low) l.rest.items;
+      known : (first : g.row.M.Denot) (begun : g.row.S.Denot) → IsOnTheWay g.S.NodeSource g.M.Summer first begun l.fn.summer l.fn.store → KnowsRow g.M.Unit.Item g.S.NodeSource g.M.Summer first begun l.fn.summer l.fn.store l.fn.children.items
+          → KnowsPieces g.M.Unit.Item g.S.NodeSource g.M.Summer first begun l.summer l.store (puts l.fn.store) (puts l.store)
+          × KnowsRow g.M.Unit.Item g.S.NodeSource g.M.Summer first begun l.summer l.store l.done.items
+          × KnowsNode g.M.Unit.Item g.S.NodeSource g.M.Summer first begun l.summer l.store l.carry.node
+          × KnowsRow g.M.Unit.Item g.S.NodeSource g.M.Summer first begun l.summer l.store l.rest.items;
       pieces : (first : g.row.M.Denot) (items among : List g.row.M-Unit.Denot) → IsKnown g.M.Unit.Item g.S.NodeSource g.M.Summer first l.fn.summer l.fn.store → IsStrictlySortedBy g.M.Unit.Item.order items
           → AreChildren g.M.Unit.Item g.M.Summer first (Stands g.M.Unit.Item g.M.Summer first (places (nodes l.fn.store)) l.low) l.fn.children.items items → AreAmong among items → InsertAmong among l.edits
           → ArePieces g.M.Unit.Item g.M.Summer first among (places (nodes l.store)) Below (puts l.fn.store) (puts l.store) × Left g.M.Unit.Item g.M.Summer first among (places (nodes l.store)) l.low l.rest.items l.left;

@@ -3,7 +3,7 @@ use Rattle.tree_laws.specs.declared.node.Node.TheVariants.{Inner}
 use Rattle.tree_laws.specs.Fitting.{AreLarge, item_count}
 use Rattle.tree_laws.specs.Nodes.{entries}
 use Rattle.tree_laws.specs.SummerTrees.{Has}
-use Rattle.reduce_tree.specs.Bounds.{ready}
+use Rattle.reduce_tree.specs.Charges.{ready}
 use Rattle.reduce_tree.specs.Calls.{places}
 use Rattle.reduce_tree.proofs.Charge.{pending_not, slack_most, ready_some}
 use Rattle.reduce_tree.proofs.Nodes.{above_at_level, has_children}
@@ -16,6 +16,7 @@ use Rattle.reduce_tree.proofs.Calls.{on_err, Laws}
 use Rattle.reduce_tree.proofs.Pieces.{on_match}
 use Rattle.reduce_tree.proofs.Given.{halts_quiet, took_fault, took_none}
 use Rattle.reduce_tree.specs.Given.{Given}
+use Rattle.reduce_tree.specs.Sums.{KnowsRow}
 use Rattle.reduce_tree.proofs.batch.finish.Goals as goal
 
 pub returns-then-is_ready-clause-items : goal.returns-then-is_ready-clause-items
@@ -139,7 +140,7 @@ returns-in_err-joined-clause-pieces g c first items among known h all =
 
 pub returns-then-is_ready-clause-met : goal.returns-then-is_ready-clause-met
 returns-then-is_ready-clause-met g c first tree pieces under done carry =
-    let laws : Laws g.S.NodeSource g.M.Summer = record { store_steps = g.met.S.NodeSource.are_steps; store_keeps = g.met.S.NodeSource.keeps; store_caused = g.met.S.NodeSource.stays_caused; summer_steps = g.met.M.Summer.are_steps; summer_keeps = g.met.M.Summer.keeps; summer_caused = g.met.M.Summer.stays_caused } in
+    let laws : Laws g.S.NodeSource g.M.Summer = record { store_steps = g.met.S.NodeSource.are_steps; store_keeps = g.met.S.NodeSource.keeps; store_caused = g.met.S.NodeSource.stays_caused; summer_steps = g.met.M.Summer.are_steps; summer_keeps = g.met.M.Summer.keeps; summer_caused = g.met.M.Summer.stays_caused; summer_asked = g.met.M.Summer.stays_asked; summer_gave = g.met.M.Summer.stays_given } in
     let i = g.M.Unit.Item in let s = g.S.NodeSource in let m = g.M.Summer in let s0 = c.args.store.now in let u0 = c.args.summer.now in
     let low = c.args.low in
     let same : low ≡ (low + 1) - 1 = omega arith in
@@ -149,7 +150,7 @@ returns-then-is_ready-clause-met g c first tree pieces under done carry =
 
 pub returns-clause-met : goal.returns-clause-met
 returns-clause-met g c first tree pieces under done carry =
-    let laws : Laws g.S.NodeSource g.M.Summer = record { store_steps = g.met.S.NodeSource.are_steps; store_keeps = g.met.S.NodeSource.keeps; store_caused = g.met.S.NodeSource.stays_caused; summer_steps = g.met.M.Summer.are_steps; summer_keeps = g.met.M.Summer.keeps; summer_caused = g.met.M.Summer.stays_caused } in
+    let laws : Laws g.S.NodeSource g.M.Summer = record { store_steps = g.met.S.NodeSource.are_steps; store_keeps = g.met.S.NodeSource.keeps; store_caused = g.met.S.NodeSource.stays_caused; summer_steps = g.met.M.Summer.are_steps; summer_keeps = g.met.M.Summer.keeps; summer_caused = g.met.M.Summer.stays_caused; summer_asked = g.met.M.Summer.stays_asked; summer_gave = g.met.M.Summer.stays_given } in
     let i = g.M.Unit.Item in let s = g.S.NodeSource in let m = g.M.Summer in let s0 = c.args.store.now in let u0 = c.args.summer.now in
     let low = c.args.low in
     let same : low ≡ (low + 1) - 1 = omega arith in
@@ -158,17 +159,50 @@ returns-clause-met g c first tree pieces under done carry =
 
 pub returns-in_err-settle-clause-met : goal.returns-in_err-settle-clause-met
 returns-in_err-settle-clause-met g c first tree pieces under done carry =
-    let laws : Laws g.S.NodeSource g.M.Summer = record { store_steps = g.met.S.NodeSource.are_steps; store_keeps = g.met.S.NodeSource.keeps; store_caused = g.met.S.NodeSource.stays_caused; summer_steps = g.met.M.Summer.are_steps; summer_keeps = g.met.M.Summer.keeps; summer_caused = g.met.M.Summer.stays_caused } in
+    let laws : Laws g.S.NodeSource g.M.Summer = record { store_steps = g.met.S.NodeSource.are_steps; store_keeps = g.met.S.NodeSource.keeps; store_caused = g.met.S.NodeSource.stays_caused; summer_steps = g.met.M.Summer.are_steps; summer_keeps = g.met.M.Summer.keeps; summer_caused = g.met.M.Summer.stays_caused; summer_asked = g.met.M.Summer.stays_asked; summer_gave = g.met.M.Summer.stays_given } in
     let i = g.M.Unit.Item in let s = g.S.NodeSource in let m = g.M.Summer in let s0 = c.args.store.now in let u0 = c.args.summer.now in
     let p = err_from_is_err_and c.from_residual.result c.from_residual.ensures.1 in
-    took_fault i s m laws first tree pieces c.from_residual.result _ s0 c.settle.new.store c.in_err-settle.field-0.0 p.0 p.2 p.1 (halts_quiet i s m laws first tree pieces s0 c.settle.new.store _ c.in_err-settle.ensures.gets c.in_err-settle.ensures.sound)
+    took_fault i s m laws first tree pieces c.from_residual.result _ s0 c.settle.new.store c.in_err-settle.field-0.0 p.0 p.2 p.1 (halts_quiet i s m laws first tree pieces s0 c.settle.new.store u0 c.settle.new.summer _ c.in_err-settle.ensures.ran c.in_err-settle.ensures.gets c.in_err-settle.ensures.sound)
 
 pub returns-in_err-joined-clause-met : goal.returns-in_err-joined-clause-met
 returns-in_err-joined-clause-met g c first tree pieces under done carry =
-    let laws : Laws g.S.NodeSource g.M.Summer = record { store_steps = g.met.S.NodeSource.are_steps; store_keeps = g.met.S.NodeSource.keeps; store_caused = g.met.S.NodeSource.stays_caused; summer_steps = g.met.M.Summer.are_steps; summer_keeps = g.met.M.Summer.keeps; summer_caused = g.met.M.Summer.stays_caused } in
+    let laws : Laws g.S.NodeSource g.M.Summer = record { store_steps = g.met.S.NodeSource.are_steps; store_keeps = g.met.S.NodeSource.keeps; store_caused = g.met.S.NodeSource.stays_caused; summer_steps = g.met.M.Summer.are_steps; summer_keeps = g.met.M.Summer.keeps; summer_caused = g.met.M.Summer.stays_caused; summer_asked = g.met.M.Summer.stays_asked; summer_gave = g.met.M.Summer.stays_given } in
     let i = g.M.Unit.Item in let s = g.S.NodeSource in let m = g.M.Summer in let s0 = c.args.store.now in let u0 = c.args.summer.now in
     let low = c.args.low in
     let same : low ≡ (low + 1) - 1 = omega arith in
     let front = subst (λ n. All (Given i s m first tree pieces s0 n) c.from_vec-2.result) same (subst (All (Given i s m first tree pieces s0 low)) (sym c.from_vec-2.ensures) done) in
     let p = err_from_is_err_and c.from_residual-in_err-joined.result c.from_residual-in_err-joined.ensures.1 in
     took_fault i s m laws first tree pieces c.from_residual-in_err-joined.result _ s0 c.join_rows.new.store c.in_err-joined.field-0.0 p.0 p.2 p.1 (c.in_err-joined.ensures.met first tree pieces under front carry).0
+
+pub returns-in_err-settle-clause-sums : goal.returns-in_err-settle-clause-sums
+returns-in_err-settle-clause-sums g c first begun way done carry = c.in_err-settle.ensures.sums first begun carry
+
+pub returns-then-is_ready-clause-sums : goal.returns-then-is_ready-clause-sums
+returns-then-is_ready-clause-sums g c first begun way done carry = c.in_ok-settle.ensures.sums first begun carry
+
+pub returns-in_err-joined-clause-sums : goal.returns-in_err-joined-clause-sums
+returns-in_err-joined-clause-sums g c first begun way done carry =
+    let laws : Laws g.S.NodeSource g.M.Summer = record { store_steps = g.met.S.NodeSource.are_steps; store_keeps = g.met.S.NodeSource.keeps; store_caused = g.met.S.NodeSource.stays_caused; summer_steps = g.met.M.Summer.are_steps; summer_keeps = g.met.M.Summer.keeps; summer_caused = g.met.M.Summer.stays_caused; summer_asked = g.met.M.Summer.stays_asked; summer_gave = g.met.M.Summer.stays_given } in
+    let i = g.M.Unit.Item in let s = g.S.NodeSource in let m = g.M.Summer in let s0 = c.args.store.now in let u0 = c.args.summer.now in
+    let front = subst (KnowsRow i s m first begun u0 s0) (sym c.from_vec-2.ensures) done in
+    c.in_err-joined.ensures.sums first begun way front carry
+
+pub returns-clause-sums : goal.returns-clause-sums
+returns-clause-sums g c first begun way done carry =
+    let laws : Laws g.S.NodeSource g.M.Summer = record { store_steps = g.met.S.NodeSource.are_steps; store_keeps = g.met.S.NodeSource.keeps; store_caused = g.met.S.NodeSource.stays_caused; summer_steps = g.met.M.Summer.are_steps; summer_keeps = g.met.M.Summer.keeps; summer_caused = g.met.M.Summer.stays_caused; summer_asked = g.met.M.Summer.stays_asked; summer_gave = g.met.M.Summer.stays_given } in
+    let i = g.M.Unit.Item in let s = g.S.NodeSource in let m = g.M.Summer in let s0 = c.args.store.now in let u0 = c.args.summer.now in
+    let front = subst (KnowsRow i s m first begun u0 s0) (sym c.from_vec-2.ensures) done in
+    c.in_ok-joined.ensures.sums first begun way front carry
+
+pub returns-then-is_ready-clause-known : goal.returns-then-is_ready-clause-known
+returns-then-is_ready-clause-known g c first begun way done carry =
+    let laws : Laws g.S.NodeSource g.M.Summer = record { store_steps = g.met.S.NodeSource.are_steps; store_keeps = g.met.S.NodeSource.keeps; store_caused = g.met.S.NodeSource.stays_caused; summer_steps = g.met.M.Summer.are_steps; summer_keeps = g.met.M.Summer.keeps; summer_caused = g.met.M.Summer.stays_caused; summer_asked = g.met.M.Summer.stays_asked; summer_gave = g.met.M.Summer.stays_given } in
+    let i = g.M.Unit.Item in let s = g.S.NodeSource in let m = g.M.Summer in let s0 = c.args.store.now in let u0 = c.args.summer.now in
+    subst (KnowsRow i s m first begun c.settle.new.summer c.settle.new.store) (sym c.from_vec.ensures) (c.in_ok-settle.ensures.known first begun way.goes done)
+
+pub returns-clause-known : goal.returns-clause-known
+returns-clause-known g c first begun way done carry =
+    let laws : Laws g.S.NodeSource g.M.Summer = record { store_steps = g.met.S.NodeSource.are_steps; store_keeps = g.met.S.NodeSource.keeps; store_caused = g.met.S.NodeSource.stays_caused; summer_steps = g.met.M.Summer.are_steps; summer_keeps = g.met.M.Summer.keeps; summer_caused = g.met.M.Summer.stays_caused; summer_asked = g.met.M.Summer.stays_asked; summer_gave = g.met.M.Summer.stays_given } in
+    let i = g.M.Unit.Item in let s = g.S.NodeSource in let m = g.M.Summer in let s0 = c.args.store.now in let u0 = c.args.summer.now in
+    let front = subst (KnowsRow i s m first begun u0 s0) (sym c.from_vec-2.ensures) done in
+    c.in_ok-joined.ensures.known first begun way front carry

@@ -9,7 +9,7 @@ use Rattle.reduce_tree.proofs.Charge.{ready_level, ready_least, some_by_test, ro
 use Rattle.reduce_tree.proofs.Nodes.{count_append, large_append, none_counted, none_from_test}
 use Rattle.reduce_tree.proofs.Walk.{settled, settled_none}
 use Rattle.reduce_tree.proofs.Puts.{leaf_none, put_none, unput}
-use Rattle.reduce_tree.proofs.Pieces.{pieces_none, were_done, on_match}
+use Rattle.reduce_tree.proofs.Pieces.{pieces_none, on_match}
 use Rattle.reduce_tree.proofs.Quiet.{all_back}
 use Rattle.reduce_tree.specs.Pieces.{AreAmong}
 use Rattle.tree_laws.specs.declared.tree.Fill.TheVariants.{Below}
@@ -18,6 +18,8 @@ use Rattle.tree_laws.specs.declared.tree.TreeFault.TheVariants as tree_fault
 use Rattle.reduce_tree.proofs.Given.{all_on}
 use Rattle.reduce_tree.specs.Given.{Given}
 use Rattle.std.proofs.lemmas.List.Elements.{All-append}
+use Rattle.reduce_tree.specs.Sums.{IsSumRead, KnowsRow}
+use Rattle.reduce_tree.proofs.Had.{had_none, had_given, had_append, row_goes}
 use Rattle.reduce_tree.proofs.batch.settle.Goals as goal
 
 pub place_row-requires-clause-least : goal.place_row-requires-clause-least
@@ -36,12 +38,12 @@ returns-then-is_empty-clause-count g c =
 
 pub returns-then-is_empty-clause-ran : goal.returns-then-is_empty-clause-ran
 returns-then-is_empty-clause-ran g c =
-    let laws : Laws g.S.NodeSource g.M.Summer = record { store_steps = g.met.S.NodeSource.are_steps; store_keeps = g.met.S.NodeSource.keeps; store_caused = g.met.S.NodeSource.stays_caused; summer_steps = g.met.M.Summer.are_steps; summer_keeps = g.met.M.Summer.keeps; summer_caused = g.met.M.Summer.stays_caused } in
+    let laws : Laws g.S.NodeSource g.M.Summer = record { store_steps = g.met.S.NodeSource.are_steps; store_keeps = g.met.S.NodeSource.keeps; store_caused = g.met.S.NodeSource.stays_caused; summer_steps = g.met.M.Summer.are_steps; summer_keeps = g.met.M.Summer.keeps; summer_caused = g.met.M.Summer.stays_caused; summer_asked = g.met.M.Summer.stays_asked; summer_gave = g.met.M.Summer.stays_given } in
     goes_none g.M.Unit.Item g.S.NodeSource g.M.Summer laws c.args.store.now c.args.summer.now
 
 pub returns-clause-items : goal.returns-clause-items
 returns-clause-items g c first items known h =
-    let laws : Laws g.S.NodeSource g.M.Summer = record { store_steps = g.met.S.NodeSource.are_steps; store_keeps = g.met.S.NodeSource.keeps; store_caused = g.met.S.NodeSource.stays_caused; summer_steps = g.met.M.Summer.are_steps; summer_keeps = g.met.M.Summer.keeps; summer_caused = g.met.M.Summer.stays_caused } in
+    let laws : Laws g.S.NodeSource g.M.Summer = record { store_steps = g.met.S.NodeSource.are_steps; store_keeps = g.met.S.NodeSource.keeps; store_caused = g.met.S.NodeSource.stays_caused; summer_steps = g.met.M.Summer.are_steps; summer_keeps = g.met.M.Summer.keeps; summer_caused = g.met.M.Summer.stays_caused; summer_asked = g.met.M.Summer.stays_asked; summer_gave = g.met.M.Summer.stays_given } in
     let s0 = c.args.store.now in
     let s1 = c.place_row.new.store in
     let u0 = c.args.summer.now in
@@ -90,7 +92,7 @@ returns-clause-pieces g c first items among known h all =
 
 pub returns-in_err-add_all-clause-ran : goal.returns-in_err-add_all-clause-ran
 returns-in_err-add_all-clause-ran g c =
-    let laws : Laws g.S.NodeSource g.M.Summer = record { store_steps = g.met.S.NodeSource.are_steps; store_keeps = g.met.S.NodeSource.keeps; store_caused = g.met.S.NodeSource.stays_caused; summer_steps = g.met.M.Summer.are_steps; summer_keeps = g.met.M.Summer.keeps; summer_caused = g.met.M.Summer.stays_caused } in
+    let laws : Laws g.S.NodeSource g.M.Summer = record { store_steps = g.met.S.NodeSource.are_steps; store_keeps = g.met.S.NodeSource.keeps; store_caused = g.met.S.NodeSource.stays_caused; summer_steps = g.met.M.Summer.are_steps; summer_keeps = g.met.M.Summer.keeps; summer_caused = g.met.M.Summer.stays_caused; summer_asked = g.met.M.Summer.stays_asked; summer_gave = g.met.M.Summer.stays_given } in
     let p = err_from_is_err_and c.from_residual-in_err-add_all.result c.from_residual-in_err-add_all.ensures.1 in
     ran_err g.M.Unit.Item g.S.NodeSource g.M.Summer laws _ _ _ _ c.from_residual-in_err-add_all.result tree_fault.NoMemory p.0 p.2 p.1 (c.in_ok-placed.ensures.ran)
 
@@ -115,13 +117,13 @@ returns-in_err-placed-clause-pieces g c first items among known h all =
 
 pub returns-in_err-add_all-clause-pieces : goal.returns-in_err-add_all-clause-pieces
 returns-in_err-add_all-clause-pieces g c first items among known h all =
-    let laws : Laws g.S.NodeSource g.M.Summer = record { store_steps = g.met.S.NodeSource.are_steps; store_keeps = g.met.S.NodeSource.keeps; store_caused = g.met.S.NodeSource.stays_caused; summer_steps = g.met.M.Summer.are_steps; summer_keeps = g.met.M.Summer.keeps; summer_caused = g.met.M.Summer.stays_caused } in
+    let laws : Laws g.S.NodeSource g.M.Summer = record { store_steps = g.met.S.NodeSource.are_steps; store_keeps = g.met.S.NodeSource.keeps; store_caused = g.met.S.NodeSource.stays_caused; summer_steps = g.met.M.Summer.are_steps; summer_keeps = g.met.M.Summer.keeps; summer_caused = g.met.M.Summer.stays_caused; summer_asked = g.met.M.Summer.stays_asked; summer_gave = g.met.M.Summer.stays_given } in
     let p = err_from_is_err_and c.from_residual-in_err-add_all.result c.from_residual-in_err-add_all.ensures.1 in
-    on_match c.from_residual-in_err-add_all.result _ _ _ p.0 p.2 p.1 (were_done g.M.Unit.Item g.M.Summer first among (places (g.S.NodeSource.nodes c.args.store.now)) (places (g.S.NodeSource.nodes c.place_row.new.store)) (extends_on g.M.Unit.Item g.S.NodeSource g.M.Summer laws c.args.store.now c.place_row.new.store c.args.summer.now c.place_row.new.summer c.in_ok-placed.ensures.ran) _ (g.S.NodeSource.puts c.args.store.now) (g.S.NodeSource.puts c.place_row.new.store) (c.in_ok-placed.ensures.pieces first c.args.row.level h.back among known h.at_back (all_back (Contains among) h.front h.back (subst (AreAmong among) h.whole all))))
+    on_match c.from_residual-in_err-add_all.result _ _ tree_fault.NoMemory p.0 p.2 p.1 (c.in_ok-placed.ensures.pieces first c.args.row.level h.back among known h.at_back (all_back (Contains among) h.front h.back (subst (AreAmong among) h.whole all)))
 
 pub returns-clause-given : goal.returns-clause-given
 returns-clause-given g c first tree pieces under done row =
-    let laws : Laws g.S.NodeSource g.M.Summer = record { store_steps = g.met.S.NodeSource.are_steps; store_keeps = g.met.S.NodeSource.keeps; store_caused = g.met.S.NodeSource.stays_caused; summer_steps = g.met.M.Summer.are_steps; summer_keeps = g.met.M.Summer.keeps; summer_caused = g.met.M.Summer.stays_caused } in
+    let laws : Laws g.S.NodeSource g.M.Summer = record { store_steps = g.met.S.NodeSource.are_steps; store_keeps = g.met.S.NodeSource.keeps; store_caused = g.met.S.NodeSource.stays_caused; summer_steps = g.met.M.Summer.are_steps; summer_keeps = g.met.M.Summer.keeps; summer_caused = g.met.M.Summer.stays_caused; summer_asked = g.met.M.Summer.stays_asked; summer_gave = g.met.M.Summer.stays_given } in
     let i = g.M.Unit.Item in let s = g.S.NodeSource in let m = g.M.Summer in let s0 = c.args.store.now in let u0 = c.args.summer.now in
     let s1 = c.place_row.new.store in let u1 = c.place_row.new.summer in
     let some = some_by_test (entries c.args.row.node) c.is_empty.result c.is_empty.ensures c.if-is_empty.false in
@@ -130,3 +132,24 @@ returns-clause-given g c first tree pieces under done row =
     let new = subst (λ l. All (Given i s m first tree pieces s1 l) c.in_ok-placed.placed.items) level placed in
     subst (All (Given i s m first tree pieces s1 c.args.low)) (sym c.in_ok-add_all.ensures)
     (All-append (Given i s m first tree pieces s1 c.args.low) c.args.done.now.items c.in_ok-placed.placed.items (all_on i s m laws first tree pieces s0 s1 u0 u1 c.in_ok-placed.ensures.ran c.args.low c.args.done.now.items done) new)
+
+pub returns-then-is_empty-clause-sums : goal.returns-then-is_empty-clause-sums
+returns-then-is_empty-clause-sums g c first begun knows = had_none g.M.Unit.Item g.M.Summer (IsSumRead g.M.Unit.Item g.S.NodeSource begun c.args.store.now) first c.args.summer.now (g.S.NodeSource.puts c.args.store.now)
+
+pub returns-in_err-placed-clause-sums : goal.returns-in_err-placed-clause-sums
+returns-in_err-placed-clause-sums g c first begun knows = c.in_err-placed.ensures.sums first begun knows
+
+pub returns-in_err-add_all-clause-sums : goal.returns-in_err-add_all-clause-sums
+returns-in_err-add_all-clause-sums g c first begun knows = c.in_ok-placed.ensures.sums first begun knows
+
+pub returns-clause-sums : goal.returns-clause-sums
+returns-clause-sums g c first begun knows = c.in_ok-placed.ensures.sums first begun knows
+
+pub returns-clause-known : goal.returns-clause-known
+returns-clause-known g c first begun goes done =
+    let laws : Laws g.S.NodeSource g.M.Summer = record { store_steps = g.met.S.NodeSource.are_steps; store_keeps = g.met.S.NodeSource.keeps; store_caused = g.met.S.NodeSource.stays_caused; summer_steps = g.met.M.Summer.are_steps; summer_keeps = g.met.M.Summer.keeps; summer_caused = g.met.M.Summer.stays_caused; summer_asked = g.met.M.Summer.stays_asked; summer_gave = g.met.M.Summer.stays_given } in
+    let i = g.M.Unit.Item in let s = g.S.NodeSource in let m = g.M.Summer in let s0 = c.args.store.now in let u0 = c.args.summer.now in
+    let s1 = c.place_row.new.store in let u1 = c.place_row.new.summer in let placed = c.in_ok-placed.placed.items in
+    let new = had_given i m (IsSumRead i s begun s1) first u1 placed (c.in_ok-placed.ensures.answered first goes) in
+    let old = row_goes i s m laws first begun s0 s1 u0 u1 c.in_ok-placed.ensures.ran c.args.done.now.items done in
+    subst (KnowsRow i s m first begun u1 s1) (sym c.in_ok-add_all.ensures) (had_append i m (IsSumRead i s begun s1) first u1 c.args.done.now.items placed old new)

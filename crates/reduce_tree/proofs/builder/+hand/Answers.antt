@@ -1,4 +1,4 @@
-use Rattle.std.proofs.Common.{rules, arith, ◌≤◌, ◌≡◌, ◌<◌, ◌+◌, ◌∙◌, ◌∷◌, ◌++◌, [], ◌^◌, ap, sym, subst, length, append_assoc, length-append}
+use Rattle.std.proofs.Common.{Contains, rules, arith, inr, ◌≤◌, ◌≡◌, ◌<◌, ◌+◌, ◌∙◌, ◌∷◌, ◌++◌, [], ◌^◌, ap, sym, subst, length, append_assoc, length-append}
 use Rattle.tree_laws.specs.declared.node.Node.TheVariants.{Inner}
 use Rattle.tree_laws.specs.declared.tree.Fill.TheVariants.{Below}
 use Rattle.tree_laws.specs.declared.tree.TreeFault.TheVariants as tree_fault
@@ -17,6 +17,8 @@ use Rattle.reduce_tree.proofs.Climb.{grew_on, cut_put, cut_stays, cut_wait, clim
 use Rattle.reduce_tree.proofs.Nodes.{above_at_level, filled_large, has_children, large_append, large_back, large_front, large_one}
 use Rattle.reduce_tree.proofs.Stacks.{IsRow, count_added, items_cut, items_pop, items_push, popped, rows_pop, rows_push, stacked_push, stacked_stays}
 use Rattle.reduce_tree.proofs.Working.{filled_none, filled_on, filled_wider}
+use Rattle.reduce_tree.specs.Sums.{AreHad}
+use Rattle.reduce_tree.proofs.Had.{gave_fails, gave_goes, given_since, had_added, had_both, had_cut, had_none, had_on, rows_on, rows_popped, rows_stacked}
 use Rattle.reduce_tree.proofs.builder.+hand.Goals as goal
 
 pub put_node-requires-clause-some : goal.put_node-requires-clause-some
@@ -88,12 +90,12 @@ returns-then-len-lt40-clause-count g t c =
 
 pub returns-then-len-lt40-clause-ran : goal.returns-then-len-lt40-clause-ran
 returns-then-len-lt40-clause-ran g t c =
-    let laws : Laws g.S.NodeSource g.M.Summer = record { store_steps = g.met.S.NodeSource.are_steps; store_keeps = g.met.S.NodeSource.keeps; store_caused = g.met.S.NodeSource.stays_caused; summer_steps = g.met.M.Summer.are_steps; summer_keeps = g.met.M.Summer.keeps; summer_caused = g.met.M.Summer.stays_caused } in
+    let laws : Laws g.S.NodeSource g.M.Summer = record { store_steps = g.met.S.NodeSource.are_steps; store_keeps = g.met.S.NodeSource.keeps; store_caused = g.met.S.NodeSource.stays_caused; summer_steps = g.met.M.Summer.are_steps; summer_keeps = g.met.M.Summer.keeps; summer_caused = g.met.M.Summer.stays_caused; summer_asked = g.met.M.Summer.stays_asked; summer_gave = g.met.M.Summer.stays_given } in
     goes_none g.M.Unit.Item g.S.NodeSource g.M.Summer laws c.args.store.now c.args.summer.now
 
 pub returns-clause-items : goal.returns-clause-items
 returns-clause-items g t c first low xs mid known st one =
-    let laws : Laws g.S.NodeSource g.M.Summer = record { store_steps = g.met.S.NodeSource.are_steps; store_keeps = g.met.S.NodeSource.keeps; store_caused = g.met.S.NodeSource.stays_caused; summer_steps = g.met.M.Summer.are_steps; summer_keeps = g.met.M.Summer.keeps; summer_caused = g.met.M.Summer.stays_caused } in
+    let laws : Laws g.S.NodeSource g.M.Summer = record { store_steps = g.met.S.NodeSource.are_steps; store_keeps = g.met.S.NodeSource.keeps; store_caused = g.met.S.NodeSource.stays_caused; summer_steps = g.met.M.Summer.are_steps; summer_keeps = g.met.M.Summer.keeps; summer_caused = g.met.M.Summer.stays_caused; summer_asked = g.met.M.Summer.stays_asked; summer_gave = g.met.M.Summer.stays_given } in
     let i = g.M.Unit.Item in
     let m = g.M.Summer in
     let s0 = c.args.store.now in
@@ -131,7 +133,7 @@ returns-clause-items g t c first low xs mid known st one =
 
 pub returns-clause-climbs : goal.returns-clause-climbs
 returns-clause-climbs g t c there below taken told h =
-    let laws : Laws g.S.NodeSource g.M.Summer = record { store_steps = g.met.S.NodeSource.are_steps; store_keeps = g.met.S.NodeSource.keeps; store_caused = g.met.S.NodeSource.stays_caused; summer_steps = g.met.M.Summer.are_steps; summer_keeps = g.met.M.Summer.keeps; summer_caused = g.met.M.Summer.stays_caused } in
+    let laws : Laws g.S.NodeSource g.M.Summer = record { store_steps = g.met.S.NodeSource.are_steps; store_keeps = g.met.S.NodeSource.keeps; store_caused = g.met.S.NodeSource.stays_caused; summer_steps = g.met.M.Summer.are_steps; summer_keeps = g.met.M.Summer.keeps; summer_caused = g.met.M.Summer.stays_caused; summer_asked = g.met.M.Summer.stays_asked; summer_gave = g.met.M.Summer.stays_given } in
     let i = g.M.Unit.Item in
     let m = g.M.Summer in
     let s0 = c.args.store.now in
@@ -194,20 +196,23 @@ returns-clause-count g t c =
     let own : item_count (Inner c.from_vec.result) ≡ item_count (Inner c.in_ok-full.full.items) = ap (λ ds. item_count (Inner ds)) c.from_vec.ensures in
     omega (arith, all, own, c.in_ok-parent.ensures.count, c.in_ok-hand.ensures.count, items_push c.hand.new.rows.items c.stack_row-2.new.rows.items c.in_ok-full.rest.items c.in_ok-stack_row-2.ensures)
 
+pub returns-clause-grows : goal.returns-clause-grows
+returns-clause-grows g t c = omega (arith, c.in_ok-parent.ensures.leaf, c.in_ok-hand.ensures.grows)
+
 pub returns-clause-ran : goal.returns-clause-ran
 returns-clause-ran g t c =
-    let laws : Laws g.S.NodeSource g.M.Summer = record { store_steps = g.met.S.NodeSource.are_steps; store_keeps = g.met.S.NodeSource.keeps; store_caused = g.met.S.NodeSource.stays_caused; summer_steps = g.met.M.Summer.are_steps; summer_keeps = g.met.M.Summer.keeps; summer_caused = g.met.M.Summer.stays_caused } in
+    let laws : Laws g.S.NodeSource g.M.Summer = record { store_steps = g.met.S.NodeSource.are_steps; store_keeps = g.met.S.NodeSource.keeps; store_caused = g.met.S.NodeSource.stays_caused; summer_steps = g.met.M.Summer.are_steps; summer_keeps = g.met.M.Summer.keeps; summer_caused = g.met.M.Summer.stays_caused; summer_asked = g.met.M.Summer.stays_asked; summer_gave = g.met.M.Summer.stays_given } in
     goes_on g.M.Unit.Item g.S.NodeSource g.M.Summer laws c.args.store.now c.put_node.new.store c.hand.new.store c.args.summer.now c.put_node.new.summer c.hand.new.summer c.in_ok-parent.ensures.ran c.in_ok-hand.ensures.ran
 
 pub returns-in_err-hand-clause-ran : goal.returns-in_err-hand-clause-ran
 returns-in_err-hand-clause-ran g t c =
-    let laws : Laws g.S.NodeSource g.M.Summer = record { store_steps = g.met.S.NodeSource.are_steps; store_keeps = g.met.S.NodeSource.keeps; store_caused = g.met.S.NodeSource.stays_caused; summer_steps = g.met.M.Summer.are_steps; summer_keeps = g.met.M.Summer.keeps; summer_caused = g.met.M.Summer.stays_caused } in
+    let laws : Laws g.S.NodeSource g.M.Summer = record { store_steps = g.met.S.NodeSource.are_steps; store_keeps = g.met.S.NodeSource.keeps; store_caused = g.met.S.NodeSource.stays_caused; summer_steps = g.met.M.Summer.are_steps; summer_keeps = g.met.M.Summer.keeps; summer_caused = g.met.M.Summer.stays_caused; summer_asked = g.met.M.Summer.stays_asked; summer_gave = g.met.M.Summer.stays_given } in
     let p = err_from_is_err_and c.from_residual-in_err-hand.result c.from_residual-in_err-hand.ensures.1 in
     ran_err g.M.Unit.Item g.S.NodeSource g.M.Summer laws _ _ _ _ c.from_residual-in_err-hand.result c.in_err-hand.field-0.0 p.0 p.2 p.1 (fails_on g.M.Unit.Item g.S.NodeSource g.M.Summer laws c.args.store.now c.put_node.new.store c.hand.new.store c.args.summer.now c.put_node.new.summer c.hand.new.summer c.in_ok-parent.ensures.ran _ c.in_err-hand.ensures.ran)
 
 pub returns-in_err-stack_row-2-clause-ran : goal.returns-in_err-stack_row-2-clause-ran
 returns-in_err-stack_row-2-clause-ran g t c =
-    let laws : Laws g.S.NodeSource g.M.Summer = record { store_steps = g.met.S.NodeSource.are_steps; store_keeps = g.met.S.NodeSource.keeps; store_caused = g.met.S.NodeSource.stays_caused; summer_steps = g.met.M.Summer.are_steps; summer_keeps = g.met.M.Summer.keeps; summer_caused = g.met.M.Summer.stays_caused } in
+    let laws : Laws g.S.NodeSource g.M.Summer = record { store_steps = g.met.S.NodeSource.are_steps; store_keeps = g.met.S.NodeSource.keeps; store_caused = g.met.S.NodeSource.stays_caused; summer_steps = g.met.M.Summer.are_steps; summer_keeps = g.met.M.Summer.keeps; summer_caused = g.met.M.Summer.stays_caused; summer_asked = g.met.M.Summer.stays_asked; summer_gave = g.met.M.Summer.stays_given } in
     let p = err_from_is_err_and c.from_residual-in_err-stack_row-2.result c.from_residual-in_err-stack_row-2.ensures.1 in
     ran_err g.M.Unit.Item g.S.NodeSource g.M.Summer laws _ _ _ _ c.from_residual-in_err-stack_row-2.result tree_fault.NoMemory p.0 p.2 p.1 (goes_on g.M.Unit.Item g.S.NodeSource g.M.Summer laws c.args.store.now c.put_node.new.store c.hand.new.store c.args.summer.now c.put_node.new.summer c.hand.new.summer c.in_ok-parent.ensures.ran c.in_ok-hand.ensures.ran)
 
@@ -225,19 +230,19 @@ returns-in_err-full-clause-filled g t c = filled_none g.M.Unit.Item _ _ (g.S.Nod
 
 pub returns-in_err-list-clause-ran : goal.returns-in_err-list-clause-ran
 returns-in_err-list-clause-ran g t c =
-    let laws : Laws g.S.NodeSource g.M.Summer = record { store_steps = g.met.S.NodeSource.are_steps; store_keeps = g.met.S.NodeSource.keeps; store_caused = g.met.S.NodeSource.stays_caused; summer_steps = g.met.M.Summer.are_steps; summer_keeps = g.met.M.Summer.keeps; summer_caused = g.met.M.Summer.stays_caused } in
+    let laws : Laws g.S.NodeSource g.M.Summer = record { store_steps = g.met.S.NodeSource.are_steps; store_keeps = g.met.S.NodeSource.keeps; store_caused = g.met.S.NodeSource.stays_caused; summer_steps = g.met.M.Summer.are_steps; summer_keeps = g.met.M.Summer.keeps; summer_caused = g.met.M.Summer.stays_caused; summer_asked = g.met.M.Summer.stays_asked; summer_gave = g.met.M.Summer.stays_given } in
     let p = err_from_is_err_and c.from_residual.result c.from_residual.ensures.1 in
     ran_err g.M.Unit.Item g.S.NodeSource g.M.Summer laws _ _ _ _ c.from_residual.result tree_fault.NoMemory p.0 p.2 p.1 (goes_none g.M.Unit.Item g.S.NodeSource g.M.Summer laws c.args.store.now c.args.summer.now)
 
 pub returns-in_err-stack_row-clause-ran : goal.returns-in_err-stack_row-clause-ran
 returns-in_err-stack_row-clause-ran g t c =
-    let laws : Laws g.S.NodeSource g.M.Summer = record { store_steps = g.met.S.NodeSource.are_steps; store_keeps = g.met.S.NodeSource.keeps; store_caused = g.met.S.NodeSource.stays_caused; summer_steps = g.met.M.Summer.are_steps; summer_keeps = g.met.M.Summer.keeps; summer_caused = g.met.M.Summer.stays_caused } in
+    let laws : Laws g.S.NodeSource g.M.Summer = record { store_steps = g.met.S.NodeSource.are_steps; store_keeps = g.met.S.NodeSource.keeps; store_caused = g.met.S.NodeSource.stays_caused; summer_steps = g.met.M.Summer.are_steps; summer_keeps = g.met.M.Summer.keeps; summer_caused = g.met.M.Summer.stays_caused; summer_asked = g.met.M.Summer.stays_asked; summer_gave = g.met.M.Summer.stays_given } in
     let p = err_from_is_err_and c.from_residual-in_err-stack_row.result c.from_residual-in_err-stack_row.ensures.1 in
     ran_err g.M.Unit.Item g.S.NodeSource g.M.Summer laws _ _ _ _ c.from_residual-in_err-stack_row.result tree_fault.NoMemory p.0 p.2 p.1 (goes_none g.M.Unit.Item g.S.NodeSource g.M.Summer laws c.args.store.now c.args.summer.now)
 
 pub returns-in_err-full-clause-ran : goal.returns-in_err-full-clause-ran
 returns-in_err-full-clause-ran g t c =
-    let laws : Laws g.S.NodeSource g.M.Summer = record { store_steps = g.met.S.NodeSource.are_steps; store_keeps = g.met.S.NodeSource.keeps; store_caused = g.met.S.NodeSource.stays_caused; summer_steps = g.met.M.Summer.are_steps; summer_keeps = g.met.M.Summer.keeps; summer_caused = g.met.M.Summer.stays_caused } in
+    let laws : Laws g.S.NodeSource g.M.Summer = record { store_steps = g.met.S.NodeSource.are_steps; store_keeps = g.met.S.NodeSource.keeps; store_caused = g.met.S.NodeSource.stays_caused; summer_steps = g.met.M.Summer.are_steps; summer_keeps = g.met.M.Summer.keeps; summer_caused = g.met.M.Summer.stays_caused; summer_asked = g.met.M.Summer.stays_asked; summer_gave = g.met.M.Summer.stays_given } in
     let p = err_from_is_err_and c.from_residual-in_err-full.result c.from_residual-in_err-full.ensures.1 in
     ran_err g.M.Unit.Item g.S.NodeSource g.M.Summer laws _ _ _ _ c.from_residual-in_err-full.result tree_fault.NoMemory p.0 p.2 p.1 (goes_none g.M.Unit.Item g.S.NodeSource g.M.Summer laws c.args.store.now c.args.summer.now)
 
@@ -284,3 +289,101 @@ returns-clause-puts g t c =
     let long : 0 < length c.pop_row-row.result = omega (arith, ap length c.in_ok-list.ensures, length-append c.pop_row-row.result (c.args.child ∷ []), c.len.ensures, c.if-len-lt40.false) in
     let less = c.pop_row-row.ensures.less long in
     omega (arith, less, c.in_ok-parent.ensures.puts, c.in_ok-hand.ensures.puts)
+
+pub returns-in_err-list-clause-sums : goal.returns-in_err-list-clause-sums
+returns-in_err-list-clause-sums g t c first had goes rows child = had_none g.M.Unit.Item g.M.Summer (Contains had) first c.args.summer.now (g.S.NodeSource.puts c.args.store.now)
+
+pub returns-in_err-stack_row-clause-sums : goal.returns-in_err-stack_row-clause-sums
+returns-in_err-stack_row-clause-sums g t c first had goes rows child = had_none g.M.Unit.Item g.M.Summer (Contains had) first c.args.summer.now (g.S.NodeSource.puts c.args.store.now)
+
+pub returns-then-len-lt40-clause-sums : goal.returns-then-len-lt40-clause-sums
+returns-then-len-lt40-clause-sums g t c first had goes rows child = had_none g.M.Unit.Item g.M.Summer (Contains had) first c.args.summer.now (g.S.NodeSource.puts c.args.store.now)
+
+pub returns-in_err-full-clause-sums : goal.returns-in_err-full-clause-sums
+returns-in_err-full-clause-sums g t c first had goes rows child = had_none g.M.Unit.Item g.M.Summer (Contains had) first c.args.summer.now (g.S.NodeSource.puts c.args.store.now)
+
+pub returns-in_err-parent-clause-sums : goal.returns-in_err-parent-clause-sums
+returns-in_err-parent-clause-sums g t c first had goes rows child =
+    let laws : Laws g.S.NodeSource g.M.Summer = record { store_steps = g.met.S.NodeSource.are_steps; store_keeps = g.met.S.NodeSource.keeps; store_caused = g.met.S.NodeSource.stays_caused; summer_steps = g.met.M.Summer.are_steps; summer_keeps = g.met.M.Summer.keeps; summer_caused = g.met.M.Summer.stays_caused; summer_asked = g.met.M.Summer.stays_asked; summer_gave = g.met.M.Summer.stays_given } in
+    let i = g.M.Unit.Item in let s = g.S.NodeSource in let m = g.M.Summer in let s0 = c.args.store.now in let u0 = c.args.summer.now in
+    let popped = rows_popped i m (Contains had) first u0 c.args.rows.now.items c.pop_row-row.new.rows.items c.pop_row-row.result c.pop_row-row.ensures.items rows in
+    let list = had_added i m (Contains had) first u0 c.pop_row-row.result c.in_ok-list.list.items c.args.child c.in_ok-list.ensures popped.1 child in
+    let cut = had_cut i m (Contains had) first u0 c.in_ok-list.list.items c.in_ok-full.full.items c.in_ok-full.rest.items c.in_ok-full.ensures.whole list in
+    let full = subst (AreHad i m (Contains had) first u0) (sym c.from_vec.ensures) cut.0 in
+    c.in_err-parent.ensures.sums first had full
+
+pub returns-in_err-hand-clause-sums : goal.returns-in_err-hand-clause-sums
+returns-in_err-hand-clause-sums g t c first had goes rows child =
+    let laws : Laws g.S.NodeSource g.M.Summer = record { store_steps = g.met.S.NodeSource.are_steps; store_keeps = g.met.S.NodeSource.keeps; store_caused = g.met.S.NodeSource.stays_caused; summer_steps = g.met.M.Summer.are_steps; summer_keeps = g.met.M.Summer.keeps; summer_caused = g.met.M.Summer.stays_caused; summer_asked = g.met.M.Summer.stays_asked; summer_gave = g.met.M.Summer.stays_given } in
+    let i = g.M.Unit.Item in let s = g.S.NodeSource in let m = g.M.Summer in let s0 = c.args.store.now in let u0 = c.args.summer.now in
+    let u1 = c.put_node.new.summer in let u2 = c.hand.new.summer in let s1 = c.put_node.new.store in let s2 = c.hand.new.store in
+    let popped = rows_popped i m (Contains had) first u0 c.args.rows.now.items c.pop_row-row.new.rows.items c.pop_row-row.result c.pop_row-row.ensures.items rows in
+    let list = had_added i m (Contains had) first u0 c.pop_row-row.result c.in_ok-list.list.items c.args.child c.in_ok-list.ensures popped.1 child in
+    let cut = had_cut i m (Contains had) first u0 c.in_ok-list.list.items c.in_ok-full.full.items c.in_ok-full.rest.items c.in_ok-full.ensures.whole list in
+    let full = subst (AreHad i m (Contains had) first u0) (sym c.from_vec.ensures) cut.0 in
+    let ran = c.in_ok-parent.ensures.ran in
+    let on = gave_goes s m laws first u0 u1 ran.summer in
+    let above = rows_on i m (Contains had) first u0 u1 on c.pop_row-row.new.rows.items popped.0 in
+    let parent = given_since s m laws first u0 u1 goes c.in_ok-parent.parent.sum c.in_ok-parent.ensures.gave in
+    let later = laws.summer_steps.both first u0 u1 goes ran.summer in
+    let one = c.in_ok-parent.ensures.sums first had full in
+    had_both i m (Contains had) first u1 u2 (gave_fails s m laws first i s1 s2 u1 u2 c.in_err-hand.field-0.0 c.in_err-hand.ensures.ran) (s.puts s0) (s.puts s1) (s.puts s2) one (c.in_err-hand.ensures.sums first had later above (inr parent))
+
+pub returns-in_err-stack_row-2-clause-sums : goal.returns-in_err-stack_row-2-clause-sums
+returns-in_err-stack_row-2-clause-sums g t c first had goes rows child =
+    let laws : Laws g.S.NodeSource g.M.Summer = record { store_steps = g.met.S.NodeSource.are_steps; store_keeps = g.met.S.NodeSource.keeps; store_caused = g.met.S.NodeSource.stays_caused; summer_steps = g.met.M.Summer.are_steps; summer_keeps = g.met.M.Summer.keeps; summer_caused = g.met.M.Summer.stays_caused; summer_asked = g.met.M.Summer.stays_asked; summer_gave = g.met.M.Summer.stays_given } in
+    let i = g.M.Unit.Item in let s = g.S.NodeSource in let m = g.M.Summer in let s0 = c.args.store.now in let u0 = c.args.summer.now in
+    let u1 = c.put_node.new.summer in let u2 = c.hand.new.summer in let s1 = c.put_node.new.store in let s2 = c.hand.new.store in
+    let popped = rows_popped i m (Contains had) first u0 c.args.rows.now.items c.pop_row-row.new.rows.items c.pop_row-row.result c.pop_row-row.ensures.items rows in
+    let list = had_added i m (Contains had) first u0 c.pop_row-row.result c.in_ok-list.list.items c.args.child c.in_ok-list.ensures popped.1 child in
+    let cut = had_cut i m (Contains had) first u0 c.in_ok-list.list.items c.in_ok-full.full.items c.in_ok-full.rest.items c.in_ok-full.ensures.whole list in
+    let full = subst (AreHad i m (Contains had) first u0) (sym c.from_vec.ensures) cut.0 in
+    let ran = c.in_ok-parent.ensures.ran in
+    let on = gave_goes s m laws first u0 u1 ran.summer in
+    let above = rows_on i m (Contains had) first u0 u1 on c.pop_row-row.new.rows.items popped.0 in
+    let parent = given_since s m laws first u0 u1 goes c.in_ok-parent.parent.sum c.in_ok-parent.ensures.gave in
+    let later = laws.summer_steps.both first u0 u1 goes ran.summer in
+    let one = c.in_ok-parent.ensures.sums first had full in
+    had_both i m (Contains had) first u1 u2 (gave_goes s m laws first u1 u2 c.in_ok-hand.ensures.ran.summer) (s.puts s0) (s.puts s1) (s.puts s2) one (c.in_ok-hand.ensures.sums first had later above (inr parent))
+
+pub returns-clause-sums : goal.returns-clause-sums
+returns-clause-sums g t c first had goes rows child =
+    let laws : Laws g.S.NodeSource g.M.Summer = record { store_steps = g.met.S.NodeSource.are_steps; store_keeps = g.met.S.NodeSource.keeps; store_caused = g.met.S.NodeSource.stays_caused; summer_steps = g.met.M.Summer.are_steps; summer_keeps = g.met.M.Summer.keeps; summer_caused = g.met.M.Summer.stays_caused; summer_asked = g.met.M.Summer.stays_asked; summer_gave = g.met.M.Summer.stays_given } in
+    let i = g.M.Unit.Item in let s = g.S.NodeSource in let m = g.M.Summer in let s0 = c.args.store.now in let u0 = c.args.summer.now in
+    let u1 = c.put_node.new.summer in let u2 = c.hand.new.summer in let s1 = c.put_node.new.store in let s2 = c.hand.new.store in
+    let popped = rows_popped i m (Contains had) first u0 c.args.rows.now.items c.pop_row-row.new.rows.items c.pop_row-row.result c.pop_row-row.ensures.items rows in
+    let list = had_added i m (Contains had) first u0 c.pop_row-row.result c.in_ok-list.list.items c.args.child c.in_ok-list.ensures popped.1 child in
+    let cut = had_cut i m (Contains had) first u0 c.in_ok-list.list.items c.in_ok-full.full.items c.in_ok-full.rest.items c.in_ok-full.ensures.whole list in
+    let full = subst (AreHad i m (Contains had) first u0) (sym c.from_vec.ensures) cut.0 in
+    let ran = c.in_ok-parent.ensures.ran in
+    let on = gave_goes s m laws first u0 u1 ran.summer in
+    let above = rows_on i m (Contains had) first u0 u1 on c.pop_row-row.new.rows.items popped.0 in
+    let parent = given_since s m laws first u0 u1 goes c.in_ok-parent.parent.sum c.in_ok-parent.ensures.gave in
+    let later = laws.summer_steps.both first u0 u1 goes ran.summer in
+    let one = c.in_ok-parent.ensures.sums first had full in
+    had_both i m (Contains had) first u1 u2 (gave_goes s m laws first u1 u2 c.in_ok-hand.ensures.ran.summer) (s.puts s0) (s.puts s1) (s.puts s2) one (c.in_ok-hand.ensures.sums first had later above (inr parent))
+
+pub returns-then-len-lt40-clause-held : goal.returns-then-len-lt40-clause-held
+returns-then-len-lt40-clause-held g t c first had goes rows child =
+    let laws : Laws g.S.NodeSource g.M.Summer = record { store_steps = g.met.S.NodeSource.are_steps; store_keeps = g.met.S.NodeSource.keeps; store_caused = g.met.S.NodeSource.stays_caused; summer_steps = g.met.M.Summer.are_steps; summer_keeps = g.met.M.Summer.keeps; summer_caused = g.met.M.Summer.stays_caused; summer_asked = g.met.M.Summer.stays_asked; summer_gave = g.met.M.Summer.stays_given } in
+    let i = g.M.Unit.Item in let s = g.S.NodeSource in let m = g.M.Summer in let s0 = c.args.store.now in let u0 = c.args.summer.now in
+    let popped = rows_popped i m (Contains had) first u0 c.args.rows.now.items c.pop_row-row.new.rows.items c.pop_row-row.result c.pop_row-row.ensures.items rows in
+    let list = had_added i m (Contains had) first u0 c.pop_row-row.result c.in_ok-list.list.items c.args.child c.in_ok-list.ensures popped.1 child in
+    rows_stacked i m (Contains had) first u0 c.pop_row-row.new.rows.items c.stack_row.new.rows.items c.in_ok-list.list.items c.in_ok-stack_row.ensures popped.0 list
+
+pub returns-clause-held : goal.returns-clause-held
+returns-clause-held g t c first had goes rows child =
+    let laws : Laws g.S.NodeSource g.M.Summer = record { store_steps = g.met.S.NodeSource.are_steps; store_keeps = g.met.S.NodeSource.keeps; store_caused = g.met.S.NodeSource.stays_caused; summer_steps = g.met.M.Summer.are_steps; summer_keeps = g.met.M.Summer.keeps; summer_caused = g.met.M.Summer.stays_caused; summer_asked = g.met.M.Summer.stays_asked; summer_gave = g.met.M.Summer.stays_given } in
+    let i = g.M.Unit.Item in let s = g.S.NodeSource in let m = g.M.Summer in let s0 = c.args.store.now in let u0 = c.args.summer.now in
+    let u1 = c.put_node.new.summer in let u2 = c.hand.new.summer in let s1 = c.put_node.new.store in let s2 = c.hand.new.store in
+    let popped = rows_popped i m (Contains had) first u0 c.args.rows.now.items c.pop_row-row.new.rows.items c.pop_row-row.result c.pop_row-row.ensures.items rows in
+    let list = had_added i m (Contains had) first u0 c.pop_row-row.result c.in_ok-list.list.items c.args.child c.in_ok-list.ensures popped.1 child in
+    let cut = had_cut i m (Contains had) first u0 c.in_ok-list.list.items c.in_ok-full.full.items c.in_ok-full.rest.items c.in_ok-full.ensures.whole list in
+    let full = subst (AreHad i m (Contains had) first u0) (sym c.from_vec.ensures) cut.0 in
+    let ran = c.in_ok-parent.ensures.ran in
+    let on = gave_goes s m laws first u0 u1 ran.summer in
+    let above = rows_on i m (Contains had) first u0 u1 on c.pop_row-row.new.rows.items popped.0 in
+    let parent = given_since s m laws first u0 u1 goes c.in_ok-parent.parent.sum c.in_ok-parent.ensures.gave in
+    let later = laws.summer_steps.both first u0 u1 goes ran.summer in
+    let rest = had_on i m (Contains had) first u1 u2 (gave_goes s m laws first u1 u2 c.in_ok-hand.ensures.ran.summer) c.in_ok-full.rest.items (had_on i m (Contains had) first u0 u1 on c.in_ok-full.rest.items cut.1) in
+    rows_stacked i m (Contains had) first u2 c.hand.new.rows.items c.stack_row-2.new.rows.items c.in_ok-full.rest.items c.in_ok-stack_row-2.ensures (c.in_ok-hand.ensures.held first had later above (inr parent)) rest

@@ -1,5 +1,7 @@
-use Rattle.std.proofs.Common.{rules, arith, inl, inr, ◌≡◌, ◌+◌, ◌<◌, ◌≤◌, ◌∙◌, ◌∷◌, [], ◌^◌, ap, sym, subst, length}
+use Rattle.std.proofs.Common.{Contains, rules, arith, inl, inr, ◌≡◌, ◌+◌, ◌<◌, ◌≤◌, ◌∙◌, ◌∷◌, [], ◌^◌, ap, sym, subst, length}
 use Rattle.std.proofs.lemmas.Bool.{cases_lt}
+use Rattle.std.proofs.lemmas.List.Elements.{All-cons, All-nil}
+use Rattle.tree_laws.specs.declared.node.Child.{Child}
 use Rattle.tree_laws.specs.declared.node.Node.TheVariants.{Inner}
 use Rattle.tree_laws.specs.declared.tree.Fill.TheVariants.{Below}
 use Rattle.tree_laws.specs.declared.tree.TreeFault.TheVariants as tree_fault
@@ -18,6 +20,8 @@ use Rattle.reduce_tree.proofs.Fills.{IsFirst, leaf_first, packed_one, packed_mor
 use Rattle.reduce_tree.proofs.Nodes.{count_cons, count_one, filled_large, has_split, large_append, large_one, split_count, split_kind, split_large}
 use Rattle.reduce_tree.proofs.Puts.{leaf_split}
 use Rattle.reduce_tree.proofs.Working.{filled_none, filled_on, filled_wider, row_puts}
+use Rattle.reduce_tree.specs.Sums.{IsSumGiven}
+use Rattle.reduce_tree.proofs.Had.{gave_fails, gave_goes, given_later, given_since, had_both, had_none, had_split, node_on}
 use Rattle.reduce_tree.proofs.builder.+pack_row.Goals as goal
 
 pub pack_row-requires : goal.pack_row-requires
@@ -53,7 +57,7 @@ returns-then-len-le32-clause-packed g t c there told =
 
 pub returns-clause-children : goal.returns-clause-children
 returns-clause-children g t c first level items known has =
-    let laws : Laws g.S.NodeSource g.M.Summer = record { store_steps = g.met.S.NodeSource.are_steps; store_keeps = g.met.S.NodeSource.keeps; store_caused = g.met.S.NodeSource.stays_caused; summer_steps = g.met.M.Summer.are_steps; summer_keeps = g.met.M.Summer.keeps; summer_caused = g.met.M.Summer.stays_caused } in
+    let laws : Laws g.S.NodeSource g.M.Summer = record { store_steps = g.met.S.NodeSource.are_steps; store_keeps = g.met.S.NodeSource.keeps; store_caused = g.met.S.NodeSource.stays_caused; summer_steps = g.met.M.Summer.are_steps; summer_keeps = g.met.M.Summer.keeps; summer_caused = g.met.M.Summer.stays_caused; summer_asked = g.met.M.Summer.stays_asked; summer_gave = g.met.M.Summer.stays_given } in
     let i = g.M.Unit.Item in
     let m = g.M.Summer in
     let s0 = c.args.store.now in
@@ -99,7 +103,7 @@ returns-clause-count g t c =
 
 pub returns-clause-packed : goal.returns-clause-packed
 returns-clause-packed g t c there told =
-    let laws : Laws g.S.NodeSource g.M.Summer = record { store_steps = g.met.S.NodeSource.are_steps; store_keeps = g.met.S.NodeSource.keeps; store_caused = g.met.S.NodeSource.stays_caused; summer_steps = g.met.M.Summer.are_steps; summer_keeps = g.met.M.Summer.keeps; summer_caused = g.met.M.Summer.stays_caused } in
+    let laws : Laws g.S.NodeSource g.M.Summer = record { store_steps = g.met.S.NodeSource.are_steps; store_keeps = g.met.S.NodeSource.keeps; store_caused = g.met.S.NodeSource.stays_caused; summer_steps = g.met.M.Summer.are_steps; summer_keeps = g.met.M.Summer.keeps; summer_caused = g.met.M.Summer.stays_caused; summer_asked = g.met.M.Summer.stays_asked; summer_gave = g.met.M.Summer.stays_given } in
     let i = g.M.Unit.Item in
     let s0 = c.args.store.now in
     let s1 = c.put_node-2.new.store in
@@ -136,18 +140,18 @@ returns-clause-usable g t c some =
 
 pub returns-clause-ran : goal.returns-clause-ran
 returns-clause-ran g t c =
-    let laws : Laws g.S.NodeSource g.M.Summer = record { store_steps = g.met.S.NodeSource.are_steps; store_keeps = g.met.S.NodeSource.keeps; store_caused = g.met.S.NodeSource.stays_caused; summer_steps = g.met.M.Summer.are_steps; summer_keeps = g.met.M.Summer.keeps; summer_caused = g.met.M.Summer.stays_caused } in
+    let laws : Laws g.S.NodeSource g.M.Summer = record { store_steps = g.met.S.NodeSource.are_steps; store_keeps = g.met.S.NodeSource.keeps; store_caused = g.met.S.NodeSource.stays_caused; summer_steps = g.met.M.Summer.are_steps; summer_keeps = g.met.M.Summer.keeps; summer_caused = g.met.M.Summer.stays_caused; summer_asked = g.met.M.Summer.stays_asked; summer_gave = g.met.M.Summer.stays_given } in
     goes_on g.M.Unit.Item g.S.NodeSource g.M.Summer laws c.args.store.now c.put_node-2.new.store c.pack_row.new.store c.args.summer.now c.put_node-2.new.summer c.pack_row.new.summer c.in_ok-first.ensures.ran c.in_ok-rest.ensures.ran
 
 pub returns-in_err-rest-clause-ran : goal.returns-in_err-rest-clause-ran
 returns-in_err-rest-clause-ran g t c =
-    let laws : Laws g.S.NodeSource g.M.Summer = record { store_steps = g.met.S.NodeSource.are_steps; store_keeps = g.met.S.NodeSource.keeps; store_caused = g.met.S.NodeSource.stays_caused; summer_steps = g.met.M.Summer.are_steps; summer_keeps = g.met.M.Summer.keeps; summer_caused = g.met.M.Summer.stays_caused } in
+    let laws : Laws g.S.NodeSource g.M.Summer = record { store_steps = g.met.S.NodeSource.are_steps; store_keeps = g.met.S.NodeSource.keeps; store_caused = g.met.S.NodeSource.stays_caused; summer_steps = g.met.M.Summer.are_steps; summer_keeps = g.met.M.Summer.keeps; summer_caused = g.met.M.Summer.stays_caused; summer_asked = g.met.M.Summer.stays_asked; summer_gave = g.met.M.Summer.stays_given } in
     let p = err_from_is_err_and c.from_residual-in_err-rest.result c.from_residual-in_err-rest.ensures.1 in
     ran_err g.M.Unit.Item g.S.NodeSource g.M.Summer laws _ _ _ _ c.from_residual-in_err-rest.result c.in_err-rest.field-0.0 p.0 p.2 p.1 (fails_on g.M.Unit.Item g.S.NodeSource g.M.Summer laws c.args.store.now c.put_node-2.new.store c.pack_row.new.store c.args.summer.now c.put_node-2.new.summer c.pack_row.new.summer c.in_ok-first.ensures.ran _ c.in_err-rest.ensures.ran)
 
 pub returns-in_err-with_first-clause-ran : goal.returns-in_err-with_first-clause-ran
 returns-in_err-with_first-clause-ran g t c =
-    let laws : Laws g.S.NodeSource g.M.Summer = record { store_steps = g.met.S.NodeSource.are_steps; store_keeps = g.met.S.NodeSource.keeps; store_caused = g.met.S.NodeSource.stays_caused; summer_steps = g.met.M.Summer.are_steps; summer_keeps = g.met.M.Summer.keeps; summer_caused = g.met.M.Summer.stays_caused } in
+    let laws : Laws g.S.NodeSource g.M.Summer = record { store_steps = g.met.S.NodeSource.are_steps; store_keeps = g.met.S.NodeSource.keeps; store_caused = g.met.S.NodeSource.stays_caused; summer_steps = g.met.M.Summer.are_steps; summer_keeps = g.met.M.Summer.keeps; summer_caused = g.met.M.Summer.stays_caused; summer_asked = g.met.M.Summer.stays_asked; summer_gave = g.met.M.Summer.stays_given } in
     let p = err_from_is_err_and c.from_residual-in_err-with_first.result c.from_residual-in_err-with_first.ensures.1 in
     ran_err g.M.Unit.Item g.S.NodeSource g.M.Summer laws _ _ _ _ c.from_residual-in_err-with_first.result tree_fault.NoMemory p.0 p.2 p.1 (goes_on g.M.Unit.Item g.S.NodeSource g.M.Summer laws c.args.store.now c.put_node-2.new.store c.pack_row.new.store c.args.summer.now c.put_node-2.new.summer c.pack_row.new.summer c.in_ok-first.ensures.ran c.in_ok-rest.ensures.ran)
 
@@ -165,7 +169,7 @@ returns-in_err-left-clause-filled g t c = filled_none g.M.Unit.Item _ _ (g.S.Nod
 
 pub returns-in_err-left-clause-ran : goal.returns-in_err-left-clause-ran
 returns-in_err-left-clause-ran g t c =
-    let laws : Laws g.S.NodeSource g.M.Summer = record { store_steps = g.met.S.NodeSource.are_steps; store_keeps = g.met.S.NodeSource.keeps; store_caused = g.met.S.NodeSource.stays_caused; summer_steps = g.met.M.Summer.are_steps; summer_keeps = g.met.M.Summer.keeps; summer_caused = g.met.M.Summer.stays_caused } in
+    let laws : Laws g.S.NodeSource g.M.Summer = record { store_steps = g.met.S.NodeSource.are_steps; store_keeps = g.met.S.NodeSource.keeps; store_caused = g.met.S.NodeSource.stays_caused; summer_steps = g.met.M.Summer.are_steps; summer_keeps = g.met.M.Summer.keeps; summer_caused = g.met.M.Summer.stays_caused; summer_asked = g.met.M.Summer.stays_asked; summer_gave = g.met.M.Summer.stays_given } in
     let p = err_from_is_err_and c.from_residual-in_err-left.result c.from_residual-in_err-left.ensures.1 in
     ran_err g.M.Unit.Item g.S.NodeSource g.M.Summer laws _ _ _ _ c.from_residual-in_err-left.result tree_fault.NoMemory p.0 p.2 p.1 (goes_none g.M.Unit.Item g.S.NodeSource g.M.Summer laws c.args.store.now c.args.summer.now)
 
@@ -211,3 +215,71 @@ returns-clause-pieces g t c =
     let most = row_puts n c.cut_at-at.result (entries c.in_ok-left.right) 0 1 (length rest + 1) long c.in_ok-left.ensures.right
     (λ s. c.cut_at-at.ensures.short (omega (arith, s, c.len-2.ensures))) (λ b. c.cut_at-at.ensures.long (omega (arith, b, c.len-2.ensures))) (omega arith) (omega (arith, c.in_ok-rest.ensures.pieces)) in
     omega (arith, all, most)
+
+pub returns-in_err-child-clause-sums : goal.returns-in_err-child-clause-sums
+returns-in_err-child-clause-sums g t c first had keeps = c.in_err-child.ensures.sums first had keeps
+
+pub returns-in_err-list_of_one-clause-sums : goal.returns-in_err-list_of_one-clause-sums
+returns-in_err-list_of_one-clause-sums g t c first had keeps = c.in_ok-child.ensures.sums first had keeps
+
+pub returns-then-len-le32-clause-sums : goal.returns-then-len-le32-clause-sums
+returns-then-len-le32-clause-sums g t c first had keeps = c.in_ok-child.ensures.sums first had keeps
+
+pub returns-in_err-left-clause-sums : goal.returns-in_err-left-clause-sums
+returns-in_err-left-clause-sums g t c first had keeps = had_none g.M.Unit.Item g.M.Summer (Contains had) first c.args.summer.now (g.S.NodeSource.puts c.args.store.now)
+
+pub returns-in_err-first-clause-sums : goal.returns-in_err-first-clause-sums
+returns-in_err-first-clause-sums g t c first had keeps =
+    let halves = had_split g.M.Unit.Item g.M.Summer (Contains had) first c.args.summer.now c.args.node c.in_ok-left.left c.in_ok-left.right c.in_ok-left.ensures.split keeps in
+    c.in_err-first.ensures.sums first had halves.0
+
+pub returns-in_err-rest-clause-sums : goal.returns-in_err-rest-clause-sums
+returns-in_err-rest-clause-sums g t c first had keeps =
+    let laws : Laws g.S.NodeSource g.M.Summer = record { store_steps = g.met.S.NodeSource.are_steps; store_keeps = g.met.S.NodeSource.keeps; store_caused = g.met.S.NodeSource.stays_caused; summer_steps = g.met.M.Summer.are_steps; summer_keeps = g.met.M.Summer.keeps; summer_caused = g.met.M.Summer.stays_caused; summer_asked = g.met.M.Summer.stays_asked; summer_gave = g.met.M.Summer.stays_given } in
+    let i = g.M.Unit.Item in let s = g.S.NodeSource in let m = g.M.Summer in let s0 = c.args.store.now in let u0 = c.args.summer.now in
+    let u1 = c.put_node-2.new.summer in let u2 = c.pack_row.new.summer in let s1 = c.put_node-2.new.store in let s2 = c.pack_row.new.store in
+    let halves = had_split i m (Contains had) first u0 c.args.node c.in_ok-left.left c.in_ok-left.right c.in_ok-left.ensures.split keeps in
+    let one = c.in_ok-first.ensures.sums first had halves.0 in
+    let on = gave_goes s m laws first u0 u1 c.in_ok-first.ensures.ran.summer in
+    let right = node_on i m (Contains had) first u0 u1 on c.in_ok-left.right halves.1 in
+    had_both i m (Contains had) first u1 u2 (gave_fails s m laws first i s1 s2 u1 u2 c.in_err-rest.field-0.0 c.in_err-rest.ensures.ran) (s.puts s0) (s.puts s1) (s.puts s2) one (c.in_err-rest.ensures.sums first had right)
+
+pub returns-in_err-with_first-clause-sums : goal.returns-in_err-with_first-clause-sums
+returns-in_err-with_first-clause-sums g t c first had keeps =
+    let laws : Laws g.S.NodeSource g.M.Summer = record { store_steps = g.met.S.NodeSource.are_steps; store_keeps = g.met.S.NodeSource.keeps; store_caused = g.met.S.NodeSource.stays_caused; summer_steps = g.met.M.Summer.are_steps; summer_keeps = g.met.M.Summer.keeps; summer_caused = g.met.M.Summer.stays_caused; summer_asked = g.met.M.Summer.stays_asked; summer_gave = g.met.M.Summer.stays_given } in
+    let i = g.M.Unit.Item in let s = g.S.NodeSource in let m = g.M.Summer in let s0 = c.args.store.now in let u0 = c.args.summer.now in
+    let u1 = c.put_node-2.new.summer in let u2 = c.pack_row.new.summer in let s1 = c.put_node-2.new.store in let s2 = c.pack_row.new.store in
+    let halves = had_split i m (Contains had) first u0 c.args.node c.in_ok-left.left c.in_ok-left.right c.in_ok-left.ensures.split keeps in
+    let one = c.in_ok-first.ensures.sums first had halves.0 in
+    let on = gave_goes s m laws first u0 u1 c.in_ok-first.ensures.ran.summer in
+    let right = node_on i m (Contains had) first u0 u1 on c.in_ok-left.right halves.1 in
+    had_both i m (Contains had) first u1 u2 (gave_goes s m laws first u1 u2 c.in_ok-rest.ensures.ran.summer) (s.puts s0) (s.puts s1) (s.puts s2) one (c.in_ok-rest.ensures.sums first had right)
+
+pub returns-clause-sums : goal.returns-clause-sums
+returns-clause-sums g t c first had keeps =
+    let laws : Laws g.S.NodeSource g.M.Summer = record { store_steps = g.met.S.NodeSource.are_steps; store_keeps = g.met.S.NodeSource.keeps; store_caused = g.met.S.NodeSource.stays_caused; summer_steps = g.met.M.Summer.are_steps; summer_keeps = g.met.M.Summer.keeps; summer_caused = g.met.M.Summer.stays_caused; summer_asked = g.met.M.Summer.stays_asked; summer_gave = g.met.M.Summer.stays_given } in
+    let i = g.M.Unit.Item in let s = g.S.NodeSource in let m = g.M.Summer in let s0 = c.args.store.now in let u0 = c.args.summer.now in
+    let u1 = c.put_node-2.new.summer in let u2 = c.pack_row.new.summer in let s1 = c.put_node-2.new.store in let s2 = c.pack_row.new.store in
+    let halves = had_split i m (Contains had) first u0 c.args.node c.in_ok-left.left c.in_ok-left.right c.in_ok-left.ensures.split keeps in
+    let one = c.in_ok-first.ensures.sums first had halves.0 in
+    let on = gave_goes s m laws first u0 u1 c.in_ok-first.ensures.ran.summer in
+    let right = node_on i m (Contains had) first u0 u1 on c.in_ok-left.right halves.1 in
+    had_both i m (Contains had) first u1 u2 (gave_goes s m laws first u1 u2 c.in_ok-rest.ensures.ran.summer) (s.puts s0) (s.puts s1) (s.puts s2) one (c.in_ok-rest.ensures.sums first had right)
+
+pub returns-then-len-le32-clause-given : goal.returns-then-len-le32-clause-given
+returns-then-len-le32-clause-given g t c first goes =
+    let laws : Laws g.S.NodeSource g.M.Summer = record { store_steps = g.met.S.NodeSource.are_steps; store_keeps = g.met.S.NodeSource.keeps; store_caused = g.met.S.NodeSource.stays_caused; summer_steps = g.met.M.Summer.are_steps; summer_keeps = g.met.M.Summer.keeps; summer_caused = g.met.M.Summer.stays_caused; summer_asked = g.met.M.Summer.stays_asked; summer_gave = g.met.M.Summer.stays_given } in
+    let i = g.M.Unit.Item in let s = g.S.NodeSource in let m = g.M.Summer in let s0 = c.args.store.now in let u0 = c.args.summer.now in
+    let u1 = c.put_node.new.summer in
+    let P : Child _ → Type 0 = λ d. IsSumGiven m first u1 d.sum in
+    rw c.in_ok-list_of_one.ensures (All-cons P c.in_ok-child.child [] (given_since s m laws first u0 u1 goes c.in_ok-child.child.sum c.in_ok-child.ensures.gave) (All-nil P))
+
+pub returns-clause-given : goal.returns-clause-given
+returns-clause-given g t c first goes =
+    let laws : Laws g.S.NodeSource g.M.Summer = record { store_steps = g.met.S.NodeSource.are_steps; store_keeps = g.met.S.NodeSource.keeps; store_caused = g.met.S.NodeSource.stays_caused; summer_steps = g.met.M.Summer.are_steps; summer_keeps = g.met.M.Summer.keeps; summer_caused = g.met.M.Summer.stays_caused; summer_asked = g.met.M.Summer.stays_asked; summer_gave = g.met.M.Summer.stays_given } in
+    let i = g.M.Unit.Item in let s = g.S.NodeSource in let m = g.M.Summer in let s0 = c.args.store.now in let u0 = c.args.summer.now in
+    let u1 = c.put_node-2.new.summer in let u2 = c.pack_row.new.summer in let s1 = c.put_node-2.new.store in let s2 = c.pack_row.new.store in
+    let P : Child _ → Type 0 = λ d. IsSumGiven m first u2 d.sum in
+    let ran = c.in_ok-first.ensures.ran in
+    let one = given_later s m laws first u1 u2 c.in_ok-rest.ensures.ran.summer c.in_ok-first.first.sum (given_since s m laws first u0 u1 goes c.in_ok-first.first.sum c.in_ok-first.ensures.gave) in
+    rw c.in_ok-with_first.ensures (All-cons P c.in_ok-first.first c.in_ok-rest.rest.items one (c.in_ok-rest.ensures.given first (laws.summer_steps.both first u0 u1 goes ran.summer)))

@@ -1,4 +1,4 @@
-use Rattle.std.proofs.Common.{rules, arith, ◌⊎◌, inl, inr, ◌≡◌, ◌≤◌, ◌<◌, ◌+◌, ◌-◌, ◌∙◌, ◌∷◌, ◌++◌, [], ◌^◌, ap, sym, refl, subst, length, append_assoc, length-append}
+use Rattle.std.proofs.Common.{Contains, rules, arith, ◌⊎◌, inl, inr, ◌≡◌, ◌≤◌, ◌<◌, ◌+◌, ◌-◌, ◌∙◌, ◌∷◌, ◌++◌, [], ◌^◌, ap, sym, refl, subst, length, append_assoc, length-append}
 use Rattle.tree_laws.specs.declared.node.Node.TheVariants.{Inner, Leaf}
 use Rattle.tree_laws.specs.Fitting.{AreLarge, item_count}
 use Rattle.tree_laws.specs.Nodes.{entries, spelled_node}
@@ -16,6 +16,8 @@ use Rattle.reduce_tree.proofs.Nodes.{above_at_level, count_append, has_children,
 use Rattle.reduce_tree.proofs.Puts.{less_or}
 use Rattle.reduce_tree.proofs.Stacks.{items_pop, none_row, popped, rows_pop, stacked_stays}
 use Rattle.reduce_tree.proofs.Working.{filled_on, filled_same, packed_below, packed_on, packed_top, refused_on, refused_sure, rise_puts}
+use Rattle.reduce_tree.specs.Sums.{AreHad}
+use Rattle.reduce_tree.proofs.Had.{gave_fails, gave_goes, had_append, had_both, had_given, rows_on, rows_popped}
 use Rattle.reduce_tree.proofs.builder.+rise.Goals as goal
 
 pub pack_row-requires-clause-least : goal.pack_row-requires-clause-least
@@ -75,7 +77,7 @@ returns-then-fits_root-clause-count g t c =
 
 pub returns-clause-root : goal.returns-clause-root
 returns-clause-root g t c first xs ys known st has =
-    let laws : Laws g.S.NodeSource g.M.Summer = record { store_steps = g.met.S.NodeSource.are_steps; store_keeps = g.met.S.NodeSource.keeps; store_caused = g.met.S.NodeSource.stays_caused; summer_steps = g.met.M.Summer.are_steps; summer_keeps = g.met.M.Summer.keeps; summer_caused = g.met.M.Summer.stays_caused } in
+    let laws : Laws g.S.NodeSource g.M.Summer = record { store_steps = g.met.S.NodeSource.are_steps; store_keeps = g.met.S.NodeSource.keeps; store_caused = g.met.S.NodeSource.stays_caused; summer_steps = g.met.M.Summer.are_steps; summer_keeps = g.met.M.Summer.keeps; summer_caused = g.met.M.Summer.stays_caused; summer_asked = g.met.M.Summer.stays_asked; summer_gave = g.met.M.Summer.stays_given } in
     let i = g.M.Unit.Item in
     let m = g.M.Summer in
     let s0 = c.args.store.now in
@@ -116,7 +118,7 @@ returns-clause-count g t c =
 
 pub returns-clause-leaf : goal.returns-clause-leaf
 returns-clause-leaf g t c there given ws above own more told is some cut climbs =
-    let laws : Laws g.S.NodeSource g.M.Summer = record { store_steps = g.met.S.NodeSource.are_steps; store_keeps = g.met.S.NodeSource.keeps; store_caused = g.met.S.NodeSource.stays_caused; summer_steps = g.met.M.Summer.are_steps; summer_keeps = g.met.M.Summer.keeps; summer_caused = g.met.M.Summer.stays_caused } in
+    let laws : Laws g.S.NodeSource g.M.Summer = record { store_steps = g.met.S.NodeSource.are_steps; store_keeps = g.met.S.NodeSource.keeps; store_caused = g.met.S.NodeSource.stays_caused; summer_steps = g.met.M.Summer.are_steps; summer_keeps = g.met.M.Summer.keeps; summer_caused = g.met.M.Summer.stays_caused; summer_asked = g.met.M.Summer.stays_asked; summer_gave = g.met.M.Summer.stays_given } in
     let i = g.M.Unit.Item in
     let m = g.M.Summer in
     let s0 = c.args.store.now in
@@ -181,7 +183,7 @@ returns-then-fits_root-clause-leaf g t c there given ws above own more told is s
 
 pub returns-clause-inner : goal.returns-clause-inner
 returns-clause-inner g t c there given ws above own more told is some cut climbs =
-    let laws : Laws g.S.NodeSource g.M.Summer = record { store_steps = g.met.S.NodeSource.are_steps; store_keeps = g.met.S.NodeSource.keeps; store_caused = g.met.S.NodeSource.stays_caused; summer_steps = g.met.M.Summer.are_steps; summer_keeps = g.met.M.Summer.keeps; summer_caused = g.met.M.Summer.stays_caused } in
+    let laws : Laws g.S.NodeSource g.M.Summer = record { store_steps = g.met.S.NodeSource.are_steps; store_keeps = g.met.S.NodeSource.keeps; store_caused = g.met.S.NodeSource.stays_caused; summer_steps = g.met.M.Summer.are_steps; summer_keeps = g.met.M.Summer.keeps; summer_caused = g.met.M.Summer.stays_caused; summer_asked = g.met.M.Summer.stays_asked; summer_gave = g.met.M.Summer.stays_given } in
     let i = g.M.Unit.Item in
     let m = g.M.Summer in
     let s0 = c.args.store.now in
@@ -261,12 +263,12 @@ returns-clause-usable g t c some = c.in_ok-placed.ensures.usable some
 
 pub returns-clause-ran : goal.returns-clause-ran
 returns-clause-ran g t c =
-    let laws : Laws g.S.NodeSource g.M.Summer = record { store_steps = g.met.S.NodeSource.are_steps; store_keeps = g.met.S.NodeSource.keeps; store_caused = g.met.S.NodeSource.stays_caused; summer_steps = g.met.M.Summer.are_steps; summer_keeps = g.met.M.Summer.keeps; summer_caused = g.met.M.Summer.stays_caused } in
+    let laws : Laws g.S.NodeSource g.M.Summer = record { store_steps = g.met.S.NodeSource.are_steps; store_keeps = g.met.S.NodeSource.keeps; store_caused = g.met.S.NodeSource.stays_caused; summer_steps = g.met.M.Summer.are_steps; summer_keeps = g.met.M.Summer.keeps; summer_caused = g.met.M.Summer.stays_caused; summer_asked = g.met.M.Summer.stays_asked; summer_gave = g.met.M.Summer.stays_given } in
     goes_on g.M.Unit.Item g.S.NodeSource g.M.Summer laws c.args.store.now c.pack_row.new.store c.rise.new.store c.args.summer.now c.pack_row.new.summer c.rise.new.summer c.in_ok-placed.ensures.ran c.in_ok-tree-2.ensures.ran
 
 pub returns-in_err-tree-2-clause-ran : goal.returns-in_err-tree-2-clause-ran
 returns-in_err-tree-2-clause-ran g t c =
-    let laws : Laws g.S.NodeSource g.M.Summer = record { store_steps = g.met.S.NodeSource.are_steps; store_keeps = g.met.S.NodeSource.keeps; store_caused = g.met.S.NodeSource.stays_caused; summer_steps = g.met.M.Summer.are_steps; summer_keeps = g.met.M.Summer.keeps; summer_caused = g.met.M.Summer.stays_caused } in
+    let laws : Laws g.S.NodeSource g.M.Summer = record { store_steps = g.met.S.NodeSource.are_steps; store_keeps = g.met.S.NodeSource.keeps; store_caused = g.met.S.NodeSource.stays_caused; summer_steps = g.met.M.Summer.are_steps; summer_keeps = g.met.M.Summer.keeps; summer_caused = g.met.M.Summer.stays_caused; summer_asked = g.met.M.Summer.stays_asked; summer_gave = g.met.M.Summer.stays_given } in
     let p = err_from_is_err_and c.from_residual-in_err-tree-2.result c.from_residual-in_err-tree-2.ensures.1 in
     ran_err g.M.Unit.Item g.S.NodeSource g.M.Summer laws _ _ _ _ c.from_residual-in_err-tree-2.result c.in_err-tree-2.field-0.0 p.0 p.2 p.1 (fails_on g.M.Unit.Item g.S.NodeSource g.M.Summer laws c.args.store.now c.pack_row.new.store c.rise.new.store c.args.summer.now c.pack_row.new.summer c.rise.new.summer c.in_ok-placed.ensures.ran _ c.in_err-tree-2.ensures.ran)
 
@@ -350,3 +352,49 @@ returns-in_err-tree-2-clause-refused g t c =
     let p = err_from_is_err_and c.from_residual-in_err-tree-2.result c.from_residual-in_err-tree-2.ensures.1 in
     refused_on _ _ c.from_residual-in_err-tree-2.result c.in_err-tree-2.field-0.0 p.0 p.2 p.1
     (λ h. filled_on g.M.Unit.Item 8 32 (g.S.NodeSource.puts c.args.store.now) (g.S.NodeSource.puts c.pack_row.new.store) (g.S.NodeSource.puts c.rise.new.store) c.in_ok-placed.ensures.filled h) c.in_err-tree-2.ensures.refused
+
+pub returns-in_err-tree-clause-sums : goal.returns-in_err-tree-clause-sums
+returns-in_err-tree-clause-sums g t c first had goes rows keeps = c.in_err-tree.ensures.sums first had keeps
+
+pub returns-then-fits_root-clause-sums : goal.returns-then-fits_root-clause-sums
+returns-then-fits_root-clause-sums g t c first had goes rows keeps = c.in_ok-tree.ensures.sums first had keeps
+
+pub returns-in_err-placed-clause-sums : goal.returns-in_err-placed-clause-sums
+returns-in_err-placed-clause-sums g t c first had goes rows keeps = c.in_err-placed.ensures.sums first had keeps
+
+pub returns-in_err-add_all-clause-sums : goal.returns-in_err-add_all-clause-sums
+returns-in_err-add_all-clause-sums g t c first had goes rows keeps = c.in_ok-placed.ensures.sums first had keeps
+
+pub returns-in_err-tree-2-clause-sums : goal.returns-in_err-tree-2-clause-sums
+returns-in_err-tree-2-clause-sums g t c first had goes rows keeps =
+    let laws : Laws g.S.NodeSource g.M.Summer = record { store_steps = g.met.S.NodeSource.are_steps; store_keeps = g.met.S.NodeSource.keeps; store_caused = g.met.S.NodeSource.stays_caused; summer_steps = g.met.M.Summer.are_steps; summer_keeps = g.met.M.Summer.keeps; summer_caused = g.met.M.Summer.stays_caused; summer_asked = g.met.M.Summer.stays_asked; summer_gave = g.met.M.Summer.stays_given } in
+    let i = g.M.Unit.Item in let s = g.S.NodeSource in let m = g.M.Summer in let s0 = c.args.store.now in let u0 = c.args.summer.now in
+    let u1 = c.pack_row.new.summer in let u2 = c.rise.new.summer in let s1 = c.pack_row.new.store in let s2 = c.rise.new.store in
+    let ran = c.in_ok-placed.ensures.ran in
+    let on = gave_goes s m laws first u0 u1 ran.summer in
+    let placed = c.in_ok-placed.placed.items in
+    let row = c.pop_row-row.result in
+    let popped = rows_popped i m (Contains had) first u1 c.args.rows.items c.pop_row-row.new.rows.items row c.pop_row-row.ensures.items (rows_on i m (Contains had) first u0 u1 on c.args.rows.items rows) in
+    let own = had_given i m (Contains had) first u1 placed (c.in_ok-placed.ensures.given first goes) in
+    let list : c.from_vec.result ≡ row ++ placed = c.from_vec.ensures ∙ c.in_ok-add_all.ensures ∙ ap (λ r. r ++ placed) c.into_vec-list.ensures in
+    let all = subst (AreHad i m (Contains had) first u1) (sym list) (had_append i m (Contains had) first u1 row placed popped.1 own) in
+    let later = laws.summer_steps.both first u0 u1 goes ran.summer in
+    let one = c.in_ok-placed.ensures.sums first had keeps in
+    had_both i m (Contains had) first u1 u2 (gave_fails s m laws first i s1 s2 u1 u2 c.in_err-tree-2.field-0.0 c.in_err-tree-2.ensures.ran) (s.puts s0) (s.puts s1) (s.puts s2) one (c.in_err-tree-2.ensures.sums first had later popped.0 all)
+
+pub returns-clause-sums : goal.returns-clause-sums
+returns-clause-sums g t c first had goes rows keeps =
+    let laws : Laws g.S.NodeSource g.M.Summer = record { store_steps = g.met.S.NodeSource.are_steps; store_keeps = g.met.S.NodeSource.keeps; store_caused = g.met.S.NodeSource.stays_caused; summer_steps = g.met.M.Summer.are_steps; summer_keeps = g.met.M.Summer.keeps; summer_caused = g.met.M.Summer.stays_caused; summer_asked = g.met.M.Summer.stays_asked; summer_gave = g.met.M.Summer.stays_given } in
+    let i = g.M.Unit.Item in let s = g.S.NodeSource in let m = g.M.Summer in let s0 = c.args.store.now in let u0 = c.args.summer.now in
+    let u1 = c.pack_row.new.summer in let u2 = c.rise.new.summer in let s1 = c.pack_row.new.store in let s2 = c.rise.new.store in
+    let ran = c.in_ok-placed.ensures.ran in
+    let on = gave_goes s m laws first u0 u1 ran.summer in
+    let placed = c.in_ok-placed.placed.items in
+    let row = c.pop_row-row.result in
+    let popped = rows_popped i m (Contains had) first u1 c.args.rows.items c.pop_row-row.new.rows.items row c.pop_row-row.ensures.items (rows_on i m (Contains had) first u0 u1 on c.args.rows.items rows) in
+    let own = had_given i m (Contains had) first u1 placed (c.in_ok-placed.ensures.given first goes) in
+    let list : c.from_vec.result ≡ row ++ placed = c.from_vec.ensures ∙ c.in_ok-add_all.ensures ∙ ap (λ r. r ++ placed) c.into_vec-list.ensures in
+    let all = subst (AreHad i m (Contains had) first u1) (sym list) (had_append i m (Contains had) first u1 row placed popped.1 own) in
+    let later = laws.summer_steps.both first u0 u1 goes ran.summer in
+    let one = c.in_ok-placed.ensures.sums first had keeps in
+    had_both i m (Contains had) first u1 u2 (gave_goes s m laws first u1 u2 c.in_ok-tree-2.ensures.ran.summer) (s.puts s0) (s.puts s1) (s.puts s2) one (c.in_ok-tree-2.ensures.sums first had later popped.0 all)

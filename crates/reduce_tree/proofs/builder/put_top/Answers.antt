@@ -1,4 +1,4 @@
-use Rattle.std.proofs.Common.{◌≡◌, refl, sym, arith}
+use Rattle.std.proofs.Common.{Contains, ◌≡◌, refl, sym, arith}
 use Rattle.tree_laws.specs.declared.tree.Fill.TheVariants.{Root}
 use Rattle.tree_laws.specs.Nodes.{entries}
 use Rattle.reduce_tree.specs.Calls.{places}
@@ -9,6 +9,7 @@ use Rattle.reduce_tree.proofs.Nodes.{has_none, none_counted, none_from_test, roo
 use Rattle.reduce_tree.proofs.Puts.{leaf_none}
 use Rattle.std.proofs.lemmas.Result.{err_from_is_err_and}
 use Rattle.reduce_tree.proofs.Working.{filled_none, filled_wider, refused_on}
+use Rattle.reduce_tree.proofs.Had.{had_none}
 use Rattle.reduce_tree.proofs.builder.put_top.Goals as goal
 
 pub returns-then-is_empty-clause-root : goal.returns-then-is_empty-clause-root
@@ -56,7 +57,7 @@ returns-then-is_empty-clause-usable g c s =
 
 pub returns-then-is_empty-clause-ran : goal.returns-then-is_empty-clause-ran
 returns-then-is_empty-clause-ran g c =
-    let laws : Laws g.S.NodeSource g.M.Summer = record { store_steps = g.met.S.NodeSource.are_steps; store_keeps = g.met.S.NodeSource.keeps; store_caused = g.met.S.NodeSource.stays_caused; summer_steps = g.met.M.Summer.are_steps; summer_keeps = g.met.M.Summer.keeps; summer_caused = g.met.M.Summer.stays_caused } in
+    let laws : Laws g.S.NodeSource g.M.Summer = record { store_steps = g.met.S.NodeSource.are_steps; store_keeps = g.met.S.NodeSource.keeps; store_caused = g.met.S.NodeSource.stays_caused; summer_steps = g.met.M.Summer.are_steps; summer_keeps = g.met.M.Summer.keeps; summer_caused = g.met.M.Summer.stays_caused; summer_asked = g.met.M.Summer.stays_asked; summer_gave = g.met.M.Summer.stays_given } in
     goes_none g.M.Unit.Item g.S.NodeSource g.M.Summer laws c.args.store.now c.args.summer.now
 
 pub put_node-requires-clause-some : goal.put_node-requires-clause-some
@@ -90,3 +91,12 @@ pub returns-in_err-top-clause-refused : goal.returns-in_err-top-clause-refused
 returns-in_err-top-clause-refused g c =
     let p = err_from_is_err_and c.from_residual.result c.from_residual.ensures.1 in
     refused_on _ _ c.from_residual.result c.in_err-top.field-0.0 p.0 p.2 p.1 (λ e. e) c.in_err-top.ensures.refused
+
+pub returns-then-is_empty-clause-sums : goal.returns-then-is_empty-clause-sums
+returns-then-is_empty-clause-sums g c first had keeps = had_none g.M.Unit.Item g.M.Summer (Contains had) first c.args.summer.now (g.S.NodeSource.puts c.args.store.now)
+
+pub returns-in_err-top-clause-sums : goal.returns-in_err-top-clause-sums
+returns-in_err-top-clause-sums g c first had keeps = c.in_err-top.ensures.sums first had keeps
+
+pub returns-clause-sums : goal.returns-clause-sums
+returns-clause-sums g c first had keeps = c.in_ok-top.ensures.sums first had keeps

@@ -1,8 +1,8 @@
+use Rattle.tree_laws.specs.SummerTrees.{IsUnread}
 use Rattle.std.proofs.Common.{All, refl, subst, sym, arith}
 use Rattle.std.proofs.lemmas.List.{take_all}
 use Rattle.std.proofs.lemmas.List.Elements.{All-more}
 use Rattle.tree_laws.specs.declared.node.Child.{Child}
-use Rattle.reduce_tree.specs.Calls.{IsUnread}
 use Rattle.reduce_tree.proofs.fetch.sums_are_read.Goals as goal
 
 pub returns-then-bad-clause-bad : goal.returns-then-bad-clause-bad

@@ -1,5 +1,5 @@
+use Rattle.tree_laws.specs.SummerTrees.{IsUnread}
 use Rattle.std.proofs.Common.{take, All}
-use Rattle.reduce_tree.specs.Calls.{IsUnread}
 use Rattle.reduce_tree.proofs.fetch.sums_are_read.Given as goal
 
 abbrev pub invariant-loop-child : goal.invariant-loop-child

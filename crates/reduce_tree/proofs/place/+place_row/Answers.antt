@@ -1,4 +1,5 @@
 use Rattle.std.proofs.Common.{arith, ◌≡◌, ◌+◌, ◌∙◌, ap, Contains, subst, refl, ◌-◌}
+use Rattle.tree_laws.specs.declared.node.Child.{Child}
 use Rattle.tree_laws.specs.declared.node.Node.TheVariants.{Inner}
 use Rattle.tree_laws.specs.Fitting.{item_count}
 use Rattle.tree_laws.specs.SummerTrees.{Stands}
@@ -9,19 +10,21 @@ use Rattle.std.proofs.lemmas.Result.{err_from_is_err_and}
 use Rattle.reduce_tree.proofs.Calls.{Laws, ran_err, extends_on, fails_on, goes_on, known_on, goes_none, on_err}
 use Rattle.reduce_tree.proofs.Nodes.{count_append, has_split, large_append, split_count, split_kind, split_large}
 use Rattle.reduce_tree.proofs.Puts.{leaf_split, put_two}
-use Rattle.reduce_tree.proofs.Pieces.{pieces_on, were_none, were_done, were_on, on_match}
+use Rattle.reduce_tree.proofs.Pieces.{pieces_on, were_on, on_match, pieces_none}
 use Rattle.reduce_tree.proofs.Quiet.{all_front, all_back}
 use Rattle.reduce_tree.specs.Pieces.{AreAmong}
 use Rattle.tree_laws.specs.declared.tree.Fill.TheVariants.{Below}
 use Rattle.tree_laws.specs.declared.tree.TreeFault.TheVariants as tree_fault
 use Rattle.reduce_tree.proofs.Given.{all_on, row_on, under_on, each_split}
 use Rattle.reduce_tree.specs.Given.{Given}
-use Rattle.std.proofs.lemmas.List.Elements.{All-append}
+use Rattle.std.proofs.lemmas.List.Elements.{All-append, All-weaker}
+use Rattle.reduce_tree.specs.Sums.{IsSumGiven, IsSumRead}
+use Rattle.reduce_tree.proofs.Had.{given_later, had_none, had_split, node_goes, known_goes, known_fails}
 use Rattle.reduce_tree.proofs.place.+place_row.Goals as goal
 
 pub returns-clause-children : goal.returns-clause-children
 returns-clause-children g t c first level items known has =
-    let laws : Laws g.S.NodeSource g.M.Summer = record { store_steps = g.met.S.NodeSource.are_steps; store_keeps = g.met.S.NodeSource.keeps; store_caused = g.met.S.NodeSource.stays_caused; summer_steps = g.met.M.Summer.are_steps; summer_keeps = g.met.M.Summer.keeps; summer_caused = g.met.M.Summer.stays_caused } in
+    let laws : Laws g.S.NodeSource g.M.Summer = record { store_steps = g.met.S.NodeSource.are_steps; store_keeps = g.met.S.NodeSource.keeps; store_caused = g.met.S.NodeSource.stays_caused; summer_steps = g.met.M.Summer.are_steps; summer_keeps = g.met.M.Summer.keeps; summer_caused = g.met.M.Summer.stays_caused; summer_asked = g.met.M.Summer.stays_asked; summer_gave = g.met.M.Summer.stays_given } in
     let i = g.M.Unit.Item in
     let m = g.M.Summer in
     let s0 = c.args.store.now in
@@ -58,12 +61,12 @@ returns-clause-count g t c =
 
 pub returns-clause-ran : goal.returns-clause-ran
 returns-clause-ran g t c =
-    let laws : Laws g.S.NodeSource g.M.Summer = record { store_steps = g.met.S.NodeSource.are_steps; store_keeps = g.met.S.NodeSource.keeps; store_caused = g.met.S.NodeSource.stays_caused; summer_steps = g.met.M.Summer.are_steps; summer_keeps = g.met.M.Summer.keeps; summer_caused = g.met.M.Summer.stays_caused } in
+    let laws : Laws g.S.NodeSource g.M.Summer = record { store_steps = g.met.S.NodeSource.are_steps; store_keeps = g.met.S.NodeSource.keeps; store_caused = g.met.S.NodeSource.stays_caused; summer_steps = g.met.M.Summer.are_steps; summer_keeps = g.met.M.Summer.keeps; summer_caused = g.met.M.Summer.stays_caused; summer_asked = g.met.M.Summer.stays_asked; summer_gave = g.met.M.Summer.stays_given } in
     goes_on g.M.Unit.Item g.S.NodeSource g.M.Summer laws c.args.store.now c.place_row.new.store c.place_row-2.new.store c.args.summer.now c.place_row.new.summer c.place_row-2.new.summer c.in_ok-front.ensures.ran c.in_ok-back.ensures.ran
 
 pub returns-in_err-back-clause-ran : goal.returns-in_err-back-clause-ran
 returns-in_err-back-clause-ran g t c =
-    let laws : Laws g.S.NodeSource g.M.Summer = record { store_steps = g.met.S.NodeSource.are_steps; store_keeps = g.met.S.NodeSource.keeps; store_caused = g.met.S.NodeSource.stays_caused; summer_steps = g.met.M.Summer.are_steps; summer_keeps = g.met.M.Summer.keeps; summer_caused = g.met.M.Summer.stays_caused } in
+    let laws : Laws g.S.NodeSource g.M.Summer = record { store_steps = g.met.S.NodeSource.are_steps; store_keeps = g.met.S.NodeSource.keeps; store_caused = g.met.S.NodeSource.stays_caused; summer_steps = g.met.M.Summer.are_steps; summer_keeps = g.met.M.Summer.keeps; summer_caused = g.met.M.Summer.stays_caused; summer_asked = g.met.M.Summer.stays_asked; summer_gave = g.met.M.Summer.stays_given } in
     let p = err_from_is_err_and c.from_residual-in_err-back.result c.from_residual-in_err-back.ensures.1 in
     ran_err g.M.Unit.Item g.S.NodeSource g.M.Summer laws _ _ _ _ c.from_residual-in_err-back.result c.in_err-back.field-0.0 p.0 p.2 p.1 (fails_on g.M.Unit.Item g.S.NodeSource g.M.Summer laws c.args.store.now c.place_row.new.store c.place_row-2.new.store c.args.summer.now c.place_row.new.summer c.place_row-2.new.summer c.in_ok-front.ensures.ran _ c.in_err-back.ensures.ran)
 
@@ -75,7 +78,7 @@ returns-clause-leaf g t c =
 
 pub returns-clause-pieces : goal.returns-clause-pieces
 returns-clause-pieces g t c first level items among known has all =
-    let laws : Laws g.S.NodeSource g.M.Summer = record { store_steps = g.met.S.NodeSource.are_steps; store_keeps = g.met.S.NodeSource.keeps; store_caused = g.met.S.NodeSource.stays_caused; summer_steps = g.met.M.Summer.are_steps; summer_keeps = g.met.M.Summer.keeps; summer_caused = g.met.M.Summer.stays_caused } in
+    let laws : Laws g.S.NodeSource g.M.Summer = record { store_steps = g.met.S.NodeSource.are_steps; store_keeps = g.met.S.NodeSource.keeps; store_caused = g.met.S.NodeSource.stays_caused; summer_steps = g.met.M.Summer.are_steps; summer_keeps = g.met.M.Summer.keeps; summer_caused = g.met.M.Summer.stays_caused; summer_asked = g.met.M.Summer.stays_asked; summer_gave = g.met.M.Summer.stays_given } in
     let i = g.M.Unit.Item in
     let m = g.M.Summer in
     let s0 = c.args.store.now in
@@ -99,13 +102,13 @@ returns-clause-pieces g t c first level items among known has all =
 
 pub returns-in_err-left-clause-ran : goal.returns-in_err-left-clause-ran
 returns-in_err-left-clause-ran g t c =
-    let laws : Laws g.S.NodeSource g.M.Summer = record { store_steps = g.met.S.NodeSource.are_steps; store_keeps = g.met.S.NodeSource.keeps; store_caused = g.met.S.NodeSource.stays_caused; summer_steps = g.met.M.Summer.are_steps; summer_keeps = g.met.M.Summer.keeps; summer_caused = g.met.M.Summer.stays_caused } in
+    let laws : Laws g.S.NodeSource g.M.Summer = record { store_steps = g.met.S.NodeSource.are_steps; store_keeps = g.met.S.NodeSource.keeps; store_caused = g.met.S.NodeSource.stays_caused; summer_steps = g.met.M.Summer.are_steps; summer_keeps = g.met.M.Summer.keeps; summer_caused = g.met.M.Summer.stays_caused; summer_asked = g.met.M.Summer.stays_asked; summer_gave = g.met.M.Summer.stays_given } in
     let p = err_from_is_err_and c.from_residual-in_err-left.result c.from_residual-in_err-left.ensures.1 in
     ran_err g.M.Unit.Item g.S.NodeSource g.M.Summer laws _ _ _ _ c.from_residual-in_err-left.result tree_fault.NoMemory p.0 p.2 p.1 (goes_none g.M.Unit.Item g.S.NodeSource g.M.Summer laws c.args.store.now c.args.summer.now)
 
 pub returns-in_err-add_all-clause-ran : goal.returns-in_err-add_all-clause-ran
 returns-in_err-add_all-clause-ran g t c =
-    let laws : Laws g.S.NodeSource g.M.Summer = record { store_steps = g.met.S.NodeSource.are_steps; store_keeps = g.met.S.NodeSource.keeps; store_caused = g.met.S.NodeSource.stays_caused; summer_steps = g.met.M.Summer.are_steps; summer_keeps = g.met.M.Summer.keeps; summer_caused = g.met.M.Summer.stays_caused } in
+    let laws : Laws g.S.NodeSource g.M.Summer = record { store_steps = g.met.S.NodeSource.are_steps; store_keeps = g.met.S.NodeSource.keeps; store_caused = g.met.S.NodeSource.stays_caused; summer_steps = g.met.M.Summer.are_steps; summer_keeps = g.met.M.Summer.keeps; summer_caused = g.met.M.Summer.stays_caused; summer_asked = g.met.M.Summer.stays_asked; summer_gave = g.met.M.Summer.stays_given } in
     let p = err_from_is_err_and c.from_residual-in_err-add_all.result c.from_residual-in_err-add_all.ensures.1 in
     ran_err g.M.Unit.Item g.S.NodeSource g.M.Summer laws _ _ _ _ c.from_residual-in_err-add_all.result tree_fault.NoMemory p.0 p.2 p.1 (goes_on g.M.Unit.Item g.S.NodeSource g.M.Summer laws c.args.store.now c.place_row.new.store c.place_row-2.new.store c.args.summer.now c.place_row.new.summer c.place_row-2.new.summer c.in_ok-front.ensures.ran c.in_ok-back.ensures.ran)
 
@@ -149,7 +152,7 @@ returns-in_err-whole-clause-pieces g t c first level items among known has all =
 pub returns-in_err-left-clause-pieces : goal.returns-in_err-left-clause-pieces
 returns-in_err-left-clause-pieces g t c first level items among known has all =
     let p = err_from_is_err_and c.from_residual-in_err-left.result c.from_residual-in_err-left.ensures.1 in
-    on_match c.from_residual-in_err-left.result _ _ _ p.0 p.2 p.1 (were_none g.M.Unit.Item g.M.Summer first among (places (g.S.NodeSource.nodes c.args.store.now)) _ (g.S.NodeSource.puts c.args.store.now) (g.S.NodeSource.puts c.args.store.now) refl)
+    on_match c.from_residual-in_err-left.result _ _ tree_fault.NoMemory p.0 p.2 p.1 (pieces_none g.M.Unit.Item g.M.Summer first among (places (g.S.NodeSource.nodes c.args.store.now)) Below (g.S.NodeSource.puts c.args.store.now) (g.S.NodeSource.puts c.args.store.now) refl)
 
 pub returns-in_err-front-clause-pieces : goal.returns-in_err-front-clause-pieces
 returns-in_err-front-clause-pieces g t c first level items among known has all =
@@ -167,7 +170,7 @@ returns-in_err-front-clause-pieces g t c first level items among known has all =
 
 pub returns-in_err-back-clause-pieces : goal.returns-in_err-back-clause-pieces
 returns-in_err-back-clause-pieces g t c first level items among known has all =
-    let laws : Laws g.S.NodeSource g.M.Summer = record { store_steps = g.met.S.NodeSource.are_steps; store_keeps = g.met.S.NodeSource.keeps; store_caused = g.met.S.NodeSource.stays_caused; summer_steps = g.met.M.Summer.are_steps; summer_keeps = g.met.M.Summer.keeps; summer_caused = g.met.M.Summer.stays_caused } in
+    let laws : Laws g.S.NodeSource g.M.Summer = record { store_steps = g.met.S.NodeSource.are_steps; store_keeps = g.met.S.NodeSource.keeps; store_caused = g.met.S.NodeSource.stays_caused; summer_steps = g.met.M.Summer.are_steps; summer_keeps = g.met.M.Summer.keeps; summer_caused = g.met.M.Summer.stays_caused; summer_asked = g.met.M.Summer.stays_asked; summer_gave = g.met.M.Summer.stays_given } in
     let i = g.M.Unit.Item in
     let m = g.M.Summer in
     let s0 = c.args.store.now in
@@ -183,15 +186,14 @@ returns-in_err-back-clause-pieces g t c first level items among known has all =
     let parts = subst (AreAmong among) j.whole all in
     let at_right = has_stays i m first old mid (extends_on g.M.Unit.Item g.S.NodeSource g.M.Summer laws s0 s1 u0 u1 c.in_ok-front.ensures.ran) level right j.back j.at_back in
     let done = c.in_ok-front.ensures.pieces first level j.front among known j.at_front (all_front (Contains among) j.front j.back parts) in
-    let e01 = extends_on g.M.Unit.Item g.S.NodeSource g.M.Summer laws s0 s1 u0 u1 c.in_ok-front.ensures.ran in
     let known1 = known_on g.M.Unit.Item g.S.NodeSource g.M.Summer laws first s0 s1 u0 u1 known c.in_ok-front.ensures.ran in
     let p = err_from_is_err_and c.from_residual-in_err-back.result c.from_residual-in_err-back.ensures.1 in
     on_match c.from_residual-in_err-back.result _ _ _ p.0 p.2 p.1
-    (were_on i m first among old mid e01 _ (g.S.NodeSource.puts s0) (g.S.NodeSource.puts s1) (g.S.NodeSource.puts s2) done (c.in_err-back.ensures.pieces first level j.back among known1 at_right (all_back (Contains among) j.front j.back parts)))
+    (were_on i g.S.NodeSource m laws first among s0 s1 s2 u0 u1 c.place_row-2.new.summer c.in_ok-front.ensures.ran done c.in_err-back.field-0.0 c.in_err-back.ensures.ran (c.in_err-back.ensures.pieces first level j.back among known1 at_right (all_back (Contains among) j.front j.back parts)))
 
 pub returns-in_err-add_all-clause-pieces : goal.returns-in_err-add_all-clause-pieces
 returns-in_err-add_all-clause-pieces g t c first level items among known has all =
-    let laws : Laws g.S.NodeSource g.M.Summer = record { store_steps = g.met.S.NodeSource.are_steps; store_keeps = g.met.S.NodeSource.keeps; store_caused = g.met.S.NodeSource.stays_caused; summer_steps = g.met.M.Summer.are_steps; summer_keeps = g.met.M.Summer.keeps; summer_caused = g.met.M.Summer.stays_caused } in
+    let laws : Laws g.S.NodeSource g.M.Summer = record { store_steps = g.met.S.NodeSource.are_steps; store_keeps = g.met.S.NodeSource.keeps; store_caused = g.met.S.NodeSource.stays_caused; summer_steps = g.met.M.Summer.are_steps; summer_keeps = g.met.M.Summer.keeps; summer_caused = g.met.M.Summer.stays_caused; summer_asked = g.met.M.Summer.stays_asked; summer_gave = g.met.M.Summer.stays_given } in
     let i = g.M.Unit.Item in
     let m = g.M.Summer in
     let s0 = c.args.store.now in
@@ -211,14 +213,13 @@ returns-in_err-add_all-clause-pieces g t c first level items among known has all
     let at_right = has_stays i m first old mid (extends_on g.M.Unit.Item g.S.NodeSource g.M.Summer laws s0 s1 u0 u1 c.in_ok-front.ensures.ran) level right j.back j.at_back in
     let done = c.in_ok-front.ensures.pieces first level j.front among known j.at_front (all_front (Contains among) j.front j.back parts) in
     let second = c.in_ok-back.ensures.pieces first level j.back among (known_on g.M.Unit.Item g.S.NodeSource g.M.Summer laws first s0 s1 u0 u1 known c.in_ok-front.ensures.ran) at_right (all_back (Contains among) j.front j.back parts) in
-    let e01 = extends_on g.M.Unit.Item g.S.NodeSource g.M.Summer laws s0 s1 u0 u1 c.in_ok-front.ensures.ran in
     let p = err_from_is_err_and c.from_residual-in_err-add_all.result c.from_residual-in_err-add_all.ensures.1 in
-    on_match c.from_residual-in_err-add_all.result _ _ _ p.0 p.2 p.1
-    (were_done i m first among old new (λ at bytes s. e12 at bytes (e01 at bytes s)) _ (g.S.NodeSource.puts s0) (g.S.NodeSource.puts s2) (pieces_on i m first among mid new e12 Below (g.S.NodeSource.puts s0) (g.S.NodeSource.puts s1) (g.S.NodeSource.puts s2) done second))
+    on_match c.from_residual-in_err-add_all.result _ _ tree_fault.NoMemory p.0 p.2 p.1
+    (pieces_on i m first among mid new e12 Below (g.S.NodeSource.puts s0) (g.S.NodeSource.puts s1) (g.S.NodeSource.puts s2) done second)
 
 pub returns-clause-given : goal.returns-clause-given
 returns-clause-given g t c first tree pieces level under kind large given =
-    let laws : Laws g.S.NodeSource g.M.Summer = record { store_steps = g.met.S.NodeSource.are_steps; store_keeps = g.met.S.NodeSource.keeps; store_caused = g.met.S.NodeSource.stays_caused; summer_steps = g.met.M.Summer.are_steps; summer_keeps = g.met.M.Summer.keeps; summer_caused = g.met.M.Summer.stays_caused } in
+    let laws : Laws g.S.NodeSource g.M.Summer = record { store_steps = g.met.S.NodeSource.are_steps; store_keeps = g.met.S.NodeSource.keeps; store_caused = g.met.S.NodeSource.stays_caused; summer_steps = g.met.M.Summer.are_steps; summer_keeps = g.met.M.Summer.keeps; summer_caused = g.met.M.Summer.stays_caused; summer_asked = g.met.M.Summer.stays_asked; summer_gave = g.met.M.Summer.stays_given } in
     let i = g.M.Unit.Item in let s = g.S.NodeSource in let m = g.M.Summer in let s0 = c.args.store.now in let u0 = c.args.summer.now in
     let s1 = c.place_row.new.store in let s2 = c.place_row-2.new.store in let u1 = c.place_row.new.summer in let u2 = c.place_row-2.new.summer in
     let left = c.in_ok-left.left in let right = c.in_ok-left.right in
@@ -231,3 +232,62 @@ returns-clause-given g t c first tree pieces level under kind large given =
     let two = c.in_ok-back.ensures.given first tree pieces level (under_on i s m laws first tree pieces s0 s1 u0 u1 under ran) k.1 l.1 (row_on i s m laws first tree pieces s0 s1 u0 u1 ran level right halves.1) in
     let one_now = all_on i s m laws first tree pieces s1 s2 u1 u2 c.in_ok-back.ensures.ran level c.in_ok-front.front.items one in
     rw c.in_ok-add_all.ensures (All-append (Given i s m first tree pieces s2 level) c.in_ok-front.front.items c.in_ok-back.back.items one_now two)
+
+pub returns-in_err-whole-clause-sums : goal.returns-in_err-whole-clause-sums
+returns-in_err-whole-clause-sums g t c first begun knows = c.in_err-whole.ensures.sums first begun knows
+
+pub returns-then-len-le64-clause-sums : goal.returns-then-len-le64-clause-sums
+returns-then-len-le64-clause-sums g t c first begun knows = c.in_ok-whole.ensures.sums first begun knows
+
+pub returns-in_err-left-clause-sums : goal.returns-in_err-left-clause-sums
+returns-in_err-left-clause-sums g t c first begun knows = had_none g.M.Unit.Item g.M.Summer (IsSumRead g.M.Unit.Item g.S.NodeSource begun c.args.store.now) first c.args.summer.now (g.S.NodeSource.puts c.args.store.now)
+
+pub returns-in_err-front-clause-sums : goal.returns-in_err-front-clause-sums
+returns-in_err-front-clause-sums g t c first begun knows =
+    let laws : Laws g.S.NodeSource g.M.Summer = record { store_steps = g.met.S.NodeSource.are_steps; store_keeps = g.met.S.NodeSource.keeps; store_caused = g.met.S.NodeSource.stays_caused; summer_steps = g.met.M.Summer.are_steps; summer_keeps = g.met.M.Summer.keeps; summer_caused = g.met.M.Summer.stays_caused; summer_asked = g.met.M.Summer.stays_asked; summer_gave = g.met.M.Summer.stays_given } in
+    let i = g.M.Unit.Item in let s = g.S.NodeSource in let m = g.M.Summer in let s0 = c.args.store.now in let u0 = c.args.summer.now in
+    let halves = had_split i m (IsSumRead i s begun s0) first u0 c.args.node c.in_ok-left.left c.in_ok-left.right c.in_ok-left.ensures.split knows in
+    c.in_err-front.ensures.sums first begun halves.0
+
+pub returns-in_err-back-clause-sums : goal.returns-in_err-back-clause-sums
+returns-in_err-back-clause-sums g t c first begun knows =
+    let laws : Laws g.S.NodeSource g.M.Summer = record { store_steps = g.met.S.NodeSource.are_steps; store_keeps = g.met.S.NodeSource.keeps; store_caused = g.met.S.NodeSource.stays_caused; summer_steps = g.met.M.Summer.are_steps; summer_keeps = g.met.M.Summer.keeps; summer_caused = g.met.M.Summer.stays_caused; summer_asked = g.met.M.Summer.stays_asked; summer_gave = g.met.M.Summer.stays_given } in
+    let i = g.M.Unit.Item in let s = g.S.NodeSource in let m = g.M.Summer in let s0 = c.args.store.now in let u0 = c.args.summer.now in
+    let s1 = c.place_row.new.store in let s2 = c.place_row-2.new.store in let u1 = c.place_row.new.summer in let u2 = c.place_row-2.new.summer in
+    let halves = had_split i m (IsSumRead i s begun s0) first u0 c.args.node c.in_ok-left.left c.in_ok-left.right c.in_ok-left.ensures.split knows in
+    let one = c.in_ok-front.ensures.sums first begun halves.0 in
+    let right = node_goes i s m laws first begun s0 s1 u0 u1 c.in_ok-front.ensures.ran c.in_ok-left.right halves.1 in
+    known_fails i s m laws first begun s0 s1 s2 u1 u2 c.in_err-back.field-0.0 c.in_err-back.ensures.ran one (c.in_err-back.ensures.sums first begun right)
+
+pub returns-in_err-add_all-clause-sums : goal.returns-in_err-add_all-clause-sums
+returns-in_err-add_all-clause-sums g t c first begun knows =
+    let laws : Laws g.S.NodeSource g.M.Summer = record { store_steps = g.met.S.NodeSource.are_steps; store_keeps = g.met.S.NodeSource.keeps; store_caused = g.met.S.NodeSource.stays_caused; summer_steps = g.met.M.Summer.are_steps; summer_keeps = g.met.M.Summer.keeps; summer_caused = g.met.M.Summer.stays_caused; summer_asked = g.met.M.Summer.stays_asked; summer_gave = g.met.M.Summer.stays_given } in
+    let i = g.M.Unit.Item in let s = g.S.NodeSource in let m = g.M.Summer in let s0 = c.args.store.now in let u0 = c.args.summer.now in
+    let s1 = c.place_row.new.store in let s2 = c.place_row-2.new.store in let u1 = c.place_row.new.summer in let u2 = c.place_row-2.new.summer in
+    let halves = had_split i m (IsSumRead i s begun s0) first u0 c.args.node c.in_ok-left.left c.in_ok-left.right c.in_ok-left.ensures.split knows in
+    let one = c.in_ok-front.ensures.sums first begun halves.0 in
+    let right = node_goes i s m laws first begun s0 s1 u0 u1 c.in_ok-front.ensures.ran c.in_ok-left.right halves.1 in
+    known_goes i s m laws first begun s0 s1 s2 u1 u2 c.in_ok-back.ensures.ran one (c.in_ok-back.ensures.sums first begun right)
+
+pub returns-clause-sums : goal.returns-clause-sums
+returns-clause-sums g t c first begun knows =
+    let laws : Laws g.S.NodeSource g.M.Summer = record { store_steps = g.met.S.NodeSource.are_steps; store_keeps = g.met.S.NodeSource.keeps; store_caused = g.met.S.NodeSource.stays_caused; summer_steps = g.met.M.Summer.are_steps; summer_keeps = g.met.M.Summer.keeps; summer_caused = g.met.M.Summer.stays_caused; summer_asked = g.met.M.Summer.stays_asked; summer_gave = g.met.M.Summer.stays_given } in
+    let i = g.M.Unit.Item in let s = g.S.NodeSource in let m = g.M.Summer in let s0 = c.args.store.now in let u0 = c.args.summer.now in
+    let s1 = c.place_row.new.store in let s2 = c.place_row-2.new.store in let u1 = c.place_row.new.summer in let u2 = c.place_row-2.new.summer in
+    let halves = had_split i m (IsSumRead i s begun s0) first u0 c.args.node c.in_ok-left.left c.in_ok-left.right c.in_ok-left.ensures.split knows in
+    let one = c.in_ok-front.ensures.sums first begun halves.0 in
+    let right = node_goes i s m laws first begun s0 s1 u0 u1 c.in_ok-front.ensures.ran c.in_ok-left.right halves.1 in
+    known_goes i s m laws first begun s0 s1 s2 u1 u2 c.in_ok-back.ensures.ran one (c.in_ok-back.ensures.sums first begun right)
+
+pub returns-then-len-le64-clause-answered : goal.returns-then-len-le64-clause-answered
+returns-then-len-le64-clause-answered g t c first goes = c.in_ok-whole.ensures.answered first goes
+
+pub returns-clause-answered : goal.returns-clause-answered
+returns-clause-answered g t c first goes =
+    let laws : Laws g.S.NodeSource g.M.Summer = record { store_steps = g.met.S.NodeSource.are_steps; store_keeps = g.met.S.NodeSource.keeps; store_caused = g.met.S.NodeSource.stays_caused; summer_steps = g.met.M.Summer.are_steps; summer_keeps = g.met.M.Summer.keeps; summer_caused = g.met.M.Summer.stays_caused; summer_asked = g.met.M.Summer.stays_asked; summer_gave = g.met.M.Summer.stays_given } in
+    let i = g.M.Unit.Item in let s = g.S.NodeSource in let m = g.M.Summer in let s0 = c.args.store.now in let u0 = c.args.summer.now in
+    let s1 = c.place_row.new.store in let s2 = c.place_row-2.new.store in let u1 = c.place_row.new.summer in let u2 = c.place_row-2.new.summer in
+    let P : Child _ → Type 0 = λ d. IsSumGiven m first u2 d.sum in
+    let later = laws.summer_steps.both first u0 u1 goes c.in_ok-front.ensures.ran.summer in
+    let one = All-weaker (λ (d : Child _). IsSumGiven m first u1 d.sum) P (λ d h. given_later s m laws first u1 u2 c.in_ok-back.ensures.ran.summer d.sum h) c.in_ok-front.front.items (c.in_ok-front.ensures.answered first goes) in
+    rw c.in_ok-add_all.ensures (All-append P c.in_ok-front.front.items c.in_ok-back.back.items one (c.in_ok-back.ensures.answered first later))

@@ -11,6 +11,8 @@ use Rattle.reduce_tree.proofs.Puts.{put_two}
 use Rattle.reduce_tree.proofs.Pieces.{pieces_none, pieces_on, were_on, on_match}
 use Rattle.tree_laws.specs.declared.tree.Fill.TheVariants.{Below}
 use Rattle.reduce_tree.proofs.Charge.{slack_some}
+use Rattle.reduce_tree.specs.Sums.{IsSumRead, KnowsRow}
+use Rattle.reduce_tree.proofs.Had.{had_given, known_goes, known_fails}
 use Rattle.reduce_tree.proofs.root.+raise.Goals as goal
 
 pub raise-requires : goal.raise-requires
@@ -29,7 +31,7 @@ raise-requires g t c =
 
 pub returns-clause-root : goal.returns-clause-root
 returns-clause-root g t c first items known has =
-    let laws : Laws g.S.NodeSource g.M.Summer = record { store_steps = g.met.S.NodeSource.are_steps; store_keeps = g.met.S.NodeSource.keeps; store_caused = g.met.S.NodeSource.stays_caused; summer_steps = g.met.M.Summer.are_steps; summer_keeps = g.met.M.Summer.keeps; summer_caused = g.met.M.Summer.stays_caused } in
+    let laws : Laws g.S.NodeSource g.M.Summer = record { store_steps = g.met.S.NodeSource.are_steps; store_keeps = g.met.S.NodeSource.keeps; store_caused = g.met.S.NodeSource.stays_caused; summer_steps = g.met.M.Summer.are_steps; summer_keeps = g.met.M.Summer.keeps; summer_caused = g.met.M.Summer.stays_caused; summer_asked = g.met.M.Summer.stays_asked; summer_gave = g.met.M.Summer.stays_given } in
     let s0 = c.args.store.now in
     let s1 = c.place_row.new.store in
     let u0 = c.args.summer.now in
@@ -44,12 +46,12 @@ returns-clause-count g t c = omega (arith, c.in_ok-tree-2.ensures.count, ap (λ 
 
 pub returns-clause-ran : goal.returns-clause-ran
 returns-clause-ran g t c =
-    let laws : Laws g.S.NodeSource g.M.Summer = record { store_steps = g.met.S.NodeSource.are_steps; store_keeps = g.met.S.NodeSource.keeps; store_caused = g.met.S.NodeSource.stays_caused; summer_steps = g.met.M.Summer.are_steps; summer_keeps = g.met.M.Summer.keeps; summer_caused = g.met.M.Summer.stays_caused } in
+    let laws : Laws g.S.NodeSource g.M.Summer = record { store_steps = g.met.S.NodeSource.are_steps; store_keeps = g.met.S.NodeSource.keeps; store_caused = g.met.S.NodeSource.stays_caused; summer_steps = g.met.M.Summer.are_steps; summer_keeps = g.met.M.Summer.keeps; summer_caused = g.met.M.Summer.stays_caused; summer_asked = g.met.M.Summer.stays_asked; summer_gave = g.met.M.Summer.stays_given } in
     goes_on g.M.Unit.Item g.S.NodeSource g.M.Summer laws c.args.store.now c.place_row.new.store c.raise.new.store c.args.summer.now c.place_row.new.summer c.raise.new.summer c.in_ok-children.ensures.ran c.in_ok-tree-2.ensures.ran
 
 pub returns-in_err-tree-2-clause-ran : goal.returns-in_err-tree-2-clause-ran
 returns-in_err-tree-2-clause-ran g t c =
-    let laws : Laws g.S.NodeSource g.M.Summer = record { store_steps = g.met.S.NodeSource.are_steps; store_keeps = g.met.S.NodeSource.keeps; store_caused = g.met.S.NodeSource.stays_caused; summer_steps = g.met.M.Summer.are_steps; summer_keeps = g.met.M.Summer.keeps; summer_caused = g.met.M.Summer.stays_caused } in
+    let laws : Laws g.S.NodeSource g.M.Summer = record { store_steps = g.met.S.NodeSource.are_steps; store_keeps = g.met.S.NodeSource.keeps; store_caused = g.met.S.NodeSource.stays_caused; summer_steps = g.met.M.Summer.are_steps; summer_keeps = g.met.M.Summer.keeps; summer_caused = g.met.M.Summer.stays_caused; summer_asked = g.met.M.Summer.stays_asked; summer_gave = g.met.M.Summer.stays_given } in
     let p = err_from_is_err_and c.from_residual-in_err-tree-2.result c.from_residual-in_err-tree-2.ensures.1 in
     ran_err g.M.Unit.Item g.S.NodeSource g.M.Summer laws _ _ _ _ c.from_residual-in_err-tree-2.result c.in_err-tree-2.field-0.0 p.0 p.2 p.1 (fails_on g.M.Unit.Item g.S.NodeSource g.M.Summer laws c.args.store.now c.place_row.new.store c.raise.new.store c.args.summer.now c.place_row.new.summer c.raise.new.summer c.in_ok-children.ensures.ran _ c.in_err-tree-2.ensures.ran)
 
@@ -83,7 +85,7 @@ returns-then-len-le32-clause-pieces g t c first items among known has all = reco
 
 pub returns-clause-pieces : goal.returns-clause-pieces
 returns-clause-pieces g t c first items among known has all =
-    let laws : Laws g.S.NodeSource g.M.Summer = record { store_steps = g.met.S.NodeSource.are_steps; store_keeps = g.met.S.NodeSource.keeps; store_caused = g.met.S.NodeSource.stays_caused; summer_steps = g.met.M.Summer.are_steps; summer_keeps = g.met.M.Summer.keeps; summer_caused = g.met.M.Summer.stays_caused } in
+    let laws : Laws g.S.NodeSource g.M.Summer = record { store_steps = g.met.S.NodeSource.are_steps; store_keeps = g.met.S.NodeSource.keeps; store_caused = g.met.S.NodeSource.stays_caused; summer_steps = g.met.M.Summer.are_steps; summer_keeps = g.met.M.Summer.keeps; summer_caused = g.met.M.Summer.stays_caused; summer_asked = g.met.M.Summer.stays_asked; summer_gave = g.met.M.Summer.stays_given } in
     let i = g.M.Unit.Item in
     let m = g.M.Summer in
     let s0 = c.args.store.now in
@@ -152,7 +154,7 @@ returns-in_err-children-clause-pieces g t c first items among known has all =
 
 pub returns-in_err-tree-2-clause-pieces : goal.returns-in_err-tree-2-clause-pieces
 returns-in_err-tree-2-clause-pieces g t c first items among known has all =
-    let laws : Laws g.S.NodeSource g.M.Summer = record { store_steps = g.met.S.NodeSource.are_steps; store_keeps = g.met.S.NodeSource.keeps; store_caused = g.met.S.NodeSource.stays_caused; summer_steps = g.met.M.Summer.are_steps; summer_keeps = g.met.M.Summer.keeps; summer_caused = g.met.M.Summer.stays_caused } in
+    let laws : Laws g.S.NodeSource g.M.Summer = record { store_steps = g.met.S.NodeSource.are_steps; store_keeps = g.met.S.NodeSource.keeps; store_caused = g.met.S.NodeSource.stays_caused; summer_steps = g.met.M.Summer.are_steps; summer_keeps = g.met.M.Summer.keeps; summer_caused = g.met.M.Summer.stays_caused; summer_asked = g.met.M.Summer.stays_asked; summer_gave = g.met.M.Summer.stays_given } in
     let i = g.M.Unit.Item in
     let m = g.M.Summer in
     let s0 = c.args.store.now in
@@ -164,9 +166,36 @@ returns-in_err-tree-2-clause-pieces g t c first items among known has all =
     let cs = c.in_ok-children.ensures.children first c.args.level items known has in
     let at_cs = subst (λ ds. Has i m first n1 (c.args.level + 1) (Inner ds) items) (sym c.from_vec.ensures) (has_children i m first n1 c.args.level c.in_ok-children.children.items items cs) in
     let one = c.in_ok-children.ensures.pieces first c.args.level items among known has all in
-    let n0 = places (g.S.NodeSource.nodes s0) in
-    let e01 = extends_on g.M.Unit.Item g.S.NodeSource g.M.Summer laws s0 s1 u0 u1 c.in_ok-children.ensures.ran in
     let known1 = known_on g.M.Unit.Item g.S.NodeSource g.M.Summer laws first s0 s1 u0 u1 known c.in_ok-children.ensures.ran in
     let p = err_from_is_err_and c.from_residual-in_err-tree-2.result c.from_residual-in_err-tree-2.ensures.1 in
     on_match c.from_residual-in_err-tree-2.result _ _ _ p.0 p.2 p.1
-    (were_on i m first among n0 n1 e01 _ (g.S.NodeSource.puts s0) (g.S.NodeSource.puts s1) (g.S.NodeSource.puts s2) one (c.in_err-tree-2.ensures.pieces first items among known1 at_cs all))
+    (were_on i g.S.NodeSource m laws first among s0 s1 s2 u0 u1 c.raise.new.summer c.in_ok-children.ensures.ran one c.in_err-tree-2.field-0.0 c.in_err-tree-2.ensures.ran (c.in_err-tree-2.ensures.pieces first items among known1 at_cs all))
+
+pub returns-in_err-tree-clause-sums : goal.returns-in_err-tree-clause-sums
+returns-in_err-tree-clause-sums g t c first begun goes knows = c.in_err-tree.ensures.sums first begun knows
+
+pub returns-then-len-le32-clause-sums : goal.returns-then-len-le32-clause-sums
+returns-then-len-le32-clause-sums g t c first begun goes knows = c.in_ok-tree.ensures.sums first begun knows
+
+pub returns-in_err-children-clause-sums : goal.returns-in_err-children-clause-sums
+returns-in_err-children-clause-sums g t c first begun goes knows = c.in_err-children.ensures.sums first begun knows
+
+pub returns-in_err-tree-2-clause-sums : goal.returns-in_err-tree-2-clause-sums
+returns-in_err-tree-2-clause-sums g t c first begun goes knows =
+    let laws : Laws g.S.NodeSource g.M.Summer = record { store_steps = g.met.S.NodeSource.are_steps; store_keeps = g.met.S.NodeSource.keeps; store_caused = g.met.S.NodeSource.stays_caused; summer_steps = g.met.M.Summer.are_steps; summer_keeps = g.met.M.Summer.keeps; summer_caused = g.met.M.Summer.stays_caused; summer_asked = g.met.M.Summer.stays_asked; summer_gave = g.met.M.Summer.stays_given } in
+    let i = g.M.Unit.Item in let s = g.S.NodeSource in let m = g.M.Summer in let s0 = c.args.store.now in let u0 = c.args.summer.now in
+    let s1 = c.place_row.new.store in let s2 = c.raise.new.store in let u1 = c.place_row.new.summer in let u2 = c.raise.new.summer in
+    let k = c.in_ok-children.ensures in
+    let above = subst (KnowsRow i s m first begun u1 s1) (sym c.from_vec.ensures) (had_given i m (IsSumRead i s begun s1) first u1 c.in_ok-children.children.items (k.answered first goes)) in
+    let later = laws.summer_steps.both first u0 u1 goes k.ran.summer in
+    known_fails i s m laws first begun s0 s1 s2 u1 u2 c.in_err-tree-2.field-0.0 c.in_err-tree-2.ensures.ran (k.sums first begun knows) (c.in_err-tree-2.ensures.sums first begun later above)
+
+pub returns-clause-sums : goal.returns-clause-sums
+returns-clause-sums g t c first begun goes knows =
+    let laws : Laws g.S.NodeSource g.M.Summer = record { store_steps = g.met.S.NodeSource.are_steps; store_keeps = g.met.S.NodeSource.keeps; store_caused = g.met.S.NodeSource.stays_caused; summer_steps = g.met.M.Summer.are_steps; summer_keeps = g.met.M.Summer.keeps; summer_caused = g.met.M.Summer.stays_caused; summer_asked = g.met.M.Summer.stays_asked; summer_gave = g.met.M.Summer.stays_given } in
+    let i = g.M.Unit.Item in let s = g.S.NodeSource in let m = g.M.Summer in let s0 = c.args.store.now in let u0 = c.args.summer.now in
+    let s1 = c.place_row.new.store in let s2 = c.raise.new.store in let u1 = c.place_row.new.summer in let u2 = c.raise.new.summer in
+    let k = c.in_ok-children.ensures in
+    let above = subst (KnowsRow i s m first begun u1 s1) (sym c.from_vec.ensures) (had_given i m (IsSumRead i s begun s1) first u1 c.in_ok-children.children.items (k.answered first goes)) in
+    let later = laws.summer_steps.both first u0 u1 goes k.ran.summer in
+    known_goes i s m laws first begun s0 s1 s2 u1 u2 c.in_ok-tree-2.ensures.ran (k.sums first begun knows) (c.in_ok-tree-2.ensures.sums first begun later above)

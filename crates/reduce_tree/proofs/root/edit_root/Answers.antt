@@ -6,7 +6,7 @@ use Rattle.tree_laws.specs.Nodes.{entries}
 use Rattle.tree_laws.specs.SummerTrees.{Has, HasRoot, IsAt}
 use Rattle.tree_laws.proofs.SummerTrees.{has_stays}
 use Rattle.reduce_tree.specs.Applied.{applied}
-use Rattle.reduce_tree.specs.Bounds.{slack}
+use Rattle.reduce_tree.specs.Charges.{slack}
 use Rattle.reduce_tree.specs.Calls.{places}
 use Rattle.std.proofs.lemmas.Result.{err_from_is_err_and}
 use Rattle.reduce_tree.proofs.Calls.{Laws, ran_err, extends_on, fails_on, goes_on, known_on, on_err}
@@ -17,6 +17,8 @@ use Rattle.reduce_tree.specs.Pieces.{ArePieces}
 use Rattle.reduce_tree.proofs.Pieces.{were_none, were_on, on_match, pieces_none}
 use Rattle.reduce_tree.proofs.Given.{root_leads, taken_on, took_fault, took_later, under_on}
 use Rattle.reduce_tree.specs.Given.{AllGiven}
+use Rattle.reduce_tree.specs.Sums.{KnowsNode, KnowsPieces}
+use Rattle.reduce_tree.proofs.Had.{way_on, known_none}
 use Rattle.reduce_tree.proofs.root.edit_root.Goals as goal
 
 pub edit_row-requires-clause-kind : goal.edit_row-requires-clause-kind
@@ -64,7 +66,7 @@ returns-then-tree-eq0-clause-same g c first items known sorted root is_same =
 
 pub returns-clause-items : goal.returns-clause-items
 returns-clause-items g c first items known sorted root =
-    let laws : Laws g.S.NodeSource g.M.Summer = record { store_steps = g.met.S.NodeSource.are_steps; store_keeps = g.met.S.NodeSource.keeps; store_caused = g.met.S.NodeSource.stays_caused; summer_steps = g.met.M.Summer.are_steps; summer_keeps = g.met.M.Summer.keeps; summer_caused = g.met.M.Summer.stays_caused } in
+    let laws : Laws g.S.NodeSource g.M.Summer = record { store_steps = g.met.S.NodeSource.are_steps; store_keeps = g.met.S.NodeSource.keeps; store_caused = g.met.S.NodeSource.stays_caused; summer_steps = g.met.M.Summer.are_steps; summer_keeps = g.met.M.Summer.keeps; summer_caused = g.met.M.Summer.stays_caused; summer_asked = g.met.M.Summer.stays_asked; summer_gave = g.met.M.Summer.stays_given } in
     let s0 = c.args.store.now in
     let s1 = c.fetch.new.store in
     let u0 = c.args.summer.now in
@@ -79,7 +81,7 @@ returns-clause-items g c first items known sorted root =
 
 pub returns-clause-same : goal.returns-clause-same
 returns-clause-same g c first items known sorted root is_same =
-    let laws : Laws g.S.NodeSource g.M.Summer = record { store_steps = g.met.S.NodeSource.are_steps; store_keeps = g.met.S.NodeSource.keeps; store_caused = g.met.S.NodeSource.stays_caused; summer_steps = g.met.M.Summer.are_steps; summer_keeps = g.met.M.Summer.keeps; summer_caused = g.met.M.Summer.stays_caused } in
+    let laws : Laws g.S.NodeSource g.M.Summer = record { store_steps = g.met.S.NodeSource.are_steps; store_keeps = g.met.S.NodeSource.keeps; store_caused = g.met.S.NodeSource.stays_caused; summer_steps = g.met.M.Summer.are_steps; summer_keeps = g.met.M.Summer.keeps; summer_caused = g.met.M.Summer.stays_caused; summer_asked = g.met.M.Summer.stays_asked; summer_gave = g.met.M.Summer.stays_given } in
     let i = g.M.Unit.Item in
     let m = g.M.Summer in
     let s0 = c.args.store.now in
@@ -105,12 +107,12 @@ returns-clause-same g c first items known sorted root is_same =
 
 pub returns-clause-ran : goal.returns-clause-ran
 returns-clause-ran g c =
-    let laws : Laws g.S.NodeSource g.M.Summer = record { store_steps = g.met.S.NodeSource.are_steps; store_keeps = g.met.S.NodeSource.keeps; store_caused = g.met.S.NodeSource.stays_caused; summer_steps = g.met.M.Summer.are_steps; summer_keeps = g.met.M.Summer.keeps; summer_caused = g.met.M.Summer.stays_caused } in
+    let laws : Laws g.S.NodeSource g.M.Summer = record { store_steps = g.met.S.NodeSource.are_steps; store_keeps = g.met.S.NodeSource.keeps; store_caused = g.met.S.NodeSource.stays_caused; summer_steps = g.met.M.Summer.are_steps; summer_keeps = g.met.M.Summer.keeps; summer_caused = g.met.M.Summer.stays_caused; summer_asked = g.met.M.Summer.stays_asked; summer_gave = g.met.M.Summer.stays_given } in
     goes_on g.M.Unit.Item g.S.NodeSource g.M.Summer laws c.args.store.now c.fetch.new.store c.edit_row-2.new.store c.args.summer.now c.args.summer.now c.edit_row-2.new.summer c.in_ok-root.ensures.ran c.in_ok-row-2.ensures.ran
 
 pub returns-in_err-row-2-clause-ran : goal.returns-in_err-row-2-clause-ran
 returns-in_err-row-2-clause-ran g c =
-    let laws : Laws g.S.NodeSource g.M.Summer = record { store_steps = g.met.S.NodeSource.are_steps; store_keeps = g.met.S.NodeSource.keeps; store_caused = g.met.S.NodeSource.stays_caused; summer_steps = g.met.M.Summer.are_steps; summer_keeps = g.met.M.Summer.keeps; summer_caused = g.met.M.Summer.stays_caused } in
+    let laws : Laws g.S.NodeSource g.M.Summer = record { store_steps = g.met.S.NodeSource.are_steps; store_keeps = g.met.S.NodeSource.keeps; store_caused = g.met.S.NodeSource.stays_caused; summer_steps = g.met.M.Summer.are_steps; summer_keeps = g.met.M.Summer.keeps; summer_caused = g.met.M.Summer.stays_caused; summer_asked = g.met.M.Summer.stays_asked; summer_gave = g.met.M.Summer.stays_given } in
     let p = err_from_is_err_and c.from_residual-in_err-row-2.result c.from_residual-in_err-row-2.ensures.1 in
     ran_err g.M.Unit.Item g.S.NodeSource g.M.Summer laws _ _ _ _ c.from_residual-in_err-row-2.result c.in_err-row-2.field-0.0 p.0 p.2 p.1 (fails_on g.M.Unit.Item g.S.NodeSource g.M.Summer laws c.args.store.now c.fetch.new.store c.edit_row-2.new.store c.args.summer.now c.args.summer.now c.edit_row-2.new.summer c.in_ok-root.ensures.ran _ c.in_err-row-2.ensures.ran)
 
@@ -152,7 +154,7 @@ returns-then-tree-eq0-clause-quiet g c first items known root none =
 
 pub returns-clause-quiet : goal.returns-clause-quiet
 returns-clause-quiet g c first items known root none =
-    let laws : Laws g.S.NodeSource g.M.Summer = record { store_steps = g.met.S.NodeSource.are_steps; store_keeps = g.met.S.NodeSource.keeps; store_caused = g.met.S.NodeSource.stays_caused; summer_steps = g.met.M.Summer.are_steps; summer_keeps = g.met.M.Summer.keeps; summer_caused = g.met.M.Summer.stays_caused } in
+    let laws : Laws g.S.NodeSource g.M.Summer = record { store_steps = g.met.S.NodeSource.are_steps; store_keeps = g.met.S.NodeSource.keeps; store_caused = g.met.S.NodeSource.stays_caused; summer_steps = g.met.M.Summer.are_steps; summer_keeps = g.met.M.Summer.keeps; summer_caused = g.met.M.Summer.stays_caused; summer_asked = g.met.M.Summer.stays_asked; summer_gave = g.met.M.Summer.stays_given } in
     let s0 = c.args.store.now in
     let s1 = c.fetch.new.store in
     let u0 = c.args.summer.now in
@@ -185,7 +187,7 @@ returns-in_err-root-clause-sound g c first items known sorted root count =
 
 pub returns-in_err-row-2-clause-sound : goal.returns-in_err-row-2-clause-sound
 returns-in_err-row-2-clause-sound g c first items known sorted root count =
-    let laws : Laws g.S.NodeSource g.M.Summer = record { store_steps = g.met.S.NodeSource.are_steps; store_keeps = g.met.S.NodeSource.keeps; store_caused = g.met.S.NodeSource.stays_caused; summer_steps = g.met.M.Summer.are_steps; summer_keeps = g.met.M.Summer.keeps; summer_caused = g.met.M.Summer.stays_caused } in
+    let laws : Laws g.S.NodeSource g.M.Summer = record { store_steps = g.met.S.NodeSource.are_steps; store_keeps = g.met.S.NodeSource.keeps; store_caused = g.met.S.NodeSource.stays_caused; summer_steps = g.met.M.Summer.are_steps; summer_keeps = g.met.M.Summer.keeps; summer_caused = g.met.M.Summer.stays_caused; summer_asked = g.met.M.Summer.stays_asked; summer_gave = g.met.M.Summer.stays_given } in
     let s0 = c.args.store.now in
     let s1 = c.fetch.new.store in
     let u0 = c.args.summer.now in
@@ -210,7 +212,7 @@ returns-then-tree-eq0-clause-pieces g c first items among known sorted root ai a
 
 pub returns-clause-pieces : goal.returns-clause-pieces
 returns-clause-pieces g c first items among known sorted root ai ae =
-    let laws : Laws g.S.NodeSource g.M.Summer = record { store_steps = g.met.S.NodeSource.are_steps; store_keeps = g.met.S.NodeSource.keeps; store_caused = g.met.S.NodeSource.stays_caused; summer_steps = g.met.M.Summer.are_steps; summer_keeps = g.met.M.Summer.keeps; summer_caused = g.met.M.Summer.stays_caused } in
+    let laws : Laws g.S.NodeSource g.M.Summer = record { store_steps = g.met.S.NodeSource.are_steps; store_keeps = g.met.S.NodeSource.keeps; store_caused = g.met.S.NodeSource.stays_caused; summer_steps = g.met.M.Summer.are_steps; summer_keeps = g.met.M.Summer.keeps; summer_caused = g.met.M.Summer.stays_caused; summer_asked = g.met.M.Summer.stays_asked; summer_gave = g.met.M.Summer.stays_given } in
     let i = g.M.Unit.Item in
     let m = g.M.Summer in
     let s0 = c.args.store.now in
@@ -263,12 +265,13 @@ returns-in_err-row-clause-pieces g c first items among known sorted root ai ae =
 
 pub returns-in_err-root-clause-pieces : goal.returns-in_err-root-clause-pieces
 returns-in_err-root-clause-pieces g c first items among known sorted root ai ae =
+    let laws : Laws g.S.NodeSource g.M.Summer = record { store_steps = g.met.S.NodeSource.are_steps; store_keeps = g.met.S.NodeSource.keeps; store_caused = g.met.S.NodeSource.stays_caused; summer_steps = g.met.M.Summer.are_steps; summer_keeps = g.met.M.Summer.keeps; summer_caused = g.met.M.Summer.stays_caused; summer_asked = g.met.M.Summer.stays_asked; summer_gave = g.met.M.Summer.stays_given } in
     let p = err_from_is_err_and c.from_residual-in_err-root.result c.from_residual-in_err-root.ensures.1 in
-    on_match c.from_residual-in_err-root.result _ _ _ p.0 p.2 p.1 (were_none g.M.Unit.Item g.M.Summer first among (places (g.S.NodeSource.nodes c.args.store.now)) _ (g.S.NodeSource.puts c.args.store.now) (g.S.NodeSource.puts c.fetch.new.store) c.in_err-root.ensures.puts)
+    on_match c.from_residual-in_err-root.result _ _ _ p.0 p.2 p.1 (were_none g.M.Unit.Item g.S.NodeSource g.M.Summer laws first among c.args.store.now c.fetch.new.store c.args.summer.now c.args.summer.now c.in_err-root.field-0.0 c.in_err-root.ensures.ran c.in_err-root.ensures.puts)
 
 pub returns-in_err-row-2-clause-pieces : goal.returns-in_err-row-2-clause-pieces
 returns-in_err-row-2-clause-pieces g c first items among known sorted root ai ae =
-    let laws : Laws g.S.NodeSource g.M.Summer = record { store_steps = g.met.S.NodeSource.are_steps; store_keeps = g.met.S.NodeSource.keeps; store_caused = g.met.S.NodeSource.stays_caused; summer_steps = g.met.M.Summer.are_steps; summer_keeps = g.met.M.Summer.keeps; summer_caused = g.met.M.Summer.stays_caused } in
+    let laws : Laws g.S.NodeSource g.M.Summer = record { store_steps = g.met.S.NodeSource.are_steps; store_keeps = g.met.S.NodeSource.keeps; store_caused = g.met.S.NodeSource.stays_caused; summer_steps = g.met.M.Summer.are_steps; summer_keeps = g.met.M.Summer.keeps; summer_caused = g.met.M.Summer.stays_caused; summer_asked = g.met.M.Summer.stays_asked; summer_gave = g.met.M.Summer.stays_given } in
     let i = g.M.Unit.Item in
     let m = g.M.Summer in
     let s0 = c.args.store.now in
@@ -282,15 +285,14 @@ returns-in_err-row-2-clause-pieces g c first items among known sorted root ai ae
     let up : c.args.tree.height ≡ suc level = omega (arith, c.if-tree-eq0.false) in
     let st : IsAt i m first n0 (Has i m first n0 level) Root c.args.tree.root items = subst (λ h. HasRoot i m first n0 c.args.tree.root h items) up root in
     let has = has_stays i m first n0 n1 (extends_on i g.S.NodeSource m laws s0 s1 u0 u0 a) level c.in_ok-root.root items (c.in_ok-root.ensures.got first items Root known st) in
-    let e01 = extends_on g.M.Unit.Item g.S.NodeSource g.M.Summer laws s0 s1 u0 u0 a in
     let known1 = known_on g.M.Unit.Item g.S.NodeSource g.M.Summer laws first s0 s1 u0 u0 known a in
     let p = err_from_is_err_and c.from_residual-in_err-row-2.result c.from_residual-in_err-row-2.ensures.1 in
     on_match c.from_residual-in_err-row-2.result _ _ _ p.0 p.2 p.1
-    (were_on i m first among n0 n1 e01 _ (g.S.NodeSource.puts s0) (g.S.NodeSource.puts s1) (g.S.NodeSource.puts s2) (pieces_none i m first among n1 Below (g.S.NodeSource.puts s0) (g.S.NodeSource.puts s1) c.in_ok-root.ensures.puts) (c.in_err-row-2.ensures.pieces first items among known1 sorted has ai ae))
+    (were_on i g.S.NodeSource m laws first among s0 s1 s2 u0 u0 c.edit_row-2.new.summer a (pieces_none i m first among n1 Below (g.S.NodeSource.puts s0) (g.S.NodeSource.puts s1) c.in_ok-root.ensures.puts) c.in_err-row-2.field-0.0 c.in_err-row-2.ensures.ran (c.in_err-row-2.ensures.pieces first items among known1 sorted has ai ae))
 
 pub returns-then-tree-eq0-clause-met : goal.returns-then-tree-eq0-clause-met
 returns-then-tree-eq0-clause-met g c first pieces under =
-    let laws : Laws g.S.NodeSource g.M.Summer = record { store_steps = g.met.S.NodeSource.are_steps; store_keeps = g.met.S.NodeSource.keeps; store_caused = g.met.S.NodeSource.stays_caused; summer_steps = g.met.M.Summer.are_steps; summer_keeps = g.met.M.Summer.keeps; summer_caused = g.met.M.Summer.stays_caused } in
+    let laws : Laws g.S.NodeSource g.M.Summer = record { store_steps = g.met.S.NodeSource.are_steps; store_keeps = g.met.S.NodeSource.keeps; store_caused = g.met.S.NodeSource.stays_caused; summer_steps = g.met.M.Summer.are_steps; summer_keeps = g.met.M.Summer.keeps; summer_caused = g.met.M.Summer.stays_caused; summer_asked = g.met.M.Summer.stays_asked; summer_gave = g.met.M.Summer.stays_given } in
     let i = g.M.Unit.Item in let s = g.S.NodeSource in let m = g.M.Summer in let s0 = c.args.store.now in let u0 = c.args.summer.now in
     let tree = c.args.tree in
     let none = subst (λ n. AllGiven i s m first tree pieces s0 0 n) (sym c.empty-none.ensures.node) tt in
@@ -298,7 +300,7 @@ returns-then-tree-eq0-clause-met g c first pieces under =
 
 pub returns-in_err-row-clause-met : goal.returns-in_err-row-clause-met
 returns-in_err-row-clause-met g c first pieces under =
-    let laws : Laws g.S.NodeSource g.M.Summer = record { store_steps = g.met.S.NodeSource.are_steps; store_keeps = g.met.S.NodeSource.keeps; store_caused = g.met.S.NodeSource.stays_caused; summer_steps = g.met.M.Summer.are_steps; summer_keeps = g.met.M.Summer.keeps; summer_caused = g.met.M.Summer.stays_caused } in
+    let laws : Laws g.S.NodeSource g.M.Summer = record { store_steps = g.met.S.NodeSource.are_steps; store_keeps = g.met.S.NodeSource.keeps; store_caused = g.met.S.NodeSource.stays_caused; summer_steps = g.met.M.Summer.are_steps; summer_keeps = g.met.M.Summer.keeps; summer_caused = g.met.M.Summer.stays_caused; summer_asked = g.met.M.Summer.stays_asked; summer_gave = g.met.M.Summer.stays_given } in
     let i = g.M.Unit.Item in let s = g.S.NodeSource in let m = g.M.Summer in let s0 = c.args.store.now in let u0 = c.args.summer.now in
     let tree = c.args.tree in
     let none = subst (λ n. AllGiven i s m first tree pieces s0 0 n) (sym c.empty-none.ensures.node) tt in
@@ -307,7 +309,7 @@ returns-in_err-row-clause-met g c first pieces under =
 
 pub returns-in_err-root-clause-met : goal.returns-in_err-root-clause-met
 returns-in_err-root-clause-met g c first pieces under =
-    let laws : Laws g.S.NodeSource g.M.Summer = record { store_steps = g.met.S.NodeSource.are_steps; store_keeps = g.met.S.NodeSource.keeps; store_caused = g.met.S.NodeSource.stays_caused; summer_steps = g.met.M.Summer.are_steps; summer_keeps = g.met.M.Summer.keeps; summer_caused = g.met.M.Summer.stays_caused } in
+    let laws : Laws g.S.NodeSource g.M.Summer = record { store_steps = g.met.S.NodeSource.are_steps; store_keeps = g.met.S.NodeSource.keeps; store_caused = g.met.S.NodeSource.stays_caused; summer_steps = g.met.M.Summer.are_steps; summer_keeps = g.met.M.Summer.keeps; summer_caused = g.met.M.Summer.stays_caused; summer_asked = g.met.M.Summer.stays_asked; summer_gave = g.met.M.Summer.stays_given } in
     let i = g.M.Unit.Item in let s = g.S.NodeSource in let m = g.M.Summer in let s0 = c.args.store.now in let u0 = c.args.summer.now in
     let tree = c.args.tree in let level = tree.height - 1 in let s1 = c.fetch.new.store in
     let leads = root_leads i s m laws first tree pieces s0 (omega (arith, c.if-tree-eq0.false)) in
@@ -316,7 +318,7 @@ returns-in_err-root-clause-met g c first pieces under =
 
 pub returns-clause-met : goal.returns-clause-met
 returns-clause-met g c first pieces under =
-    let laws : Laws g.S.NodeSource g.M.Summer = record { store_steps = g.met.S.NodeSource.are_steps; store_keeps = g.met.S.NodeSource.keeps; store_caused = g.met.S.NodeSource.stays_caused; summer_steps = g.met.M.Summer.are_steps; summer_keeps = g.met.M.Summer.keeps; summer_caused = g.met.M.Summer.stays_caused } in
+    let laws : Laws g.S.NodeSource g.M.Summer = record { store_steps = g.met.S.NodeSource.are_steps; store_keeps = g.met.S.NodeSource.keeps; store_caused = g.met.S.NodeSource.stays_caused; summer_steps = g.met.M.Summer.are_steps; summer_keeps = g.met.M.Summer.keeps; summer_caused = g.met.M.Summer.stays_caused; summer_asked = g.met.M.Summer.stays_asked; summer_gave = g.met.M.Summer.stays_given } in
     let i = g.M.Unit.Item in let s = g.S.NodeSource in let m = g.M.Summer in let s0 = c.args.store.now in let u0 = c.args.summer.now in
     let tree = c.args.tree in let level = tree.height - 1 in let s1 = c.fetch.new.store in
     let leads = root_leads i s m laws first tree pieces s0 (omega (arith, c.if-tree-eq0.false)) in
@@ -327,7 +329,7 @@ returns-clause-met g c first pieces under =
 
 pub returns-in_err-row-2-clause-met : goal.returns-in_err-row-2-clause-met
 returns-in_err-row-2-clause-met g c first pieces under =
-    let laws : Laws g.S.NodeSource g.M.Summer = record { store_steps = g.met.S.NodeSource.are_steps; store_keeps = g.met.S.NodeSource.keeps; store_caused = g.met.S.NodeSource.stays_caused; summer_steps = g.met.M.Summer.are_steps; summer_keeps = g.met.M.Summer.keeps; summer_caused = g.met.M.Summer.stays_caused } in
+    let laws : Laws g.S.NodeSource g.M.Summer = record { store_steps = g.met.S.NodeSource.are_steps; store_keeps = g.met.S.NodeSource.keeps; store_caused = g.met.S.NodeSource.stays_caused; summer_steps = g.met.M.Summer.are_steps; summer_keeps = g.met.M.Summer.keeps; summer_caused = g.met.M.Summer.stays_caused; summer_asked = g.met.M.Summer.stays_asked; summer_gave = g.met.M.Summer.stays_given } in
     let i = g.M.Unit.Item in let s = g.S.NodeSource in let m = g.M.Summer in let s0 = c.args.store.now in let u0 = c.args.summer.now in
     let tree = c.args.tree in let level = tree.height - 1 in let s1 = c.fetch.new.store in
     let leads = root_leads i s m laws first tree pieces s0 (omega (arith, c.if-tree-eq0.false)) in
@@ -335,3 +337,57 @@ returns-in_err-row-2-clause-met g c first pieces under =
     let p = err_from_is_err_and c.from_residual-in_err-row-2.result c.from_residual-in_err-row-2.ensures.1 in
     took_later i s m laws first tree pieces c.from_residual-in_err-row-2.result _ s0 s1 c.edit_row-2.new.store u0 u0 c.edit_row-2.new.summer c.in_ok-root.ensures.ran got.0 c.in_err-row-2.field-0.0 p.0 p.2 p.1 c.in_err-row-2.ensures.ran
     (c.in_err-row-2.ensures.met first tree pieces (under_on i s m laws first tree pieces s0 s1 u0 u0 under c.in_ok-root.ensures.ran) got.1).0
+
+pub returns-in_err-row-clause-sums : goal.returns-in_err-row-clause-sums
+returns-in_err-row-clause-sums g c first begun way =
+    let laws : Laws g.S.NodeSource g.M.Summer = record { store_steps = g.met.S.NodeSource.are_steps; store_keeps = g.met.S.NodeSource.keeps; store_caused = g.met.S.NodeSource.stays_caused; summer_steps = g.met.M.Summer.are_steps; summer_keeps = g.met.M.Summer.keeps; summer_caused = g.met.M.Summer.stays_caused; summer_asked = g.met.M.Summer.stays_asked; summer_gave = g.met.M.Summer.stays_given } in
+    let i = g.M.Unit.Item in let s = g.S.NodeSource in let m = g.M.Summer in let s0 = c.args.store.now in let u0 = c.args.summer.now in
+    let none = subst (KnowsNode i s m first begun u0 s0) (sym c.empty-none.ensures.node) tt in
+    c.in_err-row.ensures.sums first begun way none
+
+pub returns-then-tree-eq0-clause-sums : goal.returns-then-tree-eq0-clause-sums
+returns-then-tree-eq0-clause-sums g c first begun way =
+    let laws : Laws g.S.NodeSource g.M.Summer = record { store_steps = g.met.S.NodeSource.are_steps; store_keeps = g.met.S.NodeSource.keeps; store_caused = g.met.S.NodeSource.stays_caused; summer_steps = g.met.M.Summer.are_steps; summer_keeps = g.met.M.Summer.keeps; summer_caused = g.met.M.Summer.stays_caused; summer_asked = g.met.M.Summer.stays_asked; summer_gave = g.met.M.Summer.stays_given } in
+    let i = g.M.Unit.Item in let s = g.S.NodeSource in let m = g.M.Summer in let s0 = c.args.store.now in let u0 = c.args.summer.now in
+    let none = subst (KnowsNode i s m first begun u0 s0) (sym c.empty-none.ensures.node) tt in
+    c.in_ok-row.ensures.sums first begun way none
+
+pub returns-in_err-root-clause-sums : goal.returns-in_err-root-clause-sums
+returns-in_err-root-clause-sums g c first begun way =
+    let laws : Laws g.S.NodeSource g.M.Summer = record { store_steps = g.met.S.NodeSource.are_steps; store_keeps = g.met.S.NodeSource.keeps; store_caused = g.met.S.NodeSource.stays_caused; summer_steps = g.met.M.Summer.are_steps; summer_keeps = g.met.M.Summer.keeps; summer_caused = g.met.M.Summer.stays_caused; summer_asked = g.met.M.Summer.stays_asked; summer_gave = g.met.M.Summer.stays_given } in
+    let i = g.M.Unit.Item in let s = g.S.NodeSource in let m = g.M.Summer in let s0 = c.args.store.now in let u0 = c.args.summer.now in
+    known_none i s m laws first begun u0 s0 c.fetch.new.store c.in_err-root.ensures.puts
+
+pub returns-in_err-row-2-clause-sums : goal.returns-in_err-row-2-clause-sums
+returns-in_err-row-2-clause-sums g c first begun way =
+    let laws : Laws g.S.NodeSource g.M.Summer = record { store_steps = g.met.S.NodeSource.are_steps; store_keeps = g.met.S.NodeSource.keeps; store_caused = g.met.S.NodeSource.stays_caused; summer_steps = g.met.M.Summer.are_steps; summer_keeps = g.met.M.Summer.keeps; summer_caused = g.met.M.Summer.stays_caused; summer_asked = g.met.M.Summer.stays_asked; summer_gave = g.met.M.Summer.stays_given } in
+    let i = g.M.Unit.Item in let s = g.S.NodeSource in let m = g.M.Summer in let s0 = c.args.store.now in let u0 = c.args.summer.now in
+    let s1 = c.fetch.new.store in
+    let way1 = way_on i s m laws first begun s0 s1 u0 u0 c.in_ok-root.ensures.ran way in
+    let root = c.in_ok-root.ensures.known first begun way in
+    subst (λ p. KnowsPieces i s m first begun c.edit_row-2.new.summer c.edit_row-2.new.store p (s.puts c.edit_row-2.new.store)) c.in_ok-root.ensures.puts (c.in_err-row-2.ensures.sums first begun way1 root)
+
+pub returns-clause-sums : goal.returns-clause-sums
+returns-clause-sums g c first begun way =
+    let laws : Laws g.S.NodeSource g.M.Summer = record { store_steps = g.met.S.NodeSource.are_steps; store_keeps = g.met.S.NodeSource.keeps; store_caused = g.met.S.NodeSource.stays_caused; summer_steps = g.met.M.Summer.are_steps; summer_keeps = g.met.M.Summer.keeps; summer_caused = g.met.M.Summer.stays_caused; summer_asked = g.met.M.Summer.stays_asked; summer_gave = g.met.M.Summer.stays_given } in
+    let i = g.M.Unit.Item in let s = g.S.NodeSource in let m = g.M.Summer in let s0 = c.args.store.now in let u0 = c.args.summer.now in
+    let s1 = c.fetch.new.store in
+    let way1 = way_on i s m laws first begun s0 s1 u0 u0 c.in_ok-root.ensures.ran way in
+    let root = c.in_ok-root.ensures.known first begun way in
+    subst (λ p. KnowsPieces i s m first begun c.edit_row-2.new.summer c.edit_row-2.new.store p (s.puts c.edit_row-2.new.store)) c.in_ok-root.ensures.puts (c.in_ok-row-2.ensures.sums first begun way1 root)
+
+pub returns-then-tree-eq0-clause-known : goal.returns-then-tree-eq0-clause-known
+returns-then-tree-eq0-clause-known g c first begun way =
+    let laws : Laws g.S.NodeSource g.M.Summer = record { store_steps = g.met.S.NodeSource.are_steps; store_keeps = g.met.S.NodeSource.keeps; store_caused = g.met.S.NodeSource.stays_caused; summer_steps = g.met.M.Summer.are_steps; summer_keeps = g.met.M.Summer.keeps; summer_caused = g.met.M.Summer.stays_caused; summer_asked = g.met.M.Summer.stays_asked; summer_gave = g.met.M.Summer.stays_given } in
+    let i = g.M.Unit.Item in let s = g.S.NodeSource in let m = g.M.Summer in let s0 = c.args.store.now in let u0 = c.args.summer.now in
+    let none = subst (KnowsNode i s m first begun u0 s0) (sym c.empty-none.ensures.node) tt in
+    c.in_ok-row.ensures.known first begun way none
+
+pub returns-clause-known : goal.returns-clause-known
+returns-clause-known g c first begun way =
+    let laws : Laws g.S.NodeSource g.M.Summer = record { store_steps = g.met.S.NodeSource.are_steps; store_keeps = g.met.S.NodeSource.keeps; store_caused = g.met.S.NodeSource.stays_caused; summer_steps = g.met.M.Summer.are_steps; summer_keeps = g.met.M.Summer.keeps; summer_caused = g.met.M.Summer.stays_caused; summer_asked = g.met.M.Summer.stays_asked; summer_gave = g.met.M.Summer.stays_given } in
+    let i = g.M.Unit.Item in let s = g.S.NodeSource in let m = g.M.Summer in let s0 = c.args.store.now in let u0 = c.args.summer.now in
+    let s1 = c.fetch.new.store in
+    let way1 = way_on i s m laws first begun s0 s1 u0 u0 c.in_ok-root.ensures.ran way in
+    let root = c.in_ok-root.ensures.known first begun way in
+    c.in_ok-row-2.ensures.known first begun way1 root

@@ -8,6 +8,8 @@ use Rattle.reduce_tree.proofs.Nodes.{has_none, lone_count, lone_root, lone_size,
 use Rattle.reduce_tree.proofs.Puts.{leaf_lone, leaf_none, put_none}
 use Rattle.reduce_tree.proofs.Pieces.{pieces_none, on_match}
 use Rattle.std.proofs.lemmas.Result.{err_from_is_err_and}
+use Rattle.reduce_tree.specs.Sums.{IsSumRead}
+use Rattle.reduce_tree.proofs.Had.{had_none}
 use Rattle.reduce_tree.proofs.root.put_root.Goals as goal
 
 pub returns-then-is_empty-clause-root : goal.returns-then-is_empty-clause-root
@@ -22,7 +24,7 @@ returns-then-is_empty-clause-count g c =
 
 pub returns-then-is_empty-clause-ran : goal.returns-then-is_empty-clause-ran
 returns-then-is_empty-clause-ran g c =
-    let laws : Laws g.S.NodeSource g.M.Summer = record { store_steps = g.met.S.NodeSource.are_steps; store_keeps = g.met.S.NodeSource.keeps; store_caused = g.met.S.NodeSource.stays_caused; summer_steps = g.met.M.Summer.are_steps; summer_keeps = g.met.M.Summer.keeps; summer_caused = g.met.M.Summer.stays_caused } in
+    let laws : Laws g.S.NodeSource g.M.Summer = record { store_steps = g.met.S.NodeSource.are_steps; store_keeps = g.met.S.NodeSource.keeps; store_caused = g.met.S.NodeSource.stays_caused; summer_steps = g.met.M.Summer.are_steps; summer_keeps = g.met.M.Summer.keeps; summer_caused = g.met.M.Summer.stays_caused; summer_asked = g.met.M.Summer.stays_asked; summer_gave = g.met.M.Summer.stays_given } in
     goes_none g.M.Unit.Item g.S.NodeSource g.M.Summer laws c.args.store.now c.args.summer.now
 
 pub returns-in-Some-clause-root : goal.returns-in-Some-clause-root
@@ -37,7 +39,7 @@ returns-in-Some-clause-size g c = lone_size c.args.level c.args.node c.in-Some.c
 
 pub returns-in-Some-clause-ran : goal.returns-in-Some-clause-ran
 returns-in-Some-clause-ran g c =
-    let laws : Laws g.S.NodeSource g.M.Summer = record { store_steps = g.met.S.NodeSource.are_steps; store_keeps = g.met.S.NodeSource.keeps; store_caused = g.met.S.NodeSource.stays_caused; summer_steps = g.met.M.Summer.are_steps; summer_keeps = g.met.M.Summer.keeps; summer_caused = g.met.M.Summer.stays_caused } in
+    let laws : Laws g.S.NodeSource g.M.Summer = record { store_steps = g.met.S.NodeSource.are_steps; store_keeps = g.met.S.NodeSource.keeps; store_caused = g.met.S.NodeSource.stays_caused; summer_steps = g.met.M.Summer.are_steps; summer_keeps = g.met.M.Summer.keeps; summer_caused = g.met.M.Summer.stays_caused; summer_asked = g.met.M.Summer.stays_asked; summer_gave = g.met.M.Summer.stays_given } in
     goes_none g.M.Unit.Item g.S.NodeSource g.M.Summer laws c.args.store.now c.args.summer.now
 
 pub returns-clause-root : goal.returns-clause-root
@@ -108,3 +110,15 @@ returns-in_err-top-clause-pieces g c first items among known has all =
     let p = err_from_is_err_and c.from_residual.result c.from_residual.ensures.1 in
     on_match c.from_residual.result _ _ _ p.0 p.2 p.1
     (c.in_err-top.ensures.pieces first c.args.level Root items among known fill has all)
+
+pub returns-then-is_empty-clause-sums : goal.returns-then-is_empty-clause-sums
+returns-then-is_empty-clause-sums g c first begun knows = had_none g.M.Unit.Item g.M.Summer (IsSumRead g.M.Unit.Item g.S.NodeSource begun c.args.store.now) first c.args.summer.now (g.S.NodeSource.puts c.args.store.now)
+
+pub returns-in-Some-clause-sums : goal.returns-in-Some-clause-sums
+returns-in-Some-clause-sums g c first begun knows = had_none g.M.Unit.Item g.M.Summer (IsSumRead g.M.Unit.Item g.S.NodeSource begun c.args.store.now) first c.args.summer.now (g.S.NodeSource.puts c.args.store.now)
+
+pub returns-in_err-top-clause-sums : goal.returns-in_err-top-clause-sums
+returns-in_err-top-clause-sums g c first begun knows = c.in_err-top.ensures.sums first begun knows
+
+pub returns-clause-sums : goal.returns-clause-sums
+returns-clause-sums g c first begun knows = c.in_ok-top.ensures.sums first begun knows

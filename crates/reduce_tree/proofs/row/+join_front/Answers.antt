@@ -1,4 +1,4 @@
-use Rattle.std.proofs.Common.{◌≡◌, suc, ◌-◌, ◌+◌, ◌∷◌, ◌++◌, sym, ap, ◌∙◌, subst, ◌==◌, arith, Contains, refl, ◌<◌, length, All}
+use Rattle.std.proofs.Common.{◌≡◌, suc, ◌-◌, ◌+◌, ◌∷◌, ◌++◌, sym, ap, ◌∙◌, subst, ◌==◌, arith, Contains, refl, ◌<◌, length, All, []}
 use Rattle.tree_laws.specs.declared.node.Node.TheVariants.{Inner}
 use Rattle.tree_laws.specs.declared.tree.Fill.TheVariants.{Below}
 use Rattle.tree_laws.specs.Fitting.{AreLarge, item_count}
@@ -13,13 +13,15 @@ use Rattle.reduce_tree.proofs.Walk.{graft_front}
 use Rattle.reduce_tree.proofs.Puts.{leaf_split, put_none, put_two}
 use Rattle.reduce_tree.specs.Rows.{leaf_items}
 use Rattle.reduce_tree.proofs.Sound.{if_sound}
-use Rattle.reduce_tree.proofs.Pieces.{pieces_none, pieces_on, were_none, were_done, were_on, on_match}
+use Rattle.reduce_tree.proofs.Pieces.{pieces_none, pieces_on, were_none, were_on, on_match}
 use Rattle.reduce_tree.proofs.Quiet.{all_front}
 use Rattle.reduce_tree.specs.Pieces.{AreAmong, ArePieces}
 use Rattle.std.proofs.lemmas.List.Elements.{All-append, All-head, All-tail}
 use Rattle.tree_laws.specs.declared.tree.TreeFault.TheVariants as tree_fault
 use Rattle.reduce_tree.proofs.Given.{all_on, row_on, taken_on, taken_quiet, took_fault, took_later, took_none, took_quiet, under_on, each_join, fails_none, halts_quiet}
 use Rattle.reduce_tree.specs.Given.{AllGiven, AreEach, Given}
+use Rattle.reduce_tree.specs.Sums.{IsSumRead, KnowsNode, KnowsPieces, KnowsRow}
+use Rattle.reduce_tree.proofs.Had.{had_none, had_given, had_append, had_cut, way_on, node_goes, row_goes, known_goes, known_fails, known_none, had_join}
 use Rattle.reduce_tree.proofs.row.+join_front.Goals as goal
 
 pub returns-then-low-level-clause-items : goal.returns-then-low-level-clause-items
@@ -39,7 +41,7 @@ returns-then-low-level-clause-large g t c =
 
 pub returns-in_ok-add_all-in-Inner-clause-items : goal.returns-in_ok-add_all-in-Inner-clause-items
 returns-in_ok-add_all-in-Inner-clause-items g t c first xs ys known hx hy =
-    let laws : Laws g.S.NodeSource g.M.Summer = record { store_steps = g.met.S.NodeSource.are_steps; store_keeps = g.met.S.NodeSource.keeps; store_caused = g.met.S.NodeSource.stays_caused; summer_steps = g.met.M.Summer.are_steps; summer_keeps = g.met.M.Summer.keeps; summer_caused = g.met.M.Summer.stays_caused } in
+    let laws : Laws g.S.NodeSource g.M.Summer = record { store_steps = g.met.S.NodeSource.are_steps; store_keeps = g.met.S.NodeSource.keeps; store_caused = g.met.S.NodeSource.stays_caused; summer_steps = g.met.M.Summer.are_steps; summer_keeps = g.met.M.Summer.keeps; summer_caused = g.met.M.Summer.stays_caused; summer_asked = g.met.M.Summer.stays_asked; summer_gave = g.met.M.Summer.stays_given } in
     let s0 = c.args.store.now in
     let s1 = c.fetch.new.store in
     let s2 = c.join_front.new.store in
@@ -109,7 +111,7 @@ returns-in_ok-add_all-in-Inner-clause-count g t c =
 
 pub returns-in_ok-add_all-in-Inner-clause-ran : goal.returns-in_ok-add_all-in-Inner-clause-ran
 returns-in_ok-add_all-in-Inner-clause-ran g t c =
-    let laws : Laws g.S.NodeSource g.M.Summer = record { store_steps = g.met.S.NodeSource.are_steps; store_keeps = g.met.S.NodeSource.keeps; store_caused = g.met.S.NodeSource.stays_caused; summer_steps = g.met.M.Summer.are_steps; summer_keeps = g.met.M.Summer.keeps; summer_caused = g.met.M.Summer.stays_caused } in
+    let laws : Laws g.S.NodeSource g.M.Summer = record { store_steps = g.met.S.NodeSource.are_steps; store_keeps = g.met.S.NodeSource.keeps; store_caused = g.met.S.NodeSource.stays_caused; summer_steps = g.met.M.Summer.are_steps; summer_keeps = g.met.M.Summer.keeps; summer_caused = g.met.M.Summer.stays_caused; summer_asked = g.met.M.Summer.stays_asked; summer_gave = g.met.M.Summer.stays_given } in
     let s0 = c.args.store.now in
     let s1 = c.fetch.new.store in
     let s2 = c.join_front.new.store in
@@ -124,7 +126,7 @@ returns-in_ok-add_all-in-Inner-clause-ran g t c =
 
 pub returns-in_err-joined-in-Inner-clause-ran : goal.returns-in_err-joined-in-Inner-clause-ran
 returns-in_err-joined-in-Inner-clause-ran g t c =
-    let laws : Laws g.S.NodeSource g.M.Summer = record { store_steps = g.met.S.NodeSource.are_steps; store_keeps = g.met.S.NodeSource.keeps; store_caused = g.met.S.NodeSource.stays_caused; summer_steps = g.met.M.Summer.are_steps; summer_keeps = g.met.M.Summer.keeps; summer_caused = g.met.M.Summer.stays_caused } in
+    let laws : Laws g.S.NodeSource g.M.Summer = record { store_steps = g.met.S.NodeSource.are_steps; store_keeps = g.met.S.NodeSource.keeps; store_caused = g.met.S.NodeSource.stays_caused; summer_steps = g.met.M.Summer.are_steps; summer_keeps = g.met.M.Summer.keeps; summer_caused = g.met.M.Summer.stays_caused; summer_asked = g.met.M.Summer.stays_asked; summer_gave = g.met.M.Summer.stays_given } in
     let s0 = c.args.store.now in
     let s1 = c.fetch.new.store in
     let s2 = c.join_front.new.store in
@@ -136,7 +138,7 @@ returns-in_err-joined-in-Inner-clause-ran g t c =
 
 pub returns-in_err-placed-in-Inner-clause-ran : goal.returns-in_err-placed-in-Inner-clause-ran
 returns-in_err-placed-in-Inner-clause-ran g t c =
-    let laws : Laws g.S.NodeSource g.M.Summer = record { store_steps = g.met.S.NodeSource.are_steps; store_keeps = g.met.S.NodeSource.keeps; store_caused = g.met.S.NodeSource.stays_caused; summer_steps = g.met.M.Summer.are_steps; summer_keeps = g.met.M.Summer.keeps; summer_caused = g.met.M.Summer.stays_caused } in
+    let laws : Laws g.S.NodeSource g.M.Summer = record { store_steps = g.met.S.NodeSource.are_steps; store_keeps = g.met.S.NodeSource.keeps; store_caused = g.met.S.NodeSource.stays_caused; summer_steps = g.met.M.Summer.are_steps; summer_keeps = g.met.M.Summer.keeps; summer_caused = g.met.M.Summer.stays_caused; summer_asked = g.met.M.Summer.stays_asked; summer_gave = g.met.M.Summer.stays_given } in
     let s0 = c.args.store.now in
     let s1 = c.fetch.new.store in
     let s2 = c.join_front.new.store in
@@ -182,7 +184,7 @@ returns-in_err-below-in-Inner-clause-items g t c first xs ys known hx hy =
 
 pub returns-in_err-joined-in-Inner-clause-items : goal.returns-in_err-joined-in-Inner-clause-items
 returns-in_err-joined-in-Inner-clause-items g t c first xs ys known hx hy =
-    let laws : Laws g.S.NodeSource g.M.Summer = record { store_steps = g.met.S.NodeSource.are_steps; store_keeps = g.met.S.NodeSource.keeps; store_caused = g.met.S.NodeSource.stays_caused; summer_steps = g.met.M.Summer.are_steps; summer_keeps = g.met.M.Summer.keeps; summer_caused = g.met.M.Summer.stays_caused } in
+    let laws : Laws g.S.NodeSource g.M.Summer = record { store_steps = g.met.S.NodeSource.are_steps; store_keeps = g.met.S.NodeSource.keeps; store_caused = g.met.S.NodeSource.stays_caused; summer_steps = g.met.M.Summer.are_steps; summer_keeps = g.met.M.Summer.keeps; summer_caused = g.met.M.Summer.stays_caused; summer_asked = g.met.M.Summer.stays_asked; summer_gave = g.met.M.Summer.stays_given } in
     let cs = c.in-Inner.children in
     let low = c.args.level - 1 in
     let kind : is_leaf (Inner cs) ≡ (c.args.level == 0) = subst (λ x. is_leaf x ≡ (c.args.level == 0)) c.in-Inner.is c.requires.kind in
@@ -214,7 +216,7 @@ returns-then-low-level-clause-pieces g t c first xs ys among known hx hy ax ay =
 
 pub returns-in_ok-add_all-in-Inner-clause-pieces : goal.returns-in_ok-add_all-in-Inner-clause-pieces
 returns-in_ok-add_all-in-Inner-clause-pieces g t c first xs ys among known hx hy ax ay =
-    let laws : Laws g.S.NodeSource g.M.Summer = record { store_steps = g.met.S.NodeSource.are_steps; store_keeps = g.met.S.NodeSource.keeps; store_caused = g.met.S.NodeSource.stays_caused; summer_steps = g.met.M.Summer.are_steps; summer_keeps = g.met.M.Summer.keeps; summer_caused = g.met.M.Summer.stays_caused } in
+    let laws : Laws g.S.NodeSource g.M.Summer = record { store_steps = g.met.S.NodeSource.are_steps; store_keeps = g.met.S.NodeSource.keeps; store_caused = g.met.S.NodeSource.stays_caused; summer_steps = g.met.M.Summer.are_steps; summer_keeps = g.met.M.Summer.keeps; summer_caused = g.met.M.Summer.stays_caused; summer_asked = g.met.M.Summer.stays_asked; summer_gave = g.met.M.Summer.stays_given } in
     let s0 = c.args.store.now in
     let s1 = c.fetch.new.store in
     let s2 = c.join_front.new.store in
@@ -242,7 +244,6 @@ returns-in_ok-add_all-in-Inner-clause-pieces g t c first xs ys among known hx hy
     let joined = c.in_ok-joined-in-Inner.joined in
     let placed = c.in_ok-placed-in-Inner.placed.items in
     let e01 = extends_on g.M.Unit.Item g.S.NodeSource g.M.Summer laws s0 s1 u0 u0 a in
-    let e02 = extends_on g.M.Unit.Item g.S.NodeSource g.M.Summer laws s0 s2 u0 u1 ab in
     let e23 = extends_on g.M.Unit.Item g.S.NodeSource g.M.Summer laws s2 s3 u1 u2 c.in_ok-placed-in-Inner.ensures.ran in
     let known1 = known_on g.M.Unit.Item g.S.NodeSource g.M.Summer laws first s0 s1 u0 u0 known a in
     let known2 = known_on g.M.Unit.Item g.S.NodeSource g.M.Summer laws first s0 s2 u0 u1 known ab in
@@ -263,13 +264,13 @@ returns-in_ok-add_all-in-Inner-clause-pieces g t c first xs ys among known hx hy
 
 pub returns-in_err-join_nodes-clause-ran : goal.returns-in_err-join_nodes-clause-ran
 returns-in_err-join_nodes-clause-ran g t c =
-    let laws : Laws g.S.NodeSource g.M.Summer = record { store_steps = g.met.S.NodeSource.are_steps; store_keeps = g.met.S.NodeSource.keeps; store_caused = g.met.S.NodeSource.stays_caused; summer_steps = g.met.M.Summer.are_steps; summer_keeps = g.met.M.Summer.keeps; summer_caused = g.met.M.Summer.stays_caused } in
+    let laws : Laws g.S.NodeSource g.M.Summer = record { store_steps = g.met.S.NodeSource.are_steps; store_keeps = g.met.S.NodeSource.keeps; store_caused = g.met.S.NodeSource.stays_caused; summer_steps = g.met.M.Summer.are_steps; summer_keeps = g.met.M.Summer.keeps; summer_caused = g.met.M.Summer.stays_caused; summer_asked = g.met.M.Summer.stays_asked; summer_gave = g.met.M.Summer.stays_given } in
     let p = err_from_is_err_and c.from_residual.result c.from_residual.ensures.1 in
     ran_err g.M.Unit.Item g.S.NodeSource g.M.Summer laws _ _ _ _ c.from_residual.result tree_fault.NoMemory p.0 p.2 p.1 (goes_none g.M.Unit.Item g.S.NodeSource g.M.Summer laws c.args.store.now c.args.summer.now)
 
 pub returns-in_err-add_all-in-Inner-clause-ran : goal.returns-in_err-add_all-in-Inner-clause-ran
 returns-in_err-add_all-in-Inner-clause-ran g t c =
-    let laws : Laws g.S.NodeSource g.M.Summer = record { store_steps = g.met.S.NodeSource.are_steps; store_keeps = g.met.S.NodeSource.keeps; store_caused = g.met.S.NodeSource.stays_caused; summer_steps = g.met.M.Summer.are_steps; summer_keeps = g.met.M.Summer.keeps; summer_caused = g.met.M.Summer.stays_caused } in
+    let laws : Laws g.S.NodeSource g.M.Summer = record { store_steps = g.met.S.NodeSource.are_steps; store_keeps = g.met.S.NodeSource.keeps; store_caused = g.met.S.NodeSource.stays_caused; summer_steps = g.met.M.Summer.are_steps; summer_keeps = g.met.M.Summer.keeps; summer_caused = g.met.M.Summer.stays_caused; summer_asked = g.met.M.Summer.stays_asked; summer_gave = g.met.M.Summer.stays_given } in
     let s0 = c.args.store.now in
     let s1 = c.fetch.new.store in
     let s2 = c.join_front.new.store in
@@ -328,16 +329,17 @@ returns-in_err-add_all-in-Inner-clause-spent g t c =
 pub returns-in_err-join_nodes-clause-pieces : goal.returns-in_err-join_nodes-clause-pieces
 returns-in_err-join_nodes-clause-pieces g t c first xs ys among known hx hy ax ay =
     let p = err_from_is_err_and c.from_residual.result c.from_residual.ensures.1 in
-    on_match c.from_residual.result _ _ _ p.0 p.2 p.1 (were_none g.M.Unit.Item g.M.Summer first among (places (g.S.NodeSource.nodes c.args.store.now)) _ (g.S.NodeSource.puts c.args.store.now) (g.S.NodeSource.puts c.args.store.now) refl)
+    on_match c.from_residual.result _ _ tree_fault.NoMemory p.0 p.2 p.1 (pieces_none g.M.Unit.Item g.M.Summer first among (places (g.S.NodeSource.nodes c.args.store.now)) Below (g.S.NodeSource.puts c.args.store.now) (g.S.NodeSource.puts c.args.store.now) refl)
 
 pub returns-in_err-below-in-Inner-clause-pieces : goal.returns-in_err-below-in-Inner-clause-pieces
 returns-in_err-below-in-Inner-clause-pieces g t c first xs ys among known hx hy ax ay =
+    let laws : Laws g.S.NodeSource g.M.Summer = record { store_steps = g.met.S.NodeSource.are_steps; store_keeps = g.met.S.NodeSource.keeps; store_caused = g.met.S.NodeSource.stays_caused; summer_steps = g.met.M.Summer.are_steps; summer_keeps = g.met.M.Summer.keeps; summer_caused = g.met.M.Summer.stays_caused; summer_asked = g.met.M.Summer.stays_asked; summer_gave = g.met.M.Summer.stays_given } in
     let p = err_from_is_err_and c.from_residual-in_err-below-in-Inner.result c.from_residual-in_err-below-in-Inner.ensures.1 in
-    on_match c.from_residual-in_err-below-in-Inner.result _ _ _ p.0 p.2 p.1 (were_none g.M.Unit.Item g.M.Summer first among (places (g.S.NodeSource.nodes c.args.store.now)) _ (g.S.NodeSource.puts c.args.store.now) (g.S.NodeSource.puts c.fetch.new.store) c.in_err-below-in-Inner.ensures.puts)
+    on_match c.from_residual-in_err-below-in-Inner.result _ _ _ p.0 p.2 p.1 (were_none g.M.Unit.Item g.S.NodeSource g.M.Summer laws first among c.args.store.now c.fetch.new.store c.args.summer.now c.args.summer.now c.in_err-below-in-Inner.field-0.0 c.in_err-below-in-Inner.ensures.ran c.in_err-below-in-Inner.ensures.puts)
 
 pub returns-in_err-joined-in-Inner-clause-pieces : goal.returns-in_err-joined-in-Inner-clause-pieces
 returns-in_err-joined-in-Inner-clause-pieces g t c first xs ys among known hx hy ax ay =
-    let laws : Laws g.S.NodeSource g.M.Summer = record { store_steps = g.met.S.NodeSource.are_steps; store_keeps = g.met.S.NodeSource.keeps; store_caused = g.met.S.NodeSource.stays_caused; summer_steps = g.met.M.Summer.are_steps; summer_keeps = g.met.M.Summer.keeps; summer_caused = g.met.M.Summer.stays_caused } in
+    let laws : Laws g.S.NodeSource g.M.Summer = record { store_steps = g.met.S.NodeSource.are_steps; store_keeps = g.met.S.NodeSource.keeps; store_caused = g.met.S.NodeSource.stays_caused; summer_steps = g.met.M.Summer.are_steps; summer_keeps = g.met.M.Summer.keeps; summer_caused = g.met.M.Summer.stays_caused; summer_asked = g.met.M.Summer.stays_asked; summer_gave = g.met.M.Summer.stays_given } in
     let s0 = c.args.store.now in
     let s1 = c.fetch.new.store in
     let s2 = c.join_front.new.store in
@@ -365,11 +367,11 @@ returns-in_err-joined-in-Inner-clause-pieces g t c first xs ys among known hx hy
     let row = has_stays i m first n0 n1 e01 c.args.low c.args.row xs hx in
     let p = err_from_is_err_and c.from_residual-in_err-joined-in-Inner.result c.from_residual-in_err-joined-in-Inner.ensures.1 in
     on_match c.from_residual-in_err-joined-in-Inner.result _ _ _ p.0 p.2 p.1
-    (were_on i m first among n0 n1 e01 _ (g.S.NodeSource.puts s0) (g.S.NodeSource.puts s1) (g.S.NodeSource.puts s2) (pieces_none i m first among n1 Below (g.S.NodeSource.puts s0) (g.S.NodeSource.puts s1) c.in_ok-below-in-Inner.ensures.puts) (c.in_err-joined-in-Inner.ensures.pieces first xs mid among known1 row got ax am))
+    (were_on i g.S.NodeSource m laws first among s0 s1 s2 u0 u0 c.join_front.new.summer a (pieces_none i m first among n1 Below (g.S.NodeSource.puts s0) (g.S.NodeSource.puts s1) c.in_ok-below-in-Inner.ensures.puts) c.in_err-joined-in-Inner.field-0.0 c.in_err-joined-in-Inner.ensures.ran (c.in_err-joined-in-Inner.ensures.pieces first xs mid among known1 row got ax am))
 
 pub returns-in_err-placed-in-Inner-clause-pieces : goal.returns-in_err-placed-in-Inner-clause-pieces
 returns-in_err-placed-in-Inner-clause-pieces g t c first xs ys among known hx hy ax ay =
-    let laws : Laws g.S.NodeSource g.M.Summer = record { store_steps = g.met.S.NodeSource.are_steps; store_keeps = g.met.S.NodeSource.keeps; store_caused = g.met.S.NodeSource.stays_caused; summer_steps = g.met.M.Summer.are_steps; summer_keeps = g.met.M.Summer.keeps; summer_caused = g.met.M.Summer.stays_caused } in
+    let laws : Laws g.S.NodeSource g.M.Summer = record { store_steps = g.met.S.NodeSource.are_steps; store_keeps = g.met.S.NodeSource.keeps; store_caused = g.met.S.NodeSource.stays_caused; summer_steps = g.met.M.Summer.are_steps; summer_keeps = g.met.M.Summer.keeps; summer_caused = g.met.M.Summer.stays_caused; summer_asked = g.met.M.Summer.stays_asked; summer_gave = g.met.M.Summer.stays_given } in
     let s0 = c.args.store.now in
     let s1 = c.fetch.new.store in
     let s2 = c.join_front.new.store in
@@ -391,7 +393,6 @@ returns-in_err-placed-in-Inner-clause-pieces g t c first xs ys among known hx hy
     let n2 = places (g.S.NodeSource.nodes s2) in
     let below = c.in_ok-below-in-Inner.below in
     let e01 = extends_on g.M.Unit.Item g.S.NodeSource g.M.Summer laws s0 s1 u0 u0 a in
-    let e02 = extends_on g.M.Unit.Item g.S.NodeSource g.M.Summer laws s0 s2 u0 u1 ab in
     let known1 = known_on g.M.Unit.Item g.S.NodeSource g.M.Summer laws first s0 s1 u0 u0 known a in
     let known2 = known_on g.M.Unit.Item g.S.NodeSource g.M.Summer laws first s0 s2 u0 u1 known ab in
     let has0 : Has i m first n0 c.args.level (Inner cs) ys = subst (λ x. Has i m first n0 c.args.level x ys) c.in-Inner.is hy in
@@ -408,11 +409,11 @@ returns-in_err-placed-in-Inner-clause-pieces g t c first xs ys among known hx hy
     let one = subst (λ p. ArePieces i m first among n2 Below p (g.S.NodeSource.puts s2)) c.in_ok-below-in-Inner.ensures.puts (c.in_ok-joined-in-Inner.ensures.pieces first xs mid among known1 row got ax am) in
     let p = err_from_is_err_and c.from_residual-in_err-placed-in-Inner.result c.from_residual-in_err-placed-in-Inner.ensures.1 in
     on_match c.from_residual-in_err-placed-in-Inner.result _ _ _ p.0 p.2 p.1
-    (were_on i m first among n0 n2 e02 _ (g.S.NodeSource.puts s0) (g.S.NodeSource.puts s2) (g.S.NodeSource.puts s3) one (c.in_err-placed-in-Inner.ensures.pieces first low zs among known2 made az))
+    (were_on i g.S.NodeSource m laws first among s0 s2 s3 u0 u1 c.place_row.new.summer ab one c.in_err-placed-in-Inner.field-0.0 c.in_err-placed-in-Inner.ensures.ran (c.in_err-placed-in-Inner.ensures.pieces first low zs among known2 made az))
 
 pub returns-in_err-add_all-in-Inner-clause-pieces : goal.returns-in_err-add_all-in-Inner-clause-pieces
 returns-in_err-add_all-in-Inner-clause-pieces g t c first xs ys among known hx hy ax ay =
-    let laws : Laws g.S.NodeSource g.M.Summer = record { store_steps = g.met.S.NodeSource.are_steps; store_keeps = g.met.S.NodeSource.keeps; store_caused = g.met.S.NodeSource.stays_caused; summer_steps = g.met.M.Summer.are_steps; summer_keeps = g.met.M.Summer.keeps; summer_caused = g.met.M.Summer.stays_caused } in
+    let laws : Laws g.S.NodeSource g.M.Summer = record { store_steps = g.met.S.NodeSource.are_steps; store_keeps = g.met.S.NodeSource.keeps; store_caused = g.met.S.NodeSource.stays_caused; summer_steps = g.met.M.Summer.are_steps; summer_keeps = g.met.M.Summer.keeps; summer_caused = g.met.M.Summer.stays_caused; summer_asked = g.met.M.Summer.stays_asked; summer_gave = g.met.M.Summer.stays_given } in
     let s0 = c.args.store.now in
     let s1 = c.fetch.new.store in
     let s2 = c.join_front.new.store in
@@ -436,7 +437,6 @@ returns-in_err-add_all-in-Inner-clause-pieces g t c first xs ys among known hx h
     let n3 = places (g.S.NodeSource.nodes s3) in
     let below = c.in_ok-below-in-Inner.below in
     let e01 = extends_on g.M.Unit.Item g.S.NodeSource g.M.Summer laws s0 s1 u0 u0 a in
-    let e02 = extends_on g.M.Unit.Item g.S.NodeSource g.M.Summer laws s0 s2 u0 u1 ab in
     let e23 = extends_on g.M.Unit.Item g.S.NodeSource g.M.Summer laws s2 s3 u1 u2 c.in_ok-placed-in-Inner.ensures.ran in
     let known1 = known_on g.M.Unit.Item g.S.NodeSource g.M.Summer laws first s0 s1 u0 u0 known a in
     let known2 = known_on g.M.Unit.Item g.S.NodeSource g.M.Summer laws first s0 s2 u0 u1 known ab in
@@ -454,17 +454,17 @@ returns-in_err-add_all-in-Inner-clause-pieces g t c first xs ys among known hx h
     let one = subst (λ p. ArePieces i m first among n2 Below p (g.S.NodeSource.puts s2)) c.in_ok-below-in-Inner.ensures.puts (c.in_ok-joined-in-Inner.ensures.pieces first xs mid among known1 row got ax am) in
     let two = c.in_ok-placed-in-Inner.ensures.pieces first low zs among known2 made az in
     let p = err_from_is_err_and c.from_residual-in_err-add_all-in-Inner.result c.from_residual-in_err-add_all-in-Inner.ensures.1 in
-    on_match c.from_residual-in_err-add_all-in-Inner.result _ _ _ p.0 p.2 p.1
-    (were_done i m first among n0 n3 (λ at bytes s. e23 at bytes (e02 at bytes s)) _ (g.S.NodeSource.puts s0) (g.S.NodeSource.puts s3) (pieces_on i m first among n2 n3 e23 Below (g.S.NodeSource.puts s0) (g.S.NodeSource.puts s2) (g.S.NodeSource.puts s3) one two))
+    on_match c.from_residual-in_err-add_all-in-Inner.result _ _ tree_fault.NoMemory p.0 p.2 p.1
+    (pieces_on i m first among n2 n3 e23 Below (g.S.NodeSource.puts s0) (g.S.NodeSource.puts s2) (g.S.NodeSource.puts s3) one two)
 
 pub returns-then-low-level-clause-ran : goal.returns-then-low-level-clause-ran
 returns-then-low-level-clause-ran g t c =
-    let laws : Laws g.S.NodeSource g.M.Summer = record { store_steps = g.met.S.NodeSource.are_steps; store_keeps = g.met.S.NodeSource.keeps; store_caused = g.met.S.NodeSource.stays_caused; summer_steps = g.met.M.Summer.are_steps; summer_keeps = g.met.M.Summer.keeps; summer_caused = g.met.M.Summer.stays_caused } in
+    let laws : Laws g.S.NodeSource g.M.Summer = record { store_steps = g.met.S.NodeSource.are_steps; store_keeps = g.met.S.NodeSource.keeps; store_caused = g.met.S.NodeSource.stays_caused; summer_steps = g.met.M.Summer.are_steps; summer_keeps = g.met.M.Summer.keeps; summer_caused = g.met.M.Summer.stays_caused; summer_asked = g.met.M.Summer.stays_asked; summer_gave = g.met.M.Summer.stays_given } in
     goes_none g.M.Unit.Item g.S.NodeSource g.M.Summer laws c.args.store.now c.args.summer.now
 
 pub returns-then-low-level-clause-met : goal.returns-then-low-level-clause-met
 returns-then-low-level-clause-met g t c first tree pieces under low_given given =
-    let laws : Laws g.S.NodeSource g.M.Summer = record { store_steps = g.met.S.NodeSource.are_steps; store_keeps = g.met.S.NodeSource.keeps; store_caused = g.met.S.NodeSource.stays_caused; summer_steps = g.met.M.Summer.are_steps; summer_keeps = g.met.M.Summer.keeps; summer_caused = g.met.M.Summer.stays_caused } in
+    let laws : Laws g.S.NodeSource g.M.Summer = record { store_steps = g.met.S.NodeSource.are_steps; store_keeps = g.met.S.NodeSource.keeps; store_caused = g.met.S.NodeSource.stays_caused; summer_steps = g.met.M.Summer.are_steps; summer_keeps = g.met.M.Summer.keeps; summer_caused = g.met.M.Summer.stays_caused; summer_asked = g.met.M.Summer.stays_asked; summer_gave = g.met.M.Summer.stays_given } in
     let i = g.M.Unit.Item in let s = g.S.NodeSource in let m = g.M.Summer in let s0 = c.args.store.now in let u0 = c.args.summer.now in
     let same : c.args.low ≡ c.args.level = c.if-low-level.true in
     let row = subst (λ l. AllGiven i s m first tree pieces s0 l c.args.row) same low_given in
@@ -472,14 +472,14 @@ returns-then-low-level-clause-met g t c first tree pieces under low_given given 
 
 pub returns-in_err-join_nodes-clause-met : goal.returns-in_err-join_nodes-clause-met
 returns-in_err-join_nodes-clause-met g t c first tree pieces under low_given given =
-    let laws : Laws g.S.NodeSource g.M.Summer = record { store_steps = g.met.S.NodeSource.are_steps; store_keeps = g.met.S.NodeSource.keeps; store_caused = g.met.S.NodeSource.stays_caused; summer_steps = g.met.M.Summer.are_steps; summer_keeps = g.met.M.Summer.keeps; summer_caused = g.met.M.Summer.stays_caused } in
+    let laws : Laws g.S.NodeSource g.M.Summer = record { store_steps = g.met.S.NodeSource.are_steps; store_keeps = g.met.S.NodeSource.keeps; store_caused = g.met.S.NodeSource.stays_caused; summer_steps = g.met.M.Summer.are_steps; summer_keeps = g.met.M.Summer.keeps; summer_caused = g.met.M.Summer.stays_caused; summer_asked = g.met.M.Summer.stays_asked; summer_gave = g.met.M.Summer.stays_given } in
     let i = g.M.Unit.Item in let s = g.S.NodeSource in let m = g.M.Summer in let s0 = c.args.store.now in let u0 = c.args.summer.now in
     let p = err_from_is_err_and c.from_residual.result c.from_residual.ensures.1 in
-    took_fault i s m laws first tree pieces c.from_residual.result _ s0 s0 tree_fault.NoMemory p.0 p.2 p.1 (halts_quiet i s m laws first tree pieces s0 s0 tree_fault.NoMemory refl tt)
+    took_fault i s m laws first tree pieces c.from_residual.result _ s0 s0 tree_fault.NoMemory p.0 p.2 p.1 (halts_quiet i s m laws first tree pieces s0 s0 u0 u0 tree_fault.NoMemory (fails_none i s m laws first tree pieces s0 u0) refl tt)
 
 pub returns-in_err-below-in-Inner-clause-met : goal.returns-in_err-below-in-Inner-clause-met
 returns-in_err-below-in-Inner-clause-met g t c first tree pieces under low_given given =
-    let laws : Laws g.S.NodeSource g.M.Summer = record { store_steps = g.met.S.NodeSource.are_steps; store_keeps = g.met.S.NodeSource.keeps; store_caused = g.met.S.NodeSource.stays_caused; summer_steps = g.met.M.Summer.are_steps; summer_keeps = g.met.M.Summer.keeps; summer_caused = g.met.M.Summer.stays_caused } in
+    let laws : Laws g.S.NodeSource g.M.Summer = record { store_steps = g.met.S.NodeSource.are_steps; store_keeps = g.met.S.NodeSource.keeps; store_caused = g.met.S.NodeSource.stays_caused; summer_steps = g.met.M.Summer.are_steps; summer_keeps = g.met.M.Summer.keeps; summer_caused = g.met.M.Summer.stays_caused; summer_asked = g.met.M.Summer.stays_asked; summer_gave = g.met.M.Summer.stays_given } in
     let i = g.M.Unit.Item in let s = g.S.NodeSource in let m = g.M.Summer in let s0 = c.args.store.now in let u0 = c.args.summer.now in
     let s1 = c.fetch.new.store in
     let P0 = Given i s m first tree pieces s0 (c.args.level - 1) in
@@ -491,7 +491,7 @@ returns-in_err-below-in-Inner-clause-met g t c first tree pieces under low_given
 
 pub returns-in_err-joined-in-Inner-clause-met : goal.returns-in_err-joined-in-Inner-clause-met
 returns-in_err-joined-in-Inner-clause-met g t c first tree pieces under low_given given =
-    let laws : Laws g.S.NodeSource g.M.Summer = record { store_steps = g.met.S.NodeSource.are_steps; store_keeps = g.met.S.NodeSource.keeps; store_caused = g.met.S.NodeSource.stays_caused; summer_steps = g.met.M.Summer.are_steps; summer_keeps = g.met.M.Summer.keeps; summer_caused = g.met.M.Summer.stays_caused } in
+    let laws : Laws g.S.NodeSource g.M.Summer = record { store_steps = g.met.S.NodeSource.are_steps; store_keeps = g.met.S.NodeSource.keeps; store_caused = g.met.S.NodeSource.stays_caused; summer_steps = g.met.M.Summer.are_steps; summer_keeps = g.met.M.Summer.keeps; summer_caused = g.met.M.Summer.stays_caused; summer_asked = g.met.M.Summer.stays_asked; summer_gave = g.met.M.Summer.stays_given } in
     let i = g.M.Unit.Item in let s = g.S.NodeSource in let m = g.M.Summer in let s0 = c.args.store.now in let u0 = c.args.summer.now in
     let s1 = c.fetch.new.store in
     let P0 = Given i s m first tree pieces s0 (c.args.level - 1) in
@@ -506,7 +506,7 @@ returns-in_err-joined-in-Inner-clause-met g t c first tree pieces under low_give
 
 pub returns-in_err-placed-in-Inner-clause-met : goal.returns-in_err-placed-in-Inner-clause-met
 returns-in_err-placed-in-Inner-clause-met g t c first tree pieces under low_given given =
-    let laws : Laws g.S.NodeSource g.M.Summer = record { store_steps = g.met.S.NodeSource.are_steps; store_keeps = g.met.S.NodeSource.keeps; store_caused = g.met.S.NodeSource.stays_caused; summer_steps = g.met.M.Summer.are_steps; summer_keeps = g.met.M.Summer.keeps; summer_caused = g.met.M.Summer.stays_caused } in
+    let laws : Laws g.S.NodeSource g.M.Summer = record { store_steps = g.met.S.NodeSource.are_steps; store_keeps = g.met.S.NodeSource.keeps; store_caused = g.met.S.NodeSource.stays_caused; summer_steps = g.met.M.Summer.are_steps; summer_keeps = g.met.M.Summer.keeps; summer_caused = g.met.M.Summer.stays_caused; summer_asked = g.met.M.Summer.stays_asked; summer_gave = g.met.M.Summer.stays_given } in
     let i = g.M.Unit.Item in let s = g.S.NodeSource in let m = g.M.Summer in let s0 = c.args.store.now in let u0 = c.args.summer.now in
     let s1 = c.fetch.new.store in
     let P0 = Given i s m first tree pieces s0 (c.args.level - 1) in
@@ -524,7 +524,7 @@ returns-in_err-placed-in-Inner-clause-met g t c first tree pieces under low_give
 
 pub returns-in_err-add_all-in-Inner-clause-met : goal.returns-in_err-add_all-in-Inner-clause-met
 returns-in_err-add_all-in-Inner-clause-met g t c first tree pieces under low_given given =
-    let laws : Laws g.S.NodeSource g.M.Summer = record { store_steps = g.met.S.NodeSource.are_steps; store_keeps = g.met.S.NodeSource.keeps; store_caused = g.met.S.NodeSource.stays_caused; summer_steps = g.met.M.Summer.are_steps; summer_keeps = g.met.M.Summer.keeps; summer_caused = g.met.M.Summer.stays_caused } in
+    let laws : Laws g.S.NodeSource g.M.Summer = record { store_steps = g.met.S.NodeSource.are_steps; store_keeps = g.met.S.NodeSource.keeps; store_caused = g.met.S.NodeSource.stays_caused; summer_steps = g.met.M.Summer.are_steps; summer_keeps = g.met.M.Summer.keeps; summer_caused = g.met.M.Summer.stays_caused; summer_asked = g.met.M.Summer.stays_asked; summer_gave = g.met.M.Summer.stays_given } in
     let i = g.M.Unit.Item in let s = g.S.NodeSource in let m = g.M.Summer in let s0 = c.args.store.now in let u0 = c.args.summer.now in
     let s1 = c.fetch.new.store in
     let P0 = Given i s m first tree pieces s0 (c.args.level - 1) in
@@ -543,7 +543,7 @@ returns-in_err-add_all-in-Inner-clause-met g t c first tree pieces under low_giv
 
 pub returns-in_ok-add_all-in-Inner-clause-met : goal.returns-in_ok-add_all-in-Inner-clause-met
 returns-in_ok-add_all-in-Inner-clause-met g t c first tree pieces under low_given given =
-    let laws : Laws g.S.NodeSource g.M.Summer = record { store_steps = g.met.S.NodeSource.are_steps; store_keeps = g.met.S.NodeSource.keeps; store_caused = g.met.S.NodeSource.stays_caused; summer_steps = g.met.M.Summer.are_steps; summer_keeps = g.met.M.Summer.keeps; summer_caused = g.met.M.Summer.stays_caused } in
+    let laws : Laws g.S.NodeSource g.M.Summer = record { store_steps = g.met.S.NodeSource.are_steps; store_keeps = g.met.S.NodeSource.keeps; store_caused = g.met.S.NodeSource.stays_caused; summer_steps = g.met.M.Summer.are_steps; summer_keeps = g.met.M.Summer.keeps; summer_caused = g.met.M.Summer.stays_caused; summer_asked = g.met.M.Summer.stays_asked; summer_gave = g.met.M.Summer.stays_given } in
     let i = g.M.Unit.Item in let s = g.S.NodeSource in let m = g.M.Summer in let s0 = c.args.store.now in let u0 = c.args.summer.now in
     let s1 = c.fetch.new.store in
     let P0 = Given i s m first tree pieces s0 (c.args.level - 1) in
@@ -563,3 +563,89 @@ returns-in_ok-add_all-in-Inner-clause-met g t c first tree pieces under low_give
     let old = all_on i s m laws first tree pieces s0 s3 u0 u2 abd (c.args.level - 1) c.take_first-child.new.list.items (All-tail P0 c.take_first-child.result c.take_first-child.new.list.items cs) in
     let list : c.from_vec.result ≡ placed ++ c.take_first-child.new.list.items = c.from_vec.ensures ∙ c.in_ok-add_all-in-Inner.ensures in
     (taken, subst (All P3) (sym list) (All-append P3 placed c.take_first-child.new.list.items new old))
+
+pub returns-then-low-level-clause-sums : goal.returns-then-low-level-clause-sums
+returns-then-low-level-clause-sums g t c first begun way row node = had_none g.M.Unit.Item g.M.Summer (IsSumRead g.M.Unit.Item g.S.NodeSource begun c.args.store.now) first c.args.summer.now (g.S.NodeSource.puts c.args.store.now)
+
+pub returns-in_err-join_nodes-clause-sums : goal.returns-in_err-join_nodes-clause-sums
+returns-in_err-join_nodes-clause-sums g t c first begun way row node = had_none g.M.Unit.Item g.M.Summer (IsSumRead g.M.Unit.Item g.S.NodeSource begun c.args.store.now) first c.args.summer.now (g.S.NodeSource.puts c.args.store.now)
+
+pub returns-in_err-below-in-Inner-clause-sums : goal.returns-in_err-below-in-Inner-clause-sums
+returns-in_err-below-in-Inner-clause-sums g t c first begun way row node =
+    let laws : Laws g.S.NodeSource g.M.Summer = record { store_steps = g.met.S.NodeSource.are_steps; store_keeps = g.met.S.NodeSource.keeps; store_caused = g.met.S.NodeSource.stays_caused; summer_steps = g.met.M.Summer.are_steps; summer_keeps = g.met.M.Summer.keeps; summer_caused = g.met.M.Summer.stays_caused; summer_asked = g.met.M.Summer.stays_asked; summer_gave = g.met.M.Summer.stays_given } in
+    let i = g.M.Unit.Item in let s = g.S.NodeSource in let m = g.M.Summer in let s0 = c.args.store.now in let u0 = c.args.summer.now in
+    known_none i s m laws first begun u0 s0 c.fetch.new.store c.in_err-below-in-Inner.ensures.puts
+
+pub returns-in_err-joined-in-Inner-clause-sums : goal.returns-in_err-joined-in-Inner-clause-sums
+returns-in_err-joined-in-Inner-clause-sums g t c first begun way row node =
+    let laws : Laws g.S.NodeSource g.M.Summer = record { store_steps = g.met.S.NodeSource.are_steps; store_keeps = g.met.S.NodeSource.keeps; store_caused = g.met.S.NodeSource.stays_caused; summer_steps = g.met.M.Summer.are_steps; summer_keeps = g.met.M.Summer.keeps; summer_caused = g.met.M.Summer.stays_caused; summer_asked = g.met.M.Summer.stays_asked; summer_gave = g.met.M.Summer.stays_given } in
+    let i = g.M.Unit.Item in let s = g.S.NodeSource in let m = g.M.Summer in let s0 = c.args.store.now in let u0 = c.args.summer.now in
+    let s1 = c.fetch.new.store in let a = c.in_ok-below-in-Inner.ensures.ran in
+    let way1 = way_on i s m laws first begun s0 s1 u0 u0 a way in
+    let below = c.in_ok-below-in-Inner.ensures.known first begun way in
+    subst (λ p. KnowsPieces i s m first begun c.join_front.new.summer c.join_front.new.store p (s.puts c.join_front.new.store)) c.in_ok-below-in-Inner.ensures.puts (c.in_err-joined-in-Inner.ensures.sums first begun way1 (node_goes i s m laws first begun s0 s1 u0 u0 a c.args.row row) below)
+
+pub returns-in_err-placed-in-Inner-clause-sums : goal.returns-in_err-placed-in-Inner-clause-sums
+returns-in_err-placed-in-Inner-clause-sums g t c first begun way row node =
+    let laws : Laws g.S.NodeSource g.M.Summer = record { store_steps = g.met.S.NodeSource.are_steps; store_keeps = g.met.S.NodeSource.keeps; store_caused = g.met.S.NodeSource.stays_caused; summer_steps = g.met.M.Summer.are_steps; summer_keeps = g.met.M.Summer.keeps; summer_caused = g.met.M.Summer.stays_caused; summer_asked = g.met.M.Summer.stays_asked; summer_gave = g.met.M.Summer.stays_given } in
+    let i = g.M.Unit.Item in let s = g.S.NodeSource in let m = g.M.Summer in let s0 = c.args.store.now in let u0 = c.args.summer.now in
+    let s1 = c.fetch.new.store in let a = c.in_ok-below-in-Inner.ensures.ran in
+    let way1 = way_on i s m laws first begun s0 s1 u0 u0 a way in
+    let below = c.in_ok-below-in-Inner.ensures.known first begun way in
+    let s2 = c.join_front.new.store in let u1 = c.join_front.new.summer in let b = c.in_ok-joined-in-Inner.ensures.ran in
+    let one = subst (λ p. KnowsPieces i s m first begun u1 s2 p (s.puts s2)) c.in_ok-below-in-Inner.ensures.puts (c.in_ok-joined-in-Inner.ensures.sums first begun way1 (node_goes i s m laws first begun s0 s1 u0 u0 a c.args.row row) below) in
+    let made = c.in_ok-joined-in-Inner.ensures.known first begun way1 (node_goes i s m laws first begun s0 s1 u0 u0 a c.args.row row) below in
+    let s3 = c.place_row.new.store in let u2 = c.place_row.new.summer in
+    known_fails i s m laws first begun s0 s2 s3 u1 u2 c.in_err-placed-in-Inner.field-0.0 c.in_err-placed-in-Inner.ensures.ran one (c.in_err-placed-in-Inner.ensures.sums first begun made)
+
+pub returns-in_err-add_all-in-Inner-clause-sums : goal.returns-in_err-add_all-in-Inner-clause-sums
+returns-in_err-add_all-in-Inner-clause-sums g t c first begun way row node =
+    let laws : Laws g.S.NodeSource g.M.Summer = record { store_steps = g.met.S.NodeSource.are_steps; store_keeps = g.met.S.NodeSource.keeps; store_caused = g.met.S.NodeSource.stays_caused; summer_steps = g.met.M.Summer.are_steps; summer_keeps = g.met.M.Summer.keeps; summer_caused = g.met.M.Summer.stays_caused; summer_asked = g.met.M.Summer.stays_asked; summer_gave = g.met.M.Summer.stays_given } in
+    let i = g.M.Unit.Item in let s = g.S.NodeSource in let m = g.M.Summer in let s0 = c.args.store.now in let u0 = c.args.summer.now in
+    let s1 = c.fetch.new.store in let a = c.in_ok-below-in-Inner.ensures.ran in
+    let way1 = way_on i s m laws first begun s0 s1 u0 u0 a way in
+    let below = c.in_ok-below-in-Inner.ensures.known first begun way in
+    let s2 = c.join_front.new.store in let u1 = c.join_front.new.summer in let b = c.in_ok-joined-in-Inner.ensures.ran in
+    let one = subst (λ p. KnowsPieces i s m first begun u1 s2 p (s.puts s2)) c.in_ok-below-in-Inner.ensures.puts (c.in_ok-joined-in-Inner.ensures.sums first begun way1 (node_goes i s m laws first begun s0 s1 u0 u0 a c.args.row row) below) in
+    let made = c.in_ok-joined-in-Inner.ensures.known first begun way1 (node_goes i s m laws first begun s0 s1 u0 u0 a c.args.row row) below in
+    let s3 = c.place_row.new.store in let u2 = c.place_row.new.summer in
+    known_goes i s m laws first begun s0 s2 s3 u1 u2 c.in_ok-placed-in-Inner.ensures.ran one (c.in_ok-placed-in-Inner.ensures.sums first begun made)
+
+pub returns-in_ok-add_all-in-Inner-clause-sums : goal.returns-in_ok-add_all-in-Inner-clause-sums
+returns-in_ok-add_all-in-Inner-clause-sums g t c first begun way row node =
+    let laws : Laws g.S.NodeSource g.M.Summer = record { store_steps = g.met.S.NodeSource.are_steps; store_keeps = g.met.S.NodeSource.keeps; store_caused = g.met.S.NodeSource.stays_caused; summer_steps = g.met.M.Summer.are_steps; summer_keeps = g.met.M.Summer.keeps; summer_caused = g.met.M.Summer.stays_caused; summer_asked = g.met.M.Summer.stays_asked; summer_gave = g.met.M.Summer.stays_given } in
+    let i = g.M.Unit.Item in let s = g.S.NodeSource in let m = g.M.Summer in let s0 = c.args.store.now in let u0 = c.args.summer.now in
+    let s1 = c.fetch.new.store in let a = c.in_ok-below-in-Inner.ensures.ran in
+    let way1 = way_on i s m laws first begun s0 s1 u0 u0 a way in
+    let below = c.in_ok-below-in-Inner.ensures.known first begun way in
+    let s2 = c.join_front.new.store in let u1 = c.join_front.new.summer in let b = c.in_ok-joined-in-Inner.ensures.ran in
+    let one = subst (λ p. KnowsPieces i s m first begun u1 s2 p (s.puts s2)) c.in_ok-below-in-Inner.ensures.puts (c.in_ok-joined-in-Inner.ensures.sums first begun way1 (node_goes i s m laws first begun s0 s1 u0 u0 a c.args.row row) below) in
+    let made = c.in_ok-joined-in-Inner.ensures.known first begun way1 (node_goes i s m laws first begun s0 s1 u0 u0 a c.args.row row) below in
+    let s3 = c.place_row.new.store in let u2 = c.place_row.new.summer in
+    known_goes i s m laws first begun s0 s2 s3 u1 u2 c.in_ok-placed-in-Inner.ensures.ran one (c.in_ok-placed-in-Inner.ensures.sums first begun made)
+
+pub returns-then-low-level-clause-known : goal.returns-then-low-level-clause-known
+returns-then-low-level-clause-known g t c first begun way row node =
+    let laws : Laws g.S.NodeSource g.M.Summer = record { store_steps = g.met.S.NodeSource.are_steps; store_keeps = g.met.S.NodeSource.keeps; store_caused = g.met.S.NodeSource.stays_caused; summer_steps = g.met.M.Summer.are_steps; summer_keeps = g.met.M.Summer.keeps; summer_caused = g.met.M.Summer.stays_caused; summer_asked = g.met.M.Summer.stays_asked; summer_gave = g.met.M.Summer.stays_given } in
+    let i = g.M.Unit.Item in let s = g.S.NodeSource in let m = g.M.Summer in let s0 = c.args.store.now in let u0 = c.args.summer.now in
+    had_join i m (IsSumRead i s begun s0) first u0 c.in_ok-join_nodes.field-0 c.args.row c.args.node c.in_ok-join_nodes.ensures.split row node
+
+pub returns-in_ok-add_all-in-Inner-clause-known : goal.returns-in_ok-add_all-in-Inner-clause-known
+returns-in_ok-add_all-in-Inner-clause-known g t c first begun way row node =
+    let laws : Laws g.S.NodeSource g.M.Summer = record { store_steps = g.met.S.NodeSource.are_steps; store_keeps = g.met.S.NodeSource.keeps; store_caused = g.met.S.NodeSource.stays_caused; summer_steps = g.met.M.Summer.are_steps; summer_keeps = g.met.M.Summer.keeps; summer_caused = g.met.M.Summer.stays_caused; summer_asked = g.met.M.Summer.stays_asked; summer_gave = g.met.M.Summer.stays_given } in
+    let i = g.M.Unit.Item in let s = g.S.NodeSource in let m = g.M.Summer in let s0 = c.args.store.now in let u0 = c.args.summer.now in
+    let s1 = c.fetch.new.store in let a = c.in_ok-below-in-Inner.ensures.ran in
+    let way1 = way_on i s m laws first begun s0 s1 u0 u0 a way in
+    let below = c.in_ok-below-in-Inner.ensures.known first begun way in
+    let s2 = c.join_front.new.store in let u1 = c.join_front.new.summer in let b = c.in_ok-joined-in-Inner.ensures.ran in
+    let one = subst (λ p. KnowsPieces i s m first begun u1 s2 p (s.puts s2)) c.in_ok-below-in-Inner.ensures.puts (c.in_ok-joined-in-Inner.ensures.sums first begun way1 (node_goes i s m laws first begun s0 s1 u0 u0 a c.args.row row) below) in
+    let made = c.in_ok-joined-in-Inner.ensures.known first begun way1 (node_goes i s m laws first begun s0 s1 u0 u0 a c.args.row row) below in
+    let s3 = c.place_row.new.store in let u2 = c.place_row.new.summer in
+    let others = (had_cut i m (IsSumRead i s begun s0) first u0 c.in-Inner.children (c.take_first-child.result ∷ []) c.take_first-child.new.list.items (sym c.into_vec-after.ensures ∙ c.take_first-child.ensures) (subst (KnowsNode i s m first begun u0 s0) c.in-Inner.is node)).1 in
+    let ab = goes_on i s m laws s0 s1 s2 u0 u0 u1 a b in
+    let abd = goes_on i s m laws s0 s2 s3 u0 u1 u2 ab c.in_ok-placed-in-Inner.ensures.ran in
+    let placed = c.in_ok-placed-in-Inner.placed.items in
+    let new = had_given i m (IsSumRead i s begun s3) first u2 placed (c.in_ok-placed-in-Inner.ensures.answered first (laws.summer_steps.both first u0 u1 way.goes ab.summer)) in
+    let old = row_goes i s m laws first begun s0 s3 u0 u2 abd c.take_first-child.new.list.items others in
+    let list : c.from_vec.result ≡ placed ++ c.take_first-child.new.list.items = c.from_vec.ensures ∙ c.in_ok-add_all-in-Inner.ensures in
+    subst (KnowsRow i s m first begun u2 s3) (sym list) (had_append i m (IsSumRead i s begun s3) first u2 placed c.take_first-child.new.list.items new old)

@@ -14,6 +14,8 @@ use Rattle.reduce_tree.proofs.Pieces.{pieces_none, on_match}
 use Rattle.tree_laws.specs.declared.tree.Fill.TheVariants.{Below}
 use Rattle.reduce_tree.proofs.Charge.{some_by_test, slack_some}
 use Rattle.reduce_tree.proofs.Given.{took_fault, took_none}
+use Rattle.reduce_tree.specs.Sums.{IsSumRead}
+use Rattle.reduce_tree.proofs.Had.{had_none}
 use Rattle.reduce_tree.proofs.row.join_rows.Goals as goal
 
 pub returns-then-is_empty-clause-items : goal.returns-then-is_empty-clause-items
@@ -30,7 +32,7 @@ returns-then-is_empty-clause-count g c =
 
 pub returns-then-is_empty-clause-ran : goal.returns-then-is_empty-clause-ran
 returns-then-is_empty-clause-ran g c =
-    let laws : Laws g.S.NodeSource g.M.Summer = record { store_steps = g.met.S.NodeSource.are_steps; store_keeps = g.met.S.NodeSource.keeps; store_caused = g.met.S.NodeSource.stays_caused; summer_steps = g.met.M.Summer.are_steps; summer_keeps = g.met.M.Summer.keeps; summer_caused = g.met.M.Summer.stays_caused } in
+    let laws : Laws g.S.NodeSource g.M.Summer = record { store_steps = g.met.S.NodeSource.are_steps; store_keeps = g.met.S.NodeSource.keeps; store_caused = g.met.S.NodeSource.stays_caused; summer_steps = g.met.M.Summer.are_steps; summer_keeps = g.met.M.Summer.keeps; summer_caused = g.met.M.Summer.stays_caused; summer_asked = g.met.M.Summer.stays_asked; summer_gave = g.met.M.Summer.stays_given } in
     goes_none g.M.Unit.Item g.S.NodeSource g.M.Summer laws c.args.store.now c.args.summer.now
 
 pub returns-then-is_empty-2-clause-items : goal.returns-then-is_empty-2-clause-items
@@ -47,7 +49,7 @@ returns-then-is_empty-2-clause-count g c =
 
 pub returns-then-is_empty-2-clause-ran : goal.returns-then-is_empty-2-clause-ran
 returns-then-is_empty-2-clause-ran g c =
-    let laws : Laws g.S.NodeSource g.M.Summer = record { store_steps = g.met.S.NodeSource.are_steps; store_keeps = g.met.S.NodeSource.keeps; store_caused = g.met.S.NodeSource.stays_caused; summer_steps = g.met.M.Summer.are_steps; summer_keeps = g.met.M.Summer.keeps; summer_caused = g.met.M.Summer.stays_caused } in
+    let laws : Laws g.S.NodeSource g.M.Summer = record { store_steps = g.met.S.NodeSource.are_steps; store_keeps = g.met.S.NodeSource.keeps; store_caused = g.met.S.NodeSource.stays_caused; summer_steps = g.met.M.Summer.are_steps; summer_keeps = g.met.M.Summer.keeps; summer_caused = g.met.M.Summer.stays_caused; summer_asked = g.met.M.Summer.stays_asked; summer_gave = g.met.M.Summer.stays_given } in
     goes_none g.M.Unit.Item g.S.NodeSource g.M.Summer laws c.args.store.now c.args.summer.now
 
 pub returns-then-is_empty-clause-leaf : goal.returns-then-is_empty-clause-leaf
@@ -114,26 +116,26 @@ returns-in_err-node-2-clause-pieces g c first xs ys among known hx hy ax ay =
 
 pub returns-then-is_empty-clause-met : goal.returns-then-is_empty-clause-met
 returns-then-is_empty-clause-met g c first tree pieces under front back =
-    let laws : Laws g.S.NodeSource g.M.Summer = record { store_steps = g.met.S.NodeSource.are_steps; store_keeps = g.met.S.NodeSource.keeps; store_caused = g.met.S.NodeSource.stays_caused; summer_steps = g.met.M.Summer.are_steps; summer_keeps = g.met.M.Summer.keeps; summer_caused = g.met.M.Summer.stays_caused } in
+    let laws : Laws g.S.NodeSource g.M.Summer = record { store_steps = g.met.S.NodeSource.are_steps; store_keeps = g.met.S.NodeSource.keeps; store_caused = g.met.S.NodeSource.stays_caused; summer_steps = g.met.M.Summer.are_steps; summer_keeps = g.met.M.Summer.keeps; summer_caused = g.met.M.Summer.stays_caused; summer_asked = g.met.M.Summer.stays_asked; summer_gave = g.met.M.Summer.stays_given } in
     let i = g.M.Unit.Item in let s = g.S.NodeSource in let m = g.M.Summer in let s0 = c.args.store.now in let u0 = c.args.summer.now in
     (took_none i s m laws first tree pieces s0 s0 refl, rw (c.changed.ensures.level, c.changed.ensures.node) back)
 
 pub returns-then-is_empty-2-clause-met : goal.returns-then-is_empty-2-clause-met
 returns-then-is_empty-2-clause-met g c first tree pieces under front back =
-    let laws : Laws g.S.NodeSource g.M.Summer = record { store_steps = g.met.S.NodeSource.are_steps; store_keeps = g.met.S.NodeSource.keeps; store_caused = g.met.S.NodeSource.stays_caused; summer_steps = g.met.M.Summer.are_steps; summer_keeps = g.met.M.Summer.keeps; summer_caused = g.met.M.Summer.stays_caused } in
+    let laws : Laws g.S.NodeSource g.M.Summer = record { store_steps = g.met.S.NodeSource.are_steps; store_keeps = g.met.S.NodeSource.keeps; store_caused = g.met.S.NodeSource.stays_caused; summer_steps = g.met.M.Summer.are_steps; summer_keeps = g.met.M.Summer.keeps; summer_caused = g.met.M.Summer.stays_caused; summer_asked = g.met.M.Summer.stays_asked; summer_gave = g.met.M.Summer.stays_given } in
     let i = g.M.Unit.Item in let s = g.S.NodeSource in let m = g.M.Summer in let s0 = c.args.store.now in let u0 = c.args.summer.now in
     (took_none i s m laws first tree pieces s0 s0 refl, rw (c.changed-then-is_empty-2.ensures.level, c.changed-then-is_empty-2.ensures.node) front)
 
 pub returns-in_err-node-clause-met : goal.returns-in_err-node-clause-met
 returns-in_err-node-clause-met g c first tree pieces under front back =
-    let laws : Laws g.S.NodeSource g.M.Summer = record { store_steps = g.met.S.NodeSource.are_steps; store_keeps = g.met.S.NodeSource.keeps; store_caused = g.met.S.NodeSource.stays_caused; summer_steps = g.met.M.Summer.are_steps; summer_keeps = g.met.M.Summer.keeps; summer_caused = g.met.M.Summer.stays_caused } in
+    let laws : Laws g.S.NodeSource g.M.Summer = record { store_steps = g.met.S.NodeSource.are_steps; store_keeps = g.met.S.NodeSource.keeps; store_caused = g.met.S.NodeSource.stays_caused; summer_steps = g.met.M.Summer.are_steps; summer_keeps = g.met.M.Summer.keeps; summer_caused = g.met.M.Summer.stays_caused; summer_asked = g.met.M.Summer.stays_asked; summer_gave = g.met.M.Summer.stays_given } in
     let i = g.M.Unit.Item in let s = g.S.NodeSource in let m = g.M.Summer in let s0 = c.args.store.now in let u0 = c.args.summer.now in
     let p = err_from_is_err_and c.from_residual.result c.from_residual.ensures.1 in
     took_fault i s m laws first tree pieces c.from_residual.result _ s0 c.join_front.new.store c.in_err-node.field-0.0 p.0 p.2 p.1 (c.in_err-node.ensures.met first tree pieces under front back).0
 
 pub returns-in_err-node-2-clause-met : goal.returns-in_err-node-2-clause-met
 returns-in_err-node-2-clause-met g c first tree pieces under front back =
-    let laws : Laws g.S.NodeSource g.M.Summer = record { store_steps = g.met.S.NodeSource.are_steps; store_keeps = g.met.S.NodeSource.keeps; store_caused = g.met.S.NodeSource.stays_caused; summer_steps = g.met.M.Summer.are_steps; summer_keeps = g.met.M.Summer.keeps; summer_caused = g.met.M.Summer.stays_caused } in
+    let laws : Laws g.S.NodeSource g.M.Summer = record { store_steps = g.met.S.NodeSource.are_steps; store_keeps = g.met.S.NodeSource.keeps; store_caused = g.met.S.NodeSource.stays_caused; summer_steps = g.met.M.Summer.are_steps; summer_keeps = g.met.M.Summer.keeps; summer_caused = g.met.M.Summer.stays_caused; summer_asked = g.met.M.Summer.stays_asked; summer_gave = g.met.M.Summer.stays_given } in
     let i = g.M.Unit.Item in let s = g.S.NodeSource in let m = g.M.Summer in let s0 = c.args.store.now in let u0 = c.args.summer.now in
     let p = err_from_is_err_and c.from_residual-in_err-node-2.result c.from_residual-in_err-node-2.ensures.1 in
     took_fault i s m laws first tree pieces c.from_residual-in_err-node-2.result _ s0 c.join_back.new.store c.in_err-node-2.field-0.0 p.0 p.2 p.1 (c.in_err-node-2.ensures.met first tree pieces under back front).0
@@ -142,3 +144,27 @@ pub returns-clause-met : goal.returns-clause-met
 returns-clause-met g c first tree pieces under front back =
     let all = c.in_ok-node-2.ensures.met first tree pieces under back front in
     (all.0, all.1)
+
+pub returns-then-is_empty-clause-sums : goal.returns-then-is_empty-clause-sums
+returns-then-is_empty-clause-sums g c first begun way front back = had_none g.M.Unit.Item g.M.Summer (IsSumRead g.M.Unit.Item g.S.NodeSource begun c.args.store.now) first c.args.summer.now (g.S.NodeSource.puts c.args.store.now)
+
+pub returns-then-is_empty-2-clause-sums : goal.returns-then-is_empty-2-clause-sums
+returns-then-is_empty-2-clause-sums g c first begun way front back = had_none g.M.Unit.Item g.M.Summer (IsSumRead g.M.Unit.Item g.S.NodeSource begun c.args.store.now) first c.args.summer.now (g.S.NodeSource.puts c.args.store.now)
+
+pub returns-in_err-node-clause-sums : goal.returns-in_err-node-clause-sums
+returns-in_err-node-clause-sums g c first begun way front back = c.in_err-node.ensures.sums first begun way front back
+
+pub returns-in_err-node-2-clause-sums : goal.returns-in_err-node-2-clause-sums
+returns-in_err-node-2-clause-sums g c first begun way front back = c.in_err-node-2.ensures.sums first begun way back front
+
+pub returns-clause-sums : goal.returns-clause-sums
+returns-clause-sums g c first begun way front back = c.in_ok-node-2.ensures.sums first begun way back front
+
+pub returns-then-is_empty-clause-known : goal.returns-then-is_empty-clause-known
+returns-then-is_empty-clause-known g c first begun way front back = rw c.changed.ensures.node back
+
+pub returns-then-is_empty-2-clause-known : goal.returns-then-is_empty-2-clause-known
+returns-then-is_empty-2-clause-known g c first begun way front back = rw c.changed-then-is_empty-2.ensures.node front
+
+pub returns-clause-known : goal.returns-clause-known
+returns-clause-known g c first begun way front back = c.in_ok-node-2.ensures.known first begun way back front

@@ -26,8 +26,11 @@ returns-in_ok-told-in-Inner-clause-tells g c first there level items goes fits h
     c.in_ok-told-in-Inner.ensures.tells first there k.0 items goes fit (rw c.as_slice-in-Inner.ensures k.2)
 
 pub returns-in_ok-told-in-Leaf-clause-summed : goal.returns-in_ok-told-in-Leaf-clause-summed
-returns-in_ok-told-in-Leaf-clause-summed g c = subst (λ n. IsSummed g.M.Unit.Item g.M.Summer c.args.summer.now n) (sym c.in-Leaf.is) c.in_ok-told-in-Leaf.ensures.usable
+returns-in_ok-told-in-Leaf-clause-summed g c =
+    let m = g.M.Summer in let u = c.args.summer.now in let v = c.tell_leaf.new.summer in
+    let k = c.in_ok-told-in-Leaf.ensures in
+    subst (λ n. IsSummed g.M.Unit.Item m u v n) (sym c.in-Leaf.is) (k.usable, subst (m.asked u v) c.as_slice.ensures k.asked)
 
 pub returns-in_ok-told-in-Inner-clause-summed : goal.returns-in_ok-told-in-Inner-clause-summed
 returns-in_ok-told-in-Inner-clause-summed g c =
-    subst (λ n. IsSummed g.M.Unit.Item g.M.Summer c.args.summer.now n) (sym c.in-Inner.is) (subst (λ cs. All (λ (d : Child _). IsSumSpelled g.M.Unit.Item g.M.Summer c.args.summer.now d.sum) cs) c.as_slice-in-Inner.ensures c.in_ok-told-in-Inner.ensures.summed)
+    subst (λ n. IsSummed g.M.Unit.Item g.M.Summer c.args.summer.now c.tell_inner.new.summer n) (sym c.in-Inner.is) (subst (λ cs. All (λ (d : Child _). IsSumSpelled g.M.Unit.Item g.M.Summer c.args.summer.now d.sum) cs) c.as_slice-in-Inner.ensures c.in_ok-told-in-Inner.ensures.summed)

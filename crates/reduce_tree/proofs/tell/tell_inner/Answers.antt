@@ -6,6 +6,7 @@ use Rattle.reduce_tree.proofs.Summaries.{inner_summary}
 use Rattle.reduce_tree.proofs.Calls.{summed_none}
 use Rattle.std.proofs.lemmas.Result.{err_from_is_err_and}
 use Rattle.reduce_tree.proofs.Since.{sums_spelled}
+use Rattle.reduce_tree.proofs.Had.{sum_given}
 use Rattle.reduce_tree.proofs.tell.tell_inner.Goals as goal
 
 pub returns-clause-tells : goal.returns-clause-tells
@@ -46,3 +47,6 @@ returns-in_err-last-clause-ran g c =
 
 pub returns-clause-summed : goal.returns-clause-summed
 returns-clause-summed g c = sums_spelled g.M.Unit.Item g.M.Summer c.args.summer.now c.args.children.now c.in_ok-sums.sums.items c.in_ok-sums.ensures.spelled c.in_ok-sums.ensures.fits
+
+pub returns-clause-gave : goal.returns-clause-gave
+returns-clause-gave g c = sum_given g.M.Summer g.met.M.Summer.keeps c.args.summer.now c.join.new.self c.in-Ok.ensures.goes c.in-Ok.sum c.in_ok-sum.sum c.in-Ok.ensures.gave c.in_ok-sum.ensures.bytes

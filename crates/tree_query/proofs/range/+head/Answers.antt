@@ -1,5 +1,5 @@
-use Rattle.std.proofs.Common.{◌≡◌, ◌≤◌, ◌∷◌, ◌++◌, ◌==◌, ◌-◌, suc, IfOk, take, length, sym, ap, subst, ◌∙◌, arith, refl, append_assoc}
-use Rattle.std.proofs.lemmas.List.{take-append-le}
+use Rattle.std.proofs.Common.{◌≡◌, ◌≤◌, ◌∷◌, ◌++◌, ◌==◌, ◌+◌, ◌-◌, [], suc, OnOk, take, length, sym, ap, subst, ◌∙◌, arith, refl, append_assoc}
+use Rattle.std.proofs.lemmas.List.{append-nil, take-append-le}
 use Rattle.std.proofs.lemmas.Result.{err_from_is_err_and}
 use Rattle.tree_laws.specs.declared.node.Node.TheVariants.{Inner}
 use Rattle.tree_laws.specs.declared.tree.Fill.TheVariants.{Below}
@@ -11,7 +11,10 @@ use Rattle.tree_query.proofs.Ranges.{cutting}
 use Rattle.tree_query.proofs.Reached.{has_got}
 use Rattle.tree_query.proofs.Sums.{BothLaws, all_of, back_of, first_of, front_of, got_fails, later_of, node_got, ok_is, ok_on, read_fails, sum_none, sum_ran_err, sum_ran_on, summed_ran}
 use Rattle.tree_laws.specs.Values.{values_of}
-use Rattle.tree_query.specs.Summaries.{RowIsRead, count_in}
+use Rattle.tree_query.specs.Leading.{IsLedTo}
+use Rattle.tree_query.specs.Summaries.{Cuts, RangeStops, RowIsRead, count_in}
+use Rattle.tree_query.proofs.Leading.{blames_err, led_row, row_child}
+use Rattle.tree_query.proofs.Stops.{cuts, gap_stops, is_cut, row_stops, summed_blames}
 use Rattle.tree_query.proofs.Summaries.{is_leaf_read, node_read, row_after, row_head, row_none, row_whole}
 use Rattle.tree_query.proofs.range.+head.Goals as goal
 
@@ -32,7 +35,7 @@ head-returns-in_ok-add_whole-in-Inner-clause-items g t c first there done items 
     let f = c.in_ok-add_whole-in-Inner.ensures.items first there low done k.xs goes k.at_front h in
     let r = c.head_row.ensures.items first there (done ++ k.xs) k.ys is-told goes c.cut-offset.ensures.inside k.at_back f in
     let whole : (done ++ k.xs) ++ take offset k.ys ≡ done ++ take c.args.to items = append_assoc done k.xs (take offset k.ys) ∙ ap (λ t. done ++ t) (sym k.taken) in
-    subst (λ zs. IfOk c.head_row.result (λ _. Gathered m first c.head_row.new.parts.items zs)) whole r
+    subst (λ zs. OnOk c.head_row.result (Gathered m first c.head_row.new.parts.items zs)) whole r
 
 pub head-returns-in_ok-add_whole-in-Inner-clause-ran : goal.head-returns-in_ok-add_whole-in-Inner-clause-ran
 head-returns-in_ok-add_whole-in-Inner-clause-ran g t c first tree since goes met =
@@ -166,10 +169,10 @@ head_row-returns-clause-items g t c first there done items is-told goes inside a
     let to = c.args.to in
     let k : AreChildren i m first P (child ∷ after) items = subst (λ ds. AreChildren i m first P ds items) e are in
     let small : to ≤ length k.front = omega (arith, inside child after e, k.at_front.count) in
-    let has : Has i m first there low c.in_ok-node.node k.front = has_got i m first g.met.M.Unit.Item.one_spelling there (Has i m first there low) child.at low child.count Below Below k.front c.in_ok-node.node (c.in_ok-node.ensures.stands there is-told) k.at_front.stands in
+    let has : Has i m first there low c.in_ok-node.node k.front = has_got i (values_of m first) g.met.M.Unit.Item.one_spelling there (Has i m first there low) child.at low child.count Below Below k.front c.in_ok-node.node (c.in_ok-node.ensures.stands there is-told) k.at_front.stands in
     let r = c.head.ensures.items first there done k.front (c.in_ok-node.ensures.reads.nodes ∙ is-told) goes small has h in
     let whole : done ++ take to k.front ≡ done ++ take to items = ap (λ t. done ++ t) (sym (take-append-le to k.front k.back small) ∙ ap (take to) (sym k.whole)) in
-    subst (λ zs. IfOk c.head.result (λ _. Gathered m first c.head.new.parts.items zs)) whole r
+    subst (λ zs. OnOk c.head.result (Gathered m first c.head.new.parts.items zs)) whole r
 
 pub head-returns-in_ok-add_whole-in-Inner-clause-fits : goal.head-returns-in_ok-add_whole-in-Inner-clause-fits
 head-returns-in_ok-add_whole-in-Inner-clause-fits g t c first goes h =
@@ -218,3 +221,77 @@ head_row-returns-clause-sums g t c first there is-told goes inside =
     let to = c.args.to in
     let stands = c.in_ok-node.ensures.stands there is-told in
     ok_on _ _ (λ h. subst (λ ds. RowIsRead i v there low ds 0 to) (sym e) (row_head i v there low child after c.in_ok-node.node stands 0 to h (inside child after e))) c.head.result (c.head.ensures.sums first there (c.in_ok-node.ensures.reads.nodes ∙ is-told) goes)
+
+pub head-returns-in-Leaf-clause-stops : goal.head-returns-in-Leaf-clause-stops
+head-returns-in-Leaf-clause-stops g t c first tree there begin end start is-told goes led begins ends =
+    let i = g.M.Unit.Item in
+    let m = g.M.Summer in
+    let keeps = g.met.M.Summer.keeps in
+    summed_blames m (RangeStops i there tree begin end (values_of m first)) c.args.summer.now c.add_leaf.new.summer c.add_leaf.result c.add_leaf.ensures.ran
+
+pub head-returns-in_err-add_whole-in-Inner-clause-stops : goal.head-returns-in_err-add_whole-in-Inner-clause-stops
+head-returns-in_err-add_whole-in-Inner-clause-stops g t c first tree there begin end start is-told goes led begins ends =
+    let i = g.M.Unit.Item in
+    let m = g.M.Summer in
+    let keeps = g.met.M.Summer.keeps in
+    let Bad = RangeStops i there tree begin end (values_of m first) in
+    let cs = c.in-Inner.children in
+    let low = c.args.level - 1 in
+    let kind : is_leaf (Inner cs) ≡ (c.args.level == 0) = subst (λ x. is_leaf x ≡ (c.args.level == 0)) c.in-Inner.is c.requires.kind in
+    let up : c.args.level ≡ suc low = level_above c.args.level kind in
+    let front = c.cut-offset.result.0.now in
+    let back = c.cut-offset.result.1.now in
+    let whole : cs ≡ front ++ back = sym c.as_slice.ensures ∙ c.cut-offset.ensures.whole in
+    let row = led_row i there tree (Cuts begin end) c.args.at c.args.level low start c.args.node cs [] front back c.in-Inner.is up whole led in
+    let q = c.from_residual in
+    let p = err_from_is_err_and q.result q.ensures.1 in
+    blames_err Bad q.result c.in_err-add_whole-in-Inner.field-0.0 p.0 p.2 p.1 (row_stops i m keeps first there tree begin end c.args.summer.now c.args.at low (start + 0) front _ goes row (omega (arith, begins)) (omega (arith, ends, c.cut-offset.ensures.count)) c.in_err-add_whole-in-Inner.ensures.cause)
+
+pub head-returns-in_ok-add_whole-in-Inner-clause-stops : goal.head-returns-in_ok-add_whole-in-Inner-clause-stops
+head-returns-in_ok-add_whole-in-Inner-clause-stops g t c first tree there begin end start is-told goes led begins ends =
+    let i = g.M.Unit.Item in
+    let m = g.M.Summer in
+    let keeps = g.met.M.Summer.keeps in
+    let cs = c.in-Inner.children in
+    let low = c.args.level - 1 in
+    let kind : is_leaf (Inner cs) ≡ (c.args.level == 0) = subst (λ x. is_leaf x ≡ (c.args.level == 0)) c.in-Inner.is c.requires.kind in
+    let up : c.args.level ≡ suc low = level_above c.args.level kind in
+    let front = c.cut-offset.result.0.now in
+    let back = c.cut-offset.result.1.now in
+    let whole : cs ≡ front ++ back = sym c.as_slice.ensures ∙ c.cut-offset.ensures.whole in
+    let e : cs ≡ front ++ (back ++ []) = whole ∙ ap (λ t. front ++ t) (sym (append-nil back)) in
+    let row = led_row i there tree (Cuts begin end) c.args.at c.args.level low start c.args.node cs front back [] c.in-Inner.is up e led in
+    c.head_row.ensures.stops first tree there begin end c.args.at (start + count_in front) is-told goes row c.cut-offset.ensures.inside (omega (arith, begins)) (omega (arith, ends, c.cut-offset.ensures.count))
+
+pub head_row-returns-in_err-node-clause-stops : goal.head_row-returns-in_err-node-clause-stops
+head_row-returns-in_err-node-clause-stops g t c first tree there begin end at start is-told goes led inside begins ends =
+    let i = g.M.Unit.Item in
+    let m = g.M.Summer in
+    let keeps = g.met.M.Summer.keeps in
+    let Bad = RangeStops i there tree begin end (values_of m first) in
+    let low = c.args.low in
+    let child = c.in-Some.pair.0.now in
+    let after = c.in-Some.pair.1.now in
+    let e : c.args.children.now ≡ child ∷ after = c.in-Some.ensures.cases.0 in
+    let less = inside child after e in
+    let cut = is_cut begin end start child.count (omega (arith, begins, less)) (omega (arith, ends, c.if-to-eq0.false)) (λ b d. omega (arith, d, ends, less)) in
+    let leads = row_child i there tree (Cuts begin end) at low start c.args.children.now after child e (cuts begin end start child cut) led in
+    let q = c.from_residual in
+    let p = err_from_is_err_and q.result q.ensures.1 in
+    blames_err Bad q.result c.in_err-node.field-0.0 p.0 p.2 p.1 (gap_stops i m keeps first there tree begin end child.at low child.count start Below _ leads (c.in_err-node.ensures.bad there is-told))
+
+pub head_row-returns-clause-stops : goal.head_row-returns-clause-stops
+head_row-returns-clause-stops g t c first tree there begin end at start is-told goes led inside begins ends =
+    let i = g.M.Unit.Item in
+    let m = g.M.Summer in
+    let keeps = g.met.M.Summer.keeps in
+    let low = c.args.low in
+    let child = c.in-Some.pair.0.now in
+    let after = c.in-Some.pair.1.now in
+    let e : c.args.children.now ≡ child ∷ after = c.in-Some.ensures.cases.0 in
+    let less = inside child after e in
+    let cut = is_cut begin end start child.count (omega (arith, begins, less)) (omega (arith, ends, c.if-to-eq0.false)) (λ b d. omega (arith, d, ends, less)) in
+    let leads = row_child i there tree (Cuts begin end) at low start c.args.children.now after child e (cuts begin end start child cut) led in
+    let node = c.in_ok-node.node in
+    let to : IsLedTo i there tree (Cuts begin end) child.at low start node = record { count = child.count; fill = Below; leads = leads; stands = c.in_ok-node.ensures.stands there is-told } in
+    c.head.ensures.stops first tree there begin end start (c.in_ok-node.ensures.reads.nodes ∙ is-told) goes to begins ends

@@ -1,5 +1,5 @@
-use Rattle.std.proofs.Common.{◌≡◌, ◌<◌, ◌≤◌, ◌∷◌, ◌++◌, ◌==◌, ◌-◌, zero, suc, [], IfOk, drop, length, sym, ap, subst, ◌∙◌, arith, refl, append_assoc}
-use Rattle.std.proofs.lemmas.List.{drop-append-le}
+use Rattle.std.proofs.Common.{◌≡◌, ◌<◌, ◌≤◌, ◌∷◌, ◌++◌, ◌==◌, ◌+◌, ◌-◌, zero, suc, [], OnOk, drop, length, sym, ap, subst, ◌∙◌, arith, refl, append_assoc}
+use Rattle.std.proofs.lemmas.List.{append-nil, drop-append-le}
 use Rattle.std.proofs.lemmas.Result.{err_from_is_err_and}
 use Rattle.tree_laws.specs.declared.node.Node.TheVariants.{Inner}
 use Rattle.tree_laws.specs.declared.tree.Fill.TheVariants.{Below}
@@ -12,8 +12,12 @@ use Rattle.tree_query.proofs.Reached.{has_got}
 use Rattle.tree_query.proofs.Sums.{BothLaws, all_of, back_of, first_of, got_fails, later_of, node_got, of_on, ok_is, ok_on, read_ran, sum_fails_on, sum_none, sum_ran_err, sum_ran_on, sum_went_on, summed_ran}
 use Rattle.tree_laws.specs.Values.{values_of}
 use Rattle.tree_laws.specs.Fitting.{item_count}
-use Rattle.tree_query.specs.Summaries.{RowIsRead, count_in}
-use Rattle.tree_query.proofs.Summaries.{back_within, count_cons, is_leaf_read, node_read, row_before, row_none, row_tail, row_whole}
+use Rattle.tree_query.specs.Leading.{AreLedTo, IsLedTo}
+use Rattle.tree_query.specs.Summaries.{Cuts, RangeStops, RowIsRead, count_in}
+use Rattle.tree_query.proofs.Leading.{blames_err, led_row, row_back, row_child}
+use Rattle.tree_query.proofs.Stops.{cuts, gap_stops, is_cut, result_stops, summed_blames}
+use Rattle.tree_query.proofs.Counts.{count_append, count_cons}
+use Rattle.tree_query.proofs.Summaries.{back_within, is_leaf_read, node_read, row_before, row_none, row_tail, row_whole}
 use Rattle.tree_query.proofs.range.+tail.Goals as goal
 
 pub tail-returns-in-Inner-clause-items : goal.tail-returns-in-Inner-clause-items
@@ -30,7 +34,7 @@ tail-returns-in-Inner-clause-items g t c first there done items is-told goes lon
     let e : cs ≡ c.cut-offset.result.0.now ++ c.cut-offset.result.1.now = sym c.as_slice.ensures ∙ c.cut-offset.ensures.whole in
     let k = cutting i m first P c.cut-offset.result.0.now c.cut-offset.result.1.now c.args.from c.cut-offset.result.2 items (subst (λ ds. AreChildren i m first P ds items) e has1) c.cut-offset.ensures.count in
     let r = c.tail_row.ensures.items first there done k.ys is-told goes c.cut-offset.ensures.inside k.at_back h in
-    subst (λ zs. IfOk c.tail_row.result (λ _. Gathered m first c.tail_row.new.parts.items (done ++ zs))) (sym k.dropped) r
+    subst (λ zs. OnOk c.tail_row.result (Gathered m first c.tail_row.new.parts.items (done ++ zs))) (sym k.dropped) r
 
 pub tail-returns-in-Inner-clause-ran : goal.tail-returns-in-Inner-clause-ran
 tail-returns-in-Inner-clause-ran g t c first tree since goes met =
@@ -64,7 +68,7 @@ pub tail_row-returns-then-from-eq0-clause-items : goal.tail_row-returns-then-fro
 tail_row-returns-then-from-eq0-clause-items g t c first there done items is-told goes inside are h =
     let m = g.M.Summer in
     let z : c.args.from ≡ zero = omega (arith, c.if-from-eq0.true) in
-    subst (λ n. IfOk c.add_whole.result (λ _. Gathered m first c.add_whole.new.parts.items (done ++ drop n items))) (sym z) (c.add_whole.ensures.items first there c.args.low done items goes are h)
+    subst (λ n. OnOk c.add_whole.result (Gathered m first c.add_whole.new.parts.items (done ++ drop n items))) (sym z) (c.add_whole.ensures.items first there c.args.low done items goes are h)
 
 pub tail_row-returns-then-from-eq0-clause-ran : goal.tail_row-returns-then-from-eq0-clause-ran
 tail_row-returns-then-from-eq0-clause-ran g t c first tree since goes of =
@@ -94,13 +98,13 @@ tail_row-returns-clause-items g t c first there done items is-told goes inside a
     let from = c.args.from in
     let k : AreChildren i m first P (child ∷ after) items = subst (λ ds. AreChildren i m first P ds items) e are in
     let small : from ≤ length k.front = omega (arith, inside child after e, k.at_front.count) in
-    let has : Has i m first there low c.in_ok-node.node k.front = has_got i m first g.met.M.Unit.Item.one_spelling there (Has i m first there low) child.at low child.count Below Below k.front c.in_ok-node.node (c.in_ok-node.ensures.stands there is-told) k.at_front.stands in
+    let has : Has i m first there low c.in_ok-node.node k.front = has_got i (values_of m first) g.met.M.Unit.Item.one_spelling there (Has i m first there low) child.at low child.count Below Below k.front c.in_ok-node.node (c.in_ok-node.ensures.stands there is-told) k.at_front.stands in
     let r = c.in_ok-tail.ensures.items first there done k.front (c.in_ok-node.ensures.reads.nodes ∙ is-told) goes small has h in
     let later = laws.sum_steps.both first u0 c.tail.new.summer goes c.in_ok-tail.ensures.goes in
     let all = c.add_whole-2.ensures.items first there low (done ++ drop from k.front) k.back later k.at_back r in
     let whole : (done ++ drop from k.front) ++ k.back ≡ done ++ drop from items =
     append_assoc done (drop from k.front) k.back ∙ ap (λ t. done ++ t) (sym (drop-append-le from k.front k.back small) ∙ ap (drop from) (sym k.whole)) in
-    subst (λ zs. IfOk c.add_whole-2.result (λ _. Gathered m first c.add_whole-2.new.parts.items zs)) whole all
+    subst (λ zs. OnOk c.add_whole-2.result (Gathered m first c.add_whole-2.new.parts.items zs)) whole all
 
 pub tail_row-returns-in_err-node-clause-ran : goal.tail_row-returns-in_err-node-clause-ran
 tail_row-returns-in_err-node-clause-ran g t c first tree since goes of =
@@ -241,3 +245,92 @@ tail_row-returns-clause-sums g t c first there to is-told goes inside long =
     let read = c.in_ok-tail.ensures.sums first there to (c.in_ok-node.ensures.reads.nodes ∙ is-told) goes many in
     let later = g.met.M.Summer.are_steps.both first c.args.summer.now c.tail.new.summer goes c.in_ok-tail.ensures.goes in
     ok_on _ _ (λ others. subst (λ ds. RowIsRead i v there low ds from to) (sym e) (row_tail i v there low child after node stands from to read some (inside child after e) all others)) c.add_whole-2.result (c.add_whole-2.ensures.sums first later)
+
+pub tail-returns-in-Leaf-clause-stops : goal.tail-returns-in-Leaf-clause-stops
+tail-returns-in-Leaf-clause-stops g t c first tree there begin end start is-told goes led begins ends =
+    let i = g.M.Unit.Item in
+    let m = g.M.Summer in
+    let keeps = g.met.M.Summer.keeps in
+    summed_blames m (RangeStops i there tree begin end (values_of m first)) c.args.summer.now c.add_leaf.new.summer c.add_leaf.result c.add_leaf.ensures.ran
+
+pub tail-returns-in-Inner-clause-stops : goal.tail-returns-in-Inner-clause-stops
+tail-returns-in-Inner-clause-stops g t c first tree there begin end start is-told goes led begins ends =
+    let i = g.M.Unit.Item in
+    let m = g.M.Summer in
+    let keeps = g.met.M.Summer.keeps in
+    let cs = c.in-Inner.children in
+    let low = c.args.level - 1 in
+    let kind : is_leaf (Inner cs) ≡ (c.args.level == 0) = subst (λ x. is_leaf x ≡ (c.args.level == 0)) c.in-Inner.is c.requires.kind in
+    let up : c.args.level ≡ suc low = level_above c.args.level kind in
+    let front = c.cut-offset.result.0.now in
+    let back = c.cut-offset.result.1.now in
+    let e : cs ≡ front ++ (back ++ []) = sym c.as_slice.ensures ∙ c.cut-offset.ensures.whole ∙ ap (λ t. front ++ t) (sym (append-nil back)) in
+    let row = led_row i there tree (Cuts begin end) c.args.at c.args.level low start c.args.node cs front back [] c.in-Inner.is up e led in
+    let all : item_count c.args.node ≡ count_in front + count_in back = ap item_count c.in-Inner.is ∙ ap count_in (sym c.as_slice.ensures ∙ c.cut-offset.ensures.whole) ∙ count_append front back in
+    c.tail_row.ensures.stops first tree there begin end (start + count_in front) is-told goes row c.cut-offset.ensures.inside (omega (arith, begins, c.cut-offset.ensures.count)) (omega (arith, ends, all))
+
+pub tail_row-returns-then-from-eq0-clause-stops : goal.tail_row-returns-then-from-eq0-clause-stops
+tail_row-returns-then-from-eq0-clause-stops g t c first tree there begin end start is-told goes led inside begins ends =
+    let i = g.M.Unit.Item in
+    let m = g.M.Summer in
+    let keeps = g.met.M.Summer.keeps in
+    result_stops i m keeps first there tree begin end c.args.summer.now c.args.at c.args.low start c.args.children.now c.add_whole.result goes led (omega (arith, begins, c.if-from-eq0.true)) ends c.add_whole.ensures.cause
+
+pub tail_row-returns-in_err-node-clause-stops : goal.tail_row-returns-in_err-node-clause-stops
+tail_row-returns-in_err-node-clause-stops g t c first tree there begin end start is-told goes led inside begins ends =
+    let i = g.M.Unit.Item in
+    let m = g.M.Summer in
+    let keeps = g.met.M.Summer.keeps in
+    let Bad = RangeStops i there tree begin end (values_of m first) in
+    let low = c.args.low in
+    let child = c.in-Some.pair.0.now in
+    let after = c.in-Some.pair.1.now in
+    let e : c.args.children.now ≡ child ∷ after = c.in-Some.ensures.cases.0 in
+    let long : start + count_in (child ∷ after) ≤ end = subst (λ ds. start + count_in ds ≤ end) e ends in
+    let less = inside child after e in
+    let cut = is_cut begin end start child.count (omega (arith, begins, less, c.if-from-eq0.false)) (omega (arith, long, less, count_cons child after)) (λ b d. omega (arith, b, begins, c.if-from-eq0.false)) in
+    let leads = row_child i there tree (Cuts begin end) c.args.at low start c.args.children.now after child e (cuts begin end start child cut) led in
+    let q = c.from_residual in
+    let p = err_from_is_err_and q.result q.ensures.1 in
+    blames_err Bad q.result c.in_err-node.field-0.0 p.0 p.2 p.1 (gap_stops i m keeps first there tree begin end child.at low child.count start Below _ leads (c.in_err-node.ensures.bad there is-told))
+
+pub tail_row-returns-in_err-tail-clause-stops : goal.tail_row-returns-in_err-tail-clause-stops
+tail_row-returns-in_err-tail-clause-stops g t c first tree there begin end start is-told goes led inside begins ends =
+    let i = g.M.Unit.Item in
+    let m = g.M.Summer in
+    let keeps = g.met.M.Summer.keeps in
+    let Bad = RangeStops i there tree begin end (values_of m first) in
+    let low = c.args.low in
+    let child = c.in-Some.pair.0.now in
+    let after = c.in-Some.pair.1.now in
+    let e : c.args.children.now ≡ child ∷ after = c.in-Some.ensures.cases.0 in
+    let long : start + count_in (child ∷ after) ≤ end = subst (λ ds. start + count_in ds ≤ end) e ends in
+    let less = inside child after e in
+    let cut = is_cut begin end start child.count (omega (arith, begins, less, c.if-from-eq0.false)) (omega (arith, long, less, count_cons child after)) (λ b d. omega (arith, b, begins, c.if-from-eq0.false)) in
+    let leads = row_child i there tree (Cuts begin end) c.args.at low start c.args.children.now after child e (cuts begin end start child cut) led in
+    let node = c.in_ok-node.node in
+    let to : IsLedTo i there tree (Cuts begin end) child.at low start node = record { count = child.count; fill = Below; leads = leads; stands = c.in_ok-node.ensures.stands there is-told } in
+    let same = c.in_ok-node.ensures.reads.nodes in
+    let many : start + item_count node ≤ end = omega (arith, to.stands.place.items, long, count_cons child after) in
+    let q = c.from_residual-in_err-tail in
+    let p = err_from_is_err_and q.result q.ensures.1 in
+    blames_err Bad q.result c.in_err-tail.field-0.0 p.0 p.2 p.1 (c.in_err-tail.ensures.stops first tree there begin end start (same ∙ is-told) goes to begins many)
+
+pub tail_row-returns-clause-stops : goal.tail_row-returns-clause-stops
+tail_row-returns-clause-stops g t c first tree there begin end start is-told goes led inside begins ends =
+    let i = g.M.Unit.Item in
+    let m = g.M.Summer in
+    let keeps = g.met.M.Summer.keeps in
+    let low = c.args.low in
+    let child = c.in-Some.pair.0.now in
+    let after = c.in-Some.pair.1.now in
+    let e : c.args.children.now ≡ child ∷ after = c.in-Some.ensures.cases.0 in
+    let long : start + count_in (child ∷ after) ≤ end = subst (λ ds. start + count_in ds ≤ end) e ends in
+    let less = inside child after e in
+    let cut = is_cut begin end start child.count (omega (arith, begins, less, c.if-from-eq0.false)) (omega (arith, long, less, count_cons child after)) (λ b d. omega (arith, b, begins, c.if-from-eq0.false)) in
+    let leads = row_child i there tree (Cuts begin end) c.args.at low start c.args.children.now after child e (cuts begin end start child cut) led in
+    let later = g.met.M.Summer.are_steps.both first c.args.summer.now c.tail.new.summer goes c.in_ok-tail.ensures.goes in
+    let whole : AreLedTo i there tree (Cuts begin end) c.args.at low start (child ∷ after) = subst (AreLedTo i there tree (Cuts begin end) c.args.at low start) e led in
+    let rest = row_back i there tree (Cuts begin end) c.args.at low start (child ∷ []) after whole in
+    let one : count_in (child ∷ []) ≡ child.count + 0 = count_cons child [] in
+    result_stops i m keeps first there tree begin end c.tail.new.summer c.args.at low (start + count_in (child ∷ [])) after c.add_whole-2.result later rest (omega (arith, one, begins, less)) (omega (arith, one, long, count_cons child after)) c.add_whole-2.ensures.cause

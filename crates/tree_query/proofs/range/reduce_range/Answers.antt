@@ -12,6 +12,10 @@ use Rattle.tree_laws.proofs.SummerTrees.{items_fit}
 use Rattle.tree_query.proofs.Lists.{some_height}
 use Rattle.tree_query.proofs.Since.{later_none}
 use Rattle.tree_laws.specs.Values.{values_of}
+use Rattle.tree_query.specs.Leading.{IsLedTo, to_root}
+use Rattle.tree_query.specs.Summaries.{Cuts, RangeStops}
+use Rattle.tree_query.proofs.Leading.{blames_err}
+use Rattle.tree_query.proofs.Stops.{gap_stops, summed_fault}
 use Rattle.tree_query.proofs.Summaries.{range_read}
 use Rattle.tree_query.proofs.range.reduce_range.Goals as goal
 
@@ -48,7 +52,7 @@ returns-clause-value g c first there items is-told goes is =
     let to = c.args.to in
     let range = numbered from to items in
     let stands = c.in_ok-root.ensures.stands there is-told in
-    let has : Has i m first there level c.in_ok-root.root items = has_got i m first g.met.M.Unit.Item.one_spelling there (Has i m first there level) tree.root level tree.count Root Root items c.in_ok-root.root stands (root_at i m first g.met.M.Unit.Item.one_spelling there tree.root tree.height items some is.root) in
+    let has : Has i m first there level c.in_ok-root.root items = has_got i (values_of m first) g.met.M.Unit.Item.one_spelling there (Has i m first there level) tree.root level tree.count Root Root items c.in_ok-root.root stands (root_at i (values_of m first) g.met.M.Unit.Item.one_spelling there tree.root tree.height items some is.root) in
     let long : to ≤ length items = omega (arith, c.requires.within, is.count) in
     let count = numbered_length from to items long in
     let full : range ≢ [] = λ none. omega (arith, count, ap length none, c.requires.range, c.if-from-to.false) in
@@ -228,3 +232,53 @@ returns-clause-sums g c there is-told =
     let u0 = c.args.summer.now in
     let read = c.in_ok-inside.ensures.sums u0 there (c.in_ok-root.ensures.reads.nodes ∙ is-told) (g.met.M.Summer.are_steps.none u0) in
     range_read i (values_of m u0) there g.met.M.Unit.Item.one_spelling c.args.tree c.args.from c.args.to c.in_ok-root.root (c.in_ok-root.ensures.stands there is-told) read
+
+pub returns-in_err-root-clause-stops : goal.returns-in_err-root-clause-stops
+returns-in_err-root-clause-stops g c there is-told =
+    let i = g.M.Unit.Item in
+    let m = g.M.Summer in
+    let keeps = g.met.M.Summer.keeps in
+    let u0 = c.args.summer.now in
+    let tree = c.args.tree in
+    let level = tree.height - 1 in
+    let from = c.args.from in
+    let to = c.args.to in
+    let some : 0 < tree.height = some_height tree.height tree.count c.requires.size.empty (omega (arith, c.requires.range, c.requires.within, c.if-from-to.false)) in
+    let Bad = RangeStops i there tree from to (values_of m u0) in
+    let q = c.from_residual in
+    let p = err_from_is_err_and q.result q.ensures.1 in
+    blames_err Bad q.result c.in_err-root.field-0.0 p.0 p.2 p.1 (gap_stops i m keeps u0 there tree from to tree.root level tree.count 0 Root _ (to_root some) (c.in_err-root.ensures.bad there is-told))
+
+pub returns-in_err-inside-clause-stops : goal.returns-in_err-inside-clause-stops
+returns-in_err-inside-clause-stops g c there is-told =
+    let i = g.M.Unit.Item in
+    let m = g.M.Summer in
+    let keeps = g.met.M.Summer.keeps in
+    let u0 = c.args.summer.now in
+    let tree = c.args.tree in
+    let level = tree.height - 1 in
+    let from = c.args.from in
+    let to = c.args.to in
+    let some : 0 < tree.height = some_height tree.height tree.count c.requires.size.empty (omega (arith, c.requires.range, c.requires.within, c.if-from-to.false)) in
+    let Bad = RangeStops i there tree from to (values_of m u0) in
+    let led : IsLedTo i there tree (Cuts from to) tree.root level 0 c.in_ok-root.root = record { count = tree.count; fill = Root; leads = to_root some; stands = c.in_ok-root.ensures.stands there is-told } in
+    let rising : from < to = omega (arith, c.requires.range, c.if-from-to.false) in
+    let q = c.from_residual-in_err-inside in
+    let p = err_from_is_err_and q.result q.ensures.1 in
+    blames_err Bad q.result c.in_err-inside.field-0.0 p.0 p.2 p.1 (c.in_err-inside.ensures.stops u0 tree there from to 0 (c.in_ok-root.ensures.reads.nodes ∙ is-told) (g.met.M.Summer.are_steps.none u0) led rising (omega arith) (omega arith))
+
+pub returns-in_err-sum-clause-stops : goal.returns-in_err-sum-clause-stops
+returns-in_err-sum-clause-stops g c there is-told =
+    let i = g.M.Unit.Item in
+    let m = g.M.Summer in
+    let keeps = g.met.M.Summer.keeps in
+    let u0 = c.args.summer.now in
+    let tree = c.args.tree in
+    let level = tree.height - 1 in
+    let from = c.args.from in
+    let to = c.args.to in
+    let some : 0 < tree.height = some_height tree.height tree.count c.requires.size.empty (omega (arith, c.requires.range, c.requires.within, c.if-from-to.false)) in
+    let Bad = RangeStops i there tree from to (values_of m u0) in
+    let q = c.from_residual-in_err-sum in
+    let p = err_from_is_err_and q.result q.ensures.1 in
+    blames_err Bad q.result c.in_err-sum.field-0.0 p.0 p.2 p.1 (summed_fault m Bad c.inside.new.summer c.join_parts.new.summer g.row.M-Sum.Denot c.in_err-sum.field-0.0 c.in_err-sum.ensures.ran)

@@ -9,6 +9,9 @@ use Rattle.reduce_tree.proofs.Climb.{packed_of}
 use Rattle.std.proofs.lemmas.Result.{err_from_is_err_and}
 use Rattle.reduce_tree.proofs.Calls.{Laws, ran_err}
 use Rattle.reduce_tree.proofs.Working.{kept_unless, ready_unless, refused_on, told_places}
+use Rattle.std.proofs.lemmas.List.Elements.{All-contains_itself}
+use Rattle.reduce_tree.specs.Sums.{sums_of}
+use Rattle.reduce_tree.proofs.Had.{rows_own}
 use Rattle.reduce_tree.proofs.builder.Builder.finish.Goals as goal
 
 pub rise-requires-clause-few : goal.rise-requires-clause-few
@@ -67,18 +70,18 @@ returns-clause-usable g c some =
 
 pub returns-in_err-tree-clause-ran : goal.returns-in_err-tree-clause-ran
 returns-in_err-tree-clause-ran g c =
-    let laws : Laws g.S.NodeSource g.M.Summer = record { store_steps = g.met.S.NodeSource.are_steps; store_keeps = g.met.S.NodeSource.keeps; store_caused = g.met.S.NodeSource.stays_caused; summer_steps = g.met.M.Summer.are_steps; summer_keeps = g.met.M.Summer.keeps; summer_caused = g.met.M.Summer.stays_caused } in
+    let laws : Laws g.S.NodeSource g.M.Summer = record { store_steps = g.met.S.NodeSource.are_steps; store_keeps = g.met.S.NodeSource.keeps; store_caused = g.met.S.NodeSource.stays_caused; summer_steps = g.met.M.Summer.are_steps; summer_keeps = g.met.M.Summer.keeps; summer_caused = g.met.M.Summer.stays_caused; summer_asked = g.met.M.Summer.stays_asked; summer_gave = g.met.M.Summer.stays_given } in
     let p = err_from_is_err_and c.from_residual.result c.from_residual.ensures.1 in
     ran_err g.T.Item g.S.NodeSource g.M.Summer laws c.args.store.now c.rise.new.store c.args.summer.now c.rise.new.summer c.from_residual.result c.in_err-tree.field-0.0 p.0 p.2 p.1 c.in_err-tree.ensures.ran
 
 pub returns-in_err-tree-clause-kept : goal.returns-in_err-tree-clause-kept
 returns-in_err-tree-clause-kept g c =
-    let laws : Laws g.S.NodeSource g.M.Summer = record { store_steps = g.met.S.NodeSource.are_steps; store_keeps = g.met.S.NodeSource.keeps; store_caused = g.met.S.NodeSource.stays_caused; summer_steps = g.met.M.Summer.are_steps; summer_keeps = g.met.M.Summer.keeps; summer_caused = g.met.M.Summer.stays_caused } in
+    let laws : Laws g.S.NodeSource g.M.Summer = record { store_steps = g.met.S.NodeSource.are_steps; store_keeps = g.met.S.NodeSource.keeps; store_caused = g.met.S.NodeSource.stays_caused; summer_steps = g.met.M.Summer.are_steps; summer_keeps = g.met.M.Summer.keeps; summer_caused = g.met.M.Summer.stays_caused; summer_asked = g.met.M.Summer.stays_asked; summer_gave = g.met.M.Summer.stays_given } in
     kept_unless g.T.Item g.S.NodeSource g.M.Summer laws c.args.store.now c.rise.new.store c.args.summer.now c.rise.new.summer c.from_residual.result (returns-in_err-tree-clause-ran g c)
 
 pub returns-in_err-tree-clause-ready : goal.returns-in_err-tree-clause-ready
 returns-in_err-tree-clause-ready g c =
-    let laws : Laws g.S.NodeSource g.M.Summer = record { store_steps = g.met.S.NodeSource.are_steps; store_keeps = g.met.S.NodeSource.keeps; store_caused = g.met.S.NodeSource.stays_caused; summer_steps = g.met.M.Summer.are_steps; summer_keeps = g.met.M.Summer.keeps; summer_caused = g.met.M.Summer.stays_caused } in
+    let laws : Laws g.S.NodeSource g.M.Summer = record { store_steps = g.met.S.NodeSource.are_steps; store_keeps = g.met.S.NodeSource.keeps; store_caused = g.met.S.NodeSource.stays_caused; summer_steps = g.met.M.Summer.are_steps; summer_keeps = g.met.M.Summer.keeps; summer_caused = g.met.M.Summer.stays_caused; summer_asked = g.met.M.Summer.stays_asked; summer_gave = g.met.M.Summer.stays_given } in
     ready_unless g.T.Item g.S.NodeSource g.M.Summer laws g.met.S.NodeSource.stays_ready c.args.store.now c.rise.new.store c.args.summer.now c.rise.new.summer c.from_residual.result c.requires.ready (returns-in_err-tree-clause-ran g c)
 
 pub returns-in_err-tree-clause-puts : goal.returns-in_err-tree-clause-puts
@@ -97,3 +100,19 @@ pub returns-in_err-tree-clause-refused : goal.returns-in_err-tree-clause-refused
 returns-in_err-tree-clause-refused g c =
     let p = err_from_is_err_and c.from_residual.result c.from_residual.ensures.1 in
     refused_on _ _ c.from_residual.result c.in_err-tree.field-0.0 p.0 p.2 p.1 (λ h. h) c.in_err-tree.ensures.refused
+
+pub returns-in_err-tree-clause-sums : goal.returns-in_err-tree-clause-sums
+returns-in_err-tree-clause-sums g c =
+    let laws : Laws g.S.NodeSource g.M.Summer = record { store_steps = g.met.S.NodeSource.are_steps; store_keeps = g.met.S.NodeSource.keeps; store_caused = g.met.S.NodeSource.stays_caused; summer_steps = g.met.M.Summer.are_steps; summer_keeps = g.met.M.Summer.keeps; summer_caused = g.met.M.Summer.stays_caused; summer_asked = g.met.M.Summer.stays_asked; summer_gave = g.met.M.Summer.stays_given } in
+    let i = g.T.Item in let s = g.S.NodeSource in let m = g.M.Summer in let s0 = c.args.store.now in let u0 = c.args.summer.now in
+    let had = sums_of c.args.self in
+    let own = rows_own i m had u0 u0 c.args.self.rows.items (All-contains_itself had) in
+    c.in_err-tree.ensures.sums u0 had (laws.summer_steps.none u0) own tt
+
+pub returns-clause-sums : goal.returns-clause-sums
+returns-clause-sums g c =
+    let laws : Laws g.S.NodeSource g.M.Summer = record { store_steps = g.met.S.NodeSource.are_steps; store_keeps = g.met.S.NodeSource.keeps; store_caused = g.met.S.NodeSource.stays_caused; summer_steps = g.met.M.Summer.are_steps; summer_keeps = g.met.M.Summer.keeps; summer_caused = g.met.M.Summer.stays_caused; summer_asked = g.met.M.Summer.stays_asked; summer_gave = g.met.M.Summer.stays_given } in
+    let i = g.T.Item in let s = g.S.NodeSource in let m = g.M.Summer in let s0 = c.args.store.now in let u0 = c.args.summer.now in
+    let had = sums_of c.args.self in
+    let own = rows_own i m had u0 u0 c.args.self.rows.items (All-contains_itself had) in
+    c.in_ok-tree.ensures.sums u0 had (laws.summer_steps.none u0) own tt

@@ -1,4 +1,4 @@
-use Rattle.std.proofs.Common.{arith, ◌≤◌, ◌≡◌, ◌+◌, ◌∙◌, ◌∷◌, ◌++◌, [], zero, ap, sym, refl, subst, length, append_assoc, length-append}
+use Rattle.std.proofs.Common.{Contains, arith, inr, ◌≤◌, ◌≡◌, ◌+◌, ◌∙◌, ◌∷◌, ◌++◌, [], zero, ap, sym, refl, subst, length, append_assoc, length-append}
 use Rattle.tree_laws.specs.declared.node.Node.TheVariants.{Leaf}
 use Rattle.tree_laws.specs.declared.tree.Fill.TheVariants.{Below}
 use Rattle.tree_laws.specs.declared.tree.TreeFault.TheVariants as tree_fault
@@ -14,6 +14,9 @@ use Rattle.reduce_tree.proofs.Calls.{Laws, extends_on, fails_on, goes_none, goes
 use Rattle.reduce_tree.proofs.Climb.{grew_on, cut_put, cut_stays, cut_wait, climbs_stay}
 use Rattle.reduce_tree.proofs.Stacks.{stacked_stays}
 use Rattle.reduce_tree.proofs.Working.{filled_none, filled_on, filled_wider, kept_unless, ready_unless, told_places}
+use Rattle.std.proofs.lemmas.List.Elements.{All-contains_itself}
+use Rattle.reduce_tree.specs.Sums.{sums_of}
+use Rattle.reduce_tree.proofs.Had.{gave_fails, gave_goes, had_both, had_none, rows_on, rows_own}
 use Rattle.reduce_tree.proofs.builder.Builder.push.Goals as goal
 
 pub cut_full-requires : goal.cut_full-requires
@@ -84,12 +87,12 @@ returns-then-len-lt40-clause-kept g c = g.met.S.NodeSource.keeps c.args.store.no
 
 pub returns-then-len-lt40-clause-ran : goal.returns-then-len-lt40-clause-ran
 returns-then-len-lt40-clause-ran g c =
-    let laws : Laws g.S.NodeSource g.M.Summer = record { store_steps = g.met.S.NodeSource.are_steps; store_keeps = g.met.S.NodeSource.keeps; store_caused = g.met.S.NodeSource.stays_caused; summer_steps = g.met.M.Summer.are_steps; summer_keeps = g.met.M.Summer.keeps; summer_caused = g.met.M.Summer.stays_caused } in
+    let laws : Laws g.S.NodeSource g.M.Summer = record { store_steps = g.met.S.NodeSource.are_steps; store_keeps = g.met.S.NodeSource.keeps; store_caused = g.met.S.NodeSource.stays_caused; summer_steps = g.met.M.Summer.are_steps; summer_keeps = g.met.M.Summer.keeps; summer_caused = g.met.M.Summer.stays_caused; summer_asked = g.met.M.Summer.stays_asked; summer_gave = g.met.M.Summer.stays_given } in
     goes_none g.T.Item g.S.NodeSource g.M.Summer laws c.args.store.now c.args.summer.now
 
 pub returns-clause-items : goal.returns-clause-items
 returns-clause-items g c first there items told goes built =
-    let laws : Laws g.S.NodeSource g.M.Summer = record { store_steps = g.met.S.NodeSource.are_steps; store_keeps = g.met.S.NodeSource.keeps; store_caused = g.met.S.NodeSource.stays_caused; summer_steps = g.met.M.Summer.are_steps; summer_keeps = g.met.M.Summer.keeps; summer_caused = g.met.M.Summer.stays_caused } in
+    let laws : Laws g.S.NodeSource g.M.Summer = record { store_steps = g.met.S.NodeSource.are_steps; store_keeps = g.met.S.NodeSource.keeps; store_caused = g.met.S.NodeSource.stays_caused; summer_steps = g.met.M.Summer.are_steps; summer_keeps = g.met.M.Summer.keeps; summer_caused = g.met.M.Summer.stays_caused; summer_asked = g.met.M.Summer.stays_asked; summer_gave = g.met.M.Summer.stays_given } in
     let i = g.T.Item in
     let m = g.M.Summer in
     let s0 = c.args.store.now in
@@ -130,7 +133,7 @@ returns-clause-items g c first there items told goes built =
 
 pub returns-clause-cut : goal.returns-clause-cut
 returns-clause-cut g c there items taken told cutting =
-    let laws : Laws g.S.NodeSource g.M.Summer = record { store_steps = g.met.S.NodeSource.are_steps; store_keeps = g.met.S.NodeSource.keeps; store_caused = g.met.S.NodeSource.stays_caused; summer_steps = g.met.M.Summer.are_steps; summer_keeps = g.met.M.Summer.keeps; summer_caused = g.met.M.Summer.stays_caused } in
+    let laws : Laws g.S.NodeSource g.M.Summer = record { store_steps = g.met.S.NodeSource.are_steps; store_keeps = g.met.S.NodeSource.keeps; store_caused = g.met.S.NodeSource.stays_caused; summer_steps = g.met.M.Summer.are_steps; summer_keeps = g.met.M.Summer.keeps; summer_caused = g.met.M.Summer.stays_caused; summer_asked = g.met.M.Summer.stays_asked; summer_gave = g.met.M.Summer.stays_given } in
     let i = g.T.Item in
     let m = g.M.Summer in
     let s0 = c.args.store.now in
@@ -204,7 +207,7 @@ returns-clause-pushed g c =
 
 pub returns-clause-kept : goal.returns-clause-kept
 returns-clause-kept g c =
-    let laws : Laws g.S.NodeSource g.M.Summer = record { store_steps = g.met.S.NodeSource.are_steps; store_keeps = g.met.S.NodeSource.keeps; store_caused = g.met.S.NodeSource.stays_caused; summer_steps = g.met.M.Summer.are_steps; summer_keeps = g.met.M.Summer.keeps; summer_caused = g.met.M.Summer.stays_caused } in
+    let laws : Laws g.S.NodeSource g.M.Summer = record { store_steps = g.met.S.NodeSource.are_steps; store_keeps = g.met.S.NodeSource.keeps; store_caused = g.met.S.NodeSource.stays_caused; summer_steps = g.met.M.Summer.are_steps; summer_keeps = g.met.M.Summer.keeps; summer_caused = g.met.M.Summer.stays_caused; summer_asked = g.met.M.Summer.stays_asked; summer_gave = g.met.M.Summer.stays_given } in
     let ran = goes_on g.T.Item g.S.NodeSource g.M.Summer laws c.args.store.now c.put_node.new.store c.hand.new.store c.args.summer.now c.put_node.new.summer c.hand.new.summer c.in_ok-child.ensures.ran c.in_ok-hand.ensures.ran in
     laws.store_keeps c.args.store.now c.hand.new.store ran.store
 
@@ -220,8 +223,7 @@ returns-clause-grows g c =
     let is : c.from_vec.result ≡ full = c.from_vec.ensures in
     let size : length self.leaf.items + 1 ≡ 32 + length rest = omega (arith, ap length pushed_list, length-append self.leaf.items one, ap length cut, length-append full rest, c.in_ok-full.ensures.full) in
     let own : length c.from_vec.result ≡ 32 = omega (arith, ap length is, c.in_ok-full.ensures.full) in
-    let later = c.in_ok-hand.ensures.reads in
-    omega (arith, size, own, c.in_ok-child.ensures.leaf, later.0, later.1)
+    omega (arith, size, own, c.in_ok-child.ensures.leaf, c.in_ok-hand.ensures.grows)
 
 pub returns-clause-usable : goal.returns-clause-usable
 returns-clause-usable g c less =
@@ -239,12 +241,12 @@ returns-clause-usable g c less =
 
 pub returns-clause-ran : goal.returns-clause-ran
 returns-clause-ran g c =
-    let laws : Laws g.S.NodeSource g.M.Summer = record { store_steps = g.met.S.NodeSource.are_steps; store_keeps = g.met.S.NodeSource.keeps; store_caused = g.met.S.NodeSource.stays_caused; summer_steps = g.met.M.Summer.are_steps; summer_keeps = g.met.M.Summer.keeps; summer_caused = g.met.M.Summer.stays_caused } in
+    let laws : Laws g.S.NodeSource g.M.Summer = record { store_steps = g.met.S.NodeSource.are_steps; store_keeps = g.met.S.NodeSource.keeps; store_caused = g.met.S.NodeSource.stays_caused; summer_steps = g.met.M.Summer.are_steps; summer_keeps = g.met.M.Summer.keeps; summer_caused = g.met.M.Summer.stays_caused; summer_asked = g.met.M.Summer.stays_asked; summer_gave = g.met.M.Summer.stays_given } in
     goes_on g.T.Item g.S.NodeSource g.M.Summer laws c.args.store.now c.put_node.new.store c.hand.new.store c.args.summer.now c.put_node.new.summer c.hand.new.summer c.in_ok-child.ensures.ran c.in_ok-hand.ensures.ran
 
 pub returns-in_err-hand-clause-ran : goal.returns-in_err-hand-clause-ran
 returns-in_err-hand-clause-ran g c =
-    let laws : Laws g.S.NodeSource g.M.Summer = record { store_steps = g.met.S.NodeSource.are_steps; store_keeps = g.met.S.NodeSource.keeps; store_caused = g.met.S.NodeSource.stays_caused; summer_steps = g.met.M.Summer.are_steps; summer_keeps = g.met.M.Summer.keeps; summer_caused = g.met.M.Summer.stays_caused } in
+    let laws : Laws g.S.NodeSource g.M.Summer = record { store_steps = g.met.S.NodeSource.are_steps; store_keeps = g.met.S.NodeSource.keeps; store_caused = g.met.S.NodeSource.stays_caused; summer_steps = g.met.M.Summer.are_steps; summer_keeps = g.met.M.Summer.keeps; summer_caused = g.met.M.Summer.stays_caused; summer_asked = g.met.M.Summer.stays_asked; summer_gave = g.met.M.Summer.stays_given } in
     let p = err_from_is_err_and c.from_residual-in_err-hand.result c.from_residual-in_err-hand.ensures.1 in
     ran_err g.T.Item g.S.NodeSource g.M.Summer laws _ _ _ _ c.from_residual-in_err-hand.result c.in_err-hand.field-0.0 p.0 p.2 p.1 (fails_on g.T.Item g.S.NodeSource g.M.Summer laws c.args.store.now c.put_node.new.store c.hand.new.store c.args.summer.now c.put_node.new.summer c.hand.new.summer c.in_ok-child.ensures.ran _ c.in_err-hand.ensures.ran)
 
@@ -259,34 +261,34 @@ returns-in_err-full-clause-filled g c = filled_none g.T.Item _ _ (g.S.NodeSource
 
 pub returns-in_err-add_last-clause-ran : goal.returns-in_err-add_last-clause-ran
 returns-in_err-add_last-clause-ran g c =
-    let laws : Laws g.S.NodeSource g.M.Summer = record { store_steps = g.met.S.NodeSource.are_steps; store_keeps = g.met.S.NodeSource.keeps; store_caused = g.met.S.NodeSource.stays_caused; summer_steps = g.met.M.Summer.are_steps; summer_keeps = g.met.M.Summer.keeps; summer_caused = g.met.M.Summer.stays_caused } in
+    let laws : Laws g.S.NodeSource g.M.Summer = record { store_steps = g.met.S.NodeSource.are_steps; store_keeps = g.met.S.NodeSource.keeps; store_caused = g.met.S.NodeSource.stays_caused; summer_steps = g.met.M.Summer.are_steps; summer_keeps = g.met.M.Summer.keeps; summer_caused = g.met.M.Summer.stays_caused; summer_asked = g.met.M.Summer.stays_asked; summer_gave = g.met.M.Summer.stays_given } in
     let p = err_from_is_err_and c.from_residual.result c.from_residual.ensures.1 in
     ran_err g.T.Item g.S.NodeSource g.M.Summer laws _ _ _ _ c.from_residual.result tree_fault.NoMemory p.0 p.2 p.1 (goes_none g.T.Item g.S.NodeSource g.M.Summer laws c.args.store.now c.args.summer.now)
 
 pub returns-in_err-add_last-clause-kept : goal.returns-in_err-add_last-clause-kept
 returns-in_err-add_last-clause-kept g c =
-    let laws : Laws g.S.NodeSource g.M.Summer = record { store_steps = g.met.S.NodeSource.are_steps; store_keeps = g.met.S.NodeSource.keeps; store_caused = g.met.S.NodeSource.stays_caused; summer_steps = g.met.M.Summer.are_steps; summer_keeps = g.met.M.Summer.keeps; summer_caused = g.met.M.Summer.stays_caused } in
+    let laws : Laws g.S.NodeSource g.M.Summer = record { store_steps = g.met.S.NodeSource.are_steps; store_keeps = g.met.S.NodeSource.keeps; store_caused = g.met.S.NodeSource.stays_caused; summer_steps = g.met.M.Summer.are_steps; summer_keeps = g.met.M.Summer.keeps; summer_caused = g.met.M.Summer.stays_caused; summer_asked = g.met.M.Summer.stays_asked; summer_gave = g.met.M.Summer.stays_given } in
     kept_unless g.T.Item g.S.NodeSource g.M.Summer laws c.args.store.now c.args.store.now c.args.summer.now c.args.summer.now c.from_residual.result (returns-in_err-add_last-clause-ran g c)
 
 pub returns-in_err-add_last-clause-ready : goal.returns-in_err-add_last-clause-ready
 returns-in_err-add_last-clause-ready g c =
-    let laws : Laws g.S.NodeSource g.M.Summer = record { store_steps = g.met.S.NodeSource.are_steps; store_keeps = g.met.S.NodeSource.keeps; store_caused = g.met.S.NodeSource.stays_caused; summer_steps = g.met.M.Summer.are_steps; summer_keeps = g.met.M.Summer.keeps; summer_caused = g.met.M.Summer.stays_caused } in
+    let laws : Laws g.S.NodeSource g.M.Summer = record { store_steps = g.met.S.NodeSource.are_steps; store_keeps = g.met.S.NodeSource.keeps; store_caused = g.met.S.NodeSource.stays_caused; summer_steps = g.met.M.Summer.are_steps; summer_keeps = g.met.M.Summer.keeps; summer_caused = g.met.M.Summer.stays_caused; summer_asked = g.met.M.Summer.stays_asked; summer_gave = g.met.M.Summer.stays_given } in
     ready_unless g.T.Item g.S.NodeSource g.M.Summer laws g.met.S.NodeSource.stays_ready c.args.store.now c.args.store.now c.args.summer.now c.args.summer.now c.from_residual.result c.requires.ready (returns-in_err-add_last-clause-ran g c)
 
 pub returns-in_err-full-clause-ran : goal.returns-in_err-full-clause-ran
 returns-in_err-full-clause-ran g c =
-    let laws : Laws g.S.NodeSource g.M.Summer = record { store_steps = g.met.S.NodeSource.are_steps; store_keeps = g.met.S.NodeSource.keeps; store_caused = g.met.S.NodeSource.stays_caused; summer_steps = g.met.M.Summer.are_steps; summer_keeps = g.met.M.Summer.keeps; summer_caused = g.met.M.Summer.stays_caused } in
+    let laws : Laws g.S.NodeSource g.M.Summer = record { store_steps = g.met.S.NodeSource.are_steps; store_keeps = g.met.S.NodeSource.keeps; store_caused = g.met.S.NodeSource.stays_caused; summer_steps = g.met.M.Summer.are_steps; summer_keeps = g.met.M.Summer.keeps; summer_caused = g.met.M.Summer.stays_caused; summer_asked = g.met.M.Summer.stays_asked; summer_gave = g.met.M.Summer.stays_given } in
     let p = err_from_is_err_and c.from_residual-in_err-full.result c.from_residual-in_err-full.ensures.1 in
     ran_err g.T.Item g.S.NodeSource g.M.Summer laws _ _ _ _ c.from_residual-in_err-full.result tree_fault.NoMemory p.0 p.2 p.1 (goes_none g.T.Item g.S.NodeSource g.M.Summer laws c.args.store.now c.args.summer.now)
 
 pub returns-in_err-full-clause-kept : goal.returns-in_err-full-clause-kept
 returns-in_err-full-clause-kept g c =
-    let laws : Laws g.S.NodeSource g.M.Summer = record { store_steps = g.met.S.NodeSource.are_steps; store_keeps = g.met.S.NodeSource.keeps; store_caused = g.met.S.NodeSource.stays_caused; summer_steps = g.met.M.Summer.are_steps; summer_keeps = g.met.M.Summer.keeps; summer_caused = g.met.M.Summer.stays_caused } in
+    let laws : Laws g.S.NodeSource g.M.Summer = record { store_steps = g.met.S.NodeSource.are_steps; store_keeps = g.met.S.NodeSource.keeps; store_caused = g.met.S.NodeSource.stays_caused; summer_steps = g.met.M.Summer.are_steps; summer_keeps = g.met.M.Summer.keeps; summer_caused = g.met.M.Summer.stays_caused; summer_asked = g.met.M.Summer.stays_asked; summer_gave = g.met.M.Summer.stays_given } in
     kept_unless g.T.Item g.S.NodeSource g.M.Summer laws c.args.store.now c.args.store.now c.args.summer.now c.args.summer.now c.from_residual-in_err-full.result (returns-in_err-full-clause-ran g c)
 
 pub returns-in_err-full-clause-ready : goal.returns-in_err-full-clause-ready
 returns-in_err-full-clause-ready g c =
-    let laws : Laws g.S.NodeSource g.M.Summer = record { store_steps = g.met.S.NodeSource.are_steps; store_keeps = g.met.S.NodeSource.keeps; store_caused = g.met.S.NodeSource.stays_caused; summer_steps = g.met.M.Summer.are_steps; summer_keeps = g.met.M.Summer.keeps; summer_caused = g.met.M.Summer.stays_caused } in
+    let laws : Laws g.S.NodeSource g.M.Summer = record { store_steps = g.met.S.NodeSource.are_steps; store_keeps = g.met.S.NodeSource.keeps; store_caused = g.met.S.NodeSource.stays_caused; summer_steps = g.met.M.Summer.are_steps; summer_keeps = g.met.M.Summer.keeps; summer_caused = g.met.M.Summer.stays_caused; summer_asked = g.met.M.Summer.stays_asked; summer_gave = g.met.M.Summer.stays_given } in
     ready_unless g.T.Item g.S.NodeSource g.M.Summer laws g.met.S.NodeSource.stays_ready c.args.store.now c.args.store.now c.args.summer.now c.args.summer.now c.from_residual-in_err-full.result c.requires.ready (returns-in_err-full-clause-ran g c)
 
 pub returns-in_err-child-clause-filled : goal.returns-in_err-child-clause-filled
@@ -296,28 +298,28 @@ returns-in_err-child-clause-filled g c =
 
 pub returns-in_err-child-clause-ran : goal.returns-in_err-child-clause-ran
 returns-in_err-child-clause-ran g c =
-    let laws : Laws g.S.NodeSource g.M.Summer = record { store_steps = g.met.S.NodeSource.are_steps; store_keeps = g.met.S.NodeSource.keeps; store_caused = g.met.S.NodeSource.stays_caused; summer_steps = g.met.M.Summer.are_steps; summer_keeps = g.met.M.Summer.keeps; summer_caused = g.met.M.Summer.stays_caused } in
+    let laws : Laws g.S.NodeSource g.M.Summer = record { store_steps = g.met.S.NodeSource.are_steps; store_keeps = g.met.S.NodeSource.keeps; store_caused = g.met.S.NodeSource.stays_caused; summer_steps = g.met.M.Summer.are_steps; summer_keeps = g.met.M.Summer.keeps; summer_caused = g.met.M.Summer.stays_caused; summer_asked = g.met.M.Summer.stays_asked; summer_gave = g.met.M.Summer.stays_given } in
     let p = err_from_is_err_and c.from_residual-in_err-child.result c.from_residual-in_err-child.ensures.1 in
     ran_err g.T.Item g.S.NodeSource g.M.Summer laws c.args.store.now c.put_node.new.store c.args.summer.now c.put_node.new.summer c.from_residual-in_err-child.result c.in_err-child.field-0.0 p.0 p.2 p.1 c.in_err-child.ensures.ran
 
 pub returns-in_err-child-clause-kept : goal.returns-in_err-child-clause-kept
 returns-in_err-child-clause-kept g c =
-    let laws : Laws g.S.NodeSource g.M.Summer = record { store_steps = g.met.S.NodeSource.are_steps; store_keeps = g.met.S.NodeSource.keeps; store_caused = g.met.S.NodeSource.stays_caused; summer_steps = g.met.M.Summer.are_steps; summer_keeps = g.met.M.Summer.keeps; summer_caused = g.met.M.Summer.stays_caused } in
+    let laws : Laws g.S.NodeSource g.M.Summer = record { store_steps = g.met.S.NodeSource.are_steps; store_keeps = g.met.S.NodeSource.keeps; store_caused = g.met.S.NodeSource.stays_caused; summer_steps = g.met.M.Summer.are_steps; summer_keeps = g.met.M.Summer.keeps; summer_caused = g.met.M.Summer.stays_caused; summer_asked = g.met.M.Summer.stays_asked; summer_gave = g.met.M.Summer.stays_given } in
     kept_unless g.T.Item g.S.NodeSource g.M.Summer laws c.args.store.now c.put_node.new.store c.args.summer.now c.put_node.new.summer c.from_residual-in_err-child.result (returns-in_err-child-clause-ran g c)
 
 pub returns-in_err-child-clause-ready : goal.returns-in_err-child-clause-ready
 returns-in_err-child-clause-ready g c =
-    let laws : Laws g.S.NodeSource g.M.Summer = record { store_steps = g.met.S.NodeSource.are_steps; store_keeps = g.met.S.NodeSource.keeps; store_caused = g.met.S.NodeSource.stays_caused; summer_steps = g.met.M.Summer.are_steps; summer_keeps = g.met.M.Summer.keeps; summer_caused = g.met.M.Summer.stays_caused } in
+    let laws : Laws g.S.NodeSource g.M.Summer = record { store_steps = g.met.S.NodeSource.are_steps; store_keeps = g.met.S.NodeSource.keeps; store_caused = g.met.S.NodeSource.stays_caused; summer_steps = g.met.M.Summer.are_steps; summer_keeps = g.met.M.Summer.keeps; summer_caused = g.met.M.Summer.stays_caused; summer_asked = g.met.M.Summer.stays_asked; summer_gave = g.met.M.Summer.stays_given } in
     ready_unless g.T.Item g.S.NodeSource g.M.Summer laws g.met.S.NodeSource.stays_ready c.args.store.now c.put_node.new.store c.args.summer.now c.put_node.new.summer c.from_residual-in_err-child.result c.requires.ready (returns-in_err-child-clause-ran g c)
 
 pub returns-in_err-hand-clause-kept : goal.returns-in_err-hand-clause-kept
 returns-in_err-hand-clause-kept g c =
-    let laws : Laws g.S.NodeSource g.M.Summer = record { store_steps = g.met.S.NodeSource.are_steps; store_keeps = g.met.S.NodeSource.keeps; store_caused = g.met.S.NodeSource.stays_caused; summer_steps = g.met.M.Summer.are_steps; summer_keeps = g.met.M.Summer.keeps; summer_caused = g.met.M.Summer.stays_caused } in
+    let laws : Laws g.S.NodeSource g.M.Summer = record { store_steps = g.met.S.NodeSource.are_steps; store_keeps = g.met.S.NodeSource.keeps; store_caused = g.met.S.NodeSource.stays_caused; summer_steps = g.met.M.Summer.are_steps; summer_keeps = g.met.M.Summer.keeps; summer_caused = g.met.M.Summer.stays_caused; summer_asked = g.met.M.Summer.stays_asked; summer_gave = g.met.M.Summer.stays_given } in
     kept_unless g.T.Item g.S.NodeSource g.M.Summer laws c.args.store.now c.hand.new.store c.args.summer.now c.hand.new.summer c.from_residual-in_err-hand.result (returns-in_err-hand-clause-ran g c)
 
 pub returns-in_err-hand-clause-ready : goal.returns-in_err-hand-clause-ready
 returns-in_err-hand-clause-ready g c =
-    let laws : Laws g.S.NodeSource g.M.Summer = record { store_steps = g.met.S.NodeSource.are_steps; store_keeps = g.met.S.NodeSource.keeps; store_caused = g.met.S.NodeSource.stays_caused; summer_steps = g.met.M.Summer.are_steps; summer_keeps = g.met.M.Summer.keeps; summer_caused = g.met.M.Summer.stays_caused } in
+    let laws : Laws g.S.NodeSource g.M.Summer = record { store_steps = g.met.S.NodeSource.are_steps; store_keeps = g.met.S.NodeSource.keeps; store_caused = g.met.S.NodeSource.stays_caused; summer_steps = g.met.M.Summer.are_steps; summer_keeps = g.met.M.Summer.keeps; summer_caused = g.met.M.Summer.stays_caused; summer_asked = g.met.M.Summer.stays_asked; summer_gave = g.met.M.Summer.stays_given } in
     ready_unless g.T.Item g.S.NodeSource g.M.Summer laws g.met.S.NodeSource.stays_ready c.args.store.now c.hand.new.store c.args.summer.now c.hand.new.summer c.from_residual-in_err-hand.result c.requires.ready (returns-in_err-hand-clause-ran g c)
 
 pub returns-in_err-hand-clause-filled : goal.returns-in_err-hand-clause-filled
@@ -329,3 +331,63 @@ pub returns-clause-filled : goal.returns-clause-filled
 returns-clause-filled g c =
     let own : length c.from_vec.result ≡ 32 = omega (arith, ap length c.from_vec.ensures, c.in_ok-full.ensures.full) in
     filled_on g.T.Item 32 32 (g.S.NodeSource.puts c.args.store.now) (g.S.NodeSource.puts c.put_node.new.store) (g.S.NodeSource.puts c.hand.new.store) (filled_wider g.T.Item _ _ 32 32 (omega (arith, own)) (omega (arith, own)) _ _ c.in_ok-child.ensures.filled) c.in_ok-hand.ensures.filled
+
+pub returns-in_err-add_last-clause-sums : goal.returns-in_err-add_last-clause-sums
+returns-in_err-add_last-clause-sums g c = had_none g.T.Item g.M.Summer (Contains (sums_of c.args.self.now)) c.args.summer.now c.args.summer.now (g.S.NodeSource.puts c.args.store.now)
+
+pub returns-then-len-lt40-clause-sums : goal.returns-then-len-lt40-clause-sums
+returns-then-len-lt40-clause-sums g c = had_none g.T.Item g.M.Summer (Contains (sums_of c.args.self.now)) c.args.summer.now c.args.summer.now (g.S.NodeSource.puts c.args.store.now)
+
+pub returns-in_err-full-clause-sums : goal.returns-in_err-full-clause-sums
+returns-in_err-full-clause-sums g c = had_none g.T.Item g.M.Summer (Contains (sums_of c.args.self.now)) c.args.summer.now c.args.summer.now (g.S.NodeSource.puts c.args.store.now)
+
+pub returns-in_err-child-clause-sums : goal.returns-in_err-child-clause-sums
+returns-in_err-child-clause-sums g c = c.in_err-child.ensures.sums c.args.summer.now (sums_of c.args.self.now) tt
+
+pub returns-in_err-hand-clause-sums : goal.returns-in_err-hand-clause-sums
+returns-in_err-hand-clause-sums g c =
+    let laws : Laws g.S.NodeSource g.M.Summer = record { store_steps = g.met.S.NodeSource.are_steps; store_keeps = g.met.S.NodeSource.keeps; store_caused = g.met.S.NodeSource.stays_caused; summer_steps = g.met.M.Summer.are_steps; summer_keeps = g.met.M.Summer.keeps; summer_caused = g.met.M.Summer.stays_caused; summer_asked = g.met.M.Summer.stays_asked; summer_gave = g.met.M.Summer.stays_given } in
+    let i = g.T.Item in let s = g.S.NodeSource in let m = g.M.Summer in let s0 = c.args.store.now in let u0 = c.args.summer.now in
+    let u1 = c.put_node.new.summer in let u2 = c.hand.new.summer in let s1 = c.put_node.new.store in let s2 = c.hand.new.store in
+    let rows0 = c.args.self.now.rows.items in
+    let had = sums_of c.args.self.now in
+    let own = rows_own i m had u0 u0 rows0 (All-contains_itself had) in
+    let ran = c.in_ok-child.ensures.ran in
+    let above = rows_on i m (Contains had) u0 u0 u1 (gave_goes s m laws u0 u0 u1 ran.summer) rows0 own in
+    let child = c.in_ok-child.ensures.gave in
+    had_both i m (Contains had) u0 u1 u2 (gave_fails s m laws u0 i s1 s2 u1 u2 c.in_err-hand.field-0.0 c.in_err-hand.ensures.ran) (s.puts s0) (s.puts s1) (s.puts s2) (c.in_ok-child.ensures.sums u0 had tt) (c.in_err-hand.ensures.sums u0 had ran.summer above (inr child))
+
+pub returns-clause-sums : goal.returns-clause-sums
+returns-clause-sums g c =
+    let laws : Laws g.S.NodeSource g.M.Summer = record { store_steps = g.met.S.NodeSource.are_steps; store_keeps = g.met.S.NodeSource.keeps; store_caused = g.met.S.NodeSource.stays_caused; summer_steps = g.met.M.Summer.are_steps; summer_keeps = g.met.M.Summer.keeps; summer_caused = g.met.M.Summer.stays_caused; summer_asked = g.met.M.Summer.stays_asked; summer_gave = g.met.M.Summer.stays_given } in
+    let i = g.T.Item in let s = g.S.NodeSource in let m = g.M.Summer in let s0 = c.args.store.now in let u0 = c.args.summer.now in
+    let u1 = c.put_node.new.summer in let u2 = c.hand.new.summer in let s1 = c.put_node.new.store in let s2 = c.hand.new.store in
+    let rows0 = c.args.self.now.rows.items in
+    let had = sums_of c.args.self.now in
+    let own = rows_own i m had u0 u0 rows0 (All-contains_itself had) in
+    let ran = c.in_ok-child.ensures.ran in
+    let above = rows_on i m (Contains had) u0 u0 u1 (gave_goes s m laws u0 u0 u1 ran.summer) rows0 own in
+    let child = c.in_ok-child.ensures.gave in
+    had_both i m (Contains had) u0 u1 u2 (gave_goes s m laws u0 u1 u2 c.in_ok-hand.ensures.ran.summer) (s.puts s0) (s.puts s1) (s.puts s2) (c.in_ok-child.ensures.sums u0 had tt) (c.in_ok-hand.ensures.sums u0 had ran.summer above (inr child))
+
+pub returns-then-len-lt40-clause-held : goal.returns-then-len-lt40-clause-held
+returns-then-len-lt40-clause-held g c =
+    let laws : Laws g.S.NodeSource g.M.Summer = record { store_steps = g.met.S.NodeSource.are_steps; store_keeps = g.met.S.NodeSource.keeps; store_caused = g.met.S.NodeSource.stays_caused; summer_steps = g.met.M.Summer.are_steps; summer_keeps = g.met.M.Summer.keeps; summer_caused = g.met.M.Summer.stays_caused; summer_asked = g.met.M.Summer.stays_asked; summer_gave = g.met.M.Summer.stays_given } in
+    let i = g.T.Item in let s = g.S.NodeSource in let m = g.M.Summer in let s0 = c.args.store.now in let u0 = c.args.summer.now in
+    let rows0 = c.args.self.now.rows.items in
+    let had = sums_of c.args.self.now in
+    let own = rows_own i m had u0 u0 rows0 (All-contains_itself had) in
+    own
+
+pub returns-clause-held : goal.returns-clause-held
+returns-clause-held g c =
+    let laws : Laws g.S.NodeSource g.M.Summer = record { store_steps = g.met.S.NodeSource.are_steps; store_keeps = g.met.S.NodeSource.keeps; store_caused = g.met.S.NodeSource.stays_caused; summer_steps = g.met.M.Summer.are_steps; summer_keeps = g.met.M.Summer.keeps; summer_caused = g.met.M.Summer.stays_caused; summer_asked = g.met.M.Summer.stays_asked; summer_gave = g.met.M.Summer.stays_given } in
+    let i = g.T.Item in let s = g.S.NodeSource in let m = g.M.Summer in let s0 = c.args.store.now in let u0 = c.args.summer.now in
+    let u1 = c.put_node.new.summer in let u2 = c.hand.new.summer in let s1 = c.put_node.new.store in let s2 = c.hand.new.store in
+    let rows0 = c.args.self.now.rows.items in
+    let had = sums_of c.args.self.now in
+    let own = rows_own i m had u0 u0 rows0 (All-contains_itself had) in
+    let ran = c.in_ok-child.ensures.ran in
+    let above = rows_on i m (Contains had) u0 u0 u1 (gave_goes s m laws u0 u0 u1 ran.summer) rows0 own in
+    let child = c.in_ok-child.ensures.gave in
+    c.in_ok-hand.ensures.held u0 had ran.summer above (inr child)

@@ -1,0 +1,96 @@
+-- Which summaries stand in the nodes that are put.
+use Rattle.std.specs.Prelude.{◌≡◌, ◌⊎◌, ◌∷◌, ℕ, List, Some, All, Contains, IfSome, map}
+use Rattle.std.specs.List.{flat_map}
+use Rattle.tree_laws.specs.declared.item.Item.{Ghosts as Items}
+use Rattle.tree_laws.specs.declared.store.NodeSource.{Ghosts as Sources}
+use Rattle.tree_laws.specs.declared.summer.Summer.{Ghosts as Summers}
+use Rattle.tree_laws.specs.declared.node.Child.{Child}
+use Rattle.tree_laws.specs.declared.node.Node.{Node}
+use Rattle.tree_laws.specs.declared.node.Node.TheVariants.{Leaf, Inner}
+use Rattle.tree_laws.specs.Nodes.{FitsNode, spelled_node}
+use Rattle.tree_laws.specs.Stores.{EachSince, IsSince}
+use Rattle.reduce_tree.specs.declared.builder.Builder.{Builder}
+
+-- the summaries that rows of entries keep, and those of a builder
+abbrev pub row_sums : {T : Type 0} → List (List (Child T)) → List (List ℕ)
+row_sums rows = flat_map (λ row. map (λ child. child.sum) row) rows
+
+abbrev pub sums_of : {T : Type 0} → Builder T → List (List ℕ)
+sums_of builder = row_sums builder.rows.items
+
+module _ {T M Sum Fault : Type 0} (m : Summers M T Sum Fault) where
+  -- the bytes of a value that the summer answered on the way from the one state to the other
+  pub record IsSumGiven (before after : M) (bytes : List ℕ) : Type 0 where
+    pub sum : Sum
+    pub gave : m.gave before after sum
+    pub bytes_are : bytes ≡ (m.meaning before).spelled sum
+
+module _ {T M Sum Fault : Type 0} (i : Items T) (m : Summers M T Sum Fault) (Was : List ℕ → Type 0) (before after : M) where
+  -- such bytes, or some that were known before
+  abbrev pub IsSumHad : List ℕ → Type 0
+  IsSumHad bytes = Was bytes ⊎ IsSumGiven m before after bytes
+
+  -- entries, rows of them and a node keep such summaries alone
+  abbrev pub AreHad : List (Child T) → Type 0
+  AreHad children = All (λ child. IsSumHad child.sum) children
+
+  abbrev pub RowsHad : List (List (Child T)) → Type 0
+  RowsHad rows = All AreHad rows
+
+  abbrev pub KeepsHad : Node T → Type 0
+  KeepsHad (Leaf items) = Unit {0}
+  KeepsHad (Inner children) = AreHad children
+
+  -- the bytes of such a node
+  pub record IsPieceHad (bytes : List ℕ) : Type 0 where
+    pub node : Node T
+    pub fits : FitsNode i.fits i.spelled node
+    pub bytes_are : bytes ≡ spelled_node i.spelled node
+    pub sums : KeepsHad node
+
+  -- the pieces that were put since are such
+  abbrev pub ArePiecesHad : List (List ℕ) → List (List ℕ) → Type 0
+  ArePiecesHad = EachSince IsPieceHad
+
+module _ {S F : Type 0} (s : Sources S F) where
+  -- what a store may do in calls one after another, of which some may fail
+  pub data ComesTo : S → S → Type 0 where
+    goes : (old new : S) → s.goes old new → ComesTo old new
+    fails : (old new : S) (fault : F) → s.fails old new fault → ComesTo old new
+    both : (old mid new : S) → ComesTo old mid → ComesTo mid new → ComesTo old new
+
+module _ {T S F : Type 0} (i : Items T) (s : Sources S F) where
+  -- since a call had begun a place was got at which such a summary stood in a node, in a state on the way to this one
+  pub record IsSumRead (begun now : S) (bytes : List ℕ) : Type 0 where
+    pub at : ℕ
+    pub since : IsSince at (s.gets begun) (s.gets now)
+    pub mid : S
+    pub went : s.goes begun mid
+    pub later : ComesTo s mid now
+    pub children : List (Child T)
+    pub fits : FitsNode i.fits i.spelled (Inner children)
+    pub stood : IfSome (s.nodes mid) (λ there. there at ≡ Some (spelled_node i.spelled (Inner children)))
+    pub child : Child T
+    pub inside : Contains children child
+    pub is : child.sum ≡ bytes
+
+module _ {S F T M Sum G : Type 0} (s : Sources S F) (m : Summers M T Sum G) where
+  -- a part of a call begins: the summer has gone on from its first state, and the store from where it was when the call began
+  pub record IsOnTheWay (first : M) (begun : S) (now : M) (store : S) : Type 0 where
+    pub goes : m.goes first now
+    pub went : s.goes begun store
+    pub gets : EachSince (λ at. Unit {0}) (s.gets begun) (s.gets store)
+
+-- the same of summaries that were read since a call began, or answered
+module _ {T S F M Sum G : Type 0} (i : Items T) (s : Sources S F) (m : Summers M T Sum G) (first : M) (begun : S) (summer : M) (store : S) where
+  abbrev pub KnowsSum : List ℕ → Type 0
+  KnowsSum = IsSumHad i m (IsSumRead i s begun store) first summer
+
+  abbrev pub KnowsRow : List (Child T) → Type 0
+  KnowsRow = AreHad i m (IsSumRead i s begun store) first summer
+
+  abbrev pub KnowsNode : Node T → Type 0
+  KnowsNode = KeepsHad i m (IsSumRead i s begun store) first summer
+
+  abbrev pub KnowsPieces : List (List ℕ) → List (List ℕ) → Type 0
+  KnowsPieces = ArePiecesHad i m (IsSumRead i s begun store) first summer
