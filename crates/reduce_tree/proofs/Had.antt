@@ -1,5 +1,5 @@
 -- Which summaries stand in the nodes that are put, over calls one after another.
-use Rattle.std.proofs.Common.{◌≡◌, inl, inr, ℕ, List, [], ◌∷◌, ◌++◌, Some, All, Contains, IfSome, map, sym, ap, ◌∙◌, append_assoc, arith, subst, refl}
+use Rattle.std.proofs.Common.{◌≡◌, inl, inr, ℕ, List, [], ◌∷◌, ◌++◌, Some, All, Contains, Result, Err, IfSome, map, sym, ap, ◌∙◌, append_assoc, arith, subst, refl}
 use Rattle.std.proofs.lemmas.List.Elements.{All-append, All-cons, All-contains_itself, All-head, All-nil, All-tail, All-weaker, Contains-append_right}
 use Rattle.tree_laws.specs.declared.item.Item.{Ghosts as Items}
 use Rattle.tree_laws.specs.declared.store.NodeSource.{Ghosts as Sources}
@@ -11,11 +11,11 @@ use Rattle.tree_laws.specs.declared.tree.TreeFault.{TreeFault}
 use Rattle.tree_laws.specs.declared.tree.TreeFault.TheVariants as tree_fault
 use Rattle.tree_laws.specs.Meaning.{KeepsMeaning, Meaning}
 use Rattle.tree_laws.specs.Nodes.{FitsNode, spelled_node}
-use Rattle.tree_laws.specs.Stores.{IsSince}
+use Rattle.tree_laws.specs.Stores.{EachSince, IsSince}
 use Rattle.reduce_tree.specs.Built.{IsPopped}
 use Rattle.reduce_tree.specs.Calls.{Fails, GoOn}
 use Rattle.reduce_tree.specs.Rows.{IsSplit}
-use Rattle.reduce_tree.specs.Sums.{both, fails, goes, AreHad, ArePiecesHad, ComesTo, IsOnTheWay, IsPieceHad, IsSumGiven, IsSumHad, IsSumRead, KeepsHad, KnowsNode, KnowsPieces, KnowsRow, KnowsSum, RowsHad, row_sums}
+use Rattle.reduce_tree.specs.Sums.{AreHad, ArePiecesHad, IsOnTheWay, IsPieceHad, IsPieceKnown, IsSumGiven, IsSumHad, IsSumRead, KeepsHad, KnewPieces, KnowsNode, KnowsPieces, KnowsRow, KnowsSum, PutsKnown, RowsHad, row_sums}
 use Rattle.reduce_tree.proofs.Calls.{Laws, Noted, fails_all, noted_both, noted_none}
 use Rattle.reduce_tree.proofs.Quiet.{all_back, all_front}
 use Rattle.reduce_tree.proofs.Since.{since_both, since_none, since_one}
@@ -155,6 +155,21 @@ module _ {T M Sum Fault : Type 0} (i : Items T) (m : Summers M T Sum Fault) (Was
     pub rows_stacked : (old new : List (List (Child T))) (row : List (Child T)) → new ≡ old ++ row ∷ [] → RowsHad i m Was first u old → AreHad i m Was first u row → RowsHad i m Was first u new
     rows_stacked old new row e h k = subst (RowsHad i m Was first u) (sym e) (All-append (AreHad i m Was first u) old (row ∷ []) h (All-cons (AreHad i m Was first u) row [] k (All-nil (AreHad i m Was first u))))
 
+module _ {T S F M Sum G : Type 0} (i : Items T) (s : Sources S F) (m : Summers M T Sum G) (first : M) (begun : S) where
+  -- nothing was put
+  pub known_none : (u : M) (a b : S) → s.puts b ≡ s.puts a → KnowsPieces i s m first begun u b (s.puts a)
+  known_none u a b e = since_none (IsPieceKnown i s m first begun s.goes u b) (s.puts a) (s.puts b) e
+
+  pub knew_none : (u : M) (a b : S) (fault : TreeFault F G) → s.puts b ≡ s.puts a → KnewPieces i s m first begun u b (s.puts a) fault
+  knew_none u a b (tree_fault.Store fault) e = since_none (IsPieceKnown i s m first begun (λ x y. s.fails x y fault) u b) (s.puts a) (s.puts b) e
+  knew_none u a b (tree_fault.BadNode at) e = known_none u a b e
+  knew_none u a b (tree_fault.Summer fault) e = known_none u a b e
+  knew_none u a b tree_fault.NoMemory e = known_none u a b e
+
+  -- what the exit of a `?` returns
+  pub knew_err : {X : Type 0} (u : M) (b : S) (old : List (List ℕ)) (q : Result X (TreeFault F G)) (fault y : TreeFault F G) → y ≡ fault → q ≡ Err y → KnewPieces i s m first begun u b old fault → PutsKnown i s m first begun u b old q
+  knew_err u b old q fault y e is h = rw is (rw e h)
+
 module _ {T S F M Sum G : Type 0} (i : Items T) (s : Sources S F) (m : Summers M T Sum G) (laws : Laws s m) (first : M) (begun : S) where
   abbrev Read : S → List ℕ → Type 0
   Read now = IsSumRead i s begun now
@@ -173,13 +188,13 @@ module _ {T S F M Sum G : Type 0} (i : Items T) (s : Sources S F) (m : Summers M
   since_longer : (at : ℕ) (a b : S) → IsSince at (s.gets begun) (s.gets a) → Noted (s.gets a) (s.gets b) → IsSince at (s.gets begun) (s.gets b)
   since_longer at a b h k = (k.0 ++ h.0, k.1 ∙ ap (λ t. k.0 ++ t) h.1 ∙ sym (append_assoc k.0 h.0 (s.gets begun)), Contains-append_right k.0 h.0 at h.2)
 
-  read_on : (a b : S) → ComesTo s a b → Noted (s.gets a) (s.gets b) → (bytes : List ℕ) → Read a bytes → Read b bytes
+  read_on : (a b : S) → s.goes a b → Noted (s.gets a) (s.gets b) → (bytes : List ℕ) → Read a bytes → Read b bytes
   read_on a b later gets bytes h = record {
     at = h.at;
     since = since_longer h.at a b h.since gets;
     mid = h.mid;
     went = h.went;
-    later = both h.mid a b h.later later;
+    later = laws.store_steps.both h.mid a b h.later later;
     children = h.children;
     fits = h.fits;
     stood = h.stood;
@@ -190,13 +205,7 @@ module _ {T S F M Sum G : Type 0} (i : Items T) (s : Sources S F) (m : Summers M
 
   -- what was read stays so
   pub read_goes : (a b : S) (u v : M) → GoOn i s m a b u v → (bytes : List ℕ) → Read a bytes → Read b bytes
-  read_goes a b u v g = read_on a b (goes a b g.store) g.gets
-
-  read_fails : (a b : S) (u v : M) (fault : TreeFault F G) → Fails i s m a b u v fault → (bytes : List ℕ) → Read a bytes → Read b bytes
-  read_fails a b u v (tree_fault.Store fault) f = read_on a b (fails a b fault (fails_all i s m laws a b fault f.store)) f.gets
-  read_fails a b u v (tree_fault.BadNode at) f = read_goes a b u v f
-  read_fails a b u v (tree_fault.Summer fault) f = read_on a b (goes a b f.store) f.gets
-  read_fails a b u v tree_fault.NoMemory f = read_goes a b u v f
+  read_goes a b u v g = read_on a b g.store g.gets
 
   module _ (a b : S) (u v : M) (g : GoOn i s m a b u v) where
     pub node_goes : (node : Node T) → KnowsNode i s m first begun u a node → KnowsNode i s m first begun v b node
@@ -208,23 +217,48 @@ module _ {T S F M Sum G : Type 0} (i : Items T) (s : Sources S F) (m : Summers M
     pub sum_goes : (bytes : List ℕ) → KnowsSum i s m first begun u a bytes → KnowsSum i s m first begun v b bytes
     sum_goes = sum_into i m (Read a) (Read b) first u v (read_goes a b u v g) (gave_goes s m laws first u v g.summer)
 
-  -- a node was put
-  pub put_goes : (a b : S) (u v : M) → GoOn i s m a b u v → (node : Node T) (piece : List ℕ) → s.puts b ≡ piece ∷ s.puts a → piece ≡ spelled_node i.spelled node → FitsNode i.fits i.spelled node → KnowsNode i s m first begun u a node → KnowsPieces i s m first begun v b (s.puts a) (s.puts b)
-  put_goes a b u v g node piece e is fits h = one_into i m (Read a) (Read b) first u v (read_goes a b u v g) (gave_goes s m laws first u v g.summer) node piece (s.puts a) (s.puts b) e is fits h
+  -- a node was put, or tried
+  put_known : (Later : S → S → Type 0) (a b : S) (u v : M) → m.goes u v → Later a b → (node : Node T) (piece : List ℕ) → s.puts b ≡ piece ∷ s.puts a → piece ≡ spelled_node i.spelled node → FitsNode i.fits i.spelled node → KnowsNode i s m first begun u a node
+      → EachSince (IsPieceKnown i s m first begun Later v b) (s.puts a) (s.puts b)
+  put_known Later a b u v g later node piece e is fits h =
+      since_one (IsPieceKnown i s m first begun Later v b) piece (s.puts a) (s.puts b) e
+      (record { before = a; later = later; more = []; order = e; node = node; fits = fits; bytes_are = is; sums = node_on i m (Read a) first u v (gave_goes s m laws first u v g) node h })
 
-  -- or tried
-  pub put_fails : (a b : S) (u v : M) (fault : TreeFault F G) → Fails i s m a b u v fault → (node : Node T) (piece : List ℕ) → s.puts b ≡ piece ∷ s.puts a → piece ≡ spelled_node i.spelled node → FitsNode i.fits i.spelled node → KnowsNode i s m first begun u a node → KnowsPieces i s m first begun v b (s.puts a) (s.puts b)
-  put_fails a b u v fault f node piece e is fits h = one_into i m (Read a) (Read b) first u v (read_fails a b u v fault f) (gave_fails s m laws first i a b u v fault f) node piece (s.puts a) (s.puts b) e is fits h
+  pub put_goes : (a b : S) (u v : M) → GoOn i s m a b u v → (node : Node T) (piece : List ℕ) → s.puts b ≡ piece ∷ s.puts a → piece ≡ spelled_node i.spelled node → FitsNode i.fits i.spelled node → KnowsNode i s m first begun u a node → KnowsPieces i s m first begun v b (s.puts a)
+  put_goes a b u v g node piece e is fits h = put_known s.goes a b u v g.summer g.store node piece e is fits h
 
-  -- pieces were put up to b, and more up to c
-  pub known_goes : (a b c : S) (u v : M) → GoOn i s m b c u v → KnowsPieces i s m first begun u b (s.puts a) (s.puts b) → KnowsPieces i s m first begun v c (s.puts b) (s.puts c) → KnowsPieces i s m first begun v c (s.puts a) (s.puts c)
-  known_goes a b c u v g h k = pieces_into i m (Read b) (Read c) first u v (read_goes b c u v g) (gave_goes s m laws first u v g.summer) (s.puts a) (s.puts b) (s.puts c) h k
+  pub put_fails : (a b : S) (u v : M) (fault : F) → s.fails a b fault → m.goes u v → (node : Node T) (piece : List ℕ) → s.puts b ≡ piece ∷ s.puts a → piece ≡ spelled_node i.spelled node → FitsNode i.fits i.spelled node → KnowsNode i s m first begun u a node
+      → KnewPieces i s m first begun v b (s.puts a) (tree_fault.Store fault)
+  put_fails a b u v fault f g node piece e is fits h = put_known (λ x y. s.fails x y fault) a b u v g f node piece e is fits h
 
-  pub known_fails : (a b c : S) (u v : M) (fault : TreeFault F G) → Fails i s m b c u v fault → KnowsPieces i s m first begun u b (s.puts a) (s.puts b) → KnowsPieces i s m first begun v c (s.puts b) (s.puts c) → KnowsPieces i s m first begun v c (s.puts a) (s.puts c)
-  known_fails a b c u v fault f h k = pieces_into i m (Read b) (Read c) first u v (read_fails b c u v fault f) (gave_fails s m laws first i b c u v fault f) (s.puts a) (s.puts b) (s.puts c) h k
+  -- pieces were put up to b, and more up to c, where more was answered
+  module _ (a b c : S) (u v : M) (more : (sum : Sum) → m.gave first u sum → m.gave first v sum) (Later : S → S → Type 0) (later : (x : S) → s.goes x b → Later x c) where
+    piece_later : (newer : List (List ℕ)) → s.puts c ≡ newer ++ s.puts b → (bytes : List ℕ) → IsPieceKnown i s m first begun s.goes u b bytes → IsPieceKnown i s m first begun Later v c bytes
+    piece_later newer e bytes h = record {
+      before = h.before;
+      later = later h.before h.later;
+      more = newer ++ h.more;
+      order = e ∙ ap (λ t. newer ++ t) h.order ∙ sym (append_assoc newer h.more (bytes ∷ s.puts h.before));
+      node = h.node;
+      fits = h.fits;
+      bytes_are = h.bytes_are;
+      sums = node_on i m (Read h.before) first u v more h.node h.sums;
+    }
 
-  pub known_none : (u : M) (a b : S) → s.puts b ≡ s.puts a → KnowsPieces i s m first begun u b (s.puts a) (s.puts b)
-  known_none u a b e = since_none (IsPieceHad i m (Read b) first u) (s.puts a) (s.puts b) e
+    pieces_later : KnowsPieces i s m first begun u b (s.puts a) → EachSince (IsPieceKnown i s m first begun Later v c) (s.puts b) (s.puts c) → EachSince (IsPieceKnown i s m first begun Later v c) (s.puts a) (s.puts c)
+    pieces_later h k =
+        let Is = IsPieceKnown i s m first begun Later v c in
+        since_both (IsPieceKnown i s m first begun s.goes u b) Is Is (piece_later k.0 k.1) (λ bytes p. p) (s.puts a) (s.puts b) (s.puts c) h k
+
+  pub known_goes : (a b c : S) (u v : M) → GoOn i s m b c u v → KnowsPieces i s m first begun u b (s.puts a) → KnowsPieces i s m first begun v c (s.puts b) → KnowsPieces i s m first begun v c (s.puts a)
+  known_goes a b c u v g h k = pieces_later a b c u v (gave_goes s m laws first u v g.summer) s.goes (λ x w. laws.store_steps.both x b c w g.store) h k
+
+  pub known_fails : (a b c : S) (u v : M) (fault : TreeFault F G) → Fails i s m b c u v fault → KnowsPieces i s m first begun u b (s.puts a) → KnewPieces i s m first begun v c (s.puts b) fault → KnewPieces i s m first begun v c (s.puts a) fault
+  known_fails a b c u v (tree_fault.Store fault) f h k =
+      pieces_later a b c u v (gave_goes s m laws first u v f.summer) (λ x y. s.fails x y fault) (λ x w. laws.store_caused x b c fault w (fails_all i s m laws b c fault f.store)) h k
+  known_fails a b c u v (tree_fault.BadNode at) f h k = known_goes a b c u v f h k
+  known_fails a b c u v (tree_fault.Summer fault) f h k = pieces_later a b c u v (gave_fails s m laws first i b c u v (tree_fault.Summer fault) f) s.goes (λ x w. laws.store_steps.both x b c w f.store) h k
+  known_fails a b c u v tree_fault.NoMemory f h k = known_goes a b c u v f h k
 
   -- the summaries of a node that was got
   pub read_knows : (u : M) (a b : S) (at : ℕ) (node : Node T) → IsOnTheWay s m first begun u a → s.goes a b → s.gets b ≡ at ∷ s.gets a → s.nodes b ≡ s.nodes a → FitsNode i.fits i.spelled node → IfSome (s.nodes a) (λ there. there at ≡ Some (spelled_node i.spelled node)) → KnowsNode i s m first begun u b node
@@ -233,4 +267,4 @@ module _ {T S F M Sum G : Type 0} (i : Items T) (s : Sources S F) (m : Summers M
       let more = (way.gets).0 in
       let since : IsSince at (s.gets begun) (s.gets b) = (at ∷ more, got ∙ ap (λ t. at ∷ t) (way.gets).1, (0, omega arith, refl)) in
       All-weaker (Contains children) (λ (c : Child T). KnowsSum i s m first begun u b c.sum)
-      (λ c inside. inl (record { at = at; since = since; mid = a; went = way.went; later = goes a b g; children = children; fits = fits; stood = bytes; child = c; inside = inside; is = refl })) children (All-contains_itself children)
+      (λ c inside. inl (record { at = at; since = since; mid = a; went = way.went; later = g; children = children; fits = fits; stood = bytes; child = c; inside = inside; is = refl })) children (All-contains_itself children)

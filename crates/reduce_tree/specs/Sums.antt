@@ -1,5 +1,5 @@
 -- Which summaries stand in the nodes that are put.
-use Rattle.std.specs.Prelude.{◌≡◌, ◌⊎◌, ◌∷◌, ℕ, List, Some, All, Contains, IfSome, map}
+use Rattle.std.specs.Prelude.{◌≡◌, ◌⊎◌, ◌∷◌, ◌++◌, ℕ, List, Some, All, Contains, Result, Ok, Err, IfSome, map}
 use Rattle.std.specs.List.{flat_map}
 use Rattle.tree_laws.specs.declared.item.Item.{Ghosts as Items}
 use Rattle.tree_laws.specs.declared.store.NodeSource.{Ghosts as Sources}
@@ -7,6 +7,8 @@ use Rattle.tree_laws.specs.declared.summer.Summer.{Ghosts as Summers}
 use Rattle.tree_laws.specs.declared.node.Child.{Child}
 use Rattle.tree_laws.specs.declared.node.Node.{Node}
 use Rattle.tree_laws.specs.declared.node.Node.TheVariants.{Leaf, Inner}
+use Rattle.tree_laws.specs.declared.tree.TreeFault.{TreeFault}
+use Rattle.tree_laws.specs.declared.tree.TreeFault.TheVariants as tree_fault
 use Rattle.tree_laws.specs.Nodes.{FitsNode, spelled_node}
 use Rattle.tree_laws.specs.Stores.{EachSince, IsSince}
 use Rattle.reduce_tree.specs.declared.builder.Builder.{Builder}
@@ -52,21 +54,14 @@ module _ {T M Sum Fault : Type 0} (i : Items T) (m : Summers M T Sum Fault) (Was
   abbrev pub ArePiecesHad : List (List ℕ) → List (List ℕ) → Type 0
   ArePiecesHad = EachSince IsPieceHad
 
-module _ {S F : Type 0} (s : Sources S F) where
-  -- what a store may do in calls one after another, of which some may fail
-  pub data ComesTo : S → S → Type 0 where
-    goes : (old new : S) → s.goes old new → ComesTo old new
-    fails : (old new : S) (fault : F) → s.fails old new fault → ComesTo old new
-    both : (old mid new : S) → ComesTo old mid → ComesTo mid new → ComesTo old new
-
 module _ {T S F : Type 0} (i : Items T) (s : Sources S F) where
-  -- since a call had begun a place was got at which such a summary stood in a node, in a state on the way to this one
+  -- since a call had begun, and before this state, a place was got at which such a summary stood in a node
   pub record IsSumRead (begun now : S) (bytes : List ℕ) : Type 0 where
     pub at : ℕ
     pub since : IsSince at (s.gets begun) (s.gets now)
     pub mid : S
     pub went : s.goes begun mid
-    pub later : ComesTo s mid now
+    pub later : s.goes mid now
     pub children : List (Child T)
     pub fits : FitsNode i.fits i.spelled (Inner children)
     pub stood : IfSome (s.nodes mid) (λ there. there at ≡ Some (spelled_node i.spelled (Inner children)))
@@ -92,5 +87,31 @@ module _ {T S F M Sum G : Type 0} (i : Items T) (s : Sources S F) (m : Summers M
   abbrev pub KnowsNode : Node T → Type 0
   KnowsNode = KeepsHad i m (IsSumRead i s begun store) first summer
 
-  abbrev pub KnowsPieces : List (List ℕ) → List (List ℕ) → Type 0
-  KnowsPieces = ArePiecesHad i m (IsSumRead i s begun store) first summer
+module _ {T S F M Sum G : Type 0} (i : Items T) (s : Sources S F) (m : Summers M T Sum G) (first : M) (begun : S) where
+  -- a piece that was put, or tried, on the way to this state is a node that keeps such summaries alone: what was read of them was read
+  -- before it was put
+  pub record IsPieceKnown (Later : S → S → Type 0) (summer : M) (now : S) (bytes : List ℕ) : Type 0 where
+    pub before : S
+    pub later : Later before now
+    pub more : List (List ℕ)
+    pub order : s.puts now ≡ more ++ bytes ∷ s.puts before
+    pub node : Node T
+    pub fits : FitsNode i.fits i.spelled node
+    pub bytes_are : bytes ≡ spelled_node i.spelled node
+    pub sums : KnowsNode i s m first begun summer before node
+
+  -- each piece that was put since is one, by calls that went on
+  abbrev pub KnowsPieces : M → S → List (List ℕ) → Type 0
+  KnowsPieces summer now old = EachSince (IsPieceKnown s.goes summer now) old (s.puts now)
+
+  -- the same of a call that gave up
+  abbrev pub KnewPieces : M → S → List (List ℕ) → TreeFault F G → Type 0
+  KnewPieces summer now old (tree_fault.Store fault) = EachSince (IsPieceKnown (λ a b. s.fails a b fault) summer now) old (s.puts now)
+  KnewPieces summer now old (tree_fault.BadNode at) = KnowsPieces summer now old
+  KnewPieces summer now old (tree_fault.Summer fault) = KnowsPieces summer now old
+  KnewPieces summer now old tree_fault.NoMemory = KnowsPieces summer now old
+
+  -- and whatever it answers
+  abbrev pub PutsKnown : {X : Type 0} → M → S → List (List ℕ) → Result X (TreeFault F G) → Type 0
+  PutsKnown summer now old (Ok value) = KnowsPieces summer now old
+  PutsKnown summer now old (Err fault) = KnewPieces summer now old fault

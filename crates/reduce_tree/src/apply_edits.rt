@@ -5,7 +5,7 @@ ghost use Rattle.reduce_tree.specs.Pieces.{AreAmong, InsertAmong, AreTreePieces}
 ghost use Rattle.reduce_tree.specs.Halted.{WerePieces};
 ghost use Rattle.reduce_tree.specs.Applied.{applied, AreEdits, insertions, RemoveNone};
 ghost use Rattle.reduce_tree.specs.Counts.{ReadsFor, node_size};
-ghost use Rattle.reduce_tree.specs.Sums.{KnowsPieces};
+ghost use Rattle.reduce_tree.specs.Sums.{PutsKnown};
 ghost use Rattle.reduce_tree.specs.Calls.{places, Ran, PutNone, BlamesNone, UnlessStore};
 ghost use Rattle.std.specs.Prelude.{ℕ, ◌≡◌, ◌+◌, ◌*◌, ◌≤◌, ◌^◌, List, IfOk, OnOk, length, max, Some, ◌<◌, IfErr, MatchResult, All};
 ghost use Rattle.tree_laws.specs.Stores.{KeepsPlaces, Places, WhereTold};
@@ -36,9 +36,10 @@ use tree_laws::{Item, NodeStore, Steps, Summer, Tree, TreeFault};
 ///
 /// Each piece put, before a refusal too, is a node of 32 entries at most, and of 8 at least but for the root. Its items are those
 /// of the old tree and those inserted. A leaf is put only where the summer was usable, and in this call `leaf` was given exactly its
-/// items. Each summary in an inner node is that of a value that fits, and in this call it stood in a node at a place that
-/// was got, or the summer answered its value. All this holds too of a piece at which the store fails; every other stands in the store
-/// after the call, and after `Store` it stood there when the call on the store began that failed.
+/// items. Each summary in an inner node is that of a value that fits. The summer answered its value in this call, or it stood,
+/// where the store tells that, in a node at a place that this call got before it put this one. All this holds too of a piece at which
+/// the store fails; every other stands in the store after the call, and after `Store` it stood there when the call on the store began
+/// that failed.
 ///
 /// `Store` and `Summer` hand on what the store and the summer answered in this call, and the other of the two went on. The place that
 /// `BadNode` names is reached from the tree's root, and no node that fits stands there, or one that keeps a summary with the bytes of
@@ -78,7 +79,7 @@ pub fn apply<S: NodeStore, M: Summer, L: Ledger>(
         → All (λ x. length (M.Unit.spelled x) ≤ longest) among → IfOk result (λ after. S.size store.new ≤ S.size store.old + (length edits.now * (4 * (max tree.height after.height + 1))) * node_size longest) }
     ensures reads { ReadsFor (S.reads store.old) (S.reads store.new) steps.old steps.new }
     ensures sound { (first : M) (there : Places) (items : List M.Unit) → S.nodes store.old ≡ Some there → M.goes first summer.old → IsTree M.Unit.Item M.Summer first there tree items → IfErr result BlamesNone }
-    ensures sums { KnowsPieces M.Unit.Item S.NodeSource M.Summer summer.old store.old summer.new store.new (S.puts store.old) (S.puts store.new) }
+    ensures sums { PutsKnown M.Unit.Item S.NodeSource M.Summer summer.old store.old summer.new store.new (S.puts store.old) result }
     ensures ran { Ran M.Unit.Item S.NodeSource M.Summer store.old store.new summer.old summer.new result }
     ensures ready { UnlessStore result (S.is_ready store.new) }
 {

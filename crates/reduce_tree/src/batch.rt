@@ -8,7 +8,7 @@ ghost use Rattle.reduce_tree.specs.Halted.{WerePieces};
 ghost use Rattle.reduce_tree.specs.Applied.{applied, edit_key, insertions, RemoveNone};
 ghost use Rattle.reduce_tree.specs.Charges.{slack, ready, pending, rounding, ArePut, Spent};
 ghost use Rattle.reduce_tree.specs.Counts.{ReadsFor};
-ghost use Rattle.reduce_tree.specs.Sums.{IsOnTheWay, KnowsNode, KnowsPieces, KnowsRow, KnowsSum};
+ghost use Rattle.reduce_tree.specs.Sums.{IsOnTheWay, KnowsNode, PutsKnown, KnowsRow, KnowsSum};
 ghost use Rattle.reduce_tree.specs.Calls.{places, IsKnown, Ran, PutNone, BlamesNone, IfSound};
 ghost use Rattle.reduce_tree.specs.Rows.{IsAtLevel, Carries, leaf_items};
 ghost use Rattle.reduce_tree.specs.declared.edit.Edit.{Edit};
@@ -103,7 +103,7 @@ fn settle<S: NodeStore, M: Summer, L: Ledger>(
     ensures given { (first : M) (tree : Tree) (pieces : List (List ℕ)) → IsUnderWay M.Unit.Item S.NodeSource M.Summer first pieces summer.old store.old → All (Given M.Unit.Item S.NodeSource M.Summer first tree pieces store.old low) done.old.items → AllGiven M.Unit.Item S.NodeSource M.Summer first tree pieces store.old row.level row.node → OnOk result (All (Given M.Unit.Item S.NodeSource M.Summer first tree pieces store.new low) done.new.items) }
     ensures reads { ReadsFor (S.reads store.old) (S.reads store.new) steps.old steps.new }
     ensures sound { IfErr result BlamesNone }
-    ensures sums { (first : M) (begun : S) → KnowsNode M.Unit.Item S.NodeSource M.Summer first begun summer.old store.old row.node → KnowsPieces M.Unit.Item S.NodeSource M.Summer first begun summer.new store.new (S.puts store.old) (S.puts store.new) }
+    ensures sums { (first : M) (begun : S) → KnowsNode M.Unit.Item S.NodeSource M.Summer first begun summer.old store.old row.node → PutsKnown M.Unit.Item S.NodeSource M.Summer first begun summer.new store.new (S.puts store.old) result }
     ensures known { (first : M) (begun : S) → M.goes first summer.old → KnowsRow M.Unit.Item S.NodeSource M.Summer first begun summer.old store.old done.old.items → OnOk result (KnowsRow M.Unit.Item S.NodeSource M.Summer first begun summer.new store.new done.new.items) }
     ensures ran { Ran M.Unit.Item S.NodeSource M.Summer store.old store.new summer.old summer.new result }
     ensures ready { OnOk result (S.is_ready store.new) }
@@ -153,7 +153,7 @@ fn keep_child<S: NodeStore, M: Summer, L: Ledger>(
     ensures given { (first : M) (tree : Tree) (pieces : List (List ℕ)) → IsUnderWay M.Unit.Item S.NodeSource M.Summer first pieces summer.old store.old → All (Given M.Unit.Item S.NodeSource M.Summer first tree pieces store.old low) done.old.items → AllGiven M.Unit.Item S.NodeSource M.Summer first tree pieces store.old carry.level carry.node → Given M.Unit.Item S.NodeSource M.Summer first tree pieces store.old low child → OnOk result (All (Given M.Unit.Item S.NodeSource M.Summer first tree pieces store.new low) done.new.items) }
     ensures reads { ReadsFor (S.reads store.old) (S.reads store.new) steps.old steps.new }
     ensures sound { IfErr result BlamesNone }
-    ensures sums { (first : M) (begun : S) → KnowsNode M.Unit.Item S.NodeSource M.Summer first begun summer.old store.old carry.node → KnowsPieces M.Unit.Item S.NodeSource M.Summer first begun summer.new store.new (S.puts store.old) (S.puts store.new) }
+    ensures sums { (first : M) (begun : S) → KnowsNode M.Unit.Item S.NodeSource M.Summer first begun summer.old store.old carry.node → PutsKnown M.Unit.Item S.NodeSource M.Summer first begun summer.new store.new (S.puts store.old) result }
     ensures known { (first : M) (begun : S) → M.goes first summer.old → KnowsRow M.Unit.Item S.NodeSource M.Summer first begun summer.old store.old done.old.items → KnowsSum M.Unit.Item S.NodeSource M.Summer first begun summer.old store.old child.sum → OnOk result (KnowsRow M.Unit.Item S.NodeSource M.Summer first begun summer.new store.new done.new.items) }
     ensures ran { Ran M.Unit.Item S.NodeSource M.Summer store.old store.new summer.old summer.new result }
     ensures ready { OnOk result (S.is_ready store.new) }
@@ -210,7 +210,7 @@ fn edit_child<S: NodeStore, M: Summer, L: Ledger>(
     ensures met { (first : M) (tree : Tree) (pieces : List (List ℕ)) → IsUnderWay M.Unit.Item S.NodeSource M.Summer first pieces summer.old store.old → All (Given M.Unit.Item S.NodeSource M.Summer first tree pieces store.old low) done.old.items → AllGiven M.Unit.Item S.NodeSource M.Summer first tree pieces store.old carry.level carry.node → Given M.Unit.Item S.NodeSource M.Summer first tree pieces store.old low child
         → Took M.Unit.Item S.NodeSource M.Summer first tree pieces store.old store.new result (λ row. All (Given M.Unit.Item S.NodeSource M.Summer first tree pieces store.new low) done.new.items × AllGiven M.Unit.Item S.NodeSource M.Summer first tree pieces store.new row.level row.node) }
     ensures reads { ReadsFor (S.reads store.old) (S.reads store.new) steps.old steps.new }
-    ensures sums { (first : M) (begun : S) → IsOnTheWay S.NodeSource M.Summer first begun summer.old store.old → KnowsNode M.Unit.Item S.NodeSource M.Summer first begun summer.old store.old carry.node → KnowsPieces M.Unit.Item S.NodeSource M.Summer first begun summer.new store.new (S.puts store.old) (S.puts store.new) }
+    ensures sums { (first : M) (begun : S) → IsOnTheWay S.NodeSource M.Summer first begun summer.old store.old → KnowsNode M.Unit.Item S.NodeSource M.Summer first begun summer.old store.old carry.node → PutsKnown M.Unit.Item S.NodeSource M.Summer first begun summer.new store.new (S.puts store.old) result }
     ensures known { (first : M) (begun : S) → IsOnTheWay S.NodeSource M.Summer first begun summer.old store.old → KnowsRow M.Unit.Item S.NodeSource M.Summer first begun summer.old store.old done.old.items → KnowsNode M.Unit.Item S.NodeSource M.Summer first begun summer.old store.old carry.node → KnowsSum M.Unit.Item S.NodeSource M.Summer first begun summer.old store.old child.sum → IfOk result (λ row. KnowsRow M.Unit.Item S.NodeSource M.Summer first begun summer.new store.new done.new.items × KnowsNode M.Unit.Item S.NodeSource M.Summer first begun summer.new store.new row.node) }
     ensures ran { Ran M.Unit.Item S.NodeSource M.Summer store.old store.new summer.old summer.new result }
     ensures ready { OnOk result (S.is_ready store.new) }
@@ -275,7 +275,7 @@ fn edit_children<S: NodeStore, M: Summer, L: Ledger>(
         → IfOk result (λ row. row.same ≡ true) }
     ensures met { (first : M) (tree : Tree) (pieces : List (List ℕ)) → IsUnderWay M.Unit.Item S.NodeSource M.Summer first pieces summer.old store.old → All (Given M.Unit.Item S.NodeSource M.Summer first tree pieces store.old low) children.items → Took M.Unit.Item S.NodeSource M.Summer first tree pieces store.old store.new result (λ row. AllGiven M.Unit.Item S.NodeSource M.Summer first tree pieces store.new row.level row.node) }
     ensures reads { ReadsFor (S.reads store.old) (S.reads store.new) steps.old steps.new }
-    ensures sums { (first : M) (begun : S) → IsOnTheWay S.NodeSource M.Summer first begun summer.old store.old → KnowsRow M.Unit.Item S.NodeSource M.Summer first begun summer.old store.old children.items → KnowsPieces M.Unit.Item S.NodeSource M.Summer first begun summer.new store.new (S.puts store.old) (S.puts store.new) }
+    ensures sums { (first : M) (begun : S) → IsOnTheWay S.NodeSource M.Summer first begun summer.old store.old → KnowsRow M.Unit.Item S.NodeSource M.Summer first begun summer.old store.old children.items → PutsKnown M.Unit.Item S.NodeSource M.Summer first begun summer.new store.new (S.puts store.old) result }
     ensures known { (first : M) (begun : S) → IsOnTheWay S.NodeSource M.Summer first begun summer.old store.old → KnowsRow M.Unit.Item S.NodeSource M.Summer first begun summer.old store.old children.items → IfOk result (λ row. KnowsNode M.Unit.Item S.NodeSource M.Summer first begun summer.new store.new row.node) }
     ensures ran { Ran M.Unit.Item S.NodeSource M.Summer store.old store.new summer.old summer.new result }
     ensures ready { OnOk result (S.is_ready store.new) }
@@ -333,7 +333,7 @@ fn finish<S: NodeStore, M: Summer, L: Ledger>(
     ensures quiet { carry.same ≡ true → IfOk result (λ row. row.same ≡ true) }
     ensures met { (first : M) (tree : Tree) (pieces : List (List ℕ)) → IsUnderWay M.Unit.Item S.NodeSource M.Summer first pieces summer.old store.old → All (Given M.Unit.Item S.NodeSource M.Summer first tree pieces store.old low) done.items → AllGiven M.Unit.Item S.NodeSource M.Summer first tree pieces store.old carry.level carry.node → Took M.Unit.Item S.NodeSource M.Summer first tree pieces store.old store.new result (λ row. AllGiven M.Unit.Item S.NodeSource M.Summer first tree pieces store.new row.level row.node) }
     ensures reads { ReadsFor (S.reads store.old) (S.reads store.new) steps.old steps.new }
-    ensures sums { (first : M) (begun : S) → IsOnTheWay S.NodeSource M.Summer first begun summer.old store.old → KnowsRow M.Unit.Item S.NodeSource M.Summer first begun summer.old store.old done.items → KnowsNode M.Unit.Item S.NodeSource M.Summer first begun summer.old store.old carry.node → KnowsPieces M.Unit.Item S.NodeSource M.Summer first begun summer.new store.new (S.puts store.old) (S.puts store.new) }
+    ensures sums { (first : M) (begun : S) → IsOnTheWay S.NodeSource M.Summer first begun summer.old store.old → KnowsRow M.Unit.Item S.NodeSource M.Summer first begun summer.old store.old done.items → KnowsNode M.Unit.Item S.NodeSource M.Summer first begun summer.old store.old carry.node → PutsKnown M.Unit.Item S.NodeSource M.Summer first begun summer.new store.new (S.puts store.old) result }
     ensures known { (first : M) (begun : S) → IsOnTheWay S.NodeSource M.Summer first begun summer.old store.old → KnowsRow M.Unit.Item S.NodeSource M.Summer first begun summer.old store.old done.items → KnowsNode M.Unit.Item S.NodeSource M.Summer first begun summer.old store.old carry.node → IfOk result (λ row. KnowsNode M.Unit.Item S.NodeSource M.Summer first begun summer.new store.new row.node) }
     ensures ran { Ran M.Unit.Item S.NodeSource M.Summer store.old store.new summer.old summer.new result }
     ensures ready { OnOk result (S.is_ready store.new) }
@@ -392,7 +392,7 @@ pub(crate) fn edit_row<S: NodeStore, M: Summer, L: Ledger>(
     ensures quiet { (first : M) (items : List M.Unit) → IsKnown M.Unit.Item S.NodeSource M.Summer first summer.old store.old → Has M.Unit.Item M.Summer first (places (S.nodes store.old)) level node items → RemoveNone M.Unit.order edits.now items → IfOk result (λ row. row.same ≡ true) }
     ensures met { (first : M) (tree : Tree) (pieces : List (List ℕ)) → IsUnderWay M.Unit.Item S.NodeSource M.Summer first pieces summer.old store.old → AllGiven M.Unit.Item S.NodeSource M.Summer first tree pieces store.old level node → Took M.Unit.Item S.NodeSource M.Summer first tree pieces store.old store.new result (λ row. AllGiven M.Unit.Item S.NodeSource M.Summer first tree pieces store.new row.level row.node) }
     ensures reads { ReadsFor (S.reads store.old) (S.reads store.new) steps.old steps.new }
-    ensures sums { (first : M) (begun : S) → IsOnTheWay S.NodeSource M.Summer first begun summer.old store.old → KnowsNode M.Unit.Item S.NodeSource M.Summer first begun summer.old store.old node → KnowsPieces M.Unit.Item S.NodeSource M.Summer first begun summer.new store.new (S.puts store.old) (S.puts store.new) }
+    ensures sums { (first : M) (begun : S) → IsOnTheWay S.NodeSource M.Summer first begun summer.old store.old → KnowsNode M.Unit.Item S.NodeSource M.Summer first begun summer.old store.old node → PutsKnown M.Unit.Item S.NodeSource M.Summer first begun summer.new store.new (S.puts store.old) result }
     ensures known { (first : M) (begun : S) → IsOnTheWay S.NodeSource M.Summer first begun summer.old store.old → KnowsNode M.Unit.Item S.NodeSource M.Summer first begun summer.old store.old node → IfOk result (λ row. KnowsNode M.Unit.Item S.NodeSource M.Summer first begun summer.new store.new row.node) }
     ensures ran { Ran M.Unit.Item S.NodeSource M.Summer store.old store.new summer.old summer.new result }
     ensures ready { OnOk result (S.is_ready store.new) }

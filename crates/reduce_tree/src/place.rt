@@ -6,7 +6,7 @@ ghost use Rattle.reduce_tree.specs.Pieces.{ArePieces, AreAmong};
 ghost use Rattle.reduce_tree.specs.Halted.{WerePieces};
 ghost use Rattle.reduce_tree.specs.Charges.{ArePut, Spent};
 ghost use Rattle.reduce_tree.specs.Counts.{ReadsFor};
-ghost use Rattle.reduce_tree.specs.Sums.{IsSumGiven, KnowsNode, KnowsPieces};
+ghost use Rattle.reduce_tree.specs.Sums.{IsSumGiven, KnowsNode, PutsKnown};
 ghost use Rattle.reduce_tree.specs.Calls.{places, IsKnown, Ran, BlamesNone};
 ghost use Rattle.reduce_tree.specs.Rows.{IsAtLevel, leaf_items};
 ghost use Rattle.std.specs.Prelude.{ℕ, ◌≡◌, ◌+◌, ◌*◌, ◌<◌, ◌≤◌, ◌^◌, List, IfOk, OnOk, vec_len, IfErr, OnErr, MatchResult, length, All};
@@ -61,7 +61,7 @@ pub(crate) fn place<S: NodeStore, M: Summer, L: Ledger>(
     ensures given { (first : M) (tree : Tree) (pieces : List (List ℕ)) (level : ℕ) → IsUnderWay M.Unit.Item S.NodeSource M.Summer first pieces summer.old store.old → IsAtLevel level node → AreLarge level node → IsFilled Below node → AllGiven M.Unit.Item S.NodeSource M.Summer first tree pieces store.old level node → IfOk result (Given M.Unit.Item S.NodeSource M.Summer first tree pieces store.new level) }
     ensures reads { ReadsFor (S.reads store.old) (S.reads store.new) steps.old steps.new }
     ensures sound { IfErr result BlamesNone }
-    ensures sums { (first : M) (begun : S) → KnowsNode M.Unit.Item S.NodeSource M.Summer first begun summer.old store.old node → KnowsPieces M.Unit.Item S.NodeSource M.Summer first begun summer.new store.new (S.puts store.old) (S.puts store.new) }
+    ensures sums { (first : M) (begun : S) → KnowsNode M.Unit.Item S.NodeSource M.Summer first begun summer.old store.old node → PutsKnown M.Unit.Item S.NodeSource M.Summer first begun summer.new store.new (S.puts store.old) result }
     ensures gave { IfOk result (λ child. IsSumGiven M.Summer summer.old summer.new child.sum) }
     ensures ran { Ran M.Unit.Item S.NodeSource M.Summer store.old store.new summer.old summer.new result }
     ensures ready { OnOk result (S.is_ready store.new) }
@@ -107,7 +107,7 @@ fn place_all<S: NodeStore, M: Summer, L: Ledger>(
     ensures given { (first : M) (tree : Tree) (pieces : List (List ℕ)) (level : ℕ) → IsUnderWay M.Unit.Item S.NodeSource M.Summer first pieces summer.old store.old → IsAtLevel level node → AreLarge level node → AllGiven M.Unit.Item S.NodeSource M.Summer first tree pieces store.old level node → IfOk result (λ children. All (Given M.Unit.Item S.NodeSource M.Summer first tree pieces store.new level) children.items) }
     ensures reads { ReadsFor (S.reads store.old) (S.reads store.new) steps.old steps.new }
     ensures sound { IfErr result BlamesNone }
-    ensures sums { (first : M) (begun : S) → KnowsNode M.Unit.Item S.NodeSource M.Summer first begun summer.old store.old node → KnowsPieces M.Unit.Item S.NodeSource M.Summer first begun summer.new store.new (S.puts store.old) (S.puts store.new) }
+    ensures sums { (first : M) (begun : S) → KnowsNode M.Unit.Item S.NodeSource M.Summer first begun summer.old store.old node → PutsKnown M.Unit.Item S.NodeSource M.Summer first begun summer.new store.new (S.puts store.old) result }
     ensures answered { (first : M) → M.goes first summer.old → IfOk result (λ children. All (λ child. IsSumGiven M.Summer first summer.new child.sum) children.items) }
     ensures ran { Ran M.Unit.Item S.NodeSource M.Summer store.old store.new summer.old summer.new result }
     ensures ready { OnOk result (S.is_ready store.new) }
@@ -149,7 +149,7 @@ pub(crate) fn place_row<S: NodeStore, M: Summer, L: Ledger>(
     ensures given { (first : M) (tree : Tree) (pieces : List (List ℕ)) (level : ℕ) → IsUnderWay M.Unit.Item S.NodeSource M.Summer first pieces summer.old store.old → IsAtLevel level node → AreLarge level node → AllGiven M.Unit.Item S.NodeSource M.Summer first tree pieces store.old level node → IfOk result (λ children. All (Given M.Unit.Item S.NodeSource M.Summer first tree pieces store.new level) children.items) }
     ensures reads { ReadsFor (S.reads store.old) (S.reads store.new) steps.old steps.new }
     ensures sound { IfErr result BlamesNone }
-    ensures sums { (first : M) (begun : S) → KnowsNode M.Unit.Item S.NodeSource M.Summer first begun summer.old store.old node → KnowsPieces M.Unit.Item S.NodeSource M.Summer first begun summer.new store.new (S.puts store.old) (S.puts store.new) }
+    ensures sums { (first : M) (begun : S) → KnowsNode M.Unit.Item S.NodeSource M.Summer first begun summer.old store.old node → PutsKnown M.Unit.Item S.NodeSource M.Summer first begun summer.new store.new (S.puts store.old) result }
     ensures answered { (first : M) → M.goes first summer.old → IfOk result (λ children. All (λ child. IsSumGiven M.Summer first summer.new child.sum) children.items) }
     ensures ran { Ran M.Unit.Item S.NodeSource M.Summer store.old store.new summer.old summer.new result }
     ensures ready { OnOk result (S.is_ready store.new) }

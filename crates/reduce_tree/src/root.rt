@@ -8,7 +8,7 @@ ghost use Rattle.reduce_tree.specs.Halted.{WerePieces};
 ghost use Rattle.reduce_tree.specs.Applied.{applied, insertions, RemoveNone};
 ghost use Rattle.reduce_tree.specs.Charges.{slack, ArePut, Spent};
 ghost use Rattle.reduce_tree.specs.Counts.{ReadsFor};
-ghost use Rattle.reduce_tree.specs.Sums.{IsOnTheWay, KnowsNode, KnowsPieces};
+ghost use Rattle.reduce_tree.specs.Sums.{IsOnTheWay, KnowsNode, PutsKnown};
 ghost use Rattle.reduce_tree.specs.Calls.{places, IsKnown, Ran, PutNone, BlamesNone};
 ghost use Rattle.reduce_tree.specs.Rows.{IsAtLevel, leaf_items};
 ghost use Rattle.std.specs.List.Sorted.{IsStrictlySortedBy};
@@ -56,7 +56,7 @@ fn put_root<S: NodeStore, M: Summer, L: Ledger>(
     ensures gets { S.gets store.new ≡ S.gets store.old }
     ensures reads { ReadsFor (S.reads store.old) (S.reads store.new) steps.old steps.new }
     ensures sound { IfErr result BlamesNone }
-    ensures sums { (first : M) (begun : S) → KnowsNode M.Unit.Item S.NodeSource M.Summer first begun summer.old store.old node → KnowsPieces M.Unit.Item S.NodeSource M.Summer first begun summer.new store.new (S.puts store.old) (S.puts store.new) }
+    ensures sums { (first : M) (begun : S) → KnowsNode M.Unit.Item S.NodeSource M.Summer first begun summer.old store.old node → PutsKnown M.Unit.Item S.NodeSource M.Summer first begun summer.new store.new (S.puts store.old) result }
     ensures ran { Ran M.Unit.Item S.NodeSource M.Summer store.old store.new summer.old summer.new result }
     ensures ready { OnOk result (S.is_ready store.new) }
 {
@@ -109,7 +109,7 @@ pub(crate) fn raise<S: NodeStore, M: Summer, L: Ledger>(
     ensures gets { S.gets store.new ≡ S.gets store.old }
     ensures reads { ReadsFor (S.reads store.old) (S.reads store.new) steps.old steps.new }
     ensures sound { IfErr result BlamesNone }
-    ensures sums { (first : M) (begun : S) → M.goes first summer.old → KnowsNode M.Unit.Item S.NodeSource M.Summer first begun summer.old store.old node → KnowsPieces M.Unit.Item S.NodeSource M.Summer first begun summer.new store.new (S.puts store.old) (S.puts store.new) }
+    ensures sums { (first : M) (begun : S) → M.goes first summer.old → KnowsNode M.Unit.Item S.NodeSource M.Summer first begun summer.old store.old node → PutsKnown M.Unit.Item S.NodeSource M.Summer first begun summer.new store.new (S.puts store.old) result }
     ensures ran { Ran M.Unit.Item S.NodeSource M.Summer store.old store.new summer.old summer.new result }
     ensures ready { OnOk result (S.is_ready store.new) }
 {
@@ -156,7 +156,7 @@ pub(crate) fn edit_root<S: NodeStore, M: Summer, L: Ledger>(
     ensures reads { ReadsFor (S.reads store.old) (S.reads store.new) steps.old steps.new }
     ensures sound { (first : M) (items : List M.Unit) → IsKnown M.Unit.Item S.NodeSource M.Summer first summer.old store.old → IsStrictlySortedBy M.Unit.order items → HasRoot M.Unit.Item M.Summer first (places (S.nodes store.old)) tree.root tree.height items
         → tree.count ≡ length items → IfErr result BlamesNone }
-    ensures sums { (first : M) (begun : S) → IsOnTheWay S.NodeSource M.Summer first begun summer.old store.old → KnowsPieces M.Unit.Item S.NodeSource M.Summer first begun summer.new store.new (S.puts store.old) (S.puts store.new) }
+    ensures sums { (first : M) (begun : S) → IsOnTheWay S.NodeSource M.Summer first begun summer.old store.old → PutsKnown M.Unit.Item S.NodeSource M.Summer first begun summer.new store.new (S.puts store.old) result }
     ensures known { (first : M) (begun : S) → IsOnTheWay S.NodeSource M.Summer first begun summer.old store.old → IfOk result (λ row. KnowsNode M.Unit.Item S.NodeSource M.Summer first begun summer.new store.new row.node) }
     ensures ran { Ran M.Unit.Item S.NodeSource M.Summer store.old store.new summer.old summer.new result }
     ensures ready { OnOk result (S.is_ready store.new) }

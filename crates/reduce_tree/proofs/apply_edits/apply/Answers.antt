@@ -18,7 +18,7 @@ use Rattle.tree_laws.specs.declared.tree.Fill.{Fill}
 use Rattle.tree_laws.specs.Fitting.{item_count}
 use Rattle.reduce_tree.proofs.Given.{begins, taken_quiet, took_fault, took_none, took_quiet}
 use Rattle.reduce_tree.proofs.Growth.{grown, ran_growing}
-use Rattle.reduce_tree.proofs.Had.{way_begins, known_goes, known_fails, known_none}
+use Rattle.reduce_tree.proofs.Had.{way_begins, known_goes, known_fails, known_none, knew_err}
 use Rattle.reduce_tree.proofs.apply_edits.apply.Goals as goal
 
 pub returns-then-is_empty-clause-tree : goal.returns-then-is_empty-clause-tree
@@ -460,14 +460,15 @@ pub returns-then-is_empty-clause-sums : goal.returns-then-is_empty-clause-sums
 returns-then-is_empty-clause-sums g c =
     let laws : Laws g.S.NodeSource g.M.Summer = record { store_steps = g.met.S.NodeSource.are_steps; store_keeps = g.met.S.NodeSource.keeps; store_caused = g.met.S.NodeSource.stays_caused; summer_steps = g.met.M.Summer.are_steps; summer_keeps = g.met.M.Summer.keeps; summer_caused = g.met.M.Summer.stays_caused; summer_asked = g.met.M.Summer.stays_asked; summer_gave = g.met.M.Summer.stays_given } in
     let i = g.M.Unit.Item in let s = g.S.NodeSource in let m = g.M.Summer in let s0 = c.args.store.now in let u0 = c.args.summer.now in
-    known_none i s m laws u0 s0 u0 s0 s0 refl
+    known_none i s m u0 s0 u0 s0 s0 refl
 
 pub returns-in_err-row-clause-sums : goal.returns-in_err-row-clause-sums
 returns-in_err-row-clause-sums g c =
     let laws : Laws g.S.NodeSource g.M.Summer = record { store_steps = g.met.S.NodeSource.are_steps; store_keeps = g.met.S.NodeSource.keeps; store_caused = g.met.S.NodeSource.stays_caused; summer_steps = g.met.M.Summer.are_steps; summer_keeps = g.met.M.Summer.keeps; summer_caused = g.met.M.Summer.stays_caused; summer_asked = g.met.M.Summer.stays_asked; summer_gave = g.met.M.Summer.stays_given } in
     let i = g.M.Unit.Item in let s = g.S.NodeSource in let m = g.M.Summer in let s0 = c.args.store.now in let u0 = c.args.summer.now in
     let way = way_begins i s m laws u0 s0 in
-    c.in_err-row.ensures.sums u0 s0 way
+    let p = err_from_is_err_and c.from_residual.result c.from_residual.ensures.1 in
+    knew_err i s m u0 s0 _ _ _ c.from_residual.result c.in_err-row.field-0.0 p.0 p.2 p.1 (c.in_err-row.ensures.sums u0 s0 way)
 
 pub returns-then-row-clause-sums : goal.returns-then-row-clause-sums
 returns-then-row-clause-sums g c =
@@ -485,7 +486,8 @@ returns-in_err-after-clause-sums g c =
     let k = c.in_ok-row.ensures in
     let one = k.sums u0 s0 way in
     let row = k.known u0 s0 way in
-    known_fails i s m laws u0 s0 s0 s1 s2 u1 u2 c.in_err-after.field-0.0 c.in_err-after.ensures.ran one (c.in_err-after.ensures.sums u0 s0 k.ran.summer row)
+    let p = err_from_is_err_and c.from_residual-in_err-after.result c.from_residual-in_err-after.ensures.1 in
+    knew_err i s m u0 s0 _ _ _ c.from_residual-in_err-after.result c.in_err-after.field-0.0 p.0 p.2 p.1 (known_fails i s m laws u0 s0 s0 s1 s2 u1 u2 c.in_err-after.field-0.0 c.in_err-after.ensures.ran one (c.in_err-after.ensures.sums u0 s0 k.ran.summer row))
 
 pub returns-clause-sums : goal.returns-clause-sums
 returns-clause-sums g c =

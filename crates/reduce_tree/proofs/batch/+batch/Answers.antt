@@ -27,8 +27,8 @@ use Rattle.reduce_tree.proofs.batch.+batch.Goals.{edit_child-else-is_empty-via-t
 use Rattle.reduce_tree.proofs.Given.{all_on, halts_quiet, taken_on, took_fault, took_none, under_on}
 use Rattle.reduce_tree.specs.Given.{AllGiven, AreEach, Given}
 use Rattle.std.proofs.lemmas.List.Elements.{All-head, All-nil, All-tail}
-use Rattle.reduce_tree.specs.Sums.{IsSumRead, KnowsNode, KnowsRow, KnowsSum}
-use Rattle.reduce_tree.proofs.Had.{had_none, way_on, row_goes, known_goes, known_none}
+use Rattle.reduce_tree.specs.Sums.{KnowsNode, KnowsRow, KnowsSum}
+use Rattle.reduce_tree.proofs.Had.{way_on, row_goes, known_goes, known_none, knew_none, knew_err}
 use Rattle.reduce_tree.proofs.batch.+batch.Goals as goal
 use Rattle.reduce_tree.proofs.batch.+batch.Answers.Held.{laws}
 use Rattle.reduce_tree.proofs.batch.+batch.Answers.Held as held
@@ -150,7 +150,7 @@ edit_children-loop-left-init g t c =
       );
       known = λ first begun way children.
           let i = g.M.Unit.Item in let s = g.S.NodeSource in let m = g.M.Summer in let u0 = c.args.summer.now in (
-            had_none i m (IsSumRead i s begun c.args.store.now) first u0 (s.puts c.args.store.now),
+            known_none i s m first begun u0 c.args.store.now c.args.store.now refl,
             subst (KnowsRow i s m first begun u0 c.args.store.now) (sym c.new-done.ensures.items) (All-nil (λ (d : Child _). KnowsSum i s m first begun u0 c.args.store.now d.sum)),
             subst (KnowsNode i s m first begun u0 c.args.store.now) (sym v.node) tt,
             children,
@@ -715,7 +715,9 @@ pub edit_row-returns-in_err-row-in-Inner-clause-met : goal.edit_row-returns-in_e
 edit_row-returns-in_err-row-in-Inner-clause-met = held.edit_row-returns-in_err-row-in-Inner-clause-met
 
 pub edit_child-returns-in_err-row-clause-sums : goal.edit_child-returns-in_err-row-clause-sums
-edit_child-returns-in_err-row-clause-sums g t c first begun way carry = c.in_err-row.ensures.sums first begun carry
+edit_child-returns-in_err-row-clause-sums g t c first begun way carry =
+    let p = err_from_is_err_and c.from_residual.result c.from_residual.ensures.1 in
+    knew_err g.M.Unit.Item g.S.NodeSource g.M.Summer first begun _ _ _ c.from_residual.result c.in_err-row.field-0.0 p.0 p.2 p.1 (c.in_err-row.ensures.sums first begun carry)
 
 pub edit_child-returns-then-is_ready-clause-sums : goal.edit_child-returns-then-is_ready-clause-sums
 edit_child-returns-then-is_ready-clause-sums g t c first begun way carry = c.in_ok-row.ensures.sums first begun carry
@@ -723,7 +725,8 @@ edit_child-returns-then-is_ready-clause-sums g t c first begun way carry = c.in_
 pub edit_child-returns-in_err-node-clause-sums : goal.edit_child-returns-in_err-node-clause-sums
 edit_child-returns-in_err-node-clause-sums g t c first begun way carry =
     let i = g.M.Unit.Item in let s = g.S.NodeSource in let m = g.M.Summer in let s0 = c.args.store.now in let u0 = c.args.summer.now in
-    known_none i s m (laws g) first begun u0 s0 c.fetch.new.store c.in_err-node.ensures.puts
+    let p = err_from_is_err_and c.from_residual-in_err-node.result c.from_residual-in_err-node.ensures.1 in
+    knew_err i s m first begun _ _ _ c.from_residual-in_err-node.result c.in_err-node.field-0.0 p.0 p.2 p.1 (knew_none i s m first begun u0 s0 c.fetch.new.store c.in_err-node.field-0.0 c.in_err-node.ensures.puts)
 
 pub edit_child-returns-in_err-row-2-clause-sums : goal.edit_child-returns-in_err-row-2-clause-sums
 edit_child-returns-in_err-row-2-clause-sums = held.edit_child-returns-in_err-row-2-clause-sums
@@ -764,13 +767,15 @@ pub edit_children-returns-clause-known : goal.edit_children-returns-clause-known
 edit_children-returns-clause-known = held.edit_children-returns-clause-known
 
 pub edit_row-returns-then-is_empty-clause-sums : goal.edit_row-returns-then-is_empty-clause-sums
-edit_row-returns-then-is_empty-clause-sums g t c first begun way node = had_none g.M.Unit.Item g.M.Summer (IsSumRead g.M.Unit.Item g.S.NodeSource begun c.args.store.now) first c.args.summer.now (g.S.NodeSource.puts c.args.store.now)
+edit_row-returns-then-is_empty-clause-sums g t c first begun way node = known_none g.M.Unit.Item g.S.NodeSource g.M.Summer first begun c.args.summer.now c.args.store.now c.args.store.now refl
 
 pub edit_row-returns-in_ok-after-in-Leaf-clause-sums : goal.edit_row-returns-in_ok-after-in-Leaf-clause-sums
-edit_row-returns-in_ok-after-in-Leaf-clause-sums g t c first begun way node = had_none g.M.Unit.Item g.M.Summer (IsSumRead g.M.Unit.Item g.S.NodeSource begun c.args.store.now) first c.args.summer.now (g.S.NodeSource.puts c.args.store.now)
+edit_row-returns-in_ok-after-in-Leaf-clause-sums g t c first begun way node = known_none g.M.Unit.Item g.S.NodeSource g.M.Summer first begun c.args.summer.now c.args.store.now c.args.store.now refl
 
 pub edit_row-returns-in_err-after-in-Leaf-clause-sums : goal.edit_row-returns-in_err-after-in-Leaf-clause-sums
-edit_row-returns-in_err-after-in-Leaf-clause-sums g t c first begun way node = had_none g.M.Unit.Item g.M.Summer (IsSumRead g.M.Unit.Item g.S.NodeSource begun c.args.store.now) first c.args.summer.now (g.S.NodeSource.puts c.args.store.now)
+edit_row-returns-in_err-after-in-Leaf-clause-sums g t c first begun way node =
+    let p = err_from_is_err_and c.from_residual.result c.from_residual.ensures.1 in
+    knew_err g.M.Unit.Item g.S.NodeSource g.M.Summer first begun _ _ _ c.from_residual.result tree_fault.NoMemory p.0 p.2 p.1 (known_none g.M.Unit.Item g.S.NodeSource g.M.Summer first begun c.args.summer.now c.args.store.now c.args.store.now refl)
 
 pub edit_row-returns-in_err-row-in-Inner-clause-sums : goal.edit_row-returns-in_err-row-in-Inner-clause-sums
 edit_row-returns-in_err-row-in-Inner-clause-sums = held.edit_row-returns-in_err-row-in-Inner-clause-sums

@@ -60,7 +60,7 @@ invariant-edit_children-loop-left g l =
           × AllGiven g.M.Unit.Item g.S.NodeSource g.M.Summer first tree pieces l.store l.carry.level l.carry.node
           × All (Given g.M.Unit.Item g.S.NodeSource g.M.Summer first tree pieces l.store l.low) l.rest.items;
       known : (first : g.row.M.Denot) (begun : g.row.S.Denot) → IsOnTheWay g.S.NodeSource g.M.Summer first begun l.fn.summer l.fn.store → KnowsRow g.M.Unit.Item g.S.NodeSource g.M.Summer first begun l.fn.summer l.fn.store l.fn.children.items
-          → KnowsPieces g.M.Unit.Item g.S.NodeSource g.M.Summer first begun l.summer l.store (puts l.fn.store) (puts l.store)
+          → KnowsPieces g.M.Unit.Item g.S.NodeSource g.M.Summer first begun l.summer l.store (puts l.fn.store)
           × KnowsRow g.M.Unit.Item g.S.NodeSource g.M.Summer first begun l.summer l.store l.done.items
           × KnowsNode g.M.Unit.Item g.S.NodeSource g.M.Summer first begun l.summer l.store l.carry.node
           × KnowsRow g.M.Unit.Item g.S.NodeSource g.M.Summer first begun l.summer l.store l.rest.items;

@@ -1,3 +1,4 @@
+use Rattle.reduce_tree.proofs.Had.{knew_err}
 use Rattle.std.proofs.Common.{◌≡◌, ◌+◌, arith, sym, subst, ap, ◌∙◌, length, false, Contains, ◌-◌, All}
 use Rattle.tree_laws.specs.declared.node.Node.TheVariants.{Inner}
 use Rattle.tree_laws.specs.Fitting.{AreLarge, item_count}
@@ -175,7 +176,9 @@ returns-in_err-joined-clause-met g c first tree pieces under done carry =
     took_fault i s m laws first tree pieces c.from_residual-in_err-joined.result _ s0 c.join_rows.new.store c.in_err-joined.field-0.0 p.0 p.2 p.1 (c.in_err-joined.ensures.met first tree pieces under front carry).0
 
 pub returns-in_err-settle-clause-sums : goal.returns-in_err-settle-clause-sums
-returns-in_err-settle-clause-sums g c first begun way done carry = c.in_err-settle.ensures.sums first begun carry
+returns-in_err-settle-clause-sums g c first begun way done carry =
+    let p = err_from_is_err_and c.from_residual.result c.from_residual.ensures.1 in
+    knew_err g.M.Unit.Item g.S.NodeSource g.M.Summer first begun _ _ _ c.from_residual.result c.in_err-settle.field-0.0 p.0 p.2 p.1 (c.in_err-settle.ensures.sums first begun carry)
 
 pub returns-then-is_ready-clause-sums : goal.returns-then-is_ready-clause-sums
 returns-then-is_ready-clause-sums g c first begun way done carry = c.in_ok-settle.ensures.sums first begun carry
@@ -185,7 +188,8 @@ returns-in_err-joined-clause-sums g c first begun way done carry =
     let laws : Laws g.S.NodeSource g.M.Summer = record { store_steps = g.met.S.NodeSource.are_steps; store_keeps = g.met.S.NodeSource.keeps; store_caused = g.met.S.NodeSource.stays_caused; summer_steps = g.met.M.Summer.are_steps; summer_keeps = g.met.M.Summer.keeps; summer_caused = g.met.M.Summer.stays_caused; summer_asked = g.met.M.Summer.stays_asked; summer_gave = g.met.M.Summer.stays_given } in
     let i = g.M.Unit.Item in let s = g.S.NodeSource in let m = g.M.Summer in let s0 = c.args.store.now in let u0 = c.args.summer.now in
     let front = subst (KnowsRow i s m first begun u0 s0) (sym c.from_vec-2.ensures) done in
-    c.in_err-joined.ensures.sums first begun way front carry
+    let p = err_from_is_err_and c.from_residual-in_err-joined.result c.from_residual-in_err-joined.ensures.1 in
+    knew_err i s m first begun _ _ _ c.from_residual-in_err-joined.result c.in_err-joined.field-0.0 p.0 p.2 p.1 (c.in_err-joined.ensures.sums first begun way front carry)
 
 pub returns-clause-sums : goal.returns-clause-sums
 returns-clause-sums g c first begun way done carry =

@@ -13,7 +13,7 @@ use Rattle.reduce_tree.proofs.Given.{given_on}
 use Rattle.reduce_tree.specs.Given.{Given}
 use Rattle.std.proofs.lemmas.List.Elements.{All-append, All-cons, All-nil}
 use Rattle.reduce_tree.specs.Sums.{IsSumRead, KnowsRow, KnowsSum}
-use Rattle.reduce_tree.proofs.Had.{had_append, sum_goes}
+use Rattle.reduce_tree.proofs.Had.{had_append, sum_goes, knew_err}
 use Rattle.reduce_tree.proofs.batch.keep_child.Goals as goal
 
 pub returns-clause-items : goal.returns-clause-items
@@ -94,10 +94,14 @@ returns-clause-given g c first tree pieces under done carry child =
     subst (All P) (sym c.in_ok-add_last.ensures) (All-append P c.settle.new.done.items (c.args.child ∷ []) (c.in_ok-settle.ensures.given first tree pieces under done carry) (All-cons P c.args.child [] one (All-nil P)))
 
 pub returns-in_err-settle-clause-sums : goal.returns-in_err-settle-clause-sums
-returns-in_err-settle-clause-sums g c first begun knows = c.in_err-settle.ensures.sums first begun knows
+returns-in_err-settle-clause-sums g c first begun knows =
+    let p = err_from_is_err_and c.from_residual.result c.from_residual.ensures.1 in
+    knew_err g.M.Unit.Item g.S.NodeSource g.M.Summer first begun _ _ _ c.from_residual.result c.in_err-settle.field-0.0 p.0 p.2 p.1 (c.in_err-settle.ensures.sums first begun knows)
 
 pub returns-in_err-add_last-clause-sums : goal.returns-in_err-add_last-clause-sums
-returns-in_err-add_last-clause-sums g c first begun knows = c.in_ok-settle.ensures.sums first begun knows
+returns-in_err-add_last-clause-sums g c first begun knows =
+    let p = err_from_is_err_and c.from_residual-in_err-add_last.result c.from_residual-in_err-add_last.ensures.1 in
+    knew_err g.M.Unit.Item g.S.NodeSource g.M.Summer first begun _ _ _ c.from_residual-in_err-add_last.result tree_fault.NoMemory p.0 p.2 p.1 (c.in_ok-settle.ensures.sums first begun knows)
 
 pub returns-clause-sums : goal.returns-clause-sums
 returns-clause-sums g c first begun knows = c.in_ok-settle.ensures.sums first begun knows

@@ -19,7 +19,7 @@ use Rattle.reduce_tree.proofs.Given.{all_on}
 use Rattle.reduce_tree.specs.Given.{Given}
 use Rattle.std.proofs.lemmas.List.Elements.{All-append}
 use Rattle.reduce_tree.specs.Sums.{IsSumRead, KnowsRow}
-use Rattle.reduce_tree.proofs.Had.{had_none, had_given, had_append, row_goes}
+use Rattle.reduce_tree.proofs.Had.{had_given, had_append, row_goes, known_none, knew_err}
 use Rattle.reduce_tree.proofs.batch.settle.Goals as goal
 
 pub place_row-requires-clause-least : goal.place_row-requires-clause-least
@@ -134,13 +134,17 @@ returns-clause-given g c first tree pieces under done row =
     (All-append (Given i s m first tree pieces s1 c.args.low) c.args.done.now.items c.in_ok-placed.placed.items (all_on i s m laws first tree pieces s0 s1 u0 u1 c.in_ok-placed.ensures.ran c.args.low c.args.done.now.items done) new)
 
 pub returns-then-is_empty-clause-sums : goal.returns-then-is_empty-clause-sums
-returns-then-is_empty-clause-sums g c first begun knows = had_none g.M.Unit.Item g.M.Summer (IsSumRead g.M.Unit.Item g.S.NodeSource begun c.args.store.now) first c.args.summer.now (g.S.NodeSource.puts c.args.store.now)
+returns-then-is_empty-clause-sums g c first begun knows = known_none g.M.Unit.Item g.S.NodeSource g.M.Summer first begun c.args.summer.now c.args.store.now c.args.store.now refl
 
 pub returns-in_err-placed-clause-sums : goal.returns-in_err-placed-clause-sums
-returns-in_err-placed-clause-sums g c first begun knows = c.in_err-placed.ensures.sums first begun knows
+returns-in_err-placed-clause-sums g c first begun knows =
+    let p = err_from_is_err_and c.from_residual.result c.from_residual.ensures.1 in
+    knew_err g.M.Unit.Item g.S.NodeSource g.M.Summer first begun _ _ _ c.from_residual.result c.in_err-placed.field-0.0 p.0 p.2 p.1 (c.in_err-placed.ensures.sums first begun knows)
 
 pub returns-in_err-add_all-clause-sums : goal.returns-in_err-add_all-clause-sums
-returns-in_err-add_all-clause-sums g c first begun knows = c.in_ok-placed.ensures.sums first begun knows
+returns-in_err-add_all-clause-sums g c first begun knows =
+    let p = err_from_is_err_and c.from_residual-in_err-add_all.result c.from_residual-in_err-add_all.ensures.1 in
+    knew_err g.M.Unit.Item g.S.NodeSource g.M.Summer first begun _ _ _ c.from_residual-in_err-add_all.result tree_fault.NoMemory p.0 p.2 p.1 (c.in_ok-placed.ensures.sums first begun knows)
 
 pub returns-clause-sums : goal.returns-clause-sums
 returns-clause-sums g c first begun knows = c.in_ok-placed.ensures.sums first begun knows

@@ -19,7 +19,7 @@ use Rattle.reduce_tree.proofs.Given.{all_on, row_on, under_on, each_split}
 use Rattle.reduce_tree.specs.Given.{Given}
 use Rattle.std.proofs.lemmas.List.Elements.{All-append, All-weaker}
 use Rattle.reduce_tree.specs.Sums.{IsSumGiven, IsSumRead}
-use Rattle.reduce_tree.proofs.Had.{given_later, had_none, had_split, node_goes, known_goes, known_fails}
+use Rattle.reduce_tree.proofs.Had.{given_later, had_split, node_goes, known_goes, known_fails, known_none, knew_err}
 use Rattle.reduce_tree.proofs.place.+place_row.Goals as goal
 
 pub returns-clause-children : goal.returns-clause-children
@@ -234,20 +234,25 @@ returns-clause-given g t c first tree pieces level under kind large given =
     rw c.in_ok-add_all.ensures (All-append (Given i s m first tree pieces s2 level) c.in_ok-front.front.items c.in_ok-back.back.items one_now two)
 
 pub returns-in_err-whole-clause-sums : goal.returns-in_err-whole-clause-sums
-returns-in_err-whole-clause-sums g t c first begun knows = c.in_err-whole.ensures.sums first begun knows
+returns-in_err-whole-clause-sums g t c first begun knows =
+    let p = err_from_is_err_and c.from_residual.result c.from_residual.ensures.1 in
+    knew_err g.M.Unit.Item g.S.NodeSource g.M.Summer first begun _ _ _ c.from_residual.result c.in_err-whole.field-0.0 p.0 p.2 p.1 (c.in_err-whole.ensures.sums first begun knows)
 
 pub returns-then-len-le64-clause-sums : goal.returns-then-len-le64-clause-sums
 returns-then-len-le64-clause-sums g t c first begun knows = c.in_ok-whole.ensures.sums first begun knows
 
 pub returns-in_err-left-clause-sums : goal.returns-in_err-left-clause-sums
-returns-in_err-left-clause-sums g t c first begun knows = had_none g.M.Unit.Item g.M.Summer (IsSumRead g.M.Unit.Item g.S.NodeSource begun c.args.store.now) first c.args.summer.now (g.S.NodeSource.puts c.args.store.now)
+returns-in_err-left-clause-sums g t c first begun knows =
+    let p = err_from_is_err_and c.from_residual-in_err-left.result c.from_residual-in_err-left.ensures.1 in
+    knew_err g.M.Unit.Item g.S.NodeSource g.M.Summer first begun _ _ _ c.from_residual-in_err-left.result tree_fault.NoMemory p.0 p.2 p.1 (known_none g.M.Unit.Item g.S.NodeSource g.M.Summer first begun c.args.summer.now c.args.store.now c.args.store.now refl)
 
 pub returns-in_err-front-clause-sums : goal.returns-in_err-front-clause-sums
 returns-in_err-front-clause-sums g t c first begun knows =
     let laws : Laws g.S.NodeSource g.M.Summer = record { store_steps = g.met.S.NodeSource.are_steps; store_keeps = g.met.S.NodeSource.keeps; store_caused = g.met.S.NodeSource.stays_caused; summer_steps = g.met.M.Summer.are_steps; summer_keeps = g.met.M.Summer.keeps; summer_caused = g.met.M.Summer.stays_caused; summer_asked = g.met.M.Summer.stays_asked; summer_gave = g.met.M.Summer.stays_given } in
     let i = g.M.Unit.Item in let s = g.S.NodeSource in let m = g.M.Summer in let s0 = c.args.store.now in let u0 = c.args.summer.now in
     let halves = had_split i m (IsSumRead i s begun s0) first u0 c.args.node c.in_ok-left.left c.in_ok-left.right c.in_ok-left.ensures.split knows in
-    c.in_err-front.ensures.sums first begun halves.0
+    let p = err_from_is_err_and c.from_residual-in_err-front.result c.from_residual-in_err-front.ensures.1 in
+    knew_err i s m first begun _ _ _ c.from_residual-in_err-front.result c.in_err-front.field-0.0 p.0 p.2 p.1 (c.in_err-front.ensures.sums first begun halves.0)
 
 pub returns-in_err-back-clause-sums : goal.returns-in_err-back-clause-sums
 returns-in_err-back-clause-sums g t c first begun knows =
@@ -257,7 +262,8 @@ returns-in_err-back-clause-sums g t c first begun knows =
     let halves = had_split i m (IsSumRead i s begun s0) first u0 c.args.node c.in_ok-left.left c.in_ok-left.right c.in_ok-left.ensures.split knows in
     let one = c.in_ok-front.ensures.sums first begun halves.0 in
     let right = node_goes i s m laws first begun s0 s1 u0 u1 c.in_ok-front.ensures.ran c.in_ok-left.right halves.1 in
-    known_fails i s m laws first begun s0 s1 s2 u1 u2 c.in_err-back.field-0.0 c.in_err-back.ensures.ran one (c.in_err-back.ensures.sums first begun right)
+    let p = err_from_is_err_and c.from_residual-in_err-back.result c.from_residual-in_err-back.ensures.1 in
+    knew_err i s m first begun _ _ _ c.from_residual-in_err-back.result c.in_err-back.field-0.0 p.0 p.2 p.1 (known_fails i s m laws first begun s0 s1 s2 u1 u2 c.in_err-back.field-0.0 c.in_err-back.ensures.ran one (c.in_err-back.ensures.sums first begun right))
 
 pub returns-in_err-add_all-clause-sums : goal.returns-in_err-add_all-clause-sums
 returns-in_err-add_all-clause-sums g t c first begun knows =
@@ -267,7 +273,8 @@ returns-in_err-add_all-clause-sums g t c first begun knows =
     let halves = had_split i m (IsSumRead i s begun s0) first u0 c.args.node c.in_ok-left.left c.in_ok-left.right c.in_ok-left.ensures.split knows in
     let one = c.in_ok-front.ensures.sums first begun halves.0 in
     let right = node_goes i s m laws first begun s0 s1 u0 u1 c.in_ok-front.ensures.ran c.in_ok-left.right halves.1 in
-    known_goes i s m laws first begun s0 s1 s2 u1 u2 c.in_ok-back.ensures.ran one (c.in_ok-back.ensures.sums first begun right)
+    let p = err_from_is_err_and c.from_residual-in_err-add_all.result c.from_residual-in_err-add_all.ensures.1 in
+    knew_err i s m first begun _ _ _ c.from_residual-in_err-add_all.result tree_fault.NoMemory p.0 p.2 p.1 (known_goes i s m laws first begun s0 s1 s2 u1 u2 c.in_ok-back.ensures.ran one (c.in_ok-back.ensures.sums first begun right))
 
 pub returns-clause-sums : goal.returns-clause-sums
 returns-clause-sums g t c first begun knows =

@@ -1,7 +1,7 @@
 use Rattle.std.proofs.Common.{◌≡◌, ◌∙◌, Some, ap, length, arith, refl}
 use Rattle.tree_laws.specs.Nodes.{spelled_node}
 use Rattle.tree_laws.proofs.SummerTrees.{has_stays}
-use Rattle.reduce_tree.specs.Calls.{places, Fails, GoOn}
+use Rattle.reduce_tree.specs.Calls.{places, GoOn}
 use Rattle.reduce_tree.proofs.Calls.{Laws, extends_on, known_on, told_at, ran_err, goes_put, goes_summer, fails_put, summed_fails, on_err}
 use Rattle.reduce_tree.proofs.Puts.{leaf_long}
 use Rattle.reduce_tree.proofs.Sound.{sound_err, summed_sound}
@@ -10,8 +10,7 @@ use Rattle.reduce_tree.proofs.Pieces.{pieces_one, were_none, were_tried, on_matc
 use Rattle.tree_laws.specs.declared.tree.Fill.TheVariants.{Below}
 use Rattle.tree_laws.specs.declared.tree.TreeFault.TheVariants as tree_fault
 use Rattle.reduce_tree.proofs.Given.{put_given}
-use Rattle.reduce_tree.specs.Sums.{IsSumRead}
-use Rattle.reduce_tree.proofs.Had.{had_none, put_fails, put_goes}
+use Rattle.reduce_tree.proofs.Had.{knew_err, knew_none, known_none, put_fails, put_goes}
 use Rattle.reduce_tree.proofs.place.place.Goals as goal
 
 pub returns-in-Ok-clause-stands : goal.returns-in-Ok-clause-stands
@@ -157,10 +156,14 @@ returns-in-Ok-clause-given g c first tree pieces level under kind large filled g
     put_given i s m laws first tree pieces s0 s1 u0 u1 under ran c.as_slice.result.now c.in-Ok.ensures.puts c.args.node spells c.in_ok-bytes.ensures.fits c.in_ok-told.ensures.summed level _ _ c.in-Ok.ensures.place c.in_ok-told.ensures.count kind filled large given
 
 pub returns-in_err-told-clause-sums : goal.returns-in_err-told-clause-sums
-returns-in_err-told-clause-sums g c first begun knows = had_none g.M.Unit.Item g.M.Summer (IsSumRead g.M.Unit.Item g.S.NodeSource begun c.args.store.now) first c.tell.new.summer (g.S.NodeSource.puts c.args.store.now)
+returns-in_err-told-clause-sums g c first begun knows =
+    let p = err_from_is_err_and c.from_residual.result c.from_residual.ensures.1 in
+    knew_err g.M.Unit.Item g.S.NodeSource g.M.Summer first begun _ _ _ c.from_residual.result c.in_err-told.field-0.0 p.0 p.2 p.1 (knew_none g.M.Unit.Item g.S.NodeSource g.M.Summer first begun c.tell.new.summer c.args.store.now c.args.store.now c.in_err-told.field-0.0 refl)
 
 pub returns-in_err-bytes-clause-sums : goal.returns-in_err-bytes-clause-sums
-returns-in_err-bytes-clause-sums g c first begun knows = had_none g.M.Unit.Item g.M.Summer (IsSumRead g.M.Unit.Item g.S.NodeSource begun c.args.store.now) first c.tell.new.summer (g.S.NodeSource.puts c.args.store.now)
+returns-in_err-bytes-clause-sums g c first begun knows =
+    let p = err_from_is_err_and c.from_residual-in_err-bytes.result c.from_residual-in_err-bytes.ensures.1 in
+    knew_err g.M.Unit.Item g.S.NodeSource g.M.Summer first begun _ _ _ c.from_residual-in_err-bytes.result tree_fault.NoMemory p.0 p.2 p.1 (known_none g.M.Unit.Item g.S.NodeSource g.M.Summer first begun c.tell.new.summer c.args.store.now c.args.store.now refl)
 
 pub returns-in-Ok-clause-sums : goal.returns-in-Ok-clause-sums
 returns-in-Ok-clause-sums g c first begun knows =
@@ -177,5 +180,4 @@ returns-clause-sums g c first begun knows =
     let i = g.M.Unit.Item in let s = g.S.NodeSource in let m = g.M.Summer in let s0 = c.args.store.now in let u0 = c.args.summer.now in
     let s1 = c.put.new.self in let u1 = c.tell.new.summer in
     let spells = c.as_slice.ensures.value ∙ c.in_ok-bytes.ensures.bytes in
-    let ran : Fails i s m s0 s1 u0 u1 (tree_fault.Store c.in-Err.fault) = fails_put i s m laws s0 s1 u0 u1 _ c.as_slice.result.now c.args.node c.in-Err.ensures.cause c.in_ok-told.ensures.ran c.in-Err.ensures.puts c.in-Err.ensures.gets spells c.in_ok-bytes.ensures.fits c.requires.most c.in_ok-told.ensures.summed in
-    put_fails i s m laws first begun s0 s1 u0 u1 (tree_fault.Store c.in-Err.fault) ran c.args.node c.as_slice.result.now c.in-Err.ensures.puts spells c.in_ok-bytes.ensures.fits knows
+    put_fails i s m laws first begun s0 s1 u0 u1 c.in-Err.fault c.in-Err.ensures.cause c.in_ok-told.ensures.ran c.args.node c.as_slice.result.now c.in-Err.ensures.puts spells c.in_ok-bytes.ensures.fits knows

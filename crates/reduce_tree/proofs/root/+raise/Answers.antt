@@ -12,7 +12,7 @@ use Rattle.reduce_tree.proofs.Pieces.{pieces_none, pieces_on, were_on, on_match}
 use Rattle.tree_laws.specs.declared.tree.Fill.TheVariants.{Below}
 use Rattle.reduce_tree.proofs.Charge.{slack_some}
 use Rattle.reduce_tree.specs.Sums.{IsSumRead, KnowsRow}
-use Rattle.reduce_tree.proofs.Had.{had_given, known_goes, known_fails}
+use Rattle.reduce_tree.proofs.Had.{had_given, known_goes, known_fails, knew_err}
 use Rattle.reduce_tree.proofs.root.+raise.Goals as goal
 
 pub raise-requires : goal.raise-requires
@@ -172,13 +172,17 @@ returns-in_err-tree-2-clause-pieces g t c first items among known has all =
     (were_on i g.S.NodeSource m laws first among s0 s1 s2 u0 u1 c.raise.new.summer c.in_ok-children.ensures.ran one c.in_err-tree-2.field-0.0 c.in_err-tree-2.ensures.ran (c.in_err-tree-2.ensures.pieces first items among known1 at_cs all))
 
 pub returns-in_err-tree-clause-sums : goal.returns-in_err-tree-clause-sums
-returns-in_err-tree-clause-sums g t c first begun goes knows = c.in_err-tree.ensures.sums first begun knows
+returns-in_err-tree-clause-sums g t c first begun goes knows =
+    let p = err_from_is_err_and c.from_residual.result c.from_residual.ensures.1 in
+    knew_err g.M.Unit.Item g.S.NodeSource g.M.Summer first begun _ _ _ c.from_residual.result c.in_err-tree.field-0.0 p.0 p.2 p.1 (c.in_err-tree.ensures.sums first begun knows)
 
 pub returns-then-len-le32-clause-sums : goal.returns-then-len-le32-clause-sums
 returns-then-len-le32-clause-sums g t c first begun goes knows = c.in_ok-tree.ensures.sums first begun knows
 
 pub returns-in_err-children-clause-sums : goal.returns-in_err-children-clause-sums
-returns-in_err-children-clause-sums g t c first begun goes knows = c.in_err-children.ensures.sums first begun knows
+returns-in_err-children-clause-sums g t c first begun goes knows =
+    let p = err_from_is_err_and c.from_residual-in_err-children.result c.from_residual-in_err-children.ensures.1 in
+    knew_err g.M.Unit.Item g.S.NodeSource g.M.Summer first begun _ _ _ c.from_residual-in_err-children.result c.in_err-children.field-0.0 p.0 p.2 p.1 (c.in_err-children.ensures.sums first begun knows)
 
 pub returns-in_err-tree-2-clause-sums : goal.returns-in_err-tree-2-clause-sums
 returns-in_err-tree-2-clause-sums g t c first begun goes knows =
@@ -188,7 +192,8 @@ returns-in_err-tree-2-clause-sums g t c first begun goes knows =
     let k = c.in_ok-children.ensures in
     let above = subst (KnowsRow i s m first begun u1 s1) (sym c.from_vec.ensures) (had_given i m (IsSumRead i s begun s1) first u1 c.in_ok-children.children.items (k.answered first goes)) in
     let later = laws.summer_steps.both first u0 u1 goes k.ran.summer in
-    known_fails i s m laws first begun s0 s1 s2 u1 u2 c.in_err-tree-2.field-0.0 c.in_err-tree-2.ensures.ran (k.sums first begun knows) (c.in_err-tree-2.ensures.sums first begun later above)
+    let p = err_from_is_err_and c.from_residual-in_err-tree-2.result c.from_residual-in_err-tree-2.ensures.1 in
+    knew_err i s m first begun _ _ _ c.from_residual-in_err-tree-2.result c.in_err-tree-2.field-0.0 p.0 p.2 p.1 (known_fails i s m laws first begun s0 s1 s2 u1 u2 c.in_err-tree-2.field-0.0 c.in_err-tree-2.ensures.ran (k.sums first begun knows) (c.in_err-tree-2.ensures.sums first begun later above))
 
 pub returns-clause-sums : goal.returns-clause-sums
 returns-clause-sums g t c first begun goes knows =

@@ -17,8 +17,8 @@ use Rattle.reduce_tree.specs.Pieces.{ArePieces}
 use Rattle.reduce_tree.proofs.Pieces.{were_none, were_on, on_match, pieces_none}
 use Rattle.reduce_tree.proofs.Given.{root_leads, taken_on, took_fault, took_later, under_on}
 use Rattle.reduce_tree.specs.Given.{AllGiven}
-use Rattle.reduce_tree.specs.Sums.{KnowsNode, KnowsPieces}
-use Rattle.reduce_tree.proofs.Had.{way_on, known_none}
+use Rattle.reduce_tree.specs.Sums.{KnowsNode, KnowsPieces, KnewPieces}
+use Rattle.reduce_tree.proofs.Had.{way_on, knew_none, knew_err}
 use Rattle.reduce_tree.proofs.root.edit_root.Goals as goal
 
 pub edit_row-requires-clause-kind : goal.edit_row-requires-clause-kind
@@ -343,7 +343,8 @@ returns-in_err-row-clause-sums g c first begun way =
     let laws : Laws g.S.NodeSource g.M.Summer = record { store_steps = g.met.S.NodeSource.are_steps; store_keeps = g.met.S.NodeSource.keeps; store_caused = g.met.S.NodeSource.stays_caused; summer_steps = g.met.M.Summer.are_steps; summer_keeps = g.met.M.Summer.keeps; summer_caused = g.met.M.Summer.stays_caused; summer_asked = g.met.M.Summer.stays_asked; summer_gave = g.met.M.Summer.stays_given } in
     let i = g.M.Unit.Item in let s = g.S.NodeSource in let m = g.M.Summer in let s0 = c.args.store.now in let u0 = c.args.summer.now in
     let none = subst (KnowsNode i s m first begun u0 s0) (sym c.empty-none.ensures.node) tt in
-    c.in_err-row.ensures.sums first begun way none
+    let p = err_from_is_err_and c.from_residual.result c.from_residual.ensures.1 in
+    knew_err i s m first begun _ _ _ c.from_residual.result c.in_err-row.field-0.0 p.0 p.2 p.1 (c.in_err-row.ensures.sums first begun way none)
 
 pub returns-then-tree-eq0-clause-sums : goal.returns-then-tree-eq0-clause-sums
 returns-then-tree-eq0-clause-sums g c first begun way =
@@ -356,7 +357,8 @@ pub returns-in_err-root-clause-sums : goal.returns-in_err-root-clause-sums
 returns-in_err-root-clause-sums g c first begun way =
     let laws : Laws g.S.NodeSource g.M.Summer = record { store_steps = g.met.S.NodeSource.are_steps; store_keeps = g.met.S.NodeSource.keeps; store_caused = g.met.S.NodeSource.stays_caused; summer_steps = g.met.M.Summer.are_steps; summer_keeps = g.met.M.Summer.keeps; summer_caused = g.met.M.Summer.stays_caused; summer_asked = g.met.M.Summer.stays_asked; summer_gave = g.met.M.Summer.stays_given } in
     let i = g.M.Unit.Item in let s = g.S.NodeSource in let m = g.M.Summer in let s0 = c.args.store.now in let u0 = c.args.summer.now in
-    known_none i s m laws first begun u0 s0 c.fetch.new.store c.in_err-root.ensures.puts
+    let p = err_from_is_err_and c.from_residual-in_err-root.result c.from_residual-in_err-root.ensures.1 in
+    knew_err i s m first begun _ _ _ c.from_residual-in_err-root.result c.in_err-root.field-0.0 p.0 p.2 p.1 (knew_none i s m first begun u0 s0 c.fetch.new.store c.in_err-root.field-0.0 c.in_err-root.ensures.puts)
 
 pub returns-in_err-row-2-clause-sums : goal.returns-in_err-row-2-clause-sums
 returns-in_err-row-2-clause-sums g c first begun way =
@@ -365,7 +367,8 @@ returns-in_err-row-2-clause-sums g c first begun way =
     let s1 = c.fetch.new.store in
     let way1 = way_on i s m laws first begun s0 s1 u0 u0 c.in_ok-root.ensures.ran way in
     let root = c.in_ok-root.ensures.known first begun way in
-    subst (λ p. KnowsPieces i s m first begun c.edit_row-2.new.summer c.edit_row-2.new.store p (s.puts c.edit_row-2.new.store)) c.in_ok-root.ensures.puts (c.in_err-row-2.ensures.sums first begun way1 root)
+    let p = err_from_is_err_and c.from_residual-in_err-row-2.result c.from_residual-in_err-row-2.ensures.1 in
+    knew_err i s m first begun _ _ _ c.from_residual-in_err-row-2.result c.in_err-row-2.field-0.0 p.0 p.2 p.1 (subst (λ p. KnewPieces i s m first begun c.edit_row-2.new.summer c.edit_row-2.new.store p c.in_err-row-2.field-0.0) c.in_ok-root.ensures.puts (c.in_err-row-2.ensures.sums first begun way1 root))
 
 pub returns-clause-sums : goal.returns-clause-sums
 returns-clause-sums g c first begun way =
@@ -374,7 +377,7 @@ returns-clause-sums g c first begun way =
     let s1 = c.fetch.new.store in
     let way1 = way_on i s m laws first begun s0 s1 u0 u0 c.in_ok-root.ensures.ran way in
     let root = c.in_ok-root.ensures.known first begun way in
-    subst (λ p. KnowsPieces i s m first begun c.edit_row-2.new.summer c.edit_row-2.new.store p (s.puts c.edit_row-2.new.store)) c.in_ok-root.ensures.puts (c.in_ok-row-2.ensures.sums first begun way1 root)
+    subst (λ p. KnowsPieces i s m first begun c.edit_row-2.new.summer c.edit_row-2.new.store p) c.in_ok-root.ensures.puts (c.in_ok-row-2.ensures.sums first begun way1 root)
 
 pub returns-then-tree-eq0-clause-known : goal.returns-then-tree-eq0-clause-known
 returns-then-tree-eq0-clause-known g c first begun way =

@@ -8,8 +8,7 @@ use Rattle.reduce_tree.proofs.Nodes.{has_none, lone_count, lone_root, lone_size,
 use Rattle.reduce_tree.proofs.Puts.{leaf_lone, leaf_none, put_none}
 use Rattle.reduce_tree.proofs.Pieces.{pieces_none, on_match}
 use Rattle.std.proofs.lemmas.Result.{err_from_is_err_and}
-use Rattle.reduce_tree.specs.Sums.{IsSumRead}
-use Rattle.reduce_tree.proofs.Had.{had_none}
+use Rattle.reduce_tree.proofs.Had.{known_none, knew_err}
 use Rattle.reduce_tree.proofs.root.put_root.Goals as goal
 
 pub returns-then-is_empty-clause-root : goal.returns-then-is_empty-clause-root
@@ -112,13 +111,15 @@ returns-in_err-top-clause-pieces g c first items among known has all =
     (c.in_err-top.ensures.pieces first c.args.level Root items among known fill has all)
 
 pub returns-then-is_empty-clause-sums : goal.returns-then-is_empty-clause-sums
-returns-then-is_empty-clause-sums g c first begun knows = had_none g.M.Unit.Item g.M.Summer (IsSumRead g.M.Unit.Item g.S.NodeSource begun c.args.store.now) first c.args.summer.now (g.S.NodeSource.puts c.args.store.now)
+returns-then-is_empty-clause-sums g c first begun knows = known_none g.M.Unit.Item g.S.NodeSource g.M.Summer first begun c.args.summer.now c.args.store.now c.args.store.now refl
 
 pub returns-in-Some-clause-sums : goal.returns-in-Some-clause-sums
-returns-in-Some-clause-sums g c first begun knows = had_none g.M.Unit.Item g.M.Summer (IsSumRead g.M.Unit.Item g.S.NodeSource begun c.args.store.now) first c.args.summer.now (g.S.NodeSource.puts c.args.store.now)
+returns-in-Some-clause-sums g c first begun knows = known_none g.M.Unit.Item g.S.NodeSource g.M.Summer first begun c.args.summer.now c.args.store.now c.args.store.now refl
 
 pub returns-in_err-top-clause-sums : goal.returns-in_err-top-clause-sums
-returns-in_err-top-clause-sums g c first begun knows = c.in_err-top.ensures.sums first begun knows
+returns-in_err-top-clause-sums g c first begun knows =
+    let p = err_from_is_err_and c.from_residual.result c.from_residual.ensures.1 in
+    knew_err g.M.Unit.Item g.S.NodeSource g.M.Summer first begun _ _ _ c.from_residual.result c.in_err-top.field-0.0 p.0 p.2 p.1 (c.in_err-top.ensures.sums first begun knows)
 
 pub returns-clause-sums : goal.returns-clause-sums
 returns-clause-sums g c first begun knows = c.in_ok-top.ensures.sums first begun knows

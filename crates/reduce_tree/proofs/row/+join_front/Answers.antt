@@ -20,8 +20,8 @@ use Rattle.std.proofs.lemmas.List.Elements.{All-append, All-head, All-tail}
 use Rattle.tree_laws.specs.declared.tree.TreeFault.TheVariants as tree_fault
 use Rattle.reduce_tree.proofs.Given.{all_on, row_on, taken_on, taken_quiet, took_fault, took_later, took_none, took_quiet, under_on, each_join, fails_none, halts_quiet}
 use Rattle.reduce_tree.specs.Given.{AllGiven, AreEach, Given}
-use Rattle.reduce_tree.specs.Sums.{IsSumRead, KnowsNode, KnowsPieces, KnowsRow}
-use Rattle.reduce_tree.proofs.Had.{had_none, had_given, had_append, had_cut, way_on, node_goes, row_goes, known_goes, known_fails, known_none, had_join}
+use Rattle.reduce_tree.specs.Sums.{IsSumRead, KnowsNode, KnowsPieces, KnowsRow, KnewPieces}
+use Rattle.reduce_tree.proofs.Had.{had_given, had_append, had_cut, way_on, node_goes, row_goes, known_goes, known_fails, known_none, had_join, knew_none, knew_err}
 use Rattle.reduce_tree.proofs.row.+join_front.Goals as goal
 
 pub returns-then-low-level-clause-items : goal.returns-then-low-level-clause-items
@@ -565,16 +565,19 @@ returns-in_ok-add_all-in-Inner-clause-met g t c first tree pieces under low_give
     (taken, subst (All P3) (sym list) (All-append P3 placed c.take_first-child.new.list.items new old))
 
 pub returns-then-low-level-clause-sums : goal.returns-then-low-level-clause-sums
-returns-then-low-level-clause-sums g t c first begun way row node = had_none g.M.Unit.Item g.M.Summer (IsSumRead g.M.Unit.Item g.S.NodeSource begun c.args.store.now) first c.args.summer.now (g.S.NodeSource.puts c.args.store.now)
+returns-then-low-level-clause-sums g t c first begun way row node = known_none g.M.Unit.Item g.S.NodeSource g.M.Summer first begun c.args.summer.now c.args.store.now c.args.store.now refl
 
 pub returns-in_err-join_nodes-clause-sums : goal.returns-in_err-join_nodes-clause-sums
-returns-in_err-join_nodes-clause-sums g t c first begun way row node = had_none g.M.Unit.Item g.M.Summer (IsSumRead g.M.Unit.Item g.S.NodeSource begun c.args.store.now) first c.args.summer.now (g.S.NodeSource.puts c.args.store.now)
+returns-in_err-join_nodes-clause-sums g t c first begun way row node =
+    let p = err_from_is_err_and c.from_residual.result c.from_residual.ensures.1 in
+    knew_err g.M.Unit.Item g.S.NodeSource g.M.Summer first begun _ _ _ c.from_residual.result tree_fault.NoMemory p.0 p.2 p.1 (known_none g.M.Unit.Item g.S.NodeSource g.M.Summer first begun c.args.summer.now c.args.store.now c.args.store.now refl)
 
 pub returns-in_err-below-in-Inner-clause-sums : goal.returns-in_err-below-in-Inner-clause-sums
 returns-in_err-below-in-Inner-clause-sums g t c first begun way row node =
     let laws : Laws g.S.NodeSource g.M.Summer = record { store_steps = g.met.S.NodeSource.are_steps; store_keeps = g.met.S.NodeSource.keeps; store_caused = g.met.S.NodeSource.stays_caused; summer_steps = g.met.M.Summer.are_steps; summer_keeps = g.met.M.Summer.keeps; summer_caused = g.met.M.Summer.stays_caused; summer_asked = g.met.M.Summer.stays_asked; summer_gave = g.met.M.Summer.stays_given } in
     let i = g.M.Unit.Item in let s = g.S.NodeSource in let m = g.M.Summer in let s0 = c.args.store.now in let u0 = c.args.summer.now in
-    known_none i s m laws first begun u0 s0 c.fetch.new.store c.in_err-below-in-Inner.ensures.puts
+    let p = err_from_is_err_and c.from_residual-in_err-below-in-Inner.result c.from_residual-in_err-below-in-Inner.ensures.1 in
+    knew_err i s m first begun _ _ _ c.from_residual-in_err-below-in-Inner.result c.in_err-below-in-Inner.field-0.0 p.0 p.2 p.1 (knew_none i s m first begun u0 s0 c.fetch.new.store c.in_err-below-in-Inner.field-0.0 c.in_err-below-in-Inner.ensures.puts)
 
 pub returns-in_err-joined-in-Inner-clause-sums : goal.returns-in_err-joined-in-Inner-clause-sums
 returns-in_err-joined-in-Inner-clause-sums g t c first begun way row node =
@@ -583,7 +586,8 @@ returns-in_err-joined-in-Inner-clause-sums g t c first begun way row node =
     let s1 = c.fetch.new.store in let a = c.in_ok-below-in-Inner.ensures.ran in
     let way1 = way_on i s m laws first begun s0 s1 u0 u0 a way in
     let below = c.in_ok-below-in-Inner.ensures.known first begun way in
-    subst (λ p. KnowsPieces i s m first begun c.join_front.new.summer c.join_front.new.store p (s.puts c.join_front.new.store)) c.in_ok-below-in-Inner.ensures.puts (c.in_err-joined-in-Inner.ensures.sums first begun way1 (node_goes i s m laws first begun s0 s1 u0 u0 a c.args.row row) below)
+    let p = err_from_is_err_and c.from_residual-in_err-joined-in-Inner.result c.from_residual-in_err-joined-in-Inner.ensures.1 in
+    knew_err i s m first begun _ _ _ c.from_residual-in_err-joined-in-Inner.result c.in_err-joined-in-Inner.field-0.0 p.0 p.2 p.1 (subst (λ p. KnewPieces i s m first begun c.join_front.new.summer c.join_front.new.store p c.in_err-joined-in-Inner.field-0.0) c.in_ok-below-in-Inner.ensures.puts (c.in_err-joined-in-Inner.ensures.sums first begun way1 (node_goes i s m laws first begun s0 s1 u0 u0 a c.args.row row) below))
 
 pub returns-in_err-placed-in-Inner-clause-sums : goal.returns-in_err-placed-in-Inner-clause-sums
 returns-in_err-placed-in-Inner-clause-sums g t c first begun way row node =
@@ -593,10 +597,11 @@ returns-in_err-placed-in-Inner-clause-sums g t c first begun way row node =
     let way1 = way_on i s m laws first begun s0 s1 u0 u0 a way in
     let below = c.in_ok-below-in-Inner.ensures.known first begun way in
     let s2 = c.join_front.new.store in let u1 = c.join_front.new.summer in let b = c.in_ok-joined-in-Inner.ensures.ran in
-    let one = subst (λ p. KnowsPieces i s m first begun u1 s2 p (s.puts s2)) c.in_ok-below-in-Inner.ensures.puts (c.in_ok-joined-in-Inner.ensures.sums first begun way1 (node_goes i s m laws first begun s0 s1 u0 u0 a c.args.row row) below) in
+    let one = subst (λ p. KnowsPieces i s m first begun u1 s2 p) c.in_ok-below-in-Inner.ensures.puts (c.in_ok-joined-in-Inner.ensures.sums first begun way1 (node_goes i s m laws first begun s0 s1 u0 u0 a c.args.row row) below) in
     let made = c.in_ok-joined-in-Inner.ensures.known first begun way1 (node_goes i s m laws first begun s0 s1 u0 u0 a c.args.row row) below in
     let s3 = c.place_row.new.store in let u2 = c.place_row.new.summer in
-    known_fails i s m laws first begun s0 s2 s3 u1 u2 c.in_err-placed-in-Inner.field-0.0 c.in_err-placed-in-Inner.ensures.ran one (c.in_err-placed-in-Inner.ensures.sums first begun made)
+    let p = err_from_is_err_and c.from_residual-in_err-placed-in-Inner.result c.from_residual-in_err-placed-in-Inner.ensures.1 in
+    knew_err i s m first begun _ _ _ c.from_residual-in_err-placed-in-Inner.result c.in_err-placed-in-Inner.field-0.0 p.0 p.2 p.1 (known_fails i s m laws first begun s0 s2 s3 u1 u2 c.in_err-placed-in-Inner.field-0.0 c.in_err-placed-in-Inner.ensures.ran one (c.in_err-placed-in-Inner.ensures.sums first begun made))
 
 pub returns-in_err-add_all-in-Inner-clause-sums : goal.returns-in_err-add_all-in-Inner-clause-sums
 returns-in_err-add_all-in-Inner-clause-sums g t c first begun way row node =
@@ -606,10 +611,11 @@ returns-in_err-add_all-in-Inner-clause-sums g t c first begun way row node =
     let way1 = way_on i s m laws first begun s0 s1 u0 u0 a way in
     let below = c.in_ok-below-in-Inner.ensures.known first begun way in
     let s2 = c.join_front.new.store in let u1 = c.join_front.new.summer in let b = c.in_ok-joined-in-Inner.ensures.ran in
-    let one = subst (λ p. KnowsPieces i s m first begun u1 s2 p (s.puts s2)) c.in_ok-below-in-Inner.ensures.puts (c.in_ok-joined-in-Inner.ensures.sums first begun way1 (node_goes i s m laws first begun s0 s1 u0 u0 a c.args.row row) below) in
+    let one = subst (λ p. KnowsPieces i s m first begun u1 s2 p) c.in_ok-below-in-Inner.ensures.puts (c.in_ok-joined-in-Inner.ensures.sums first begun way1 (node_goes i s m laws first begun s0 s1 u0 u0 a c.args.row row) below) in
     let made = c.in_ok-joined-in-Inner.ensures.known first begun way1 (node_goes i s m laws first begun s0 s1 u0 u0 a c.args.row row) below in
     let s3 = c.place_row.new.store in let u2 = c.place_row.new.summer in
-    known_goes i s m laws first begun s0 s2 s3 u1 u2 c.in_ok-placed-in-Inner.ensures.ran one (c.in_ok-placed-in-Inner.ensures.sums first begun made)
+    let p = err_from_is_err_and c.from_residual-in_err-add_all-in-Inner.result c.from_residual-in_err-add_all-in-Inner.ensures.1 in
+    knew_err i s m first begun _ _ _ c.from_residual-in_err-add_all-in-Inner.result tree_fault.NoMemory p.0 p.2 p.1 (known_goes i s m laws first begun s0 s2 s3 u1 u2 c.in_ok-placed-in-Inner.ensures.ran one (c.in_ok-placed-in-Inner.ensures.sums first begun made))
 
 pub returns-in_ok-add_all-in-Inner-clause-sums : goal.returns-in_ok-add_all-in-Inner-clause-sums
 returns-in_ok-add_all-in-Inner-clause-sums g t c first begun way row node =
@@ -619,7 +625,7 @@ returns-in_ok-add_all-in-Inner-clause-sums g t c first begun way row node =
     let way1 = way_on i s m laws first begun s0 s1 u0 u0 a way in
     let below = c.in_ok-below-in-Inner.ensures.known first begun way in
     let s2 = c.join_front.new.store in let u1 = c.join_front.new.summer in let b = c.in_ok-joined-in-Inner.ensures.ran in
-    let one = subst (λ p. KnowsPieces i s m first begun u1 s2 p (s.puts s2)) c.in_ok-below-in-Inner.ensures.puts (c.in_ok-joined-in-Inner.ensures.sums first begun way1 (node_goes i s m laws first begun s0 s1 u0 u0 a c.args.row row) below) in
+    let one = subst (λ p. KnowsPieces i s m first begun u1 s2 p) c.in_ok-below-in-Inner.ensures.puts (c.in_ok-joined-in-Inner.ensures.sums first begun way1 (node_goes i s m laws first begun s0 s1 u0 u0 a c.args.row row) below) in
     let made = c.in_ok-joined-in-Inner.ensures.known first begun way1 (node_goes i s m laws first begun s0 s1 u0 u0 a c.args.row row) below in
     let s3 = c.place_row.new.store in let u2 = c.place_row.new.summer in
     known_goes i s m laws first begun s0 s2 s3 u1 u2 c.in_ok-placed-in-Inner.ensures.ran one (c.in_ok-placed-in-Inner.ensures.sums first begun made)
@@ -638,7 +644,7 @@ returns-in_ok-add_all-in-Inner-clause-known g t c first begun way row node =
     let way1 = way_on i s m laws first begun s0 s1 u0 u0 a way in
     let below = c.in_ok-below-in-Inner.ensures.known first begun way in
     let s2 = c.join_front.new.store in let u1 = c.join_front.new.summer in let b = c.in_ok-joined-in-Inner.ensures.ran in
-    let one = subst (λ p. KnowsPieces i s m first begun u1 s2 p (s.puts s2)) c.in_ok-below-in-Inner.ensures.puts (c.in_ok-joined-in-Inner.ensures.sums first begun way1 (node_goes i s m laws first begun s0 s1 u0 u0 a c.args.row row) below) in
+    let one = subst (λ p. KnowsPieces i s m first begun u1 s2 p) c.in_ok-below-in-Inner.ensures.puts (c.in_ok-joined-in-Inner.ensures.sums first begun way1 (node_goes i s m laws first begun s0 s1 u0 u0 a c.args.row row) below) in
     let made = c.in_ok-joined-in-Inner.ensures.known first begun way1 (node_goes i s m laws first begun s0 s1 u0 u0 a c.args.row row) below in
     let s3 = c.place_row.new.store in let u2 = c.place_row.new.summer in
     let others = (had_cut i m (IsSumRead i s begun s0) first u0 c.in-Inner.children (c.take_first-child.result ∷ []) c.take_first-child.new.list.items (sym c.into_vec-after.ensures ∙ c.take_first-child.ensures) (subst (KnowsNode i s m first begun u0 s0) c.in-Inner.is node)).1 in

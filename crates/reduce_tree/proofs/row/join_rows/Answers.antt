@@ -14,8 +14,7 @@ use Rattle.reduce_tree.proofs.Pieces.{pieces_none, on_match}
 use Rattle.tree_laws.specs.declared.tree.Fill.TheVariants.{Below}
 use Rattle.reduce_tree.proofs.Charge.{some_by_test, slack_some}
 use Rattle.reduce_tree.proofs.Given.{took_fault, took_none}
-use Rattle.reduce_tree.specs.Sums.{IsSumRead}
-use Rattle.reduce_tree.proofs.Had.{had_none}
+use Rattle.reduce_tree.proofs.Had.{known_none, knew_err}
 use Rattle.reduce_tree.proofs.row.join_rows.Goals as goal
 
 pub returns-then-is_empty-clause-items : goal.returns-then-is_empty-clause-items
@@ -146,16 +145,20 @@ returns-clause-met g c first tree pieces under front back =
     (all.0, all.1)
 
 pub returns-then-is_empty-clause-sums : goal.returns-then-is_empty-clause-sums
-returns-then-is_empty-clause-sums g c first begun way front back = had_none g.M.Unit.Item g.M.Summer (IsSumRead g.M.Unit.Item g.S.NodeSource begun c.args.store.now) first c.args.summer.now (g.S.NodeSource.puts c.args.store.now)
+returns-then-is_empty-clause-sums g c first begun way front back = known_none g.M.Unit.Item g.S.NodeSource g.M.Summer first begun c.args.summer.now c.args.store.now c.args.store.now refl
 
 pub returns-then-is_empty-2-clause-sums : goal.returns-then-is_empty-2-clause-sums
-returns-then-is_empty-2-clause-sums g c first begun way front back = had_none g.M.Unit.Item g.M.Summer (IsSumRead g.M.Unit.Item g.S.NodeSource begun c.args.store.now) first c.args.summer.now (g.S.NodeSource.puts c.args.store.now)
+returns-then-is_empty-2-clause-sums g c first begun way front back = known_none g.M.Unit.Item g.S.NodeSource g.M.Summer first begun c.args.summer.now c.args.store.now c.args.store.now refl
 
 pub returns-in_err-node-clause-sums : goal.returns-in_err-node-clause-sums
-returns-in_err-node-clause-sums g c first begun way front back = c.in_err-node.ensures.sums first begun way front back
+returns-in_err-node-clause-sums g c first begun way front back =
+    let p = err_from_is_err_and c.from_residual.result c.from_residual.ensures.1 in
+    knew_err g.M.Unit.Item g.S.NodeSource g.M.Summer first begun _ _ _ c.from_residual.result c.in_err-node.field-0.0 p.0 p.2 p.1 (c.in_err-node.ensures.sums first begun way front back)
 
 pub returns-in_err-node-2-clause-sums : goal.returns-in_err-node-2-clause-sums
-returns-in_err-node-2-clause-sums g c first begun way front back = c.in_err-node-2.ensures.sums first begun way back front
+returns-in_err-node-2-clause-sums g c first begun way front back =
+    let p = err_from_is_err_and c.from_residual-in_err-node-2.result c.from_residual-in_err-node-2.ensures.1 in
+    knew_err g.M.Unit.Item g.S.NodeSource g.M.Summer first begun _ _ _ c.from_residual-in_err-node-2.result c.in_err-node-2.field-0.0 p.0 p.2 p.1 (c.in_err-node-2.ensures.sums first begun way back front)
 
 pub returns-clause-sums : goal.returns-clause-sums
 returns-clause-sums g c first begun way front back = c.in_ok-node-2.ensures.sums first begun way back front

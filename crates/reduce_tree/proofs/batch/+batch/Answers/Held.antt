@@ -18,8 +18,8 @@ use Rattle.reduce_tree.proofs.Given.{all_on, given_on, row_on, taken_on, taken_q
 use Rattle.reduce_tree.specs.Given.{AllGiven, AreEach, Given}
 use Rattle.std.proofs.lemmas.List.Elements.{All-head}
 use Rattle.reduce_tree.proofs.batch.+batch.Given as ghosts
-use Rattle.reduce_tree.specs.Sums.{KnowsNode, KnowsPieces, KnowsRow}
-use Rattle.reduce_tree.proofs.Had.{way_on, node_goes, row_goes, sum_goes, known_goes, known_fails}
+use Rattle.reduce_tree.specs.Sums.{KnowsNode, KnowsPieces, KnowsRow, KnewPieces}
+use Rattle.reduce_tree.proofs.Had.{way_on, node_goes, row_goes, sum_goes, known_goes, known_fails, knew_err}
 use Rattle.reduce_tree.proofs.batch.+batch.Goals as goal
 
 pub laws : (g : ghosts.Over) → Laws g.S.NodeSource g.M.Summer
@@ -186,7 +186,8 @@ edit_child-returns-in_err-row-2-clause-sums g t c first begun way carry =
     let s1 = c.fetch.new.store in let a = c.in_ok-node.ensures.ran in
     let way1 = way_on i s m (laws g) first begun s0 s1 u0 u0 a way in
     let node = c.in_ok-node.ensures.known first begun way in
-    subst (λ p. KnowsPieces i s m first begun c.edit_row.new.summer c.edit_row.new.store p (s.puts c.edit_row.new.store)) c.in_ok-node.ensures.puts (c.in_err-row-2.ensures.sums first begun way1 node)
+    let p = err_from_is_err_and c.from_residual-in_err-row-2.result c.from_residual-in_err-row-2.ensures.1 in
+    knew_err i s m first begun _ _ _ c.from_residual-in_err-row-2.result c.in_err-row-2.field-0.0 p.0 p.2 p.1 (subst (λ p. KnewPieces i s m first begun c.edit_row.new.summer c.edit_row.new.store p c.in_err-row-2.field-0.0) c.in_ok-node.ensures.puts (c.in_err-row-2.ensures.sums first begun way1 node))
 
 pub edit_child-returns-in_err-row-3-clause-sums : goal.edit_child-returns-in_err-row-3-clause-sums
 edit_child-returns-in_err-row-3-clause-sums g t c first begun way carry =
@@ -196,11 +197,12 @@ edit_child-returns-in_err-row-3-clause-sums g t c first begun way carry =
     let node = c.in_ok-node.ensures.known first begun way in
     let s2 = c.edit_row.new.store in let u1 = c.edit_row.new.summer in let k = c.in_ok-row-2.ensures in
     let ab = goes_on i s m (laws g) s0 s1 s2 u0 u0 u1 a k.ran in
-    let one = subst (λ p. KnowsPieces i s m first begun u1 s2 p (s.puts s2)) c.in_ok-node.ensures.puts (k.sums first begun way1 node) in
+    let one = subst (λ p. KnowsPieces i s m first begun u1 s2 p) c.in_ok-node.ensures.puts (k.sums first begun way1 node) in
     let way2 = way_on i s m (laws g) first begun s0 s2 u0 u1 ab way in
     let row2 = k.known first begun way1 node in
     let carry2 = node_goes i s m (laws g) first begun s0 s2 u0 u1 ab c.args.carry.node carry in
-    known_fails i s m (laws g) first begun s0 s2 c.keep_child-then-is_ready-2.new.store u1 c.keep_child-then-is_ready-2.new.summer c.in_err-row-3.field-0.0 c.in_err-row-3.ensures.ran one (c.in_err-row-3.ensures.sums first begun carry2)
+    let p = err_from_is_err_and c.from_residual-in_err-row-3.result c.from_residual-in_err-row-3.ensures.1 in
+    knew_err i s m first begun _ _ _ c.from_residual-in_err-row-3.result c.in_err-row-3.field-0.0 p.0 p.2 p.1 (known_fails i s m (laws g) first begun s0 s2 c.keep_child-then-is_ready-2.new.store u1 c.keep_child-then-is_ready-2.new.summer c.in_err-row-3.field-0.0 c.in_err-row-3.ensures.ran one (c.in_err-row-3.ensures.sums first begun carry2))
 
 pub edit_child-returns-then-is_ready-2-clause-sums : goal.edit_child-returns-then-is_ready-2-clause-sums
 edit_child-returns-then-is_ready-2-clause-sums g t c first begun way carry =
@@ -210,7 +212,7 @@ edit_child-returns-then-is_ready-2-clause-sums g t c first begun way carry =
     let node = c.in_ok-node.ensures.known first begun way in
     let s2 = c.edit_row.new.store in let u1 = c.edit_row.new.summer in let k = c.in_ok-row-2.ensures in
     let ab = goes_on i s m (laws g) s0 s1 s2 u0 u0 u1 a k.ran in
-    let one = subst (λ p. KnowsPieces i s m first begun u1 s2 p (s.puts s2)) c.in_ok-node.ensures.puts (k.sums first begun way1 node) in
+    let one = subst (λ p. KnowsPieces i s m first begun u1 s2 p) c.in_ok-node.ensures.puts (k.sums first begun way1 node) in
     let way2 = way_on i s m (laws g) first begun s0 s2 u0 u1 ab way in
     let row2 = k.known first begun way1 node in
     let carry2 = node_goes i s m (laws g) first begun s0 s2 u0 u1 ab c.args.carry.node carry in
@@ -224,11 +226,12 @@ edit_child-returns-in_err-joined-clause-sums g t c first begun way carry =
     let node = c.in_ok-node.ensures.known first begun way in
     let s2 = c.edit_row.new.store in let u1 = c.edit_row.new.summer in let k = c.in_ok-row-2.ensures in
     let ab = goes_on i s m (laws g) s0 s1 s2 u0 u0 u1 a k.ran in
-    let one = subst (λ p. KnowsPieces i s m first begun u1 s2 p (s.puts s2)) c.in_ok-node.ensures.puts (k.sums first begun way1 node) in
+    let one = subst (λ p. KnowsPieces i s m first begun u1 s2 p) c.in_ok-node.ensures.puts (k.sums first begun way1 node) in
     let way2 = way_on i s m (laws g) first begun s0 s2 u0 u1 ab way in
     let row2 = k.known first begun way1 node in
     let carry2 = node_goes i s m (laws g) first begun s0 s2 u0 u1 ab c.args.carry.node carry in
-    known_fails i s m (laws g) first begun s0 s2 c.join_rows.new.store u1 c.join_rows.new.summer c.in_err-joined.field-0.0 c.in_err-joined.ensures.ran one (c.in_err-joined.ensures.sums first begun way2 carry2 row2)
+    let p = err_from_is_err_and c.from_residual-in_err-joined.result c.from_residual-in_err-joined.ensures.1 in
+    knew_err i s m first begun _ _ _ c.from_residual-in_err-joined.result c.in_err-joined.field-0.0 p.0 p.2 p.1 (known_fails i s m (laws g) first begun s0 s2 c.join_rows.new.store u1 c.join_rows.new.summer c.in_err-joined.field-0.0 c.in_err-joined.ensures.ran one (c.in_err-joined.ensures.sums first begun way2 carry2 row2))
 
 pub edit_child-returns-clause-sums : goal.edit_child-returns-clause-sums
 edit_child-returns-clause-sums g t c first begun way carry =
@@ -238,7 +241,7 @@ edit_child-returns-clause-sums g t c first begun way carry =
     let node = c.in_ok-node.ensures.known first begun way in
     let s2 = c.edit_row.new.store in let u1 = c.edit_row.new.summer in let k = c.in_ok-row-2.ensures in
     let ab = goes_on i s m (laws g) s0 s1 s2 u0 u0 u1 a k.ran in
-    let one = subst (λ p. KnowsPieces i s m first begun u1 s2 p (s.puts s2)) c.in_ok-node.ensures.puts (k.sums first begun way1 node) in
+    let one = subst (λ p. KnowsPieces i s m first begun u1 s2 p) c.in_ok-node.ensures.puts (k.sums first begun way1 node) in
     let way2 = way_on i s m (laws g) first begun s0 s2 u0 u1 ab way in
     let row2 = k.known first begun way1 node in
     let carry2 = node_goes i s m (laws g) first begun s0 s2 u0 u1 ab c.args.carry.node carry in
@@ -252,7 +255,7 @@ edit_child-returns-then-is_ready-2-clause-known g t c first begun way done carry
     let node = c.in_ok-node.ensures.known first begun way in
     let s2 = c.edit_row.new.store in let u1 = c.edit_row.new.summer in let k = c.in_ok-row-2.ensures in
     let ab = goes_on i s m (laws g) s0 s1 s2 u0 u0 u1 a k.ran in
-    let one = subst (λ p. KnowsPieces i s m first begun u1 s2 p (s.puts s2)) c.in_ok-node.ensures.puts (k.sums first begun way1 node) in
+    let one = subst (λ p. KnowsPieces i s m first begun u1 s2 p) c.in_ok-node.ensures.puts (k.sums first begun way1 node) in
     let way2 = way_on i s m (laws g) first begun s0 s2 u0 u1 ab way in
     let row2 = k.known first begun way1 node in
     let carry2 = node_goes i s m (laws g) first begun s0 s2 u0 u1 ab c.args.carry.node carry in
@@ -268,7 +271,7 @@ edit_child-returns-clause-known g t c first begun way done carry child =
     let node = c.in_ok-node.ensures.known first begun way in
     let s2 = c.edit_row.new.store in let u1 = c.edit_row.new.summer in let k = c.in_ok-row-2.ensures in
     let ab = goes_on i s m (laws g) s0 s1 s2 u0 u0 u1 a k.ran in
-    let one = subst (λ p. KnowsPieces i s m first begun u1 s2 p (s.puts s2)) c.in_ok-node.ensures.puts (k.sums first begun way1 node) in
+    let one = subst (λ p. KnowsPieces i s m first begun u1 s2 p) c.in_ok-node.ensures.puts (k.sums first begun way1 node) in
     let way2 = way_on i s m (laws g) first begun s0 s2 u0 u1 ab way in
     let row2 = k.known first begun way1 node in
     let carry2 = node_goes i s m (laws g) first begun s0 s2 u0 u1 ab c.args.carry.node carry in
@@ -281,7 +284,8 @@ edit_children-returns-in_err-next-clause-sums g t c first begun way children =
     let s1 = c.loop-left.store in let u1 = c.loop-left.summer in let inv = c.loop-left.invariant in
     let was = inv.known first begun way children in
     let way1 = way_on i s m (laws g) first begun s0 s1 u0 u1 inv.ran way in
-    known_fails i s m (laws g) first begun s0 s1 c.edit_child.new.store u1 c.edit_child.new.summer c.in_err-next.field-0.0 c.in_err-next.ensures.ran was.0 (c.in_err-next.ensures.sums first begun way1 was.2)
+    let p = err_from_is_err_and c.from_residual.result c.from_residual.ensures.1 in
+    knew_err i s m first begun _ _ _ c.from_residual.result c.in_err-next.field-0.0 p.0 p.2 p.1 (known_fails i s m (laws g) first begun s0 s1 c.edit_child.new.store u1 c.edit_child.new.summer c.in_err-next.field-0.0 c.in_err-next.ensures.ran was.0 (c.in_err-next.ensures.sums first begun way1 was.2))
 
 pub edit_children-returns-in_err-row-clause-sums : goal.edit_children-returns-in_err-row-clause-sums
 edit_children-returns-in_err-row-clause-sums g t c first begun way children =
@@ -289,7 +293,8 @@ edit_children-returns-in_err-row-clause-sums g t c first begun way children =
     let s1 = c.loop-left.store in let u1 = c.loop-left.summer in let inv = c.loop-left.invariant in
     let was = inv.known first begun way children in
     let way1 = way_on i s m (laws g) first begun s0 s1 u0 u1 inv.ran way in
-    known_fails i s m (laws g) first begun s0 s1 c.finish.new.store u1 c.finish.new.summer c.in_err-row.field-0.0 c.in_err-row.ensures.ran was.0 (c.in_err-row.ensures.sums first begun way1 was.1 was.2)
+    let p = err_from_is_err_and c.from_residual-in_err-row.result c.from_residual-in_err-row.ensures.1 in
+    knew_err i s m first begun _ _ _ c.from_residual-in_err-row.result c.in_err-row.field-0.0 p.0 p.2 p.1 (known_fails i s m (laws g) first begun s0 s1 c.finish.new.store u1 c.finish.new.summer c.in_err-row.field-0.0 c.in_err-row.ensures.ran was.0 (c.in_err-row.ensures.sums first begun way1 was.1 was.2))
 
 pub edit_children-returns-clause-sums : goal.edit_children-returns-clause-sums
 edit_children-returns-clause-sums g t c first begun way children =
@@ -311,7 +316,8 @@ pub edit_row-returns-in_err-row-in-Inner-clause-sums : goal.edit_row-returns-in_
 edit_row-returns-in_err-row-in-Inner-clause-sums g t c first begun way node =
     let i = g.M.Unit.Item in let s = g.S.NodeSource in let m = g.M.Summer in let s0 = c.args.store.now in let u0 = c.args.summer.now in
     let cs = subst (KnowsRow i s m first begun u0 s0) (sym c.into_vec-in-Inner.ensures) (subst (KnowsNode i s m first begun u0 s0) c.in-Inner.is node) in
-    c.in_err-row-in-Inner.ensures.sums first begun way cs
+    let p = err_from_is_err_and c.from_residual-in_err-row-in-Inner.result c.from_residual-in_err-row-in-Inner.ensures.1 in
+    knew_err i s m first begun _ _ _ c.from_residual-in_err-row-in-Inner.result c.in_err-row-in-Inner.field-0.0 p.0 p.2 p.1 (c.in_err-row-in-Inner.ensures.sums first begun way cs)
 
 pub edit_row-returns-in_ok-row-in-Inner-clause-sums : goal.edit_row-returns-in_ok-row-in-Inner-clause-sums
 edit_row-returns-in_ok-row-in-Inner-clause-sums g t c first begun way node =
