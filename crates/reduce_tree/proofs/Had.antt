@@ -11,14 +11,25 @@ use Rattle.tree_laws.specs.declared.tree.TreeFault.{TreeFault}
 use Rattle.tree_laws.specs.declared.tree.TreeFault.TheVariants as tree_fault
 use Rattle.tree_laws.specs.Meaning.{KeepsMeaning, Meaning}
 use Rattle.tree_laws.specs.Nodes.{FitsNode, spelled_node}
-use Rattle.tree_laws.specs.Stores.{EachSince, IsSince}
+use Rattle.tree_laws.specs.Stores.{IsSince}
 use Rattle.reduce_tree.specs.Built.{IsPopped}
 use Rattle.reduce_tree.specs.Calls.{Fails, GoOn}
 use Rattle.reduce_tree.specs.Rows.{IsSplit}
-use Rattle.reduce_tree.specs.Sums.{AreHad, ArePiecesHad, IsOnTheWay, IsPieceHad, IsPieceKnown, IsSumGiven, IsSumHad, IsSumRead, KeepsHad, KnewPieces, KnowsNode, KnowsPieces, KnowsRow, KnowsSum, PutsKnown, RowsHad, row_sums}
+use Rattle.reduce_tree.specs.Sums.{AreHad, ArePiecesHad, ArePiecesKnown, EachInTurn, IsOnTheWay, IsPieceHad, IsPieceKnown, IsSumGiven, IsSumHad, IsSumRead, KeepsHad, KnewPieces, KnowsNode, KnowsPieces, KnowsRow, KnowsSum, PutsKnown, RowsHad, row_sums}
 use Rattle.reduce_tree.proofs.Calls.{Laws, Noted, fails_all, noted_both, noted_none}
 use Rattle.reduce_tree.proofs.Quiet.{all_back, all_front}
 use Rattle.reduce_tree.proofs.Since.{since_both, since_none, since_one}
+
+-- ---- entries in turn
+
+module _ {X : Type 0} where
+  turn_weaker : (P Q : X → List X → Type 0) → ((x : X) (earlier : List X) → P x earlier → Q x earlier) → (more old : List X) → EachInTurn P more old → EachInTurn Q more old
+  turn_weaker P Q weaker [] old h = tt
+  turn_weaker P Q weaker (x ∷ more) old h = (weaker x (more ++ old) h.0, turn_weaker P Q weaker more old h.1)
+
+  turn_both : (P : X → List X → Type 0) (newer more old : List X) → EachInTurn P newer (more ++ old) → EachInTurn P more old → EachInTurn P (newer ++ more) old
+  turn_both P [] more old h k = k
+  turn_both P (x ∷ newer) more old h k = (subst (λ t. P x t) (sym (append_assoc newer more old)) h.0, turn_both P newer more old h.1 k)
 
 -- the bytes of a value that was answered, as the summer spells it afterwards
 pub sum_given : {T M Sum Fault : Type 0} (m : Summers M T Sum Fault) → KeepsMeaning m.goes m.meaning m.lawful m.usable m.fits → (u v : M) → m.goes u v → (sum : Sum) (bytes : List ℕ) → m.gave u v sum → bytes ≡ (m.meaning v).spelled sum → IsSumGiven m u v bytes
@@ -158,10 +169,10 @@ module _ {T M Sum Fault : Type 0} (i : Items T) (m : Summers M T Sum Fault) (Was
 module _ {T S F M Sum G : Type 0} (i : Items T) (s : Sources S F) (m : Summers M T Sum G) (first : M) (begun : S) where
   -- nothing was put
   pub known_none : (u : M) (a b : S) → s.puts b ≡ s.puts a → KnowsPieces i s m first begun u b (s.puts a)
-  known_none u a b e = since_none (IsPieceKnown i s m first begun s.goes u b) (s.puts a) (s.puts b) e
+  known_none u a b e = ([], e, tt)
 
   pub knew_none : (u : M) (a b : S) (fault : TreeFault F G) → s.puts b ≡ s.puts a → KnewPieces i s m first begun u b (s.puts a) fault
-  knew_none u a b (tree_fault.Store fault) e = since_none (IsPieceKnown i s m first begun (λ x y. s.fails x y fault) u b) (s.puts a) (s.puts b) e
+  knew_none u a b (tree_fault.Store fault) e = ([], e, tt)
   knew_none u a b (tree_fault.BadNode at) e = known_none u a b e
   knew_none u a b (tree_fault.Summer fault) e = known_none u a b e
   knew_none u a b tree_fault.NoMemory e = known_none u a b e
@@ -218,46 +229,50 @@ module _ {T S F M Sum G : Type 0} (i : Items T) (s : Sources S F) (m : Summers M
     sum_goes = sum_into i m (Read a) (Read b) first u v (read_goes a b u v g) (gave_goes s m laws first u v g.summer)
 
   -- a node was put, or tried
-  put_known : (Later : S → S → Type 0) (a b : S) (u v : M) → m.goes u v → Later a b → (node : Node T) (piece : List ℕ) → s.puts b ≡ piece ∷ s.puts a → piece ≡ spelled_node i.spelled node → FitsNode i.fits i.spelled node → KnowsNode i s m first begun u a node
-      → EachSince (IsPieceKnown i s m first begun Later v b) (s.puts a) (s.puts b)
-  put_known Later a b u v g later node piece e is fits h =
-      since_one (IsPieceKnown i s m first begun Later v b) piece (s.puts a) (s.puts b) e
-      (record { before = a; later = later; more = []; order = e; node = node; fits = fits; bytes_are = is; sums = node_on i m (Read a) first u v (gave_goes s m laws first u v g) node h })
+  put_known : (Later : S → S → Type 0) (a b : S) (u v : M) → m.goes u v → Later a b → Noted (s.gets a) (s.gets b) → (node : Node T) (piece : List ℕ) → s.puts b ≡ piece ∷ s.puts a → piece ≡ spelled_node i.spelled node → FitsNode i.fits i.spelled node → KnowsNode i s m first begun u a node
+      → ArePiecesKnown i s m first begun Later v b (s.puts a)
+  put_known Later a b u v g later gets node piece e is fits h =
+      let known : IsPieceKnown i s m first begun Later v b piece (s.puts a) =
+      record { before = a; later = later; puts = refl; gets = gets; node = node; fits = fits; bytes_are = is; sums = node_on i m (Read a) first u v (gave_goes s m laws first u v g) node h } in
+      (piece ∷ [], e, (known, tt))
 
   pub put_goes : (a b : S) (u v : M) → GoOn i s m a b u v → (node : Node T) (piece : List ℕ) → s.puts b ≡ piece ∷ s.puts a → piece ≡ spelled_node i.spelled node → FitsNode i.fits i.spelled node → KnowsNode i s m first begun u a node → KnowsPieces i s m first begun v b (s.puts a)
-  put_goes a b u v g node piece e is fits h = put_known s.goes a b u v g.summer g.store node piece e is fits h
+  put_goes a b u v g node piece e is fits h = put_known s.goes a b u v g.summer g.store g.gets node piece e is fits h
 
-  pub put_fails : (a b : S) (u v : M) (fault : F) → s.fails a b fault → m.goes u v → (node : Node T) (piece : List ℕ) → s.puts b ≡ piece ∷ s.puts a → piece ≡ spelled_node i.spelled node → FitsNode i.fits i.spelled node → KnowsNode i s m first begun u a node
+  pub put_fails : (a b : S) (u v : M) (fault : F) → s.fails a b fault → m.goes u v → s.gets b ≡ s.gets a → (node : Node T) (piece : List ℕ) → s.puts b ≡ piece ∷ s.puts a → piece ≡ spelled_node i.spelled node → FitsNode i.fits i.spelled node → KnowsNode i s m first begun u a node
       → KnewPieces i s m first begun v b (s.puts a) (tree_fault.Store fault)
-  put_fails a b u v fault f g node piece e is fits h = put_known (λ x y. s.fails x y fault) a b u v g f node piece e is fits h
+  put_fails a b u v fault f g none node piece e is fits h = put_known (λ x y. s.fails x y fault) a b u v g f (noted_none (s.gets a) (s.gets b) none) node piece e is fits h
 
   -- pieces were put up to b, and more up to c, where more was answered
-  module _ (a b c : S) (u v : M) (more : (sum : Sum) → m.gave first u sum → m.gave first v sum) (Later : S → S → Type 0) (later : (x : S) → s.goes x b → Later x c) where
-    piece_later : (newer : List (List ℕ)) → s.puts c ≡ newer ++ s.puts b → (bytes : List ℕ) → IsPieceKnown i s m first begun s.goes u b bytes → IsPieceKnown i s m first begun Later v c bytes
-    piece_later newer e bytes h = record {
+  module _ (a b c : S) (u v : M) (more : (sum : Sum) → m.gave first u sum → m.gave first v sum) (Later : S → S → Type 0) (later : (x : S) → s.goes x b → Later x c) (seen : Noted (s.gets b) (s.gets c)) where
+    piece_later : (bytes : List ℕ) (earlier : List (List ℕ)) → IsPieceKnown i s m first begun s.goes u b bytes earlier → IsPieceKnown i s m first begun Later v c bytes earlier
+    piece_later bytes earlier h = record {
       before = h.before;
       later = later h.before h.later;
-      more = newer ++ h.more;
-      order = e ∙ ap (λ t. newer ++ t) h.order ∙ sym (append_assoc newer h.more (bytes ∷ s.puts h.before));
+      puts = h.puts;
+      gets = noted_both (s.gets h.before) (s.gets b) (s.gets c) h.gets seen;
       node = h.node;
       fits = h.fits;
       bytes_are = h.bytes_are;
       sums = node_on i m (Read h.before) first u v more h.node h.sums;
     }
 
-    pieces_later : KnowsPieces i s m first begun u b (s.puts a) → EachSince (IsPieceKnown i s m first begun Later v c) (s.puts b) (s.puts c) → EachSince (IsPieceKnown i s m first begun Later v c) (s.puts a) (s.puts c)
+    pieces_later : KnowsPieces i s m first begun u b (s.puts a) → ArePiecesKnown i s m first begun Later v c (s.puts b) → ArePiecesKnown i s m first begun Later v c (s.puts a)
     pieces_later h k =
-        let Is = IsPieceKnown i s m first begun Later v c in
-        since_both (IsPieceKnown i s m first begun s.goes u b) Is Is (piece_later k.0 k.1) (λ bytes p. p) (s.puts a) (s.puts b) (s.puts c) h k
+        let Is = IsPieceKnown i s m first begun Later v c in (
+          k.0 ++ h.0,
+          k.1 ∙ ap (λ t. k.0 ++ t) h.1 ∙ sym (append_assoc k.0 h.0 (s.puts a)),
+          turn_both Is k.0 h.0 (s.puts a) (subst (λ t. EachInTurn Is k.0 t) h.1 k.2) (turn_weaker (IsPieceKnown i s m first begun s.goes u b) Is piece_later h.0 (s.puts a) h.2),
+        )
 
   pub known_goes : (a b c : S) (u v : M) → GoOn i s m b c u v → KnowsPieces i s m first begun u b (s.puts a) → KnowsPieces i s m first begun v c (s.puts b) → KnowsPieces i s m first begun v c (s.puts a)
-  known_goes a b c u v g h k = pieces_later a b c u v (gave_goes s m laws first u v g.summer) s.goes (λ x w. laws.store_steps.both x b c w g.store) h k
+  known_goes a b c u v g h k = pieces_later a b c u v (gave_goes s m laws first u v g.summer) s.goes (λ x w. laws.store_steps.both x b c w g.store) g.gets h k
 
   pub known_fails : (a b c : S) (u v : M) (fault : TreeFault F G) → Fails i s m b c u v fault → KnowsPieces i s m first begun u b (s.puts a) → KnewPieces i s m first begun v c (s.puts b) fault → KnewPieces i s m first begun v c (s.puts a) fault
   known_fails a b c u v (tree_fault.Store fault) f h k =
-      pieces_later a b c u v (gave_goes s m laws first u v f.summer) (λ x y. s.fails x y fault) (λ x w. laws.store_caused x b c fault w (fails_all i s m laws b c fault f.store)) h k
+      pieces_later a b c u v (gave_goes s m laws first u v f.summer) (λ x y. s.fails x y fault) (λ x w. laws.store_caused x b c fault w (fails_all i s m laws b c fault f.store)) f.gets h k
   known_fails a b c u v (tree_fault.BadNode at) f h k = known_goes a b c u v f h k
-  known_fails a b c u v (tree_fault.Summer fault) f h k = pieces_later a b c u v (gave_fails s m laws first i b c u v (tree_fault.Summer fault) f) s.goes (λ x w. laws.store_steps.both x b c w f.store) h k
+  known_fails a b c u v (tree_fault.Summer fault) f h k = pieces_later a b c u v (gave_fails s m laws first i b c u v (tree_fault.Summer fault) f) s.goes (λ x w. laws.store_steps.both x b c w f.store) f.gets h k
   known_fails a b c u v tree_fault.NoMemory f h k = known_goes a b c u v f h k
 
   -- the summaries of a node that was got

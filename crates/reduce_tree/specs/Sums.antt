@@ -1,5 +1,5 @@
 -- Which summaries stand in the nodes that are put.
-use Rattle.std.specs.Prelude.{◌≡◌, ◌⊎◌, ◌∷◌, ◌++◌, ℕ, List, Some, All, Contains, Result, Ok, Err, IfSome, map}
+use Rattle.std.specs.Prelude.{◌≡◌, ◌⊎◌, ◌∷◌, ◌++◌, ℕ, List, [], Some, All, Contains, Result, Ok, Err, IfSome, map}
 use Rattle.std.specs.List.{flat_map}
 use Rattle.tree_laws.specs.declared.item.Item.{Ghosts as Items}
 use Rattle.tree_laws.specs.declared.store.NodeSource.{Ghosts as Sources}
@@ -87,31 +87,40 @@ module _ {T S F M Sum G : Type 0} (i : Items T) (s : Sources S F) (m : Summers M
   abbrev pub KnowsNode : Node T → Type 0
   KnowsNode = KeepsHad i m (IsSumRead i s begun store) first summer
 
+-- each entry that a list with the newest first got since is such, beside all that it had before that entry
+abbrev pub EachInTurn : {X : Type 0} → (X → List X → Type 0) → List X → List X → Type 0
+EachInTurn P [] old = Unit {0}
+EachInTurn P (x ∷ more) old = P x (more ++ old) × EachInTurn P more old
+
 module _ {T S F M Sum G : Type 0} (i : Items T) (s : Sources S F) (m : Summers M T Sum G) (first : M) (begun : S) where
-  -- a piece that was put, or tried, on the way to this state is a node that keeps such summaries alone: what was read of them was read
-  -- before it was put
-  pub record IsPieceKnown (Later : S → S → Type 0) (summer : M) (now : S) (bytes : List ℕ) : Type 0 where
+  -- a piece that was put, or tried, after these earlier ones and on the way to this state, is a node that keeps such summaries alone:
+  -- what was read of them was read before it was put
+  pub record IsPieceKnown (Later : S → S → Type 0) (summer : M) (now : S) (bytes : List ℕ) (earlier : List (List ℕ)) : Type 0 where
     pub before : S
     pub later : Later before now
-    pub more : List (List ℕ)
-    pub order : s.puts now ≡ more ++ bytes ∷ s.puts before
+    pub puts : s.puts before ≡ earlier
+    pub gets : EachSince (λ at. Unit {0}) (s.gets before) (s.gets now)
     pub node : Node T
     pub fits : FitsNode i.fits i.spelled node
     pub bytes_are : bytes ≡ spelled_node i.spelled node
     pub sums : KnowsNode i s m first begun summer before node
 
-  -- each piece that was put since is one, by calls that went on
-  abbrev pub KnowsPieces : M → S → List (List ℕ) → Type 0
-  KnowsPieces summer now old = EachSince (IsPieceKnown s.goes summer now) old (s.puts now)
+  -- each piece that was put since is one
+  abbrev pub ArePiecesKnown : (S → S → Type 0) → M → S → List (List ℕ) → Type 0
+  ArePiecesKnown Later summer now old = (more : List (List ℕ)) × (s.puts now ≡ more ++ old) × EachInTurn (IsPieceKnown Later summer now) more old
 
-  -- the same of a call that gave up
+  -- by calls that went on
+  abbrev pub KnowsPieces : M → S → List (List ℕ) → Type 0
+  KnowsPieces = ArePiecesKnown s.goes
+
+  -- by a call that gave up
   abbrev pub KnewPieces : M → S → List (List ℕ) → TreeFault F G → Type 0
-  KnewPieces summer now old (tree_fault.Store fault) = EachSince (IsPieceKnown (λ a b. s.fails a b fault) summer now) old (s.puts now)
+  KnewPieces summer now old (tree_fault.Store fault) = ArePiecesKnown (λ a b. s.fails a b fault) summer now old
   KnewPieces summer now old (tree_fault.BadNode at) = KnowsPieces summer now old
   KnewPieces summer now old (tree_fault.Summer fault) = KnowsPieces summer now old
   KnewPieces summer now old tree_fault.NoMemory = KnowsPieces summer now old
 
-  -- and whatever it answers
+  -- and whatever is answered
   abbrev pub PutsKnown : {X : Type 0} → M → S → List (List ℕ) → Result X (TreeFault F G) → Type 0
   PutsKnown summer now old (Ok value) = KnowsPieces summer now old
   PutsKnown summer now old (Err fault) = KnewPieces summer now old fault

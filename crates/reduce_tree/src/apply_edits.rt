@@ -34,12 +34,12 @@ use tree_laws::{Item, NodeStore, Steps, Summer, Tree, TreeFault};
 /// so. After `Store` that is by what stood in the store when the call on it began that failed, and else by what stands there after the
 /// call.
 ///
-/// Each piece put, before a refusal too, is a node of 32 entries at most, and of 8 at least but for the root. Its items are those
-/// of the old tree and those inserted. A leaf is put only where the summer was usable, and in this call `leaf` was given exactly its
-/// items. Each summary in an inner node is that of a value that fits. The summer answered its value in this call, or it stood,
-/// where the store tells that, in a node at a place that this call got before it put this one. All this holds too of a piece at which
-/// the store fails; every other stands in the store after the call, and after `Store` it stood there when the call on the store began
-/// that failed.
+/// Each piece put, before a refusal too, is a node of 32 entries at most. A leaf is put only where the summer was usable, and in this
+/// call `leaf` was given exactly its items. Each summary in an inner node is that of a value that fits. The summer answered it in this
+/// call, where the summer notes that, or it stood, where the store tells that, in a node at a place that this call got before it put
+/// this one. All this holds too of a piece at which the store fails. Over a tree each piece has 8 entries at least but for the root,
+/// and its items are those of the old tree and those inserted; it stands in the store after the call, and after `Store`, but for one at
+/// which the store failed, it stood there when the call on the store began that failed.
 ///
 /// `Store` and `Summer` hand on what the store and the summer answered in this call, and the other of the two went on. The place that
 /// `BadNode` names is reached from the tree's root, and no node that fits stands there, or one that keeps a summary with the bytes of

@@ -180,4 +180,4 @@ returns-clause-sums g c first begun knows =
     let i = g.M.Unit.Item in let s = g.S.NodeSource in let m = g.M.Summer in let s0 = c.args.store.now in let u0 = c.args.summer.now in
     let s1 = c.put.new.self in let u1 = c.tell.new.summer in
     let spells = c.as_slice.ensures.value ∙ c.in_ok-bytes.ensures.bytes in
-    put_fails i s m laws first begun s0 s1 u0 u1 c.in-Err.fault c.in-Err.ensures.cause c.in_ok-told.ensures.ran c.args.node c.as_slice.result.now c.in-Err.ensures.puts spells c.in_ok-bytes.ensures.fits knows
+    put_fails i s m laws first begun s0 s1 u0 u1 c.in-Err.fault c.in-Err.ensures.cause c.in_ok-told.ensures.ran c.in-Err.ensures.gets c.args.node c.as_slice.result.now c.in-Err.ensures.puts spells c.in_ok-bytes.ensures.fits knows
