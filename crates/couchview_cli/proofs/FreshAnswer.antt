@@ -2,7 +2,7 @@
 use Rattle.std.proofs.Common.{◌≡◌, ◌∙◌, ℕ, List, length, ap}
 use Rattle.json_terms.specs.declared.term.Row.{Row}
 use Rattle.design_docs.specs.declared.design.Builtin.TheVariants.{Stats}
-use Rattle.doc_file.specs.History.{Write, changes_after}
+use Rattle.design_docs.specs.History.{Write, changes_after}
 use Rattle.query_args.specs.declared.query.Query.{Query}
 use Rattle.view_model.specs.Answer.{answer}
 use Rattle.view_model.specs.Values.{builtin_text}

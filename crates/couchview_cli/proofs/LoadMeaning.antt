@@ -8,8 +8,8 @@ use Rattle.json_terms.specs.Json.{Json, members_of, object}
 use Rattle.design_docs.specs.Documents.{id_of, is_design_id}
 use Rattle.view_ports.specs.Exchanges.{Exchange, LeadsTo, lines_of}
 use Rattle.view_ports.specs.Functions.{Functions}
-use Rattle.doc_file.specs.History.{Write, last_write}
-use Rattle.doc_file.specs.Revision.{revision, stored_document}
+use Rattle.design_docs.specs.History.{Write, last_write}
+use Rattle.design_docs.specs.Revision.{revision, stored_document}
 use Rattle.doc_file.specs.Content.{content}
 use Rattle.view_model.specs.Standing.{IsDesignIn}
 use Rattle.view_engine.specs.declared.request.Request.{Request}

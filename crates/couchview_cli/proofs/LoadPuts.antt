@@ -16,9 +16,9 @@ use Rattle.view_ports.specs.Lines.{ended}
 use Rattle.view_ports.specs.declared.file_name.FileName.{FileName}
 use Rattle.doc_file.specs.Accepted.{state_after, state_of}
 use Rattle.doc_file.specs.Accepted.State.{known, unseen}
-use Rattle.doc_file.specs.History.{Write, generation, last_seq, last_write}
+use Rattle.design_docs.specs.History.{Write, generation, last_seq, last_write}
 use Rattle.doc_file.specs.Incoming.{deletes, given_revision}
-use Rattle.doc_file.specs.Revision.{revision}
+use Rattle.design_docs.specs.Revision.{revision}
 use Rattle.doc_file.specs.Writes.{write_refusal, IsAcceptedPut}
 use Rattle.doc_file.proofs.Histories.{generation-none}
 use Rattle.view_engine.specs.declared.refusal.Refusal.TheVariants.{NoMemory as OutOfMemory}

@@ -12,7 +12,7 @@ use Rattle.view_ports.specs.Faults.{Rose}
 use Rattle.view_ports.specs.Functions.{Functions}
 use Rattle.view_ports.specs.Lines.{ended}
 use Rattle.map_server.specs.Pick.{pick}
-use Rattle.doc_file.specs.History.{Write, live_document}
+use Rattle.design_docs.specs.History.{Write, live_document}
 use Rattle.doc_file.specs.Accepted.{state_of, unseen}
 use Rattle.doc_file.specs.Content.{content}
 use Rattle.doc_file.specs.Incoming.{deletes, given_revision}

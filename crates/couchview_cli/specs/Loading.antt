@@ -22,7 +22,7 @@ use Rattle.query_args.specs.Query.{query_of}
 use Rattle.query_args.specs.declared.query.Query.{Query}
 use Rattle.query_args.specs.declared.query.Target.TheVariants.{View}
 use Rattle.doc_file.specs.Docs.{seq_of}
-use Rattle.doc_file.specs.History.{Write}
+use Rattle.design_docs.specs.History.{Write}
 use Rattle.view_model.specs.Answer.{answer}
 use Rattle.view_model.specs.Rows.{view_rows}
 use Rattle.view_model.specs.Values.{builtin_text}

@@ -1,3 +1,9 @@
+pub mod Decimals
+pub mod Ids
+pub mod LastWrites
+pub mod Numbers
+pub mod MappedOrder
+pub mod MappedLater
 pub mod Faultless
 pub mod Real
 pub mod Revised

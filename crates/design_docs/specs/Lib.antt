@@ -1,4 +1,6 @@
 pub mod Documents
+pub mod History
+pub mod Revision
 pub mod Reduces
 pub mod Faults
 pub mod Design

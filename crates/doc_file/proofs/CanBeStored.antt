@@ -4,9 +4,9 @@ use Rattle.std.specs.Prelude.{filter, nat_lt, MatchOption}
 use Rattle.std.specs.List.{AllByRecursion, cons_option, filter_map}
 use Rattle.json_terms.specs.Json.{Json}
 use Rattle.design_docs.specs.Documents.{is_design_id}
-use Rattle.doc_file.specs.History.{AreStored, IsStoredAs, IsStoredIn, Write, changes_after, last_write, mapped_by, of_others}
+use Rattle.design_docs.specs.History.{AreStored, IsStoredAs, IsStoredIn, Write, changes_after, last_write, mapped_by, of_others}
 use Rattle.doc_file.specs.Laws.{LiveAreStored, MappedAreStored}
-use Rattle.doc_file.proofs.Setting.{same_id}
+use Rattle.design_docs.proofs.Ids.{same_id}
 
 -- ---- lists
 

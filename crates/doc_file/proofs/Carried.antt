@@ -10,7 +10,7 @@ use Rattle.gate_file.proofs.FileFacts.{part_carried}
 use Rattle.doc_file.specs.declared.entry.LastWrite.{LastWrite}
 use Rattle.doc_file.specs.declared.entry.Entry.{Entry}
 use Rattle.doc_file.specs.Record.{record_bytes}
-use Rattle.doc_file.specs.History.{Write, last_write}
+use Rattle.design_docs.specs.History.{Write, last_write}
 use Rattle.doc_file.specs.Held.{HoldsRoot, HoldsWrites, KeepsLast, KeepsDocument, KeepsEach, SpellsRoot, find_last}
 
 module _ (bytes image : List ℕ) (has : HasAll bytes image) where

@@ -24,7 +24,7 @@ use Rattle.doc_file.specs.Held.{IsDocument, IsObject}
 use Rattle.view_ports.specs.Stored.{without}
 use Rattle.doc_file.specs.Content.{content}
 use Rattle.doc_file.specs.Incoming.{IsWritable}
-use Rattle.doc_file.specs.Revision.{revision, stored_document}
+use Rattle.design_docs.specs.Revision.{revision, stored_document}
 use Rattle.doc_file.proofs.Changed.{AreMembers-without, depth-without, find-without, members_count-with_member, MembersFit-with_member, depth-with_member, length-with_member}
 use Rattle.doc_file.proofs.Left.{kept}
 use Rattle.doc_file.proofs.Sizes.{length-quoted, length-text_bytes, length-spelling, members_count-fits, CountsFit-short}

@@ -14,9 +14,9 @@ use Rattle.doc_file.specs.declared.entry.Entry.{Entry}
 use Rattle.doc_file.specs.Designs.{AreDesignIds, AreDesignsOf, IsLiveEntry}
 use Rattle.doc_file.specs.Docs.{bytes_in, entries_of, last_of, IsAt}
 use Rattle.doc_file.specs.Held.{KeepsDocument, KeepsLast, find_last}
-use Rattle.doc_file.specs.History.{Write, last_write, live_document}
+use Rattle.design_docs.specs.History.{Write, last_write, live_document}
 use Rattle.doc_file.proofs.Rises.{found_of_rise}
-use Rattle.doc_file.proofs.Setting.{bool_cases, same_id}
+use Rattle.design_docs.proofs.Ids.{bool_cases, same_id}
 
 -- the id of an entry of a live design document
 abbrev pub live_design : Entry → Option (List ℕ)

@@ -4,14 +4,15 @@ use Rattle.std.specs.Prelude.{Bool, true, false, bytes_eq, cond, filter, is_none
 use Rattle.std.proofs.lemmas.List.Sums.{length-filter}
 use Rattle.doc_file.specs.declared.entry.LastWrite.{LastWrite}
 use Rattle.doc_file.specs.declared.entry.Entry.{Entry}
-use Rattle.doc_file.specs.History.{Write, generation, last_seq, last_write}
+use Rattle.design_docs.specs.History.{Write, generation, last_seq, last_write}
 use Rattle.json_terms.specs.Json.{Json}
 use Rattle.doc_file.specs.Accepted.{state_after, state_in, state_of}
 use Rattle.doc_file.specs.Accepted.State.{known}
-use Rattle.doc_file.specs.Revision.{revision}
+use Rattle.design_docs.specs.Revision.{revision}
 use Rattle.doc_file.specs.Held.{IsKept, KeepsLast, KeepsDocument, KeepsEach, find_last}
 use Rattle.doc_file.specs.Stored.{generation_in, with_last}
-use Rattle.doc_file.proofs.Setting.{bool_cases, same_id, bytes_eq-same, find_last-with_last}
+use Rattle.design_docs.proofs.Ids.{bool_cases, same_id, bytes_eq-same}
+use Rattle.doc_file.proofs.Setting.{find_last-with_last}
 
 -- a write of the id is the newest of the id
 last_write_match : (write : Write) (older : List Write) (id : List ℕ) (w : Write) → (bytes_eq id write.id ≡ true) ⊎ (bytes_eq id write.id ≡ false) → last_write (write ∷ older) id ≡ Some w

@@ -12,7 +12,7 @@ use Rattle.gate_file.specs.declared.fault.GateFault.TheVariants.{Damaged, DiskFa
 use Rattle.doc_file.specs.Accepted.{is_deletion}
 use Rattle.doc_file.specs.Docs.{bytes_in, is_deleted, last_of, IsAt, IsLive, IsSpoiled}
 use Rattle.doc_file.specs.Held.{HasBody, KeepsLast, KeepsDocument}
-use Rattle.doc_file.specs.History.{Write, last_write, live_document}
+use Rattle.design_docs.specs.History.{Write, last_write, live_document}
 use Rattle.doc_file.proofs.Histories.{last_write-id}
 use Rattle.doc_file.proofs.Since.{has_body, one_body}
 

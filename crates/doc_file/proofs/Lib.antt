@@ -21,15 +21,11 @@ mod Written
 pub mod NotOfFile
 mod Storable
 mod Nexts
-mod Numbers
 pub mod Pages
 mod Since
 mod Progress
 mod Known
 mod DesignIds
 mod Tallies
-pub mod LastWrites
-pub mod MappedOrder
-mod MappedLater
 pub mod CanBeStored
 pub mod RevisionLines

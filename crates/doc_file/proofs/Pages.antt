@@ -4,9 +4,9 @@ use Rattle.std.proofs.Common.{refl, sym, ap, arith}
 use Rattle.std.proofs.lemmas.List.Elements.{All-head, All-tail}
 use Rattle.doc_file.specs.declared.docs.changes.Change.{Change}
 use Rattle.doc_file.specs.Changes.{last_number, numbered}
-use Rattle.doc_file.specs.History.{Write, changes_after}
+use Rattle.design_docs.specs.History.{Write, changes_after}
 use Rattle.doc_file.specs.Laws.{ChangesGoInPages}
-use Rattle.doc_file.proofs.Numbers.{rest_after}
+use Rattle.design_docs.proofs.Numbers.{rest_after}
 
 -- behind the first n are those after the last of their numbers
 behind_page : (seq : ℕ) (history : List Write) (n : ℕ) (changes : List (ℕ × Write)) → changes_after seq history ≡ changes → changes ≡ take n changes ++ changes_after (last_number seq (take n changes)) history

@@ -23,7 +23,7 @@ use Rattle.doc_file.specs.Changes.{numbered, AreInOrder, AreWhole, HasDocument, 
 use Rattle.doc_file.specs.Counts.{has_room}
 use Rattle.doc_file.specs.Docs.{bytes_in, entries_of, file_of, last_of, seq_of, IsAt, IsLoaded, IsSpoiled}
 use Rattle.doc_file.specs.Held.{find_last}
-use Rattle.doc_file.specs.History.{Write, changes_after}
+use Rattle.design_docs.specs.History.{Write, changes_after}
 use Rattle.doc_file.proofs.Since.{are_entries, change_is, found_entries, none_left, not_spoiled}
 
 pub record IsSoFar (docs : Docs) (seq n after index : ℕ) (before : Option (Disk FileName)) (items : List Change) : Type 0 where

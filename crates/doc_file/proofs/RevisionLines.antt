@@ -2,13 +2,12 @@
 use Rattle.std.proofs.Common.{◌≢◌, ◌<◌, ◌^◌, ◌++◌, ℕ, List, [], ◌∷◌, codes, decimal, inl, inr, arith}
 use Rattle.std.specs.List.{AllByRecursion}
 use Rattle.std.specs.Int.{to_be_bytes, w128}
-use Rattle.std.proofs.lemmas.Fmt.{decimal_is_IsNumeral}
-use Rattle.std.proofs.lemmas.List.Elements.{All-nil, All-cons, All-append, All-from_get_or}
-use Rattle.std.proofs.lemmas.Str.Parse.{digit_at}
+use Rattle.std.proofs.lemmas.List.Elements.{All-nil, All-cons, All-append}
 use Rattle.hex.specs.Hex.{encode_lower}
 use Rattle.view_ports.specs.Lines.{IsLine}
 use Rattle.view_ports.specs.Stored.{IsHexDigit}
-use Rattle.doc_file.specs.Revision.{revision}
+use Rattle.design_docs.specs.Revision.{revision}
+use Rattle.design_docs.proofs.Decimals.{line-decimal}
 use Rattle.doc_file.proofs.StoredAs.{are_bytes, are_digits}
 
 abbrev Other : ℕ → Type 0
@@ -21,9 +20,6 @@ other_digit c (inr high) is = omega (arith, high.0)
 line-digits : (xs : List ℕ) → AllByRecursion IsHexDigit xs → IsLine xs
 line-digits [] all = All-nil Other
 line-digits (x ∷ xs) all = All-cons Other x xs (other_digit x all.0) (line-digits xs all.1)
-
-pub line-decimal : (n : ℕ) → n < 2 ^ 64 → IsLine (decimal n)
-line-decimal n small = All-from_get_or Other (decimal n) 0 (λ i below. let digit = digit_at (decimal n) i (decimal_is_IsNumeral n small).0.1 below in λ e. omega (arith, digit.0))
 
 pub line-revision : (generation seq : ℕ) → generation < 2 ^ 64 → IsLine (revision generation seq)
 unfolding revision

@@ -16,7 +16,8 @@ use Rattle.doc_file.specs.Held.{find_last}
 use Rattle.doc_file.specs.Record.{precedes, rise, AreEntries, ComesBefore}
 use Rattle.doc_file.specs.Stored.{entry_of, with_last}
 use Rattle.doc_file.proofs.Entries.{is_lt-Less}
-use Rattle.doc_file.proofs.Setting.{bool_cases, bytes_eq-same, equal_id, list_all-weaker, list_all-with_last, same_id, turned}
+use Rattle.design_docs.proofs.Ids.{bool_cases, bytes_eq-same, equal_id, same_id, turned}
+use Rattle.doc_file.proofs.Setting.{list_all-weaker, list_all-with_last}
 
 -- an id below another is below all that the other is below
 precedes_too : (id other : List ℕ) (es : List Entry) → slice_cmp nat_cmp id other ≡ Less → list_all (precedes other) es ≡ true → list_all (precedes id) es ≡ true

@@ -11,12 +11,12 @@ use Rattle.doc_file.specs.declared.entry.LastWrite.{LastWrite}
 use Rattle.doc_file.specs.declared.entry.Entry.{Entry}
 use Rattle.doc_file.specs.Record.{AreEntries}
 use Rattle.doc_file.specs.Stored.{entry_of}
-use Rattle.doc_file.specs.History.{Write, changes_after, last_seq, last_write}
+use Rattle.design_docs.specs.History.{Write, changes_after, last_seq, last_write}
 use Rattle.doc_file.specs.Held.{HasBody, HoldsRoot, IsDocument, IsKept, KeepsLast, KeepsDocument, KeepsEach, find_last}
 use Rattle.doc_file.specs.Changes.{IsNext, IsStored}
-use Rattle.doc_file.proofs.Setting.{bool_cases, same_id}
+use Rattle.design_docs.proofs.Ids.{bool_cases, same_id}
 use Rattle.doc_file.proofs.Histories.{last_write-id}
-use Rattle.doc_file.proofs.Numbers.{first_change, no_change}
+use Rattle.design_docs.proofs.Numbers.{first_change, no_change}
 use Rattle.doc_file.proofs.Rises.{found_of_rise, rise_of_entries}
 
 -- ---- entries of rising ids

@@ -18,7 +18,7 @@ use Rattle.doc_file.specs.declared.entry.Entry.{Entry}
 use Rattle.doc_file.specs.declared.rev.Rev.{Rev}
 use Rattle.doc_file.specs.Record.{IsEntry, IsRoot, AreEntries, record_bytes}
 use Rattle.doc_file.specs.Counts.{is_counted, are_counted, most_writes}
-use Rattle.doc_file.specs.History.{AreStored, IsStoredAs, Write, generation}
+use Rattle.design_docs.specs.History.{AreStored, IsStoredAs, Write, generation}
 use Rattle.doc_file.specs.Held.{HoldsRoot, HoldsWrites, IsBodyOf, KeepsDocument, KeepsEach, find_last}
 use Rattle.doc_file.specs.Stored.{body_of, entry_of, generation_in, last_of, next_rev, place_in, revised, with_last, write_of}
 use Rattle.std.specs.Cmp.{first_so, second_so}

@@ -18,11 +18,12 @@ use Rattle.doc_file.specs.Content.{content}
 use Rattle.doc_file.specs.Held.{IsObject, find_last}
 use Rattle.doc_file.specs.declared.fault.DocFault.{DocFault}
 use Rattle.doc_file.specs.Incoming.{HasId, HasMembers, HasRevision, IsBadDesign, IsShallow, IsSmall, IsUnfit, IsWritable, deletes}
-use Rattle.doc_file.specs.Revision.{revision, stored_document}
+use Rattle.design_docs.specs.Revision.{revision, stored_document}
 use Rattle.doc_file.specs.Stored.{IsStorable, entry_of}
 use Rattle.doc_file.specs.Writes.{content_of}
 use Rattle.doc_file.proofs.Contents.{IsDocument-stored, IsObject-writable, IsUtf8-revision, id_short, length-revision, spelling_short}
-use Rattle.doc_file.proofs.Setting.{passes, same_id}
+use Rattle.design_docs.proofs.Ids.{same_id}
+use Rattle.doc_file.proofs.Setting.{passes}
 use Rattle.doc_file.proofs.StoredAs.{stored_as}
 
 -- leaving out a member leaves what another name finds

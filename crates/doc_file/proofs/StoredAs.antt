@@ -19,13 +19,13 @@ use Rattle.design_docs.specs.Documents.{id_of}
 use Rattle.design_docs.proofs.Revised.{find-with_member}
 use Rattle.doc_file.specs.Content.{content}
 use Rattle.doc_file.specs.Held.{IsObject}
-use Rattle.doc_file.specs.History.{IsStoredAs}
+use Rattle.design_docs.specs.History.{IsStoredAs}
 use Rattle.doc_file.specs.Incoming.{first_bad, is_bad, is_known, IsWritable}
-use Rattle.doc_file.specs.Revision.{revision, stored_document}
+use Rattle.design_docs.specs.Revision.{revision, stored_document}
 use Rattle.doc_file.proofs.Changed.{find-without}
 use Rattle.doc_file.proofs.Contents.{IsDocument-stored, IsUtf8-revision, find-kept, id_at, id_of-stored, length-revision}
 use Rattle.doc_file.proofs.Left.{kept}
-use Rattle.doc_file.proofs.Setting.{bool_cases, bytes_eq-same, equal_id, greater_differs, same_id}
+use Rattle.design_docs.proofs.Ids.{bool_cases, bytes_eq-same, equal_id, greater_differs, same_id}
 
 -- ---- the revision
 

@@ -12,7 +12,7 @@ use Rattle.doc_file.specs.declared.docs.Docs.{Docs}
 use Rattle.doc_file.specs.declared.entry.Entry.{Entry}
 use Rattle.doc_file.specs.Docs.{bytes_in, entries_of, file_of, seq_of, HoldsHistory, IsAt, IsOpen}
 use Rattle.doc_file.specs.Held.{HoldsRoot, HoldsWrites, KeepsEach, Stands, commits_in}
-use Rattle.doc_file.specs.History.{Write}
+use Rattle.design_docs.specs.History.{Write}
 use Rattle.doc_file.proofs.Carried.{writes_of_root}
 use Rattle.doc_file.proofs.Entries.{record_bytes-one}
 

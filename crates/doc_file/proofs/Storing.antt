@@ -23,7 +23,7 @@ use Rattle.doc_file.specs.Counts.{are_counted, has_room}
 use Rattle.doc_file.specs.Docs.{bytes_in, entries_of, file_of, seq_of, IsAt, IsDocsFile, IsLoaded, IsOpen}
 use Rattle.doc_file.specs.Drafts.{IsDraft}
 use Rattle.doc_file.specs.Held.{HoldsRoot, HoldsWrites, IsBodyOf, SpellsRoot, Stands, commits_in, find_last}
-use Rattle.doc_file.specs.History.{IsStoredAs, Write}
+use Rattle.design_docs.specs.History.{IsStoredAs, Write}
 use Rattle.doc_file.specs.Record.{rise, AreEntries, record_bytes}
 use Rattle.doc_file.specs.Stored.{body_of, entry_of, generation_in, last_of, revised, with_last, write_of, IsStorable}
 use Rattle.doc_file.proofs.Carried.{spells_of_root, writes_of_root}

@@ -19,7 +19,7 @@ use Rattle.doc_file.specs.declared.entry.LastWrite.{LastWrite}
 use Rattle.doc_file.specs.declared.entry.Entry.{Entry}
 use Rattle.doc_file.specs.Docs.{bytes_in, entries_of, file_of, info_in, info_of, seq_of, IsAt}
 use Rattle.doc_file.specs.Held.{KeepsEach, find_last}
-use Rattle.doc_file.specs.History.{Write, last_write, last_writes, live, stored}
+use Rattle.design_docs.specs.History.{Write, last_write, last_writes, live, stored}
 use Rattle.doc_file.specs.Record.{AreEntries, ComesBefore}
 use Rattle.doc_file.proofs.Known.{kept_flag, same_flag, write_flag}
 use Rattle.doc_file.proofs.Since.{are_entries}

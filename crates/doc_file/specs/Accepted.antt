@@ -3,8 +3,8 @@ use Rattle.std.specs.Prelude.{ℕ, List, Bool, true, false, not, Option, Some, N
 use Rattle.doc_file.specs.declared.entry.LastWrite.{LastWrite}
 use Rattle.doc_file.specs.declared.fault.DocFault.{DocFault}
 use Rattle.doc_file.specs.declared.fault.DocFault.TheVariants.{Conflict, Missing, Deleted}
-use Rattle.doc_file.specs.History.{Write, last_write, last_seq, generation}
-use Rattle.doc_file.specs.Revision.{revision}
+use Rattle.design_docs.specs.History.{Write, last_write, last_seq, generation}
+use Rattle.design_docs.specs.Revision.{revision}
 
 -- what a database knows of an id: nothing, or the revision of its last write and whether that was a deletion
 pub data State : Type 0 where

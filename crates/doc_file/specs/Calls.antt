@@ -15,7 +15,7 @@ use Rattle.doc_file.specs.declared.rev.Rev.{Rev}
 use Rattle.doc_file.specs.Accepted.{state_in}
 use Rattle.doc_file.specs.Docs.{entries_of, file_of, last_of, seq_of, IsAt, IsDocsFile, IsOpen, IsSame}
 use Rattle.doc_file.specs.Held.{Stands}
-use Rattle.doc_file.specs.History.{Write}
+use Rattle.design_docs.specs.History.{Write}
 use Rattle.doc_file.specs.Reads.{IsCounted}
 use Rattle.doc_file.specs.Stored.{next_rev, size_of, write_of}
 use Rattle.doc_file.specs.Writes.{content_of, write_refusal, IsAcceptedDelete, IsAcceptedPut, IsFileFault, IsRefusedDelete, IsRefusedPut}

@@ -8,7 +8,7 @@ use Rattle.doc_file.specs.declared.entry.LastWrite.{LastWrite}
 use Rattle.doc_file.specs.declared.entry.Entry.{Entry}
 use Rattle.doc_file.specs.Docs.{entries_of, last_of, IsSpoiled}
 use Rattle.doc_file.specs.Held.{HasBody, IsBodyOf}
-use Rattle.doc_file.specs.History.{Write}
+use Rattle.design_docs.specs.History.{Write}
 
 -- a change as its number and its write
 abbrev pub numbered : Change → ℕ × Write

@@ -5,7 +5,7 @@ use Rattle.design_docs.specs.Documents.{is_design_id}
 use Rattle.doc_file.specs.declared.docs.Docs.{Docs}
 use Rattle.doc_file.specs.declared.entry.LastWrite.{LastWrite}
 use Rattle.doc_file.specs.Docs.{last_of}
-use Rattle.doc_file.specs.History.{Write, live_document}
+use Rattle.design_docs.specs.History.{Write, live_document}
 
 -- the last write of an id is there, and is no deletion
 abbrev pub IsLiveEntry : Option LastWrite → Type 0

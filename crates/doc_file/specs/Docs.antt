@@ -13,7 +13,7 @@ use Rattle.doc_file.specs.declared.docs.Info.{Info}
 use Rattle.doc_file.specs.declared.entry.LastWrite.{LastWrite}
 use Rattle.doc_file.specs.declared.entry.Entry.{Entry}
 use Rattle.doc_file.specs.Held.{HasBody, HoldsIn, HoldsWrites, KeepsEach, SpellsRoot, commits_in, find_last}
-use Rattle.doc_file.specs.History.{AreStored, Write, last_writes, live, update_seq}
+use Rattle.design_docs.specs.History.{AreStored, Write, last_writes, live, update_seq}
 
 abbrev pub file_of : Docs → GateFile
 file_of docs = docs.file

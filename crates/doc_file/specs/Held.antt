@@ -19,7 +19,7 @@ use Rattle.doc_file.specs.declared.entry.LastWrite.{LastWrite}
 use Rattle.doc_file.specs.declared.entry.Entry.{Entry}
 use Rattle.doc_file.specs.Record.{IsRoot, record_bytes}
 use Rattle.doc_file.specs.Counts.{are_counted}
-use Rattle.doc_file.specs.History.{AreStored, Write, last_write, last_seq, generation}
+use Rattle.design_docs.specs.History.{AreStored, Write, last_write, last_seq, generation}
 
 abbrev pub IsObject : Json → Type 0
 IsObject (object ms) = Unit {0}

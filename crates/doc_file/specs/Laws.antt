@@ -1,7 +1,6 @@
 -- What the definitions of documents say together.
-use Rattle.std.specs.Prelude.{◌≡◌, ◌<◌, ◌++◌, ℕ, List, [], Some, take, filter, nat_lt, All, AllPairs}
+use Rattle.std.specs.Prelude.{◌≡◌, ◌++◌, ℕ, List, [], Some, take}
 use Rattle.std.specs.List.{AllByRecursion}
-use Rattle.std.specs.List.Sorted.{IsPermutation}
 use Rattle.json_terms.specs.Json.{Json}
 use Rattle.view_ports.specs.File.{File, settled}
 use Rattle.view_ports.specs.Disk.{IsImageOf}
@@ -11,7 +10,7 @@ use Rattle.doc_file.specs.Accepted.{state_in, state_of}
 use Rattle.doc_file.specs.Docs.{last_of, HoldsHistory, IsAt, IsDocsFile}
 use Rattle.doc_file.specs.Held.{Stands}
 use Rattle.doc_file.specs.Changes.{last_number}
-use Rattle.doc_file.specs.History.{AreStored, IsStoredAs, Write, changes_after, last_seq, last_write, live_document, mapped, mapped_after}
+use Rattle.design_docs.specs.History.{AreStored, IsStoredAs, Write, changes_after, live_document, mapped_after}
 
 -- a crash leaves of open documents what stands for their history
 abbrev pub ImagesStand : Type 0
@@ -28,19 +27,6 @@ StatesAreTold = (docs : Docs) (files : FileName → File) (history : List Write)
 -- a folder whose documents' files have no bytes, and of which nothing is pending, holds the history without writes
 abbrev pub EmptyFoldersHoldNoWrites : Type 0
 EmptyFoldersHoldNoWrites = (files : FileName → File) → ((name : FileName) → IsDocsFile name → files name ≡ settled []) → HoldsHistory files []
-
--- the documents that views map are the same in byte order of id and in the order of their writes
-abbrev pub MappedAreListed : Type 0
-MappedAreListed = (history : List Write) → IsPermutation (mapped history) (mapped_after 0 history)
-
--- of those whose last write came after the first `seq` writes too
-abbrev pub LaterAreListed : Type 0
-LaterAreListed = (seq : ℕ) (history : List Write) → IsPermutation (filter (λ entry. nat_lt seq (last_seq history entry.0)) (mapped history)) (mapped_after seq history)
-
--- each change is the last write of its id, with the number of this, and the numbers rise
-abbrev pub ChangesAreNumbered : Type 0
-ChangesAreNumbered = (seq : ℕ) (history : List Write) → AllPairs (λ change later. change.0 < later.0) (changes_after seq history)
-    × All (λ change. (last_write history (change.1).id ≡ Some change.1) × (last_seq history (change.1).id ≡ change.0)) (changes_after seq history)
 
 -- of a history whose documents can be stored each live document can be, and is of its id
 abbrev pub LiveAreStored : Type 0

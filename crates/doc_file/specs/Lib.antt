@@ -1,5 +1,3 @@
-pub mod History
-pub mod Revision
 pub mod Accepted
 pub mod Content
 pub mod Incoming

@@ -12,7 +12,7 @@ use Rattle.doc_file.specs.declared.fault.DocFault.{DocFault}
 use Rattle.doc_file.specs.declared.fault.DocFault.TheVariants.{Deleted, Gate, Missing, NoMemory}
 use Rattle.doc_file.specs.Docs.{file_of, IsAt, IsDocsFile}
 use Rattle.doc_file.specs.Held.{Stands}
-use Rattle.doc_file.specs.History.{Write}
+use Rattle.design_docs.specs.History.{Write}
 
 module _ {F : Type 0} (f : Folders F) where
   -- a fault of the disk comes only where the folder counted one

@@ -9,8 +9,8 @@ use Rattle.doc_file.specs.declared.entry.Entry.{Entry}
 use Rattle.doc_file.specs.declared.rev.Rev.{Rev}
 use Rattle.doc_file.specs.Record.{record_bytes}
 use Rattle.doc_file.specs.Held.{IsBodyOf, find_last}
-use Rattle.doc_file.specs.Revision.{revision, stored_document}
-use Rattle.doc_file.specs.History.{IsStoredAs, Write, generation}
+use Rattle.design_docs.specs.Revision.{revision, stored_document}
+use Rattle.design_docs.specs.History.{IsStoredAs, Write, generation}
 
 abbrev pub entry_of : List ℕ → LastWrite → Entry
 entry_of id last = record { id = id; last = last }

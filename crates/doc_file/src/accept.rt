@@ -1,7 +1,7 @@
 //! Which writes are accepted, by the last write of the id and the revision that was given.
 
 ghost use Rattle.std.specs.Prelude.{◌≡◌, ◌⊎◌, None, Some, true, false, IfOk, OnOk, IfErr, option_map, bytes_eq};
-ghost use Rattle.doc_file.specs.Revision.{revision};
+ghost use Rattle.design_docs.specs.Revision.{revision};
 ghost use Rattle.doc_file.specs.Accepted.{put_conflicts, delete_refusal, state_in};
 
 use crate::entry::LastWrite;

@@ -53,7 +53,7 @@ impl Docs {
     ghost use Rattle.doc_file.specs.Accepted.{is_deletion};
     ghost use Rattle.doc_file.specs.Docs.{bytes_in, file_of, info_in, info_of, last_of, is_deleted, HoldsHistory, IsAt, IsDamagedAt, IsLive, IsOpen, IsSpoiledIn};
     ghost use Rattle.doc_file.specs.Held.{IsBodyOf};
-    ghost use Rattle.doc_file.specs.History.{Write, last_write, live_document};
+    ghost use Rattle.design_docs.specs.History.{Write, last_write, live_document};
     ghost use Rattle.doc_file.specs.Reads.{AtHistory, FindsDamage, FindsNoDamage, IsCounted, IsGetFault, IsReadFault, Opens, StaysAt};
 
     /// Opens the documents' file. Without a commit there was no write.

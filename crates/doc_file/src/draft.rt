@@ -8,7 +8,7 @@ ghost use Rattle.term_codec.specs.Spelling.{spelling};
 ghost use Rattle.doc_file.specs.Counts.{are_counted, has_room};
 ghost use Rattle.doc_file.specs.Drafts.{IsDraft};
 ghost use Rattle.doc_file.specs.Held.{IsDocument, find_last};
-ghost use Rattle.doc_file.specs.Revision.{revision, stored_document};
+ghost use Rattle.design_docs.specs.Revision.{revision, stored_document};
 ghost use Rattle.doc_file.specs.Stored.{body_of, generation_in, next_rev, place_in, revised, IsStorable};
 
 use crate::entry::{Entry, LastWrite};

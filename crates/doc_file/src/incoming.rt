@@ -10,7 +10,7 @@ ghost use Rattle.design_docs.specs.Faults.{HasDesign};
 ghost use Rattle.view_ports.specs.Stored as documents;
 ghost use Rattle.doc_file.specs.Content as parts;
 ghost use Rattle.doc_file.specs.Incoming as spec;
-ghost use Rattle.doc_file.specs.Revision as revision;
+ghost use Rattle.design_docs.specs.Revision as revision;
 
 use crate::fault::DocFault;
 use crate::rev::is_revision;

@@ -1,6 +1,6 @@
 //! Laws of the documents' file. Each holds for all values, and its function does nothing.
 
-ghost use Rattle.doc_file.specs.Laws.{ChangesAreNumbered, ChangesGoInPages, EmptyFoldersHoldNoWrites, FilesHold, ImagesStand, LaterAreListed, LiveAreStored, MappedAreListed, MappedAreStored, StatesAreTold};
+ghost use Rattle.doc_file.specs.Laws.{ChangesGoInPages, EmptyFoldersHoldNoWrites, FilesHold, ImagesStand, LiveAreStored, MappedAreStored, StatesAreTold};
 
 /// Each image that a crash may leave of open documents stands for their history.
 pub fn images_of_open_documents_stand()
@@ -22,22 +22,7 @@ pub fn empty_folders_hold_no_writes()
     ensures { EmptyFoldersHoldNoWrites }
 {}
 
-/// The documents that views map are the same in byte order of id and in the order of their writes.
-pub fn mapped_documents_are_listed()
-    ensures { MappedAreListed }
-{}
-
-/// So are those of them whose last write came after the first so many writes.
-pub fn later_documents_are_listed()
-    ensures { LaterAreListed }
-{}
-
-/// What has changed is the last write of its id, and is listed in the order of the numbers.
-pub fn changes_are_numbered()
-    ensures { ChangesAreNumbered }
-{}
-
-/// It may be listed page by page.
+/// What has changed may be listed page by page.
 pub fn changes_go_in_pages()
     ensures { ChangesGoInPages }
 {}

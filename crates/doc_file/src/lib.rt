@@ -20,9 +20,8 @@ pub use docs::{Docs, Info};
 pub use entry::{Entry, LastWrite};
 pub use fault::DocFault;
 pub use laws::{
-    changes_are_numbered, empty_folders_hold_no_writes, files_of_open_documents_hold,
-    images_of_open_documents_stand, later_documents_are_listed, live_documents_can_be_stored,
-    mapped_documents_are_listed, states_are_told,
+    changes_go_in_pages, empty_folders_hold_no_writes, files_of_open_documents_hold,
+    images_of_open_documents_stand, live_documents_can_be_stored, states_are_told,
 };
 pub use record::{RootRecord, read_root, write_root};
 pub use rev::{Rev, is_revision};

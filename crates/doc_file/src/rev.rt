@@ -3,7 +3,7 @@
 ghost use Rattle.std.specs.Prelude.{◌≡◌, ℕ, ◌≤◌, ◌<◌, ◌^◌, ◌↔◌, IfOk, IsTrue, EachIndex, slice_index, string_bytes, decimal, option_map};
 ghost use Rattle.doc_file.specs.Writes.{IsGiven};
 ghost use Rattle.view_ports.specs.Stored.{IsHexDigit, IsGeneration, IsSequence, IsRevision};
-ghost use Rattle.doc_file.specs.Revision.{revision};
+ghost use Rattle.design_docs.specs.Revision.{revision};
 
 use itoa::Buffer;
 use json_terms::NoMemory;
@@ -27,7 +27,7 @@ pub struct Rev {
 
 impl Rev {
     ghost use Rattle.std.specs.Prelude.{◌≡◌, IfOk, string_bytes};
-    ghost use Rattle.doc_file.specs.Revision.{revision};
+    ghost use Rattle.design_docs.specs.Revision.{revision};
 
     /// The generation in decimal, a dash, and the number of the write in 32 hexadecimal digits. The one error is want of
     /// memory.

@@ -8,7 +8,7 @@ use Rattle.std.proofs.lemmas.List.Elements.{filter_map-append}
 use Rattle.json_terms.specs.Json.{Json}
 use Rattle.doc_file.specs.declared.docs.changes.Change.{Change}
 use Rattle.doc_file.specs.Changes.{numbered}
-use Rattle.doc_file.specs.History.{mapped_by}
+use Rattle.design_docs.specs.History.{mapped_by}
 use Rattle.map_lang.specs.Syntax.{Stmts}
 use Rattle.view_model.specs.Since.{mapped_of}
 use Rattle.fresh_view.specs.Programs.{program_rows}

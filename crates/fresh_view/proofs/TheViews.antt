@@ -1,7 +1,7 @@
 -- The rows from the last writes of a history are those of the view over it.
 use Rattle.std.proofs.Common.{ap, sym, ◌∙◌}
 use Rattle.raw_collation.specs.Sorting.{sorted_rows}
-use Rattle.doc_file.specs.History.{mapped_after}
+use Rattle.design_docs.specs.History.{mapped_after}
 use Rattle.map_server.specs.Pick.{pick}
 use Rattle.view_model.proofs.SortedRows.{emitted_rows-are}
 use Rattle.view_model.proofs.Updates.{rows_are_by_sequence}

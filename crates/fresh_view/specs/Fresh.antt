@@ -3,7 +3,7 @@ use Rattle.std.specs.Prelude.{ℕ, List}
 use Rattle.std.specs.List.{flat_map}
 use Rattle.json_terms.specs.declared.term.Row.{Row}
 use Rattle.raw_collation.specs.Sorting.{sorted_rows}
-use Rattle.doc_file.specs.History.{Write}
+use Rattle.design_docs.specs.History.{Write}
 use Rattle.map_server.specs.Pick.{pick}
 use Rattle.view_model.specs.Rows.{document_rows}
 use Rattle.view_model.specs.Since.{mapped_of}

@@ -1,6 +1,6 @@
 -- What the definition of the rows says of a history.
 use Rattle.std.specs.Prelude.{◌≡◌, ℕ, List}
-use Rattle.doc_file.specs.History.{Write, changes_after}
+use Rattle.design_docs.specs.History.{Write, changes_after}
 use Rattle.map_server.specs.Pick.{pick}
 use Rattle.view_model.specs.Rows.{view_rows}
 use Rattle.fresh_view.specs.Fresh.{fresh_rows}

@@ -12,7 +12,7 @@ use Rattle.std.proofs.lemmas.Fmt.{IsAscii-decimal, length-decimal-le}
 use Rattle.hex.specs.Hex.{encode_lower, encode_with, lower_digits}
 use Rattle.hex.proofs.HexLemmas.{length-encode_with, IsAscii-encode_with}
 use Rattle.view_ports.specs.Stored.{IsHexDigit, IsRevision}
-use Rattle.doc_file.specs.Revision.{revision}
+use Rattle.design_docs.specs.Revision.{revision}
 
 abbrev pub are_ascii : List ℕ → Bool
 are_ascii [] = true

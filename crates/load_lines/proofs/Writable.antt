@@ -7,7 +7,7 @@ use Rattle.view_ports.specs.Stored.{is_id}
 use Rattle.design_docs.specs.Documents.{id_of}
 use Rattle.doc_file.specs.Content.{content}
 use Rattle.doc_file.specs.Incoming.{IsWritable, given_revision, deletes}
-use Rattle.doc_file.specs.Revision.{revision}
+use Rattle.design_docs.specs.Revision.{revision}
 use Rattle.load_lines.specs.Numbers.{value}
 use Rattle.load_lines.specs.Documents.{document_id, amount_and_group, load_design, document, raised}
 use Rattle.load_lines.proofs.Revisions.{IsRevision-revision}

@@ -1,7 +1,7 @@
 -- The documents of a load: a design document with one view, and numbered documents with a group and an amount.
 use Rattle.std.specs.Prelude.{ℕ, ◌+◌, ◌-◌, ◌/◌, ◌%◌, List, ◌++◌, length, replicate, codes, decimal, pos}
 use Rattle.json_terms.specs.Json.{Json, number, object, string, Members, no_members, member}
-use Rattle.doc_file.specs.Revision.{revision}
+use Rattle.design_docs.specs.Revision.{revision}
 use Rattle.load_lines.specs.Numbers.{value}
 
 -- the source of the view's map function

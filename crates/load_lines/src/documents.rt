@@ -1,7 +1,7 @@
 //! The documents as terms.
 
 ghost use Rattle.std.specs.Prelude.{◌≡◌, ◌+◌, IfOk};
-ghost use Rattle.doc_file.specs.Revision.{revision};
+ghost use Rattle.design_docs.specs.Revision.{revision};
 ghost use Rattle.json_terms.specs.Seen.{json};
 ghost use Rattle.load_lines.specs.Documents.{document_id, document_of, raised_of};
 ghost use Rattle.load_lines.specs.Documents.{load_map as map_source};

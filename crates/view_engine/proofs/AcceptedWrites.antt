@@ -4,7 +4,7 @@ use Rattle.std.proofs.Common.{refl, ap, ◌∙◌, inl, inr}
 use Rattle.json_terms.specs.Json.{members_of, object}
 use Rattle.design_docs.specs.Documents.{id_of}
 use Rattle.view_ports.specs.Lines.{ended}
-use Rattle.doc_file.specs.History.{Write}
+use Rattle.design_docs.specs.History.{Write}
 use Rattle.doc_file.specs.Stored.{write_of}
 use Rattle.doc_file.specs.Writes.{content_of}
 use Rattle.view_ports.specs.Exchanges.{Exchange, LeadsTo}

@@ -13,7 +13,7 @@ use Rattle.gate_file.proofs.Beside.{stands_beside}
 use Rattle.doc_file.specs.declared.docs.Docs.{Docs}
 use Rattle.doc_file.specs.Docs.{entries_of, file_of, HoldsHistory, IsAt, IsDocsFile}
 use Rattle.doc_file.specs.Held.{HoldsWrites, KeepsEach, Stands}
-use Rattle.doc_file.specs.History.{Write}
+use Rattle.design_docs.specs.History.{Write}
 use Rattle.doc_file.proofs.Stores.{at_holds}
 use Rattle.view_index.specs.Calls.{IsAt as IsIndexAt}
 use Rattle.view_index.specs.Held.{HoldsIndex, IsFileOf, Stands as IndexStands}

@@ -7,7 +7,7 @@ use Rattle.view_ports.proofs.DiskRuns.{moves_wider}
 use Rattle.view_ports.proofs.Told.{told_given}
 use Rattle.doc_file.specs.Docs.{IsDocsFile}
 use Rattle.doc_file.specs.Held.{Stands}
-use Rattle.doc_file.specs.History.{Write}
+use Rattle.design_docs.specs.History.{Write}
 use Rattle.view_engine.specs.declared.request.Request.{Request}
 use Rattle.view_engine.specs.declared.refusal.Refusal.{Refusal}
 use Rattle.view_engine.specs.World.{World}

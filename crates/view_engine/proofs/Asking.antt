@@ -26,7 +26,7 @@ use Rattle.child_pool.specs.Reductions.{Reduces}
 use Rattle.child_pool.specs.Pools.{languages_of, HasItsChildren}
 use Rattle.child_pool.proofs.Nexts.{first_whole, nothing_first}
 use Rattle.child_pool.proofs.Updated.{stands_stopped}
-use Rattle.doc_file.specs.History.{Write, mapped_by}
+use Rattle.design_docs.specs.History.{Write, mapped_by}
 use Rattle.view_model.proofs.Firsts.{changes_none}
 use Rattle.view_model.specs.Picture.{Picture}
 use Rattle.view_model.specs.Update.{IsUpdated}

@@ -16,7 +16,7 @@ use Rattle.child_pool.specs.Languages.{path_in}
 use Rattle.child_pool.specs.Pools.{languages_of}
 use Rattle.doc_file.specs.declared.docs.Docs.{Docs}
 use Rattle.doc_file.specs.Docs.{IsAt as AreAt}
-use Rattle.doc_file.specs.History.{Write, AreStored}
+use Rattle.design_docs.specs.History.{Write, AreStored}
 use Rattle.view_index.specs.declared.index.Index.{Index}
 use Rattle.view_index.specs.Held.{or_empty, IsFileOf, Stands as IndexStands}
 use Rattle.view_index.specs.Index.{picture_of}

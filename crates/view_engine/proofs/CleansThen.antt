@@ -16,7 +16,7 @@ use Rattle.gate_file.specs.declared.fault.GateFault.TheVariants as gate
 use Rattle.gate_file.proofs.Looks.{told_none_then}
 use Rattle.doc_file.specs.declared.docs.Docs.{Docs}
 use Rattle.doc_file.specs.Docs.{IsAt as AreAt}
-use Rattle.doc_file.specs.History.{Write}
+use Rattle.design_docs.specs.History.{Write}
 use Rattle.view_index.specs.declared.fault.IndexFault.{IndexFault}
 use Rattle.view_index.specs.declared.fault.IndexFault.TheVariants as index
 use Rattle.view_groups.specs.declared.groups.Groups.{Groups}

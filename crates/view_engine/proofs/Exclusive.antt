@@ -6,7 +6,7 @@ use Rattle.view_ports.specs.Functions.{Functions}
 use Rattle.doc_file.specs.declared.fault.DocFault.{DocFault}
 use Rattle.doc_file.specs.declared.fault.DocFault.TheVariants as doc
 use Rattle.doc_file.specs.Accepted.{State}
-use Rattle.doc_file.specs.History.{Write}
+use Rattle.design_docs.specs.History.{Write}
 use Rattle.doc_file.specs.Incoming.{IsUnfit, IsWritable}
 use Rattle.doc_file.specs.Writes.{IsAcceptedDelete, IsAcceptedPut, IsRefusedDelete, IsRefusedPut}
 use Rattle.view_engine.specs.declared.refusal.Refusal.{Refusal}

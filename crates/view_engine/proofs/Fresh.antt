@@ -15,7 +15,7 @@ use Rattle.query_args.specs.declared.query.Query.{Query}
 use Rattle.view_ports.specs.Calls.{Call}
 use Rattle.view_ports.specs.Faults.{Rose, RoseBy}
 use Rattle.view_ports.specs.Functions.{Functions}
-use Rattle.doc_file.specs.History.{Write, live_document}
+use Rattle.design_docs.specs.History.{Write, live_document}
 use Rattle.view_model.specs.Answer.{answer, IsAnswer}
 use Rattle.view_model.specs.Picture.{Picture, picture_or_none}
 use Rattle.view_model.specs.Rows.{spoiled, view_rows}

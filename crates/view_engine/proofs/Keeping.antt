@@ -6,7 +6,7 @@ use Rattle.view_ports.proofs.DiskRuns.{moves_none, none_wider}
 use Rattle.view_ports.proofs.Told.{told_after, told_given, told_still}
 use Rattle.doc_file.specs.declared.docs.Docs.{Docs}
 use Rattle.doc_file.specs.Docs.{IsAt, IsDocsFile, IsOpen}
-use Rattle.doc_file.specs.History.{Write}
+use Rattle.design_docs.specs.History.{Write}
 use Rattle.doc_file.proofs.Stores.{image_now}
 use Rattle.view_engine.specs.declared.request.Request.{Request}
 use Rattle.view_engine.specs.declared.refusal.Refusal.{Refusal}

@@ -16,7 +16,7 @@ use Rattle.doc_file.specs.declared.fault.DocFault.{DocFault}
 use Rattle.doc_file.specs.declared.fault.DocFault.TheVariants as doc
 use Rattle.doc_file.specs.Changes.{numbered, IsSpoiledAfter}
 use Rattle.doc_file.specs.Docs.{bytes_in, file_of, is_deleted, last_of, IsAt as AreAt, IsLoaded, IsOpen as AreOpen, IsSpoiled}
-use Rattle.doc_file.specs.History.{Write}
+use Rattle.design_docs.specs.History.{Write}
 use Rattle.doc_file.specs.Reads.{FindsDamage, FindsNoDamage, IsReadFault}
 use Rattle.view_engine.specs.declared.halt.Halt.{Halt}
 use Rattle.view_engine.specs.declared.halt.Halt.TheVariants.{Refused, Stopped}

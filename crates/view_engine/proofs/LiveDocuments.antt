@@ -8,8 +8,8 @@ use Rattle.std.specs.Map.{lookup, keys_of}
 use Rattle.std.proofs.lemmas.Slice.Eq.{bytes_eq-Decides}
 use Rattle.std.proofs.lemmas.Map.Text.{is_eq-slice_cmp}
 use Rattle.json_terms.specs.Json.{Json}
-use Rattle.doc_file.specs.History.{Write, last_writes, stored, live}
-use Rattle.doc_file.proofs.LastWrites.{IsBelow, Rises, last_writes_rise, order, unlike}
+use Rattle.design_docs.specs.History.{Write, last_writes, stored, live}
+use Rattle.design_docs.proofs.LastWrites.{IsBelow, Rises, last_writes_rise, order, unlike}
 use Rattle.view_engine.specs.Laws.{HasLastWrites, HasLiveDocuments, IsInOrderOfId}
 use Rattle.view_engine.proofs.LastWrites.{last_write-lookup}
 

@@ -11,7 +11,7 @@ use Rattle.view_ports.proofs.DiskRuns.{none_refl}
 use Rattle.view_ports.proofs.Told.{told_back, told_refl}
 use Rattle.doc_file.specs.declared.docs.Docs.{Docs}
 use Rattle.doc_file.specs.Docs.{IsAt}
-use Rattle.doc_file.specs.History.{Write, live_document}
+use Rattle.design_docs.specs.History.{Write, live_document}
 use Rattle.view_signature.specs.Signature.{signature_of}
 use Rattle.view_engine.specs.Cleaning.{AreLiveSignatures, IsSignatureOf}
 use Rattle.doc_file.specs.Designs.{AreDesignsOf}

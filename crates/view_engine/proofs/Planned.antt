@@ -30,7 +30,7 @@ use Rattle.child_pool.specs.Mapping.{IsPart}
 use Rattle.child_pool.specs.Pools.{languages_of}
 use Rattle.doc_file.specs.declared.docs.Docs.{Docs}
 use Rattle.doc_file.specs.Docs.{IsAt as AreAt}
-use Rattle.doc_file.specs.History.{Write, AreStored, live_document}
+use Rattle.design_docs.specs.History.{Write, AreStored, live_document}
 use Rattle.view_index.specs.declared.index.Index.{Index}
 use Rattle.view_index.specs.Index.{picture_of}
 use Rattle.view_updater.specs.declared.fault.UpdateFault.{UpdateFault}

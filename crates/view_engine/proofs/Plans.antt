@@ -16,7 +16,7 @@ use Rattle.design_docs.proofs.ViewOrder.{views_are_few}
 use Rattle.child_pool.specs.Languages.{path_in}
 use Rattle.child_pool.specs.ReduceTalk.{reduce_in}
 use Rattle.doc_file.specs.Held.{IsBodyOf}
-use Rattle.doc_file.specs.History.{Write, last_write, live_document}
+use Rattle.design_docs.specs.History.{Write, last_write, live_document}
 use Rattle.view_updater.proofs.OneTried.{reduce_at}
 use Rattle.view_engine.specs.declared.refusal.Refusal.{Refusal}
 use Rattle.view_engine.specs.declared.refusal.Refusal.TheVariants.{BadQuery, MissingNamedView, UnknownLanguage}

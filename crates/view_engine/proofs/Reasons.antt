@@ -22,7 +22,7 @@ use Rattle.child_pool.specs.declared.pool_fault.PoolFault.TheVariants as fault
 use Rattle.child_pool.specs.Pools.{languages_of}
 use Rattle.doc_file.specs.declared.docs.Docs.{Docs}
 use Rattle.doc_file.specs.Docs.{file_of, seq_of as update_seq, IsAt as AreAt, IsDocsFile, IsLoaded, IsOpen as AreDocumentsOpen}
-use Rattle.doc_file.specs.History.{Write}
+use Rattle.design_docs.specs.History.{Write}
 use Rattle.view_index.specs.declared.fault.IndexFault.TheVariants as index
 use Rattle.view_index.specs.declared.index.Index.{Index}
 use Rattle.view_index.specs.Held.{empty_views, or_empty, IsDamagedAt, IsFileOf}

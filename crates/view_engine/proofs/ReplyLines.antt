@@ -8,7 +8,7 @@ use Rattle.view_ports.specs.Lines.{IsLine}
 use Rattle.view_model.proofs.Lines.{is_line, line, lines3, lines5, lines7}
 use Rattle.doc_file.specs.declared.docs.Info.{Info}
 use Rattle.doc_file.specs.Held.{IsDocument, IsObject}
-use Rattle.doc_file.proofs.RevisionLines.{line-decimal}
+use Rattle.design_docs.proofs.Decimals.{line-decimal}
 use Rattle.view_engine.specs.declared.refusal.Refusal.{Refusal}
 use Rattle.view_engine.specs.declared.refusal.Refusal.TheVariants.{LineTooLong, NotJson, NotWhole, TooDeep, UnknownRequest, NotBuiltYet, BadId, BadMember, BadRev, DocumentTooLarge, DocumentTooDeep, InvalidDesign, Missing, Deleted, MissingNamedView, Conflict, BadQuery, UnknownLanguage, CompilationError, ServerFault, ServerReply, NoMemory}
 use Rattle.query_args.specs.declared.query.Query.{Query}

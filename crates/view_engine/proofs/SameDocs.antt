@@ -10,7 +10,7 @@ use Rattle.doc_file.specs.declared.docs.Docs.{Docs}
 use Rattle.doc_file.specs.declared.entry.Entry.{Entry}
 use Rattle.doc_file.specs.Docs.{bytes_in, entries_of, file_of, seq_of, IsAt, IsLoaded, IsOpen, IsSame}
 use Rattle.doc_file.specs.Held.{HoldsRoot, KeepsEach, commits_in}
-use Rattle.doc_file.specs.History.{Write}
+use Rattle.design_docs.specs.History.{Write}
 
 module _ (old new : Docs) (files : FileName → File) (same : IsSame old new) where
   loaded : IsOpen old files → IsLoaded new files

@@ -6,7 +6,7 @@ use Rattle.view_ports.proofs.DiskRuns.{none_same}
 use Rattle.gate_file.specs.GateFile.{name_of}
 use Rattle.doc_file.specs.declared.docs.Docs.{Docs}
 use Rattle.doc_file.specs.Docs.{bytes_in, file_of, last_of, IsAt, IsSpoiled}
-use Rattle.doc_file.specs.History.{Write}
+use Rattle.design_docs.specs.History.{Write}
 use Rattle.view_engine.specs.Halts.{IsDamage}
 use Rattle.view_engine.proofs.Unmoved.{IsAt-none}
 

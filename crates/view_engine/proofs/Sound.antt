@@ -6,7 +6,7 @@ use Rattle.design_docs.specs.Design.{language_of, views_of}
 use Rattle.view_ports.specs.Exchanges.{Exchange}
 use Rattle.view_ports.specs.Functions.{Functions}
 use Rattle.child_pool.specs.Languages.{path_in}
-use Rattle.doc_file.specs.History.{Write, live_document}
+use Rattle.design_docs.specs.History.{Write, live_document}
 use Rattle.view_model.specs.Standing.{AreSigned, IsDesignIn, PicturesStand}
 use Rattle.view_model.proofs.Designs.{digests_tell_designs}
 use Rattle.view_model.proofs.Standing.{updates_keep_pictures, writes_keep_pictures}

@@ -6,7 +6,7 @@ use Rattle.view_ports.proofs.DiskRuns.{none_refl}
 use Rattle.view_ports.proofs.Told.{told_given, told_still}
 use Rattle.doc_file.specs.declared.docs.Docs.{Docs}
 use Rattle.doc_file.specs.Docs.{IsAt}
-use Rattle.doc_file.specs.History.{Write}
+use Rattle.design_docs.specs.History.{Write}
 use Rattle.view_engine.specs.declared.request.Request.{Request}
 use Rattle.view_engine.specs.declared.refusal.Refusal.{Refusal}
 use Rattle.view_engine.specs.Halts.{IsStill}

@@ -19,7 +19,7 @@ use Rattle.doc_file.specs.declared.fault.DocFault.TheVariants as doc
 use Rattle.doc_file.specs.declared.rev.Rev.{Rev}
 use Rattle.doc_file.specs.Calls.{Writes}
 use Rattle.doc_file.specs.Docs.{file_of, IsAt as AreAt, IsSame}
-use Rattle.doc_file.specs.History.{Write}
+use Rattle.design_docs.specs.History.{Write}
 use Rattle.doc_file.specs.Stored.{write_of}
 use Rattle.doc_file.specs.Writes.{IsFileFault}
 use Rattle.view_engine.specs.declared.halt.Halt.{Halt}

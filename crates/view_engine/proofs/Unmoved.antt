@@ -6,7 +6,7 @@ use Rattle.view_ports.specs.declared.file_name.FileName.{FileName}
 use Rattle.view_ports.proofs.DiskRuns.{none_same}
 use Rattle.doc_file.specs.declared.docs.Docs.{Docs}
 use Rattle.doc_file.specs.Docs.{IsAt, IsOpen}
-use Rattle.doc_file.specs.History.{Write}
+use Rattle.design_docs.specs.History.{Write}
 
 -- the files as one value
 pub files_same : (old new : FileName → File) → ((name : FileName) → new name ≡ old name) → old ≡ new

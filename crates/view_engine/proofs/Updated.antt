@@ -24,7 +24,7 @@ use Rattle.view_model.proofs.NoGroups.{none_picked}
 use Rattle.view_updater.proofs.Tried.{fails_in_place}
 use Rattle.raw_collation.specs.Sorting.{sorted_rows}
 use Rattle.child_pool.specs.Sessions.{AllCompile}
-use Rattle.doc_file.specs.History.{Write, last_write, live_document, mapped, mapped_after}
+use Rattle.design_docs.specs.History.{Write, last_write, live_document, mapped, mapped_after}
 use Rattle.view_model.specs.Picture.{Picture, IsTrueOf, picture_or_none}
 use Rattle.view_model.specs.Rows.{document_rows, has_some, maps_compile, reduce_fails, rows_of, some_reduce_fails, spoiled, view_rows}
 use Rattle.view_model.specs.Since.{first}

@@ -34,7 +34,7 @@ use Rattle.child_pool.specs.Tries.{AllAnswered, Prompt, StopsAt}
 use Rattle.child_pool.specs.Updates.{AfterTries, AfterUpdate}
 use Rattle.child_pool.proofs.Remembered.{kept_is}
 use Rattle.child_pool.proofs.Honesty.{maps_complain_rightly, no_bad_reply}
-use Rattle.doc_file.specs.History.{AreStored, mapped_after}
+use Rattle.design_docs.specs.History.{AreStored, mapped_after}
 use Rattle.doc_file.proofs.CanBeStored.{mapped_are_stored}
 use Rattle.view_index.specs.Held.{empty_views, or_empty}
 use Rattle.view_model.specs.Picture.{Picture, picture_or_none}

@@ -10,7 +10,7 @@ use Rattle.view_ports.proofs.Moments.{weaker}
 use Rattle.view_ports.proofs.Told.{told_after, told_given, told_map, told_now, told_pair}
 use Rattle.doc_file.specs.declared.docs.Docs.{Docs}
 use Rattle.doc_file.specs.Docs.{IsAt as AreAt, IsDocsFile, IsOpen as AreDocumentsOpen}
-use Rattle.doc_file.specs.History.{Write}
+use Rattle.design_docs.specs.History.{Write}
 use Rattle.doc_file.proofs.Stores.{image_now}
 use Rattle.view_groups.specs.declared.groups.Groups.{Groups}
 use Rattle.view_groups.specs.Cleans.{IsIndexFile}

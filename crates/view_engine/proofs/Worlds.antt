@@ -13,7 +13,7 @@ use Rattle.gate_file.proofs.Looks.{told_none_then}
 use Rattle.child_pool.specs.declared.pool.Started.{Started}
 use Rattle.child_pool.specs.Pools.{AreThere}
 use Rattle.child_pool.specs.Sessions.{IsThere}
-use Rattle.doc_file.specs.History.{Write}
+use Rattle.design_docs.specs.History.{Write}
 use Rattle.doc_file.proofs.Stores.{at_holds}
 use Rattle.view_engine.specs.declared.engine.Engine.{Engine}
 use Rattle.view_engine.specs.declared.refusal.Refusal.{Refusal}

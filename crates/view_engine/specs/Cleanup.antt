@@ -3,7 +3,7 @@ use Rattle.std.specs.Prelude.{◌≡◌, ◌⊎◌, List, ℕ, codes, true, Some
 use Rattle.json_terms.specs.Json.{Json}
 use Rattle.design_docs.specs.Documents.{is_design_id}
 use Rattle.view_signature.specs.Signature.{signature_of}
-use Rattle.doc_file.specs.History.{Write, live_document}
+use Rattle.design_docs.specs.History.{Write, live_document}
 use Rattle.view_engine.specs.World.{World}
 
 -- this is the signature of the design of a live document

@@ -2,7 +2,7 @@
 use Rattle.std.specs.Prelude.{◌≡◌, ℕ, List, Option, None}
 use Rattle.doc_file.specs.declared.fault.DocFault.{DocFault}
 use Rattle.doc_file.specs.Accepted.{state_of}
-use Rattle.doc_file.specs.History.{Write}
+use Rattle.design_docs.specs.History.{Write}
 use Rattle.doc_file.specs.Stored.{next_revision, write_of}
 use Rattle.doc_file.specs.Writes.{IsAcceptedDelete, IsRefusedDelete}
 use Rattle.view_engine.specs.declared.refusal.Refusal.{Refusal}

@@ -9,7 +9,7 @@ use Rattle.child_pool.specs.Languages.{path_in}
 use Rattle.view_ports.specs.Faults.{Rose}
 use Rattle.view_ports.specs.Functions.{Functions}
 use Rattle.query_args.specs.Query.{is_updated}
-use Rattle.doc_file.specs.History.{Write, live_document}
+use Rattle.design_docs.specs.History.{Write, live_document}
 use Rattle.view_model.specs.Answer.{answer}
 use Rattle.view_model.specs.Rows.{spoiled, view_rows}
 use Rattle.view_model.specs.Values.{builtin_text}

@@ -7,7 +7,7 @@ use Rattle.view_ports.specs.File.{File}
 use Rattle.view_ports.specs.Functions.{Functions}
 use Rattle.view_ports.specs.declared.file_name.FileName.{FileName}
 use Rattle.view_ports.specs.declared.file_name.Stem.TheVariants.{View as ViewStem}
-use Rattle.doc_file.specs.History.{live_document}
+use Rattle.design_docs.specs.History.{live_document}
 use Rattle.view_signature.specs.Signature.{signature_of}
 use Rattle.view_index.specs.declared.index.Index.{Index}
 use Rattle.view_index.specs.Calls.{IsAt}

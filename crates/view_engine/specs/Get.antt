@@ -3,7 +3,7 @@ use Rattle.std.specs.Prelude.{◌≡◌, ℕ, List, Option, Some, None}
 use Rattle.json_terms.specs.Json.{Json}
 use Rattle.json_terms.specs.Text.{text_of}
 use Rattle.doc_file.specs.Docs.{info_in}
-use Rattle.doc_file.specs.History.{Write, last_write, live_document}
+use Rattle.design_docs.specs.History.{Write, last_write, live_document}
 use Rattle.view_engine.specs.declared.refusal.Refusal.{Refusal}
 use Rattle.view_engine.specs.declared.refusal.Refusal.TheVariants.{Missing, Deleted}
 use Rattle.view_engine.specs.World.{World}

@@ -13,7 +13,7 @@ use Rattle.doc_file.specs.declared.fault.DocFault.TheVariants as doc
 use Rattle.doc_file.specs.Calls.{length_with}
 use Rattle.doc_file.specs.Docs.{bytes_in, file_of, is_deleted, last_of, IsAt, IsDocsFile, IsSpoiled}
 use Rattle.doc_file.specs.Held.{Stands}
-use Rattle.doc_file.specs.History.{Write}
+use Rattle.design_docs.specs.History.{Write}
 use Rattle.doc_file.specs.Writes.{content_of}
 use Rattle.view_engine.specs.declared.halt.Halt.{Halt}
 use Rattle.view_engine.specs.declared.halt.Halt.TheVariants.{Refused, Stopped}

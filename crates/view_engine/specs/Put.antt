@@ -4,7 +4,7 @@ use Rattle.json_terms.specs.Json.{Json}
 use Rattle.design_docs.specs.Documents.{id_of}
 use Rattle.doc_file.specs.declared.fault.DocFault.{DocFault}
 use Rattle.doc_file.specs.Accepted.{state_of}
-use Rattle.doc_file.specs.History.{Write}
+use Rattle.design_docs.specs.History.{Write}
 use Rattle.doc_file.specs.Stored.{next_revision, write_of}
 use Rattle.doc_file.specs.Writes.{IsAcceptedPut, IsRefusedPut, content_of}
 use Rattle.view_engine.specs.declared.refusal.Refusal.{Refusal}

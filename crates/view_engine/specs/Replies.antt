@@ -4,8 +4,8 @@ use Rattle.view_ports.specs.File.{File}
 use Rattle.view_ports.specs.declared.file_name.FileName.{FileName}
 use Rattle.doc_file.specs.declared.docs.Docs.{Docs}
 use Rattle.doc_file.specs.Docs.{entries_of, seq_of, IsAt}
-use Rattle.doc_file.specs.History.{Write}
-use Rattle.doc_file.specs.Revision.{revision}
+use Rattle.design_docs.specs.History.{Write}
+use Rattle.design_docs.specs.Revision.{revision}
 use Rattle.doc_file.specs.Stored.{next_rev, next_revision}
 use Rattle.view_engine.specs.Answer.{write_text}
 

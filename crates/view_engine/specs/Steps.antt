@@ -9,7 +9,7 @@ use Rattle.view_ports.specs.Exchanges.{Exchange}
 use Rattle.view_ports.specs.Calls.{Call}
 use Rattle.child_pool.specs.declared.pool_fault.PoolFault.{PoolFault}
 use Rattle.child_pool.specs.Jobs.{Job}
-use Rattle.doc_file.specs.History.{Write, live_document}
+use Rattle.design_docs.specs.History.{Write, live_document}
 use Rattle.view_engine.specs.declared.request.Request.{Request}
 use Rattle.view_engine.specs.declared.request.Request.TheVariants.{Put, Delete, Get, View, Info, Cleanup}
 use Rattle.view_engine.specs.declared.refusal.Refusal.{Refusal}

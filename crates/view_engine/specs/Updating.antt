@@ -4,7 +4,7 @@ use Rattle.json_terms.specs.Json.{Json}
 use Rattle.design_docs.specs.Design.{design_term, language_of, views_of}
 use Rattle.view_ports.specs.Functions.{Functions}
 use Rattle.child_pool.specs.Languages.{path_in}
-use Rattle.doc_file.specs.History.{Write}
+use Rattle.design_docs.specs.History.{Write}
 use Rattle.view_model.specs.Picture.{Picture, picture_or_none}
 use Rattle.view_model.specs.Rows.{spoiled}
 use Rattle.view_model.specs.Standing.{AreSetAt, IsDesignIn, PicturesStand}

@@ -22,7 +22,7 @@ use Rattle.child_pool.specs.Talk.{AreCutShortIn, AreTurns, talk_of}
 use Rattle.child_pool.specs.Tries.{AllAnswered, Prompt, StopsAt}
 use Rattle.view_engine.specs.declared.refusal.Refusal.{Refusal}
 use Rattle.view_engine.specs.declared.refusal.Refusal.TheVariants.{BadQuery, MissingNamedView, UnknownLanguage, CompilationError, ServerFault, ServerReply}
-use Rattle.doc_file.specs.History.{live_document, mapped_after}
+use Rattle.design_docs.specs.History.{live_document, mapped_after}
 use Rattle.view_engine.specs.World.{World}
 use Rattle.view_engine.specs.Updating.{picture_in, AreFit, IsBrought, IsSound}
 use Rattle.view_engine.specs.Get.{get_refusal}

@@ -1,6 +1,6 @@
 -- The world that requests act on.
 use Rattle.std.specs.Prelude.{◌≡◌, ◌≤◌, ℕ, List, ◌∷◌, length, Some, None}
-use Rattle.doc_file.specs.History.{Write}
+use Rattle.design_docs.specs.History.{Write}
 use Rattle.view_groups.specs.Pictures.{Pictures}
 use Rattle.view_model.specs.Picture.{Picture}
 

@@ -8,7 +8,7 @@ use Rattle.child_pool.specs.Pools.{languages_of, reducer_of, started_of, width_o
 use Rattle.doc_file.specs.declared.docs.Docs.{Docs}
 use Rattle.doc_file.specs.Docs.{HoldsHistory, IsAt as AreAt, IsDamagedAt, IsOpen as AreOpen}
 use Rattle.doc_file.specs.Held.{Stands}
-use Rattle.doc_file.specs.History.{Write}
+use Rattle.design_docs.specs.History.{Write}
 use Rattle.view_groups.specs.Groups.{AreAt as AreIndexesAt, AreOpen as AreIndexesOpen}
 use Rattle.view_groups.specs.Pictures.{AreHeld, StandFor}
 use Rattle.view_engine.specs.declared.engine.Engine.{Engine}

@@ -1,7 +1,7 @@
 //! The laws of the definitions. Each function states some, and does nothing.
 
 ghost use Rattle.std.specs.Prelude.{List, ℕ};
-ghost use Rattle.doc_file.specs.History.{Write};
+ghost use Rattle.design_docs.specs.History.{Write};
 ghost use Rattle.view_engine.specs.Fresh.{RepliesAreFresh};
 ghost use Rattle.view_engine.specs.Laws.{HasLastWrites, HasLiveDocuments, IsAcceptedInTurn, IsInOrderOfId, IsNotRefusedAndDone, IsRefusedOnce, MadeWorldsAreSound, SoundWorldsAreShaped, StepsKeepSound, WorldsBetweenAreSound};
 

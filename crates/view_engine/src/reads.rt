@@ -7,7 +7,7 @@ ghost use Rattle.view_ports.specs.Lines.{ended};
 ghost use Rattle.view_ports.specs.File.{File};
 ghost use Rattle.view_ports.specs.declared.file_name.FileName.{FileName};
 ghost use Rattle.doc_file.specs.Docs.{info_of, IsAt};
-ghost use Rattle.doc_file.specs.History.{Write};
+ghost use Rattle.design_docs.specs.History.{Write};
 ghost use Rattle.view_engine.specs.Answer.{info_text};
 ghost use Rattle.view_engine.specs.Calls.{ActsHere, IsReplyLine};
 ghost use Rattle.view_engine.specs.Disks.{AreOpen};

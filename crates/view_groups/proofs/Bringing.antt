@@ -24,7 +24,7 @@ use Rattle.doc_file.specs.declared.docs.Docs.{Docs}
 use Rattle.doc_file.specs.Changes.{IsSpoiledAfter}
 use Rattle.doc_file.specs.Docs.{bytes_in, entries_of, file_of as documents_file, seq_of as documents_seq, IsAt as AreDocumentsAt, IsDocsFile, IsLoaded as AreLoaded}
 use Rattle.doc_file.specs.Held.{HoldsRoot, KeepsEach}
-use Rattle.doc_file.specs.History.{Write}
+use Rattle.design_docs.specs.History.{Write}
 use Rattle.child_pool.specs.PoolCalls.{path_for}
 use Rattle.child_pool.specs.Pools.{HasItsChildren}
 use Rattle.json_terms.specs.Json.{Json}

@@ -14,7 +14,7 @@ use Rattle.gate_file.specs.GateFile.{name_of}
 use Rattle.design_docs.specs.declared.design.Design.{Design}
 use Rattle.doc_file.specs.declared.docs.Docs.{Docs}
 use Rattle.doc_file.specs.Docs.{file_of, seq_of as written, IsAt as AreDocumentsAt, IsDocsFile, IsLoaded as AreLoaded}
-use Rattle.doc_file.specs.History.{Write}
+use Rattle.design_docs.specs.History.{Write}
 use Rattle.child_pool.specs.declared.pool.Pool.{Pool}
 use Rattle.child_pool.specs.declared.pool_fault.PoolFault.TheVariants.{Compile, ServerFault, UnknownLanguage}
 use Rattle.child_pool.specs.PoolCalls.{path_for, StaysAsMade}

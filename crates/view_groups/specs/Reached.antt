@@ -6,7 +6,7 @@ use Rattle.view_ports.specs.declared.file_name.Stem.TheVariants.{View}
 use Rattle.design_docs.specs.declared.design.Design.{Design}
 use Rattle.doc_file.specs.declared.docs.Docs.{Docs}
 use Rattle.doc_file.specs.Docs.{IsAt as AreDocumentsAt}
-use Rattle.doc_file.specs.History.{Write}
+use Rattle.design_docs.specs.History.{Write}
 use Rattle.json_terms.specs.Seen.{json}
 use Rattle.view_model.specs.Picture.{Picture}
 use Rattle.view_index.specs.Held.{or_empty, Stands}

@@ -9,7 +9,7 @@ use Rattle.std.proofs.lemmas.List.Elements.{filter-append, filter_agree}
 use Rattle.std.proofs.lemmas.List.Folds.{list_any-append}
 use Rattle.json_terms.specs.Json.{Json}
 use Rattle.json_terms.specs.declared.term.Row.{Row}
-use Rattle.doc_file.specs.History.{Write, changes_after, mapped_by}
+use Rattle.design_docs.specs.History.{Write, changes_after, mapped_by}
 use Rattle.raw_collation.specs.Sorting.{sorted_rows}
 use Rattle.view_model.specs.Since.{is_among as is_written, mapped_of}
 use Rattle.view_model.specs.Rows.{emitted_at, emitted_rows, rows_from}

@@ -1,7 +1,7 @@
 -- The rows of the documents that were written, as a replacement takes them.
 use Rattle.std.specs.Prelude.{ℕ, List, [], ◌∷◌, drop, is_some, replicate, slice_index_or, if◌then◌else◌}
 use Rattle.json_terms.specs.Json.{Json}
-use Rattle.doc_file.specs.History.{Write, mapped_by}
+use Rattle.design_docs.specs.History.{Write, mapped_by}
 use Rattle.view_index.specs.declared.doc_rows.DocRows.{DocRows}
 
 -- for each of these writes the rows of its document: a mapped one has the next of these lists, and a deletion or a design document

@@ -7,7 +7,7 @@ use Rattle.view_ports.specs.File.{File, settled}
 use Rattle.view_ports.specs.declared.file_name.FileName.{FileName}
 use Rattle.view_ports.specs.declared.file_name.Stem.{Stem}
 use Rattle.gate_file.specs.Open.{BeforeOpening}
-use Rattle.doc_file.specs.History.{Write, changes_after, mapped_after}
+use Rattle.design_docs.specs.History.{Write, changes_after, mapped_after}
 use Rattle.raw_collation.specs.Sorting.{sorted_rows}
 use Rattle.view_model.specs.Picture.{Picture}
 use Rattle.view_model.specs.Since.{mapped_of}

@@ -6,7 +6,7 @@ use Rattle.json_terms.specs.Text.{text_of}
 use Rattle.json_terms.specs.declared.term.Row.{Row}
 use Rattle.json_terms.proofs.OneLine.{line-quoted}
 use Rattle.view_ports.specs.Lines.{IsLine}
-use Rattle.doc_file.proofs.RevisionLines.{line-decimal}
+use Rattle.design_docs.proofs.Decimals.{line-decimal}
 use Rattle.query_args.specs.declared.query.Query.{Query}
 use Rattle.view_model.specs.Answer.{row_text, seq_text, offset_text}
 use Rattle.view_model.proofs.Lines.{line, lines3, lines7}

@@ -6,7 +6,7 @@ use Rattle.json_terms.specs.Json.{Json}
 use Rattle.json_terms.specs.declared.term.Row.{Row}
 use Rattle.design_docs.specs.declared.design.View.{View}
 use Rattle.view_ports.specs.Functions.{Functions}
-use Rattle.doc_file.specs.History.{Write, changes_after, mapped_after}
+use Rattle.design_docs.specs.History.{Write, changes_after, mapped_after}
 use Rattle.view_model.specs.Update.{emitted_for, ids_of, unchanged_rows, updated_views, IsFreeUpdate, IsUpdatedView}
 use Rattle.view_model.specs.Laws.{RowsOfOthers, ViewsAreUpdatedApart, UpdatesOfNothing}
 use Rattle.view_model.proofs.Free.{updates_are_free}

@@ -2,7 +2,7 @@
 use Rattle.std.specs.Prelude.{take, drop, ◌≡◌, ℕ, List, [], ◌∷◌, ◌++◌, length, filter, refl, Bool, true, false, not, ◌&&◌, ◌||◌, bytes_eq}
 use Rattle.std.specs.List.{AllByRecursion, IsDistinct}
 use Rattle.std.proofs.lemmas.List.{map-append, take-append-drop}
-use Rattle.doc_file.specs.History.{changes_after, mapped_by}
+use Rattle.design_docs.specs.History.{changes_after, mapped_by}
 use Rattle.view_model.proofs.Distinct.{all_mapped, change_ids, changes_distinct, IsApart}
 use Rattle.view_model.proofs.Updates.{same_length}
 use Rattle.std.proofs.Common.{subst, ap, sym, ◌∙◌, append_assoc, arith}
@@ -10,7 +10,7 @@ use Rattle.std.proofs.lemmas.List.Elements.{filter-append, filter_agree, filter_
 use Rattle.json_terms.specs.Json.{Json}
 use Rattle.json_terms.specs.declared.term.Row.{Row}
 use Rattle.raw_collation.specs.Sorting.{sorted_rows}
-use Rattle.doc_file.specs.History.{Write}
+use Rattle.design_docs.specs.History.{Write}
 use Rattle.view_model.specs.Since.{is_among, mapped_of}
 use Rattle.view_model.specs.Rows.{emitted_rows, rows_from}
 use Rattle.view_model.specs.Update.{ids_of, unchanged_rows, updated_rows}

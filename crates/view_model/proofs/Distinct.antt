@@ -6,7 +6,7 @@ use Rattle.std.proofs.lemmas.List.{map-append}
 use Rattle.std.proofs.lemmas.Bool.{or_right}
 use Rattle.std.proofs.lemmas.Slice.Eq.{bytes_eq-Decides}
 use Rattle.design_docs.specs.Documents.{is_design_id}
-use Rattle.doc_file.specs.History.{Write, changes_after, of_others, mapped_after}
+use Rattle.design_docs.specs.History.{Write, changes_after, of_others, mapped_after}
 use Rattle.view_model.specs.Since.{is_among, mapped_of}
 use Rattle.view_model.specs.Update.{ids_of}
 use Rattle.view_model.proofs.Lists.{filter-map}

@@ -14,14 +14,14 @@ use Rattle.raw_collation.specs.Sorting.{sorted_rows}
 use Rattle.raw_collation.proofs.Totals.{rows_cmp_total}
 use Rattle.raw_collation.proofs.SortedRows.{sorted_rows_is_sorted, sorted_rows-sorted}
 use Rattle.view_ports.specs.Functions.{Functions}
-use Rattle.doc_file.specs.History.{Write, changes_after, mapped, mapped_after}
+use Rattle.design_docs.specs.History.{Write, changes_after, mapped, mapped_after}
 use Rattle.view_model.specs.Since.{first, is_among}
 use Rattle.view_model.specs.Rows.{emitted_rows, rows_from}
 use Rattle.view_model.specs.Update.{ids_of, unchanged_rows, updated_rows, updated_views, AreOfOne, IsFreeUpdate}
 use Rattle.view_model.specs.Laws.{UpdatesAreFree}
 use Rattle.view_model.proofs.Lists.{filter_both}
 use Rattle.view_model.proofs.Histories.{mapped_since}
-use Rattle.doc_file.proofs.MappedOrder.{mapped_listed}
+use Rattle.design_docs.proofs.MappedOrder.{mapped_listed}
 use Rattle.view_model.proofs.SortedRows.{filter-sorted_rows, rows_from_pass, rows_from_fail}
 use Rattle.view_model.proofs.Distinct.{mapped_distinct, mapped_among}
 use Rattle.design_docs.specs.declared.design.View.{View}

@@ -6,7 +6,7 @@ use Rattle.std.proofs.lemmas.Bool.{cases_Bool, lt-ltb}
 use Rattle.std.proofs.lemmas.List.Elements.{filter-append, filter_agree, filter_map-append}
 use Rattle.std.proofs.lemmas.Slice.Eq.{bytes_eq-Decides}
 use Rattle.json_terms.specs.Json.{Json}
-use Rattle.doc_file.specs.History.{Write, changes_after, of_others, mapped_by, mapped_after}
+use Rattle.design_docs.specs.History.{Write, changes_after, of_others, mapped_by, mapped_after}
 use Rattle.design_docs.specs.Documents.{is_design_id}
 use Rattle.view_model.specs.Since.{first, is_among, mapped_of}
 use Rattle.view_model.proofs.Lists.{filter_all, filter_both}

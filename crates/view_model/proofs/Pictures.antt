@@ -6,14 +6,14 @@ use Rattle.std.proofs.lemmas.List.Sorted.{length_permutation}
 use Rattle.json_terms.specs.Json.{Json}
 use Rattle.json_terms.specs.declared.term.Row.{Row}
 use Rattle.view_ports.specs.Functions.{Functions}
-use Rattle.doc_file.specs.History.{Write, changes_after, mapped, mapped_after}
+use Rattle.design_docs.specs.History.{Write, changes_after, mapped, mapped_after}
 use Rattle.view_model.specs.Since.{first, is_among}
 use Rattle.view_model.specs.Rows.{rows_of, spoiled, maps_compile, has_some, reduce_fails, some_reduce_fails}
 use Rattle.view_model.specs.Picture.{Picture, IsTrueOf}
 use Rattle.view_model.specs.Laws.{NoPictureIsTrue, StaysTrue, IsTrueBefore, ComplaintsMeetAll, IsSpoiledAsMet, IsSpoiledByMapped}
 use Rattle.view_model.proofs.Firsts.{first_all, first_less, first_none, first-first, length-first}
 use Rattle.view_model.proofs.Histories.{mapped_since}
-use Rattle.doc_file.proofs.MappedOrder.{mapped_listed}
+use Rattle.design_docs.proofs.MappedOrder.{mapped_listed}
 use Rattle.view_model.proofs.Updates.{updates_are_afresh}
 use Rattle.design_docs.specs.declared.design.View.{View}
 use Rattle.design_docs.specs.declared.design.Reduce.{Reduce}

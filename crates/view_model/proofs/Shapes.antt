@@ -12,7 +12,7 @@ use Rattle.raw_collation.specs.Sorting.{insert_row, sorted_rows}
 use Rattle.raw_collation.proofs.SortedRows.{sorted_rows_is_sorted}
 use Rattle.design_docs.specs.declared.design.View.{View}
 use Rattle.view_ports.specs.Functions.{Functions}
-use Rattle.doc_file.specs.History.{Write, changes_after, mapped_after}
+use Rattle.design_docs.specs.History.{Write, changes_after, mapped_after}
 use Rattle.view_model.specs.Since.{first}
 use Rattle.view_model.specs.Rows.{RiseStrictly, rows_of, view_rows}
 use Rattle.view_model.specs.Picture.{IsShaped, picture_or_none}

@@ -5,7 +5,7 @@ use Rattle.std.proofs.Common.{ap, sym, ◌∙◌, arith}
 use Rattle.std.proofs.lemmas.Bool.{le-ltb, ltb-false, or_right}
 use Rattle.std.proofs.lemmas.List.Elements.{filter-append, filter_agree}
 use Rattle.json_terms.specs.Json.{Json}
-use Rattle.doc_file.specs.History.{Write, changes_after, of_others, last_seq, mapped_after}
+use Rattle.design_docs.specs.History.{Write, changes_after, of_others, last_seq, mapped_after}
 use Rattle.view_model.specs.Since.{first, is_among}
 use Rattle.view_model.specs.Update.{ids_of}
 use Rattle.view_model.specs.Laws.{ChangedIsWrittenSince, MapsWrittenSince}

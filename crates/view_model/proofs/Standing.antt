@@ -6,7 +6,7 @@ use Rattle.std.proofs.lemmas.List.Elements.{Contains-append_right}
 use Rattle.std.proofs.lemmas.Slice.Eq.{bytes_eq-Decides}
 use Rattle.json_terms.specs.Json.{Json}
 use Rattle.view_ports.specs.Functions.{Functions}
-use Rattle.doc_file.specs.History.{Write}
+use Rattle.design_docs.specs.History.{Write}
 use Rattle.view_model.specs.Since.{first}
 use Rattle.view_model.specs.Picture.{Picture, IsTrueOf, picture_or_none, IsShaped}
 use Rattle.view_model.specs.Standing.{AreSetAt, DropsKeepPictures, FirstsHavePictures, IsDesignIn, PicturesStand, UpdatesKeepPictures, WritesKeepPictures, NoPicturesStand}

@@ -19,7 +19,7 @@ use Rattle.raw_collation.specs.Sorting.{sorted_rows}
 use Rattle.raw_collation.proofs.Totals.{rows_cmp_total}
 use Rattle.raw_collation.proofs.Equals.{rows_cmp-equal}
 use Rattle.raw_collation.proofs.SortedRows.{sorted_rows_is_sorted, sorted_rows_permutes}
-use Rattle.doc_file.specs.History.{Write, changes_after, mapped_after}
+use Rattle.design_docs.specs.History.{Write, changes_after, mapped_after}
 use Rattle.view_model.specs.Since.{is_among}
 use Rattle.view_model.specs.Rows.{emitted_by, emitted_rows, rows_from, same_place, RiseStrictly}
 use Rattle.view_model.specs.Update.{ids_of, unchanged_rows}

@@ -8,7 +8,7 @@ use Rattle.json_terms.specs.declared.term.Row.{Row}
 use Rattle.raw_collation.specs.Sorting.{sorted_rows}
 use Rattle.raw_collation.proofs.SortedRows.{sorted_rows_permutes, sorted_rows-permutation}
 use Rattle.view_ports.specs.Functions.{Functions}
-use Rattle.doc_file.specs.History.{Write, changes_after, mapped, mapped_after}
+use Rattle.design_docs.specs.History.{Write, changes_after, mapped, mapped_after}
 use Rattle.view_model.specs.Since.{first, is_among}
 use Rattle.view_model.specs.Rows.{document_rows, emitted_by, view_rows, rows_of, spoiled}
 use Rattle.view_model.specs.Picture.{Picture}
@@ -17,7 +17,7 @@ use Rattle.view_model.specs.Laws.{RowsAreBySequence, UpdatesAreAfresh, UpdatesEx
 use Rattle.view_model.proofs.Lists.{filter-permutation, flat_map-permutation, flat_map-append}
 use Rattle.view_model.proofs.Histories.{mapped_since}
 use Rattle.view_model.proofs.Firsts.{first_all}
-use Rattle.doc_file.proofs.MappedOrder.{mapped_listed}
+use Rattle.design_docs.proofs.MappedOrder.{mapped_listed}
 use Rattle.view_model.proofs.SortedRows.{emitted_rows-are, rows-filter}
 use Rattle.design_docs.specs.declared.design.View.{View}
 

@@ -4,7 +4,7 @@ use Rattle.std.specs.List.{AllByRecursion, AllZip, IsDistinct}
 use Rattle.raw_collation.specs.Collation.{rows_cmp}
 use Rattle.raw_collation.specs.Sorting.{sorted_rows}
 use Rattle.view_ports.specs.Functions.{Functions}
-use Rattle.doc_file.specs.History.{Write, changes_after, last_seq, mapped, mapped_after}
+use Rattle.design_docs.specs.History.{Write, changes_after, last_seq, mapped, mapped_after}
 use Rattle.view_model.specs.Since.{first, is_among, mapped_of}
 use Rattle.view_model.specs.Rows.{view_rows, emitted_rows, inserted, emitted_by, rows_of, spoiled, maps_compile, some_reduce_fails, has_some, same_place, RiseStrictly}
 use Rattle.view_model.specs.Picture.{Picture, IsTrueOf, picture_or_none, IsShaped}

@@ -2,7 +2,7 @@
 use Rattle.std.specs.Prelude.{◌≡◌, ◌≤◌, ℕ, List, [], map, length, false, Option, Some, None}
 use Rattle.json_terms.specs.declared.term.Row.{Row}
 use Rattle.view_ports.specs.Functions.{Functions}
-use Rattle.doc_file.specs.History.{Write}
+use Rattle.design_docs.specs.History.{Write}
 use Rattle.view_model.specs.Since.{first}
 use Rattle.view_model.specs.Rows.{rows_of, spoiled, RiseStrictly}
 use Rattle.design_docs.specs.declared.design.View.{View}

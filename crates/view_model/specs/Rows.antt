@@ -7,7 +7,7 @@ use Rattle.json_terms.specs.declared.term.Row.{Row}
 use Rattle.view_ports.specs.Functions.{Functions}
 use Rattle.query_protocol.specs.CommandLines.{document_of}
 use Rattle.raw_collation.specs.Sorting.{insert_row, sorted_rows}
-use Rattle.doc_file.specs.History.{Write, mapped}
+use Rattle.design_docs.specs.History.{Write, mapped}
 use Rattle.design_docs.specs.declared.design.View.{View}
 use Rattle.design_docs.specs.declared.design.Reduce.{Reduce}
 use Rattle.design_docs.specs.declared.design.Reduce.TheVariants.{Source}

@@ -2,7 +2,7 @@
 use Rattle.std.specs.Prelude.{ℕ, List, [], ◌∷◌, Bool, nat_lt, length, bytes_eq, if◌then◌else◌}
 use Rattle.std.specs.List.{filter_map, list_any}
 use Rattle.json_terms.specs.Json.{Json}
-use Rattle.doc_file.specs.History.{Write, mapped_by}
+use Rattle.design_docs.specs.History.{Write, mapped_by}
 
 -- the first `count` writes, or all where there are no more
 abbrev pub first : ℕ → List Write → List Write

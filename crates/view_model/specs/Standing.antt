@@ -5,7 +5,7 @@ use Rattle.design_docs.specs.Documents.{is_design_id}
 use Rattle.design_docs.specs.declared.design.View.{View}
 use Rattle.design_docs.specs.Design.{design_term, language_of, views_of}
 use Rattle.view_ports.specs.Functions.{Functions}
-use Rattle.doc_file.specs.History.{Write}
+use Rattle.design_docs.specs.History.{Write}
 use Rattle.view_model.specs.Since.{first}
 use Rattle.view_model.specs.Rows.{spoiled}
 use Rattle.view_model.specs.Picture.{Picture, IsTrueOf, picture_or_none, IsShaped}

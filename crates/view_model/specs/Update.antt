@@ -6,7 +6,7 @@ use Rattle.json_terms.specs.declared.term.Row.{Row}
 use Rattle.view_ports.specs.Functions.{Functions}
 use Rattle.raw_collation.specs.Sorting.{sorted_rows}
 use Rattle.raw_collation.specs.Collation.{rows_cmp}
-use Rattle.doc_file.specs.History.{Write, changes_after, mapped, mapped_after}
+use Rattle.design_docs.specs.History.{Write, changes_after, mapped, mapped_after}
 use Rattle.view_model.specs.Since.{is_among}
 use Rattle.view_model.specs.Rows.{emitted_by, emitted_rows, rows_from, emitted_at}
 use Rattle.view_model.specs.Picture.{Picture}

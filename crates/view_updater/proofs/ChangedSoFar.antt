@@ -13,7 +13,7 @@ use Rattle.query_protocol.specs.CommandLines.{document_of, IsDocument}
 use Rattle.doc_file.specs.declared.docs.changes.Change.{Change}
 use Rattle.doc_file.specs.Changes.{numbered, HasDocument}
 use Rattle.doc_file.specs.Held.{IsBodyOf, IsObject}
-use Rattle.doc_file.specs.History.{mapped_by}
+use Rattle.design_docs.specs.History.{mapped_by}
 use Rattle.view_model.specs.Since.{mapped_of}
 use Rattle.view_updater.specs.declared.changed.Changed.{Changed}
 use Rattle.view_updater.specs.declared.changed.Written.{Written}

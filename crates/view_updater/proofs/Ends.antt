@@ -16,7 +16,7 @@ use Rattle.view_ports.proofs.Told.{told_after, told_given, told_now, told_pair, 
 use Rattle.design_docs.specs.declared.design.Design.{Design}
 use Rattle.doc_file.specs.declared.docs.Docs.{Docs}
 use Rattle.doc_file.specs.Docs.{seq_of as written, IsAt as AreAt}
-use Rattle.doc_file.specs.History.{AreStored, Write, changes_after}
+use Rattle.design_docs.specs.History.{AreStored, Write, changes_after}
 use Rattle.child_pool.specs.declared.doc_rows.DocRowLists.{DocRowLists}
 use Rattle.child_pool.specs.declared.pool.Pool.{Pool}
 use Rattle.child_pool.specs.declared.pool_fault.PoolFault.{PoolFault}

@@ -15,7 +15,7 @@ use Rattle.design_docs.specs.declared.design.Design.{Design}
 use Rattle.doc_file.specs.declared.docs.Docs.{Docs}
 use Rattle.doc_file.specs.Changes.{last_number}
 use Rattle.doc_file.specs.Docs.{IsAt as AreAt}
-use Rattle.doc_file.specs.History.{Write, changes_after}
+use Rattle.design_docs.specs.History.{Write, changes_after}
 use Rattle.doc_file.proofs.Pages.{go_in_pages}
 use Rattle.child_pool.specs.declared.doc_rows.DocRowLists.{DocRowLists}
 use Rattle.child_pool.specs.declared.pool.Pool.{Pool}

@@ -10,7 +10,7 @@ use Rattle.query_protocol.specs.Replies.{is_within_bounds}
 use Rattle.view_ports.specs.Functions.{part_depth, part_limit}
 use Rattle.doc_file.specs.declared.docs.changes.Change.{Change}
 use Rattle.doc_file.specs.Changes.{numbered, HasShortId}
-use Rattle.doc_file.specs.History.{Write, mapped_by}
+use Rattle.design_docs.specs.History.{Write, mapped_by}
 use Rattle.child_pool.specs.Mapping.{AreBounded, AreParts, IsPart}
 use Rattle.view_model.specs.Since.{mapped_of}
 use Rattle.view_index.specs.Changed.{changed_rows}

@@ -12,7 +12,7 @@ use Rattle.view_ports.specs.Stored.{IsStoredDocument}
 use Rattle.design_docs.specs.declared.design.View.{View}
 use Rattle.design_docs.specs.Design.{map_sources}
 use Rattle.query_protocol.specs.CommandLines.{document_of}
-use Rattle.doc_file.specs.History.{AreStored, IsStoredAs, Write, changes_after, mapped_after}
+use Rattle.design_docs.specs.History.{AreStored, IsStoredAs, Write, changes_after, mapped_after}
 use Rattle.doc_file.proofs.CanBeStored.{mapped_are_stored}
 use Rattle.child_pool.specs.Pools.{AreRowsOf}
 use Rattle.child_pool.proofs.Batches.{honest_lists}

@@ -19,7 +19,7 @@ use Rattle.doc_file.specs.declared.fault.DocFault.{DocFault}
 use Rattle.doc_file.specs.declared.fault.DocFault.TheVariants as doc
 use Rattle.doc_file.specs.Changes.{IsSpoiledAfter}
 use Rattle.doc_file.specs.Docs.{bytes_in, file_of, IsAt as AreAt, IsLoaded as AreLoaded}
-use Rattle.doc_file.specs.History.{Write}
+use Rattle.design_docs.specs.History.{Write}
 use Rattle.doc_file.specs.Reads.{FindsDamage, IsReadFault}
 use Rattle.child_pool.specs.declared.pool_fault.PoolFault.{PoolFault}
 use Rattle.child_pool.specs.declared.pool_fault.PoolFault.TheVariants as pool

@@ -8,7 +8,7 @@ use Rattle.json_terms.specs.Json.{Json}
 use Rattle.json_terms.specs.declared.term.Row.{Row}
 use Rattle.raw_collation.specs.Sorting.{sorted_rows}
 use Rattle.query_protocol.specs.CommandLines.{document_of}
-use Rattle.doc_file.specs.History.{Write, changes_after, mapped_by}
+use Rattle.design_docs.specs.History.{Write, changes_after, mapped_by}
 use Rattle.child_pool.specs.Firsts.{has_some}
 use Rattle.view_model.specs.Since.{mapped_of}
 use Rattle.view_model.proofs.Distinct.{change_ids, changes_distinct}

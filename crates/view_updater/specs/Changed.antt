@@ -1,7 +1,7 @@
 -- The documents that were written, as they are read.
 use Rattle.std.specs.Prelude.{◌≡◌, ℕ, List, map, is_some}
 use Rattle.query_protocol.specs.CommandLines.{document_of}
-use Rattle.doc_file.specs.History.{Write, mapped_by}
+use Rattle.design_docs.specs.History.{Write, mapped_by}
 use Rattle.view_model.specs.Since.{mapped_of}
 use Rattle.view_updater.specs.declared.changed.Written.{Written}
 use Rattle.view_updater.specs.declared.changed.Changed.{Changed}

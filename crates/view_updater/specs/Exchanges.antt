@@ -12,7 +12,7 @@ use Rattle.doc_file.specs.declared.docs.Docs.{Docs}
 use Rattle.doc_file.specs.declared.docs.changes.Changes.{Changes}
 use Rattle.doc_file.specs.Changes.{numbered, HasDocument, HasShortId}
 use Rattle.doc_file.specs.Docs.{IsAt as AreAt, IsLoaded as AreLoaded}
-use Rattle.doc_file.specs.History.{Write, changes_after}
+use Rattle.design_docs.specs.History.{Write, changes_after}
 use Rattle.child_pool.specs.declared.doc_rows.DocRowLists.{DocRowLists}
 use Rattle.child_pool.specs.declared.pool_fault.PoolFault.TheVariants.{ServerFault, UnknownLanguage}
 use Rattle.child_pool.specs.Firsts.{has_some, FirstAreMapped}

@@ -19,7 +19,7 @@ use Rattle.query_protocol.specs.CommandLines.{document_of}
 use Rattle.doc_file.specs.declared.docs.Docs.{Docs}
 use Rattle.doc_file.specs.Changes.{IsSpoiledAfter}
 use Rattle.doc_file.specs.Docs.{bytes_in, file_of, seq_of as written, IsAt as AreAt, IsLoaded as AreLoaded}
-use Rattle.doc_file.specs.History.{Write, mapped_after}
+use Rattle.design_docs.specs.History.{Write, mapped_after}
 use Rattle.child_pool.specs.declared.doc_rows.DocRowLists.{DocRowLists}
 use Rattle.child_pool.specs.declared.pool.Pool.{Pool}
 use Rattle.child_pool.specs.declared.pool_fault.PoolFault.{PoolFault}

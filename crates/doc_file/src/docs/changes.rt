@@ -7,7 +7,7 @@ ghost use Rattle.gate_file.specs.Calls.{Moved, ReadsUpTo, Told};
 ghost use Rattle.gate_file.specs.GateFile.{name_of};
 ghost use Rattle.doc_file.specs.Changes.{last_number, numbered, AreInOrder, AreWhole, HasDocument, HasShortId, IsChange, IsNext, IsSpoiledAfter, IsStored};
 ghost use Rattle.doc_file.specs.Docs.{bytes_in, file_of, IsLoaded, IsSpoiled};
-ghost use Rattle.doc_file.specs.History.{changes_after};
+ghost use Rattle.design_docs.specs.History.{changes_after};
 ghost use Rattle.doc_file.specs.Reads.{AtHistory, FindsDamage, FindsNoDamage, IsCounted, IsReadFault};
 
 use super::Docs;

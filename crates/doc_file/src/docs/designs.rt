@@ -5,7 +5,7 @@ ghost use Rattle.view_ports.specs.File.{File};
 ghost use Rattle.view_ports.specs.declared.file_name.FileName.{FileName};
 ghost use Rattle.doc_file.specs.Designs.{AreDesignIds, AreDesignsOf};
 ghost use Rattle.doc_file.specs.Docs.{IsAt};
-ghost use Rattle.doc_file.specs.History.{Write};
+ghost use Rattle.design_docs.specs.History.{Write};
 
 use super::Docs;
 use design_docs::is_design_id;

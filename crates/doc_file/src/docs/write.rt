@@ -7,8 +7,8 @@ ghost use Rattle.view_ports.specs.declared.file_name.FileName.{FileName as Name}
 ghost use Rattle.gate_file.specs.Calls.{Told};
 ghost use Rattle.doc_file.specs.Calls.{refusal_of, Deletes, IsUntouched, Puts, Stores};
 ghost use Rattle.doc_file.specs.Docs.{entries_of, file_of, seq_of, IsAt, IsOpen};
-ghost use Rattle.doc_file.specs.History.{Write};
-ghost use Rattle.doc_file.specs.Revision.{revision};
+ghost use Rattle.design_docs.specs.History.{Write};
+ghost use Rattle.design_docs.specs.Revision.{revision};
 ghost use Rattle.doc_file.specs.Stored.{next_rev as next_rev_of, next_revision, IsStorable};
 ghost use Rattle.doc_file.specs.Writes.{IsFileFault};
 

@@ -6,7 +6,7 @@ ghost use Rattle.view_ports.specs.File.{File};
 ghost use Rattle.view_ports.specs.declared.file_name.FileName.{FileName};
 ghost use Rattle.doc_file.specs.Changes.{numbered};
 ghost use Rattle.doc_file.specs.Docs.{seq_of};
-ghost use Rattle.doc_file.specs.History.{changes_after};
+ghost use Rattle.design_docs.specs.History.{changes_after};
 ghost use Rattle.view_engine.specs.Disks.{IsReadReasonOf, LiesOpen};
 ghost use Rattle.view_engine.specs.World.{World};
 ghost use Rattle.view_engine.specs.Worlds.{IsAtWorld};

@@ -2,7 +2,7 @@
 use Rattle.std.specs.Prelude.{List, take}
 use Rattle.view_ports.specs.Disk.{IfTold}
 use Rattle.doc_file.specs.Docs.{IsAt}
-use Rattle.doc_file.specs.History.{Write}
+use Rattle.design_docs.specs.History.{Write}
 use Rattle.view_engine.specs.Disks.{Reads}
 use Rattle.view_engine.proofs.LiveSignatures.{so_far, AreSignaturesOf}
 use Rattle.view_engine.proofs.cleanup.live_signatures.Given as goal

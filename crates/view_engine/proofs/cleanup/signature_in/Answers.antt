@@ -3,7 +3,7 @@ use Rattle.std.proofs.Common.{◌≡◌, Some, sym}
 use Rattle.json_terms.specs.Seen.{json}
 use Rattle.view_ports.proofs.Told.{told_now}
 use Rattle.doc_file.specs.Docs.{IsAt}
-use Rattle.doc_file.specs.History.{live_document}
+use Rattle.design_docs.specs.History.{live_document}
 use Rattle.view_engine.specs.Cleaning.{IsSignatureOf}
 use Rattle.view_engine.proofs.Reading.{read_of_get}
 use Rattle.view_engine.proofs.cleanup.signature_in.Goals as goal

@@ -5,7 +5,7 @@ use Rattle.json_terms.specs.Text.{text_of}
 use Rattle.view_ports.specs.Lines.{ended}
 use Rattle.view_ports.proofs.Told.{told_now}
 use Rattle.doc_file.specs.Docs.{IsAt}
-use Rattle.doc_file.specs.History.{live_document}
+use Rattle.design_docs.specs.History.{live_document}
 use Rattle.view_engine.specs.declared.refusal.Refusal.{Refusal}
 use Rattle.view_engine.specs.declared.halt.Halt.TheVariants.{Refused}
 use Rattle.view_engine.specs.Get.{get_refusal}

@@ -2,7 +2,7 @@
 use Rattle.std.proofs.Common.{subst, arith}
 use Rattle.std.proofs.lemmas.Result.{on_ok_weaker}
 use Rattle.view_ports.specs.Lines.{IsLine}
-use Rattle.doc_file.specs.Revision.{revision}
+use Rattle.design_docs.specs.Revision.{revision}
 use Rattle.doc_file.specs.declared.rev.Rev.{Rev}
 use Rattle.doc_file.proofs.RevisionLines.{line-revision}
 use Rattle.view_engine.proofs.ReplyLines.{write_line}

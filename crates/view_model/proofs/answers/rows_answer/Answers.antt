@@ -3,7 +3,7 @@ use Rattle.std.proofs.lemmas.Result.{on_ok_weaker}
 use Rattle.view_model.specs.Answer.{offset_text, row_text, seq_text, with_commas}
 use Rattle.view_model.specs.Selection.{offset, picked}
 use Rattle.view_model.specs.Written.{written_of}
-use Rattle.doc_file.proofs.RevisionLines.{line-decimal}
+use Rattle.design_docs.proofs.Decimals.{line-decimal}
 use Rattle.view_model.proofs.Lines.{line, lines9}
 use Rattle.view_model.proofs.Pieces.{appended9}
 use Rattle.view_model.proofs.answers.rows_answer.Goals as goal

@@ -6,7 +6,7 @@ use Rattle.std.proofs.lemmas.Iterator.Consumers.{YieldsList-end, YieldsList-turn
 use Rattle.json_terms.specs.Seen.{json}
 use Rattle.design_docs.specs.Documents.{is_design_id}
 use Rattle.doc_file.specs.Changes.{numbered, HasDocument}
-use Rattle.doc_file.specs.History.{mapped_by}
+use Rattle.design_docs.specs.History.{mapped_by}
 use Rattle.view_updater.specs.Changed.{AreChangedOf}
 use Rattle.view_updater.proofs.ChangedSoFar.{change_may_be_mapped, changed_less, changed_more, deletion_left, design_left, itself}
 use Rattle.view_updater.proofs.changed.changed_of.Goals as goal

@@ -1,6 +1,6 @@
 -- The pages so far are exchanged.
 use Rattle.std.specs.Prelude.{◌-◌, ◌^◌, ℕ, List}
-use Rattle.doc_file.specs.History.{Write}
+use Rattle.design_docs.specs.History.{Write}
 use Rattle.child_pool.specs.declared.doc_rows.DocRowLists.{DocRowLists}
 use Rattle.view_updater.specs.Exchanges.{HasComeTo}
 use Rattle.view_updater.specs.Updates.{side}

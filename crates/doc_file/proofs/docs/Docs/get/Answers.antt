@@ -8,7 +8,7 @@ use Rattle.gate_file.specs.declared.fault.GateFault.TheVariants.{Damaged}
 use Rattle.doc_file.specs.declared.fault.DocFault.TheVariants.{Gate}
 use Rattle.doc_file.specs.Docs.{last_of, IsAt}
 use Rattle.doc_file.specs.Held.{HasBody, find_last}
-use Rattle.doc_file.specs.History.{live_document}
+use Rattle.design_docs.specs.History.{live_document}
 use Rattle.doc_file.proofs.Known.{body_is, is_spelled, ok_then, place_is}
 use Rattle.doc_file.proofs.docs.Docs.get.Goals as goal
 

@@ -4,8 +4,8 @@ use Rattle.gate_file.specs.GateFile.{commits_of}
 use Rattle.doc_file.specs.declared.rev.Rev.{Rev}
 use Rattle.doc_file.specs.Docs.{bytes_in}
 use Rattle.doc_file.specs.Held.{find_last}
-use Rattle.doc_file.specs.History.{generation}
-use Rattle.doc_file.specs.Revision.{revision}
+use Rattle.design_docs.specs.History.{generation}
+use Rattle.design_docs.specs.Revision.{revision}
 use Rattle.doc_file.specs.Stored.{generation_in, next_rev}
 use Rattle.doc_file.proofs.Histories.{generation_kept}
 use Rattle.doc_file.proofs.Standing.{generation_room}

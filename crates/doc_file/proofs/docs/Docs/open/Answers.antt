@@ -21,7 +21,7 @@ use Rattle.doc_file.specs.declared.record.RootRecord.{RootRecord}
 use Rattle.doc_file.specs.declared.docs.Docs.{Docs}
 use Rattle.doc_file.specs.Docs.{file_of, HoldsHistory, IsAt, IsDamagedAt, IsDocsFile, IsLoaded, IsOpen}
 use Rattle.doc_file.specs.Held.{HoldsRoot, HoldsWrites, SpellsRoot, commits_in}
-use Rattle.doc_file.specs.History.{Write}
+use Rattle.design_docs.specs.History.{Write}
 use Rattle.doc_file.proofs.Carried.{writes_of_root}
 use Rattle.doc_file.proofs.Stores.{at_writes, counted_kept}
 use Rattle.doc_file.proofs.docs.Docs.open.Goals as goal

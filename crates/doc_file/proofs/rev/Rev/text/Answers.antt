@@ -2,7 +2,7 @@ use Rattle.std.specs.Prelude.{◌≡◌, ◌++◌, codes, decimal, string_bytes}
 use Rattle.std.proofs.Common.{ap, ◌∙◌}
 use Rattle.std.specs.Int.{w128, to_be_bytes}
 use Rattle.hex.specs.Hex.{encode_lower}
-use Rattle.doc_file.specs.Revision.{revision}
+use Rattle.design_docs.specs.Revision.{revision}
 use Rattle.doc_file.proofs.rev.Rev.text.Goals as goal
 
 pub returns : goal.returns

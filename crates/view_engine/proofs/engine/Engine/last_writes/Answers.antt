@@ -3,7 +3,7 @@ use Rattle.std.proofs.Common.{◌≡◌, ◌<◌, length, map, take, sym, subst,
 use Rattle.view_ports.proofs.Told.{told_now}
 use Rattle.doc_file.specs.Changes.{numbered}
 use Rattle.doc_file.specs.Docs.{IsAt, IsOpen}
-use Rattle.doc_file.specs.History.{changes_after}
+use Rattle.design_docs.specs.History.{changes_after}
 use Rattle.view_engine.specs.Disks.{IsReadReason}
 use Rattle.view_engine.specs.Worlds.{IsAtWorld, IsOpen as IsEngineOpen}
 use Rattle.view_engine.proofs.Listed.{why_unlisted, whole_list}

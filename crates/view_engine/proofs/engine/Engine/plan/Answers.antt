@@ -9,7 +9,7 @@ use Rattle.design_docs.proofs.ViewOrder.{views_are_few}
 use Rattle.child_pool.specs.Languages.{path_in}
 use Rattle.child_pool.specs.Pools.{languages_of}
 use Rattle.doc_file.specs.Docs.{bytes_in, last_of, IsAt, IsLive}
-use Rattle.doc_file.specs.History.{live_document}
+use Rattle.design_docs.specs.History.{live_document}
 use Rattle.view_engine.specs.declared.refusal.Refusal.TheVariants.{MissingNamedView, UnknownLanguage}
 use Rattle.view_engine.specs.View.{design_id, view_refusal}
 use Rattle.view_engine.specs.ViewPlan.{source_at, HasReduce, IsPlan, ShowsRows}

@@ -1,6 +1,6 @@
 -- A view is what was planned, over what bringing the index of its design up to date left.
 use Rattle.std.proofs.Common.{◌≡◌, ◌∙◌, ℕ, Bool, false, List, Err, Option, Some, ⊎_elim, arith, sym, ap, subst}
-use Rattle.doc_file.specs.History.{Write}
+use Rattle.design_docs.specs.History.{Write}
 use Rattle.view_index.specs.declared.index.Index.{Index}
 use Rattle.view_index.specs.Index.{views_of}
 use Rattle.view_updater.specs.Faults.{by_index}

@@ -6,10 +6,10 @@ use Rattle.std.proofs.Common.{inl, inr, refl, sym, ap, ◌∙◌, subst, arith}
 use Rattle.std.proofs.lemmas.List.Elements.{All-head, All-tail}
 use Rattle.json_terms.specs.Json.{Json}
 use Rattle.design_docs.specs.Documents.{is_design_id}
-use Rattle.doc_file.specs.History.{Write, changes_after, last_seq, last_write, last_writes, mapped, mapped_after}
-use Rattle.doc_file.proofs.MappedOrder.{kept, of_change, taken_once, to_map}
-use Rattle.doc_file.proofs.Numbers.{each_numbered, is_after, later, rises, IsNumbered}
-use Rattle.doc_file.proofs.Setting.{bool_cases}
+use Rattle.design_docs.specs.History.{Write, changes_after, last_seq, last_write, last_writes, mapped, mapped_after}
+use Rattle.design_docs.proofs.MappedOrder.{kept, of_change, taken_once, to_map}
+use Rattle.design_docs.proofs.Numbers.{each_numbered, is_after, later, rises, IsNumbered}
+use Rattle.design_docs.proofs.Ids.{bool_cases}
 
 module _ (seq : ℕ) (history : List Write) where
   -- the id's last write came later

@@ -12,10 +12,10 @@ use Rattle.std.proofs.lemmas.List.Sorted.{IsPermutation-append_left, IsPermutati
 use Rattle.std.proofs.lemmas.Map.Text.{is_eq-slice_cmp}
 use Rattle.json_terms.specs.Json.{Json}
 use Rattle.design_docs.specs.Documents.{is_design_id}
-use Rattle.doc_file.specs.History.{Write, changes_after, last_writes, mapped, mapped_after, of_others, stored}
-use Rattle.doc_file.proofs.LastWrites.{IsBelow, Rises, below_below, last_writes_rise, order, unlike}
-use Rattle.doc_file.proofs.Numbers.{with_newest}
-use Rattle.doc_file.proofs.Setting.{bool_cases, equal_id}
+use Rattle.design_docs.specs.History.{Write, changes_after, last_writes, mapped, mapped_after, of_others, stored}
+use Rattle.design_docs.proofs.LastWrites.{IsBelow, Rises, below_below, last_writes_rise, order, unlike}
+use Rattle.design_docs.proofs.Numbers.{with_newest}
+use Rattle.design_docs.proofs.Ids.{bool_cases, equal_id}
 
 module _ {Y : Type 0} where
   -- what may be put in front may be put behind

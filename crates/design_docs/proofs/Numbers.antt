@@ -6,8 +6,8 @@ use Rattle.std.proofs.lemmas.Bool.{lt-ltb, ltb-true}
 use Rattle.std.proofs.lemmas.List.Elements.{All-contains, All-contains_itself, All-filter, All-head, All-nil, All-push, All-tail, Contains-append_left, Contains-push, All-cons, filter-append, filter_passes}
 use Rattle.std.proofs.lemmas.List.Kept.{AllPairs-filter}
 use Rattle.std.proofs.lemmas.List.Quantifiers.{all_pairs_push}
-use Rattle.doc_file.specs.History.{Write, changes_after, last_seq, last_write, of_others}
-use Rattle.doc_file.proofs.Setting.{bool_cases, bytes_eq-same, same_id}
+use Rattle.design_docs.specs.History.{Write, changes_after, last_seq, last_write, of_others}
+use Rattle.design_docs.proofs.Ids.{bool_cases, bytes_eq-same, same_id}
 
 -- a change has a number after `seq`
 abbrev pub is_after : ℕ → ℕ × Write → Bool

@@ -1,5 +1,0 @@
-use Rattle.doc_file.proofs.MappedLater.{later_listed}
-use Rattle.doc_file.proofs.laws.later_documents_are_listed.Goals as goal
-
-pub returns : goal.returns
-returns c = λ seq history. later_listed seq history
