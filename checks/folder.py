@@ -19,7 +19,7 @@ DOCUMENTS = 100
 SECONDS = 60
 NOBODY = 65534
 DISK_FAULT = b'{"error":"disk_fault","reason":"the run ends"}\n'
-LATER = "a call on the folder failed, and the run ended; all that was answered is kept: mend what is named above, and start again in the same folder, or load in a new one"
+LATER = "a call on the folder failed, and the run ended; all that was answered is kept: mend what is named above, and start again in the same folder"
 
 
 def fail(step, text):

@@ -86,14 +86,22 @@ fn run(rt: HostRuntime, diagnostics: Diagnostics, words: &[String]) -> Result<u8
     ))
 }
 
+/// Whether the first word is that of the command `load`.
+fn is_load(words: &[String]) -> bool {
+    match words.first() {
+        Some(word) => word.as_str() == "load",
+        None => false,
+    }
+}
+
 fn main(rt: HostRuntime) -> ExitCode {
     let diagnostics = Diagnostics::new(rt, Program::Couchview);
-    let status = match words(rt, diagnostics) {
-        Ok(words) => run(rt, diagnostics, &words),
-        Err(AllocError) => Err(NoMemory),
+    let (status, loads) = match words(rt, diagnostics) {
+        Ok(words) => (run(rt, diagnostics, &words), is_load(&words)),
+        Err(AllocError) => (Err(NoMemory), false),
     };
     let status = status.unwrap_or(RunEnd::OutOfMemory.status());
-    if let Some(advice) = advice(status) {
+    if let Some(advice) = advice(status, loads) {
         diagnostics.say(advice);
     }
     ExitCode::from(status)
