@@ -26,7 +26,8 @@ use Rattle.view_updater.specs.declared.fault.UpdateFault.TheVariants.{Pool as Of
 use Rattle.child_pool.specs.declared.pool_fault.PoolFault.TheVariants.{Compile}
 use Rattle.view_updater.specs.Updates.{documents_since, ComplainsRightly, HasAskedFor, IsIdleEnd, IsMapped, IsOfIndex, IsThenChecked}
 use Rattle.view_groups.specs.declared.groups.Groups.{Groups}
-use Rattle.view_groups.specs.Brings.{side, AsksSince, Brings, EndsAt, IsIdle, IsLast, IsMappedTo, IsNext, MayLeave}
+use Rattle.view_groups.specs.Brings.{AsksSince, Brings, EndsAt, IsIdle, IsLast, IsMappedTo, IsNext, MayLeave}
+use Rattle.view_groups.specs.Sides.{side}
 use Rattle.view_groups.specs.Groups.{IsGroup}
 use Rattle.view_groups.specs.Reached.{picture_for, sig_of, views_in, IsReached, StandsAround as IndexStandsAround}
 use Rattle.view_engine.specs.declared.engine.Engine.{Engine}

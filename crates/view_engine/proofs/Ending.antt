@@ -27,7 +27,8 @@ use Rattle.view_updater.specs.Updates.{IsOfIndex}
 use Rattle.gate_file.specs.declared.fault.GateFault.TheVariants as gate
 use Rattle.view_index.specs.declared.fault.IndexFault.TheVariants as index
 use Rattle.view_groups.specs.declared.groups.Groups.{Groups}
-use Rattle.view_groups.specs.Brings.{side, Brings}
+use Rattle.view_groups.specs.Brings.{Brings}
+use Rattle.view_groups.specs.Sides.{side}
 use Rattle.view_groups.specs.Groups.{open_of}
 use Rattle.view_engine.specs.declared.engine.Engine.{Engine}
 use Rattle.view_engine.specs.declared.halt.Halt.{Halt}

@@ -29,7 +29,8 @@ use Rattle.view_updater.specs.declared.fault.UpdateFault.{UpdateFault}
 use Rattle.view_updater.specs.declared.fault.UpdateFault.TheVariants as update
 use Rattle.view_updater.specs.Updates.{documents_since, IsFullWith}
 use Rattle.view_groups.specs.declared.groups.Groups.{Groups}
-use Rattle.view_groups.specs.Brings.{side, Brings, IsGroupFault, IsNext}
+use Rattle.view_groups.specs.Brings.{Brings, IsGroupFault, IsNext}
+use Rattle.view_groups.specs.Sides.{side}
 use Rattle.view_groups.specs.Reached.{picture_for, sig_of}
 use Rattle.view_signature.specs.Signature.{signature_of}
 use Rattle.view_engine.specs.declared.engine.Engine.{Engine}

@@ -37,7 +37,8 @@ use Rattle.view_updater.specs.declared.fault.UpdateFault.{UpdateFault}
 use Rattle.view_model.specs.Picture.{Picture}
 use Rattle.view_updater.specs.Updates.{documents_since, HasAskedFor, IsMapped, IsOfIndex}
 use Rattle.view_groups.specs.declared.groups.Groups.{Groups}
-use Rattle.view_groups.specs.Brings.{side, Brings, IsNext}
+use Rattle.view_groups.specs.Brings.{Brings, IsNext}
+use Rattle.view_groups.specs.Sides.{side}
 use Rattle.view_groups.specs.Groups.{IsGroup}
 use Rattle.view_groups.specs.Reached.{picture_for, sig_of, views_in}
 use Rattle.view_engine.specs.declared.engine.Engine.{Engine}

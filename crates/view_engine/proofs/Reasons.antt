@@ -33,7 +33,8 @@ use Rattle.view_updater.specs.declared.fault.UpdateFault.TheVariants as update
 use Rattle.view_updater.specs.Updates.{IsBodyDamaged, IsLost}
 use Rattle.view_signature.specs.Signature.{digest_of, signature_of}
 use Rattle.view_groups.specs.declared.groups.Groups.{Groups}
-use Rattle.view_groups.specs.Brings.{side, Brings, Side}
+use Rattle.view_groups.specs.Brings.{Brings}
+use Rattle.view_groups.specs.Sides.{side, Side}
 use Rattle.view_groups.specs.Groups.{AreOpen as AreIndexesOpen, IsGroup}
 use Rattle.view_groups.specs.Reached.{picture_for, sig_of, views_in, IsReached}
 use Rattle.view_engine.specs.declared.engine.Engine.{Engine}

@@ -46,7 +46,8 @@ use Rattle.view_updater.specs.Faults.{by_index, by_pool}
 use Rattle.view_updater.specs.Updates.{documents_since, side as side_of_index, Side as IndexSide, AsksSince as AsksOf, ComplainsRightly, EndsAt as EndsIndex, HasAskedFor, IsBodyDamaged, IsFileFault, IsFullWith, IsIdleEnd, IsLast as IsLastOf, IsLost, IsMade, IsMadeBy as IsMadeOf, IsMapped, IsMappedTo as IsMappedOf, IsMetBy, IsOfIndex, IsThenChecked}
 use Rattle.view_updater.proofs.Ends.{index_of_no_documents, index_of_no_pool, index_stored}
 use Rattle.view_groups.specs.declared.groups.Groups.{Groups}
-use Rattle.view_groups.specs.Brings.{side, AsksSince, Brings, EndsAt, HasAsked, IsGroupFault, IsIdle, IsLast, IsMadeBy, IsMappedTo, IsNext, MayLeave, Side}
+use Rattle.view_groups.specs.Brings.{AsksSince, Brings, EndsAt, HasAsked, IsGroupFault, IsIdle, IsLast, IsMadeBy, IsMappedTo, IsNext, MayLeave, UpdatesOpen, placed}
+use Rattle.view_groups.specs.Sides.{side, Side}
 use Rattle.view_groups.specs.Groups.{open_of, AreAt, AreOpen, IsGroup}
 use Rattle.view_groups.specs.Openings.{EndsOpen, IsFit, IsWithin, OpensGroup}
 use Rattle.view_groups.specs.Pictures.{Pictures, StandsOf}
@@ -94,10 +95,6 @@ unopened fault = Err fault
 
 abbrev opened_at : ℕ → Result ℕ IndexFault
 opened_at place = Ok place
-
-abbrev pub placed : ℕ → Result (Unit {0}) UpdateFault → Result ℕ UpdateFault
-placed place (Ok done) = Ok place
-placed place (Err fault) = Err fault
 
 unplaced : (place : ℕ) (result : Result (Unit {0}) UpdateFault) (fault : UpdateFault) → placed place result ≡ Err fault → result ≡ Err fault
 unplaced place (Ok done) fault is = let no : ⊥ = cc in absurd no
@@ -220,6 +217,7 @@ module _ {F C : Type 0} (f : Folders F) (s : Servers C) (docs : Docs) (design : 
     asks = λ history pictures. told_all (f.disk folder) _ (λ d k. inl ((refl, refl), tt, tt));
     spoils = λ history pictures reached is. let no : ⊥ = cc in absurd no;
     asked = inl ((refl, refl), tt);
+    there = λ place index group. inr (refl, refl);
     idle = λ place index group last. (inr refl, refl);
     sound = λ history pictures. told_all (f.disk folder) _ (λ d k shaped name at. (λ is. cc, λ is. cc));
     read = λ history. told_all (f.disk folder) (λ d. AreDocumentsAt docs d.now history → (name : FileName) (at : ℕ) → refused NoMemory ≢ Err (OfDocuments (Damaged name at))) (λ d k name at is. cc);
@@ -259,6 +257,7 @@ module _ {F C : Type 0} (f : Folders F) (s : Servers C) (docs : Docs) (design : 
         asks = λ history pictures. told_all (f.disk folder) _ (λ d k. inl ((refl, refl), open_idle fault, tt));
         spoils = λ history pictures reached is. absurd (index_of_no_pool fault Compile (let same : by_index fault ≡ OfPool Compile = cc in same));
         asked = inl ((refl, refl), open_idle fault);
+        there = λ place index group. absurd (let no : unopened fault ≡ Ok place = (opens.found place index group).0 in cc);
         idle = λ place index group last. absurd (let no : unopened fault ≡ Ok place = (opens.found place index group).0 in cc);
         sound = λ history pictures. told_now (f.disk folder) _ _ (λ d never k shaped name at. (
           λ is. index_of_no_documents fault (Damaged name at) (let same : by_index fault ≡ OfDocuments (Damaged name at) = cc in same),
@@ -512,6 +511,19 @@ module _ {F C : Type 0} (f : Folders F) (s : Servers C) (docs : Docs) (design : 
         asked_placed s servers servers' pool pool' design place result (IsLastOf f s docs design given_index left_index result) (IsLast f s docs design given left (placed place result)) (last_placed result) some.0 some.1,
       )
 
+      -- where it was open, it was found there, and updated as it stood
+      updates_there : (p : ℕ) (index : Index) → IsGroup groups p (sig_of design) (views_in design) index → UpdatesOpen f s docs design given left p (placed place result)
+      updates_there p index was =
+          let found = opens.found p index was in
+          let in_place : p ≡ place = let ok : opened_at place ≡ Ok p = found.0 in cc in
+          record {
+            done = result;
+            updates = subst (λ (k : ℕ). UpdatesAt f s docs design given left k result) (sym in_place)
+                (subst (λ (x : Groups). UpdatesAt f s docs design (side folder servers pool x) left place result) found.1
+                (subst (λ (x : F). UpdatesAt f s docs design (side x servers pool mid_groups) left place result) found.2 at));
+            is = ap (λ (k : ℕ). placed k result) (sym in_place);
+          }
+
       -- where it was open, and nothing was written since, nothing is done
       idle_there : (p : ℕ) (index : Index) → IsGroup groups p (sig_of design) (views_in design) index → seq_of index ≡ documents_seq docs → ((placed place result ≡ Ok p) ⊎ (placed place result ≡ Err NoMemory)) × (left ≡ given)
       idle_there p index was last =
@@ -590,6 +602,7 @@ module _ {F C : Type 0} (f : Folders F) (s : Servers C) (docs : Docs) (design : 
             (at.updates.asks history (pictures (sig_of design))));
         spoils = spoils;
         asked = asked_some at.updates.asked;
+        there = λ p index was. inl (updates_there p index was);
         idle = idle_there;
         sound = λ history pictures. told_now (f.disk folder) _ _ (λ d never reached shaped name k. (λ is. never reached name k (unplaced place result (OfDocuments (Damaged name k)) is), λ is. at.updates.whole name k (unplaced place result (OfIndex (fault_of.Store (Damaged name k))) is)))
             (known_before history pictures ((name : FileName) (k : ℕ) → result ≢ Err (OfDocuments (Damaged name k))) (told_now (f.disk mid) _ _ (λ d never known. never known.0) (at.updates.sound history)));

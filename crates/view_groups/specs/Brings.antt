@@ -15,7 +15,6 @@ use Rattle.design_docs.specs.declared.design.Design.{Design}
 use Rattle.doc_file.specs.declared.docs.Docs.{Docs}
 use Rattle.doc_file.specs.Docs.{file_of, seq_of as written, IsAt as AreDocumentsAt, IsDocsFile, IsLoaded as AreLoaded}
 use Rattle.design_docs.specs.History.{Write}
-use Rattle.child_pool.specs.declared.pool.Pool.{Pool}
 use Rattle.child_pool.specs.declared.pool_fault.PoolFault.TheVariants.{Compile, ServerFault, UnknownLanguage}
 use Rattle.child_pool.specs.PoolCalls.{path_for, StaysAsMade}
 use Rattle.child_pool.specs.Pools.{HasItsChildren}
@@ -28,20 +27,11 @@ use Rattle.view_index.specs.Index.{picture_of, seq_of}
 use Rattle.view_updater.specs.declared.fault.UpdateFault.{UpdateFault}
 use Rattle.view_updater.specs.declared.fault.UpdateFault.TheVariants.{Docs as OfDocuments, Index as OfIndex, NoMemory as OutOfMemory, Pool as OfPool}
 use Rattle.view_updater.specs.Updates.{documents_since, ComplainsRightly, HasAskedFor, IsBodyDamaged, IsFileFault, IsFullWith, IsIdleEnd, IsLost, IsMade, IsMapped, IsOfIndex}
-use Rattle.view_groups.specs.declared.groups.Groups.{Groups}
 use Rattle.view_groups.specs.Groups.{AreAt, AreOpen, IsGroup}
 use Rattle.view_groups.specs.Pictures.{Pictures}
+use Rattle.view_groups.specs.Sides.{Side}
+use Rattle.view_groups.specs.Updating.{UpdatesAt}
 use Rattle.view_groups.specs.Reached.{picture_for, sig_of, views_in, AreSet, IsReached, StandsAround}
-
--- what is given and left
-pub record Side (F C : Type 0) : Type 0 where
-  pub folder : F
-  pub servers : C
-  pub pool : Pool
-  pub groups : Groups
-
-abbrev pub side : {F C : Type 0} → F → C → Pool → Groups → Side F C
-side folder servers pool groups = record { folder = folder; servers = servers; pool = pool; groups = groups }
 
 -- a fault of the index is one of its file: the disk failed, the file is full, or it is damaged as it is opened; all else is as an update
 -- has it
@@ -51,7 +41,18 @@ IsGroupFault (OfIndex (Store other)) = Unit {0}
 IsGroupFault (OfIndex other) = ⊥
 IsGroupFault other = IsFileFault other
 
+-- an update of the index in a place answers this place, where it is done
+abbrev pub placed : ℕ → Result (Unit {0}) UpdateFault → Result ℕ UpdateFault
+placed place (Ok done) = Ok place
+placed place (Err fault) = Err fault
+
 module _ {F C : Type 0} (f : Folders F) (s : Servers C) (docs : Docs) (design : Design) (old new : Side F C) where
+  -- an index that is open isn't opened again: it is updated as it stands in its place, and the others stay open in theirs
+  pub record UpdatesOpen (place : ℕ) (result : Result ℕ UpdateFault) : Type 0 where
+    pub done : Result (Unit {0}) UpdateFault
+    pub updates : UpdatesAt f s docs design old new place done
+    pub is : result ≡ placed place done
+
   -- a picture that the update makes: over each list of calls that may have been made, of the path of the design's language
   abbrev pub IsNext : List Write → Pictures → Picture → Type 0
   IsNext history pictures next = (path : List ℕ) (calls : List Call) → s.may_follow old.servers calls → path_for old.pool design ≡ Some path → HasItsChildren old.pool calls
@@ -118,7 +119,10 @@ module _ {F C : Type 0} (f : Folders F) (s : Servers C) (docs : Docs) (design : 
         → result ≡ Err (OfPool Compile) → IfTold (f.disk old.folder) (λ d. ComplainsRightly s design old.servers old.pool history (picture_for design pictures))
     -- whatever is told, some documents were asked for, all or the first ones, or nothing was
     pub asked : (IsIdle × IsIdleEnd result) ⊎ ((documents : List (List (List ℕ × Json))) × HasAsked documents (IsLast result) result)
-    -- where the index of the design is open and nothing was written since, nothing is done
+    -- where the index of the design is open it stays open, and nothing is done but its update, unless memory runs out before
+    pub there : (place : ℕ) (index : Index) → IsGroup old.groups place (sig_of design) (views_in design) index
+        → UpdatesOpen place result ⊎ ((result ≡ Err OutOfMemory) × (new ≡ old))
+    -- and where nothing was written since, nothing is done
     pub idle : (place : ℕ) (index : Index) → IsGroup old.groups place (sig_of design) (views_in design) index → seq_of index ≡ written docs
         → ((result ≡ Ok place) ⊎ (result ≡ Err OutOfMemory)) × (new ≡ old)
     -- nothing is damaged where the picture of the design has the rows of as many views as the design

@@ -2,8 +2,9 @@ pub mod Pictures
 pub mod Groups
 pub mod Reached
 pub mod Openings
-pub mod Brings
+pub mod Sides
 pub mod Updating
+pub mod Brings
 pub mod Cleans
 pub mod Removing
 pub mod Laws

@@ -7,9 +7,9 @@ use Rattle.doc_file.specs.declared.docs.Docs.{Docs}
 use Rattle.view_index.specs.declared.index.Index.{Index}
 use Rattle.view_updater.specs.declared.fault.UpdateFault.{UpdateFault}
 use Rattle.view_updater.specs.Updates.{Updates, side as side_of_index}
-use Rattle.view_groups.specs.Brings.{Side}
 use Rattle.view_groups.specs.Groups.{open_of, IsGroup}
 use Rattle.view_groups.specs.Reached.{sig_of, views_in}
+use Rattle.view_groups.specs.Sides.{Side}
 
 module _ {F C : Type 0} (f : Folders F) (s : Servers C) (docs : Docs) (design : Design) (old new : Side F C) where
   -- the index of the design, which is in this place, is updated, and no other one

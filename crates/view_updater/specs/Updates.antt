@@ -11,7 +11,7 @@ use Rattle.view_ports.specs.declared.folder.Folder.{Ghosts as Folders}
 use Rattle.view_ports.specs.declared.servers.Servers.{Ghosts as Servers}
 use Rattle.gate_file.specs.declared.fault.GateFault.TheVariants.{DiskFault, Damaged, Full}
 use Rattle.gate_file.specs.GateFile.{length_of, name_of}
-use Rattle.gate_file.specs.Publish.{IsTooLong, IsUsedUp}
+use Rattle.gate_file.specs.Publish.{published, IsTooLong, IsUsedUp}
 use Rattle.index_record.specs.Record.{record_bytes}
 use Rattle.design_docs.specs.declared.design.Design.{Design}
 use Rattle.design_docs.specs.Design.{map_sources}
@@ -227,6 +227,13 @@ module _ {F C : Type 0} (f : Folders F) (s : Servers C) (docs : Docs) (design : 
       (IsIdle × IsIdleEnd result × OnOk result (seq_of old.index ≡ length history))
       ⊎ ((seq_of old.index ≢ length history) × HasAsked (documents_since (seq_of old.index) history) (λ next. IsMappedTo history picture next × IsLast result next) result)
 
+  -- Where something was written since, the index is committed once, by the record of its next picture behind what its file has. Where
+  -- nothing was, and where it isn't refused by the index itself, its file is as it was.
+  pub record CommitsOnce (result : Result (Unit {0}) UpdateFault) : Type 0 where
+    pub idle : seq_of old.index ≡ written docs → index_file new.index ≡ index_file old.index
+    pub due : seq_of old.index ≢ written docs → OnOk result (index_file new.index ≡ published (index_file old.index) (length (record_bytes (picture_of new.index).seq (picture_of new.index).rows)) 0)
+    pub refused : IfErr result (λ fault. IsOfIndex fault ⊎ (index_file new.index ≡ index_file old.index))
+
   pub record Updates (result : Result (Unit {0}) UpdateFault) : Type 0 where
     -- a crash leaves the picture or an updated one, and after Ok the index is at that; the documents' files are as they were
     pub stands : (history : List Write) (picture : Option Picture) → IfTold (f.disk old.folder) (λ d. IsReached docs old.index history picture d.now)
@@ -245,6 +252,7 @@ module _ {F C : Type 0} (f : Folders F) (s : Servers C) (docs : Docs) (design : 
     pub others : Tells (f.disk old.folder) (f.disk new.folder) (Moves (IsFileOf (stem_of old.index)) (λ image. Unit {0}) (λ files. IsLost result ⊎ IsOpen new.index files))
     pub same : (stem_of new.index ≡ stem_of old.index) × (views_of new.index ≡ views_of old.index)
     pub settled : OnErr result (IsSettled new.index × (picture_of new.index ≡ picture_of old.index))
+    pub once : CommitsOnce result
     -- a fault of the disk comes only where the folder counted one; the index is never damaged, nor are the documents over a history
     pub cause : IfErr result (λ fault. (fault ≡ OfDocuments DiskFault) ⊎ (fault ≡ OfIndex (Store DiskFault)) → Rose (f.faults old.folder) (f.faults new.folder))
     pub sound : (history : List Write) → IfTold (f.disk old.folder) (λ d. AreAt docs d.now history → (name : FileName) (at : ℕ) → result ≢ Err (OfDocuments (Damaged name at)))

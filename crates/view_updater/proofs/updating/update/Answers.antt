@@ -12,19 +12,22 @@ use Rattle.doc_file.specs.declared.docs.Docs.{Docs}
 use Rattle.doc_file.specs.Docs.{info_of, seq_of as documents_seq, IsAt as AreAt}
 use Rattle.doc_file.specs.declared.docs.Info.{Info}
 use Rattle.view_model.specs.Picture.{Picture}
-use Rattle.view_index.specs.Calls.{next_picture, stem_of, IsOpen}
+use Rattle.view_index.specs.Calls.{next_picture, next_size, stem_of, IsOpen}
 use Rattle.view_index.specs.Held.{IsFileOf}
 use Rattle.view_index.specs.declared.fault.IndexFault.{IndexFault}
-use Rattle.view_index.specs.declared.fault.IndexFault.TheVariants.{Store}
+use Rattle.view_index.specs.declared.fault.IndexFault.TheVariants.{NoMemory, Store, Summer}
 use Rattle.view_index.specs.declared.index.Index.{Index}
+use Rattle.gate_file.specs.declared.gate.GateFile.{GateFile}
 use Rattle.gate_file.specs.GateFile.{name_of}
+use Rattle.gate_file.specs.Publish.{published}
+use Rattle.index_record.specs.Record.{record_bytes}
 use Rattle.view_index.specs.Index.{both_in, file_of, is_touched, next_in, seq_of}
 use Rattle.view_index.specs.ViewRows.{next_rows}
 use Rattle.view_updater.specs.declared.fault.UpdateFault.{UpdateFault}
 use Rattle.view_updater.specs.declared.fault.UpdateFault.TheVariants.{Docs as OfDocuments, Index as OfIndex, Pool as OfPool}
 use Rattle.view_updater.specs.Faults.{by_index, by_pool}
 use Rattle.view_updater.specs.Checking.{tried_sources}
-use Rattle.view_updater.specs.Updates.{side, EndsAt, IsFileFault, IsLost, IsReached, Updates}
+use Rattle.view_updater.specs.Updates.{side, EndsAt, IsFileFault, IsLost, IsOfIndex, IsReached, Updates}
 use Rattle.view_updater.proofs.Carrying.{same_stem, same_views, views_by_picture}
 use Rattle.view_updater.proofs.Exchanging.{as_made, by_pool_of}
 use Rattle.view_updater.proofs.Ends.{asked_over, asked_some, checked_next, commit_filled, commit_met, commit_refused, committed_stands, idle_stands, index_of_no_documents, index_of_no_pool, index_stored, is_filled, known_next, others_refused, others_then, refused, well, well_met, IsBack, IsOfCommit}
@@ -62,6 +65,12 @@ commit_full index fault (inr (inl long)) name length is = ap (λ (n : FileName).
 commit_full index fault (inr (inr (inl spent))) name length is = ap (λ (n : FileName). n.stem) (let same : name ≡ name_of (file_of index) = cc in same)
 commit_full index fault (inr (inr (inr want))) name length is = cc
 
+-- want of memory leaves the file as it was
+uncommitted : {Same : Type 0} (fault : IndexFault) → (fault ≡ NoMemory → Same) → IsOfIndex (by_index fault) ⊎ Same
+uncommitted NoMemory same = inr (same refl)
+uncommitted (Store fault) same = inl tt
+uncommitted (Summer fault) same = inl tt
+
 -- something was written since, where the index is not of the newest write
 written_since : (seq : ℕ) (info : Info) (last : ℕ) (docs : Docs) → seq ≡ last → info ≡ info_of docs → seq ≢ info.update_seq → last ≢ documents_seq docs
 written_since seq info last docs seq_is kept differs same = differs (seq_is ∙ same ∙ sym (ap (λ (i : Info). i.update_seq) kept))
@@ -83,6 +92,7 @@ returns-then-seq-newest g c =
           (λ d is. moves_none (IsFileOf stem) (λ image. Unit {0}) (λ files. IsLost well ⊎ IsOpen c.args.index.now files) d (λ image left. tt) (inr is)) c.requires.index;
       same = (refl, refl);
       settled = tt;
+      once = record { idle = λ same. refl; due = λ since. absurd (since newest); refused = tt };
       cause = tt;
       sound = λ history. told_all disk (λ d. AreAt docs d.now history → (name : FileName) (at : ℕ) → well ≢ Err (OfDocuments (Damaged name at))) (λ d here name at is. cc);
       whole = λ name at is. cc;
@@ -180,6 +190,11 @@ returns-in-Err-commit g c =
           c.roll_back-in-Err-commit.ensures.same.file c.requires.index fault refl;
       same = (stem, same_views index last rows);
       settled = (record { next = c.roll_back-in-Err-commit.ensures.next; pending = c.roll_back-in-Err-commit.ensures.pending }, rows);
+      once = record {
+        idle = λ same. absurd (written_since c.seq.result c.info-newest.result (seq_of index) docs c.seq.ensures c.info-newest.ensures.kept c.if-seq-newest.false same);
+        due = λ since. tt;
+        refused = uncommitted fault (λ want. c.roll_back-in-Err-commit.ensures.same.file ∙ ap file_of (commits.untouched (ap Err want)).0 ∙ ex.same.file ∙ back.file);
+      };
       cause = λ told. elim told [ inl is ↦ absurd (index_of_no_documents fault DiskFault is) | inr is ↦ rose_later (g.F.Folder.faults c.args.folder.now) (g.F.Folder.faults c.exchange.new.folder) (g.F.Folder.faults c.commit.new.folder) ex.reads.later (commits.cause.failed (index_stored fault DiskFault is)) ];
       sound = λ history. told_all (g.F.Folder.disk c.args.folder.now) (λ d. AreAt docs d.now history → (name : FileName) (at : ℕ) → refused (by_index fault) ≢ Err (OfDocuments (Damaged name at)))
           (λ d here name at is. index_of_no_documents fault (Damaged name at) (let same : by_index fault ≡ OfDocuments (Damaged name at) = cc in same));
@@ -237,6 +252,12 @@ returns g c =
       others = others_then g.F.Folder g.C.Servers docs design old mid servers pool c.requires.number rolled back ex.same.file ex.picture ex.reads.disk committed c.commit.new.folder newest well_index commits committed well (λ files ended. inr ended);
       same = (stem, views);
       settled = tt;
+      once = record {
+        idle = λ same. absurd (written_since c.seq.result c.info-newest.result (seq_of index) docs c.seq.ensures c.info-newest.ensures.kept c.if-seq-newest.false same);
+        due = λ since. commits.file ∙ ap (λ (file : GateFile). published file (next_size newest c.exchange.new.index) 0) (ex.same.file ∙ back.file)
+            ∙ ap (λ (p : Picture). published (file_of index) (length (record_bytes p.seq p.rows)) 0) (sym commits.picture);
+        refused = tt;
+      };
       cause = tt;
       sound = λ history. told_all (g.F.Folder.disk c.args.folder.now) (λ d. AreAt docs d.now history → (name : FileName) (at : ℕ) → well ≢ Err (OfDocuments (Damaged name at))) (λ d here name at is. cc);
       whole = λ name at is. cc;
