@@ -1,5 +1,5 @@
 -- The index of a design is opened, and then brought up to date.
-use Rattle.std.specs.Prelude.{◌≡◌, ◌≢◌, ◌⊎◌, ◌<◌, ℕ, List, length, Option, Some, Result, Ok, Err, IfErr, IfOk, OnOk, All, slice_get, slice_index_or, slice_set, refl}
+use Rattle.std.specs.Prelude.{◌≡◌, ◌≢◌, ◌⊎◌, ◌<◌, ℕ, List, length, Option, Some, Result, Ok, Err, IfErr, IfOk, OnOk, All, Contains, slice_get, slice_index_or, slice_set, refl}
 use Rattle.std.proofs.Common.{ap, sym, ◌∙◌, subst, inl, inr, ⊎_elim, arith}
 use Rattle.std.proofs.lemmas.Bool.{cases_eq, cases_lt}
 use Rattle.std.proofs.lemmas.List.{get_or-set_other, get_or-set_same, length-set}
@@ -48,14 +48,14 @@ use Rattle.view_updater.proofs.Ends.{index_of_no_documents, index_of_no_pool, in
 use Rattle.view_groups.specs.declared.groups.Groups.{Groups}
 use Rattle.view_groups.specs.Brings.{AsksSince, Brings, EndsAt, HasAsked, IsGroupFault, IsIdle, IsLast, IsMadeBy, IsMappedTo, IsNext, MayLeave, UpdatesOpen, placed}
 use Rattle.view_groups.specs.Sides.{side, Side}
-use Rattle.view_groups.specs.Groups.{open_of, AreAt, AreOpen, IsGroup}
+use Rattle.view_groups.specs.Groups.{open_of, AreAt, AreOpen, IsGroup, StayOpen}
 use Rattle.view_groups.specs.Openings.{EndsOpen, IsFit, IsWithin, OpensGroup}
 use Rattle.view_groups.specs.Pictures.{Pictures, StandsOf}
 use Rattle.view_groups.specs.Reached.{picture_for, sig_of, views_in, IsReached, StandsAround}
 use Rattle.view_groups.specs.Updating.{UpdatesAt}
 use Rattle.view_groups.proofs.Closing.{other_at, set_at, set_held, set_there, unset, AreSetAt}
 use Rattle.view_groups.proofs.Opening.{at_holds, damaged_of}
-use Rattle.view_groups.proofs.Places.{one_index}
+use Rattle.view_groups.proofs.Places.{none_close, one_index}
 use Rattle.view_groups.proofs.Standing.{open_still, settled_stand}
 use Rattle.view_groups.proofs.Telling.{told_never}
 
@@ -218,6 +218,7 @@ module _ {F C : Type 0} (f : Folders F) (s : Servers C) (docs : Docs) (design : 
     spoils = λ history pictures reached is. let no : ⊥ = cc in absurd no;
     asked = inl ((refl, refl), tt);
     there = λ place index group. inr (refl, refl);
+    beside = none_close groups groups (View (sig_of design)) refl;
     idle = λ place index group last. (inr refl, refl);
     sound = λ history pictures. told_all (f.disk folder) _ (λ d k shaped name at. (λ is. cc, λ is. cc));
     read = λ history. told_all (f.disk folder) (λ d. AreDocumentsAt docs d.now history → (name : FileName) (at : ℕ) → refused NoMemory ≢ Err (OfDocuments (Damaged name at))) (λ d k name at is. cc);
@@ -258,6 +259,7 @@ module _ {F C : Type 0} (f : Folders F) (s : Servers C) (docs : Docs) (design : 
         spoils = λ history pictures reached is. absurd (index_of_no_pool fault Compile (let same : by_index fault ≡ OfPool Compile = cc in same));
         asked = inl ((refl, refl), open_idle fault);
         there = λ place index group. absurd (let no : unopened fault ≡ Ok place = (opens.found place index group).0 in cc);
+        beside = opens.beside;
         idle = λ place index group last. absurd (let no : unopened fault ≡ Ok place = (opens.found place index group).0 in cc);
         sound = λ history pictures. told_now (f.disk folder) _ _ (λ d never k shaped name at. (
           λ is. index_of_no_documents fault (Damaged name at) (let same : by_index fault ≡ OfDocuments (Damaged name at) = cc in same),
@@ -511,6 +513,17 @@ module _ {F C : Type 0} (f : Folders F) (s : Servers C) (docs : Docs) (design : 
         asked_placed s servers servers' pool pool' design place result (IsLastOf f s docs design given_index left_index result) (IsLast f s docs design given left (placed place result)) (last_placed result) some.0 some.1,
       )
 
+      -- the others stay open: the opening leaves them, and in their places they are as they were
+      stay_beside : StayOpen (View (sig_of design)) groups groups'
+      stay_beside k d below differs =
+          let index = slice_index_or (open_of groups) k d in
+          let there_still = opens.beside k d below differs in
+          let xs = open_of mid_groups in
+          let elsewhere : there_still.0 ≡ place → ⊥ = λ same. differs (ap stem_of (sym there_still.2) ∙ ap (λ (m : ℕ). stem_of (slice_index_or xs m index)) same ∙ ap stem_of (here index) ∙ at.there.named) in
+          let long = length-set xs place at.after in
+          subst (λ (l : List Index). Contains l index) (sym at.placed)
+          (there_still.0, omega (arith, long, there_still.1), get_or-set_other xs place there_still.0 at.after index elsewhere ∙ there_still.2)
+
       -- where it was open, it was found there, and updated as it stood
       updates_there : (p : ℕ) (index : Index) → IsGroup groups p (sig_of design) (views_in design) index → UpdatesOpen f s docs design given left p (placed place result)
       updates_there p index was =
@@ -603,6 +616,7 @@ module _ {F C : Type 0} (f : Folders F) (s : Servers C) (docs : Docs) (design : 
         spoils = spoils;
         asked = asked_some at.updates.asked;
         there = λ p index was. inl (updates_there p index was);
+        beside = stay_beside;
         idle = idle_there;
         sound = λ history pictures. told_now (f.disk folder) _ _ (λ d never reached shaped name k. (λ is. never reached name k (unplaced place result (OfDocuments (Damaged name k)) is), λ is. at.updates.whole name k (unplaced place result (OfIndex (fault_of.Store (Damaged name k))) is)))
             (known_before history pictures ((name : FileName) (k : ℕ) → result ≢ Err (OfDocuments (Damaged name k))) (told_now (f.disk mid) _ _ (λ d never known. never known.0) (at.updates.sound history)));

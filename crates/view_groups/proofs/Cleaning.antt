@@ -31,7 +31,7 @@ use Rattle.view_groups.specs.Groups.{AreAt, AreOpen}
 use Rattle.view_groups.specs.Pictures.{Pictures}
 use Rattle.view_groups.specs.Removing.{AreLeft, AreRemoved, AreSameOrEmpty, IsNamed, RemovesEach, StandsForFewer}
 use Rattle.view_groups.proofs.Damages.{damage_before}
-use Rattle.view_groups.proofs.Removing.{fewer_refl, none_gone}
+use Rattle.view_groups.proofs.Removing.{fewer_refl, none_gone, stay_open}
 use Rattle.view_groups.proofs.Standing.{images_stand, others_matter_not}
 
 -- ---- files without bytes hold no picture
@@ -127,6 +127,7 @@ module _ {F : Type 0} (f : Folders F) (kept : List (List ℕ)) (groups : Groups)
       others = told_then (f.disk old) (f.disk mid) (f.disk new) Passes (Moves (IsUnkept kept) (λ image. Unit {0}) (λ files. Unit {0})) (Moves (IsUnkept kept) (λ image. Unit {0}) (λ files. Unit {0}))
           (λ a b c same moved. moves_then (IsUnkept kept) (λ image. Unit {0}) (λ image. Unit {0}) (λ image. Unit {0}) (λ files. Unit {0}) (λ files. Unit {0}) (λ files. Unit {0}) a b c
           (λ image is. tt) (λ ended image is. tt) (λ one_ended other_ended. tt) (moves_passes (IsUnkept kept) (λ image. Unit {0}) (λ files. Unit {0}) a b (λ image is. tt) (λ all. tt) same) moved) passes removes.others;
+      stay = removes.stay;
       is_open = λ are want. by_result result want removes.faults (removes.is_open (open_mid are));
       faults = named result removes.faults;
       cause = record { later = omega (arith, later, removes.cause.later); failed = rising result removes.cause.failed };
@@ -185,6 +186,7 @@ module _ {F : Type 0} (f : Folders F) (kept : List (List ℕ)) (groups : Groups)
       unmoved = λ want. (refl, told_map (f.disk old) (f.disk mid) Passes MovesNone none_passes passes);
       damaged = told_all (f.disk old) _ (λ d name at failed. absurd (undamaged fault name at (cc)));
       others = told_map (f.disk old) (f.disk mid) Passes (Moves (IsUnkept kept) (λ image. Unit {0}) (λ files. Unit {0})) (λ a b same. moves_passes (IsUnkept kept) (λ image. Unit {0}) (λ files. Unit {0}) a b (λ image is. tt) (λ all. tt) same) passes;
+      stay = stay_open kept groups;
       is_open = λ are want. open_mid are;
       faults = named_failed fault;
       cause = record { later = later; failed = λ is. rose (failed_disk fault is) };

@@ -1,8 +1,8 @@
 -- The index of a signature is opened among the others.
-use Rattle.std.specs.Prelude.{◌≡◌, ◌≢◌, ◌⊎◌, ℕ, List, [], ◌∷◌, ◌++◌, length, true, false, Option, Some, None, Result, Ok, Err, IfOk, All, Contains, slice_get, refl}
+use Rattle.std.specs.Prelude.{◌≡◌, ◌≢◌, ◌⊎◌, ℕ, List, [], ◌∷◌, ◌++◌, length, true, false, Option, Some, None, Result, Ok, Err, IfOk, All, Contains, slice_get, slice_index_or, refl}
 use Rattle.std.proofs.Common.{ap, sym, ◌∙◌, subst, inl, inr, ⊎_elim, arith}
 use Rattle.std.proofs.lemmas.List.{get_or_push, length_push}
-use Rattle.std.proofs.lemmas.List.Elements.{All-cons, All-contains_itself, All-head, All-nil, All-push, All-same, All-tail}
+use Rattle.std.proofs.lemmas.List.Elements.{All-cons, All-contains, All-contains_itself, All-head, All-nil, All-push, All-same, All-tail, Contains-append_left, Contains-get_or}
 use Rattle.std.proofs.lemmas.Option.{slice_get-get_or}
 use Rattle.view_ports.specs.Disk.{Disk, IfTold, Moves, Tells}
 use Rattle.view_ports.specs.File.{File}
@@ -36,7 +36,7 @@ use Rattle.view_groups.specs.Groups.{open_of, AreAt, AreOpen, IsClosed, IsGroup}
 use Rattle.view_groups.specs.Openings.{EndsOpen, IsFit, IsWithin, OpensGroup}
 use Rattle.view_groups.specs.Pictures.{Pictures, StandsOf}
 use Rattle.view_groups.proofs.Closing.{closed_at, closed_each, closed_open, set_held, unset}
-use Rattle.view_groups.proofs.Places.{none_there, one_place, IsAbsent}
+use Rattle.view_groups.proofs.Places.{none_close, none_there, one_place, IsAbsent}
 use Rattle.view_groups.proofs.Standing.{settled_stand}
 use Rattle.view_groups.proofs.Telling.{told_from}
 
@@ -87,6 +87,7 @@ module _ {F : Type 0} (f : Folders F) (own : List ℕ) (views newest : ℕ) wher
     others = told_refl (f.disk folder) _ (λ d. moves_none (IsFileOf (View own)) (λ image. Unit {0}) (λ files. Unit {0}) d (λ image is. tt) tt);
     is_open = λ are. are;
     place = (index, group);
+    beside = none_close groups groups (View own) refl;
     found = λ at other its. (ap (λ p. Ok p) (one_place groups (View own) place at index other group.there its.there group.named its.named), refl, refl);
     faults = tt;
     cause = record { later = omega arith; failed = tt };
@@ -106,6 +107,9 @@ module _ {F : Type 0} (f : Folders F) (own : List ℕ) (views newest : ℕ) wher
         others = opens.others;
         is_open = λ are. opens.is_open (told_now (f.disk old) _ _ (λ d here. closed_open own d.now d.now (λ n other. refl) groups mid closed here) are);
         place = opens.place;
+        beside = λ k d below differs.
+            let index = slice_index_or (open_of groups) k d in
+            All-contains (λ i. stem_of i ≢ View own → Contains (open_of groups') i) (open_of mid) index opens.beside (closed.stay k d below differs) differs;
         found = λ place index group. absurd (absent place index group);
         faults = opens.faults;
         cause = opens.cause;
@@ -121,6 +125,7 @@ module _ {F : Type 0} (f : Folders F) (own : List ℕ) (views newest : ℕ) wher
     closed_by groups' same = record {
       gone = All-same (λ index. stem_of index ≢ View own) (open_of groups') (open_of groups) same none;
       others = All-same (Contains (open_of groups)) (open_of groups') (open_of groups) same (All-contains_itself (open_of groups));
+      stay = none_close groups groups' (View own) same;
     }
 
     module _ (opened : Result Index IndexFault) (opens : Opens f (View own) views newest old new opened) where
@@ -186,6 +191,7 @@ module _ {F : Type 0} (f : Folders F) (own : List ℕ) (views newest : ℕ) wher
         others = opens.others;
         is_open = λ are. told_after (f.disk old) (f.disk new) _ (λ d. AreOpen groups d.now) _ (λ a b here moves. closed_open own a.now b.now moves.others groups groups (closed_by groups refl) here) are opens.others;
         place = tt;
+        beside = none_close groups groups (View own) refl;
         found = λ place index group. absurd (none_there groups own views none place index group);
         faults = opens.faults;
         cause = record { later = opens.cause.later; failed = opens.cause.failed };
@@ -208,6 +214,7 @@ module _ {F : Type 0} (f : Folders F) (own : List ℕ) (views newest : ℕ) wher
         others = opens.others;
         is_open = λ are. told_after (f.disk old) (f.disk new) _ (λ d. AreOpen groups' d.now) _ (λ a b here moves. closed_open own a.now b.now moves.others groups groups' (closed_by groups' same) here) are opens.others;
         place = tt;
+        beside = none_close groups groups' (View own) same;
         found = λ place index group. absurd (none_there groups own views none place index group);
         faults = inr (inl refl);
         cause = record { later = opens.cause.later; failed = λ is. let no : ⊥ = cc in absurd no };
@@ -253,6 +260,8 @@ module _ {F : Type 0} (f : Folders F) (own : List ℕ) (views newest : ℕ) wher
             number = opens.fresh.number;
           },
         );
+        beside = λ k d below differs. subst (λ (l : List Index). Contains l (slice_index_or (open_of groups) k d)) (sym items)
+            (Contains-append_left (open_of groups) (index ∷ []) (slice_index_or (open_of groups) k d) (Contains-get_or (open_of groups) k d below));
         found = λ at other group. absurd (none_there groups own views none at other group);
         faults = tt;
         cause = record { later = opens.cause.later; failed = tt };

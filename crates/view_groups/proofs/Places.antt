@@ -2,18 +2,18 @@
 use Rattle.std.specs.Prelude.{◌≡◌, ◌≢◌, ◌<◌, ◌+◌, ℕ, List, [], ◌∷◌, length, take, drop, remove, Option, Some, None, All, Contains, slice_get, slice_index_or, slice_set, AllPairs}
 use Rattle.std.specs.List.{AllWithin, HoldsAt}
 use Rattle.std.specs.Option.{MatchOption}
-use Rattle.std.proofs.Common.{arith, ap, sym, ◌∙◌, subst, suc, ⊎_elim}
+use Rattle.std.proofs.Common.{◌++◌, arith, ap, refl, sym, ◌∙◌, subst, suc, ⊎_elim}
 use Rattle.std.proofs.lemmas.Bool.{cases_eq, cases_lt}
-use Rattle.std.proofs.lemmas.List.{get_or-set_other, get_or-set_same, length-set, get_or-drop, get_or-take, length-drop, length-take}
+use Rattle.std.proofs.lemmas.List.{get_or-set_other, get_or-set_same, length-set, get_or-drop, get_or-take, length-drop, length-take, take-append-drop, take_more}
 use Rattle.std.proofs.lemmas.Option.{get_or_from_slice_get, slice_get-get_or, slice_get_within}
-use Rattle.std.proofs.lemmas.List.Elements.{All-append, All-contains_itself, All-drop, All-from_all_within, All-same, All-take}
+use Rattle.std.proofs.lemmas.List.Elements.{All-append, All-contains_itself, All-drop, All-from_all_within, All-same, All-take, Contains-append_cases, Contains-append_left, Contains-append_right, Contains-get_or, Contains-push_cases}
 use Rattle.view_ports.specs.declared.file_name.Stem.{Stem}
 use Rattle.view_ports.specs.declared.file_name.Stem.TheVariants.{Docs as DocsStem, View}
 use Rattle.view_index.specs.declared.index.Index.{Index}
 use Rattle.view_index.specs.Calls.{stem_of}
 use Rattle.view_index.specs.Index.{views_of}
 use Rattle.view_groups.specs.declared.groups.Groups.{Groups}
-use Rattle.view_groups.specs.Groups.{open_of, IsClosed, IsGroup, IsPlaceOf}
+use Rattle.view_groups.specs.Groups.{open_of, IsClosed, IsGroup, IsPlaceOf, StayOpen}
 
 -- an element at a place within a list
 get : {X : Type 0} (xs : List X) (i : ℕ) → i < length xs → X
@@ -84,6 +84,19 @@ module _ (groups : Groups) (stem : Stem) (place : ℕ) (found : IsPlaceOf groups
       let upper : suc place + k < length (open_of groups) = omega (arith, long, below) in
       subst IsOther (sym (get_or-drop (suc place) (open_of groups) k d)) (λ same. groups.apart place (suc place + k) d (omega arith) upper (here d ∙ sym same))
 
+  -- an open index of other files stands before it or behind it
+  beside : (x : Index) → stem_of x ≢ stem → Contains (open_of groups) x → Contains (remove (open_of groups) place) x
+  beside x differs there =
+      let xs = open_of groups in
+      let whole : take (place + 1) xs ++ drop (suc place) xs ≡ xs = ap (λ (n : ℕ). take n xs ++ drop (suc place) xs) (omega arith) ∙ take-append-drop (suc place) xs in
+      ⊎_elim
+      (λ early. ⊎_elim
+      (λ before. Contains-append_left (take place xs) (drop (suc place) xs) x before)
+      (λ same. absurd (differs (sym (ap stem_of same) ∙ here x)))
+      (Contains-push_cases (take place xs) (slice_index_or xs place x) x (subst (λ (l : List Index). Contains l x) (take_more xs place x within) early)))
+      (λ late. Contains-append_right (take place xs) (drop (suc place) xs) x late)
+      (Contains-append_cases (take (place + 1) xs) (drop (suc place) xs) x (subst (λ (l : List Index). Contains l x) (sym whole) there))
+
   pub closed : (groups' : Groups) → open_of groups' ≡ remove (open_of groups) place → IsClosed stem groups groups'
   closed groups' removed = record {
     gone = All-same IsOther (open_of groups') (remove (open_of groups) place) removed (All-append IsOther (take place (open_of groups)) (drop (suc place) (open_of groups)) before behind);
@@ -91,10 +104,17 @@ module _ (groups : Groups) (stem : Stem) (place : ℕ) (found : IsPlaceOf groups
         (All-append (Contains (open_of groups)) (take place (open_of groups)) (drop (suc place) (open_of groups))
         (All-take (Contains (open_of groups)) place (open_of groups) (All-contains_itself (open_of groups)))
         (All-drop (Contains (open_of groups)) (suc place) (open_of groups) (All-contains_itself (open_of groups))));
+    stay = λ k d below differs. subst (λ (l : List Index). Contains l (slice_index_or (open_of groups) k d)) (sym removed)
+        (beside (slice_index_or (open_of groups) k d) differs (Contains-get_or (open_of groups) k d below));
   }
 
+-- nothing is closed
+pub none_close : (groups groups' : Groups) (stem : Stem) → open_of groups' ≡ open_of groups → StayOpen stem groups groups'
+none_close groups groups' stem same k d below differs =
+    subst (λ (l : List Index). Contains l (slice_index_or (open_of groups) k d)) (sym same) (Contains-get_or (open_of groups) k d below)
+
 pub none_closed : (groups : Groups) (stem : Stem) → IsPlaceOf groups stem None → IsClosed stem groups groups
-none_closed groups stem none = record { gone = none; others = All-contains_itself (open_of groups) }
+none_closed groups stem none = record { gone = none; others = All-contains_itself (open_of groups); stay = none_close groups groups stem refl }
 
 -- ---- one is exchanged for another of the same files
 

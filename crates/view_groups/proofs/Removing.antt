@@ -1,7 +1,7 @@
 -- Indexes are removed one after another.
 use Rattle.std.specs.Prelude.{◌≡◌, ◌⊎◌, ◌<◌, ◌+◌, ◌++◌, ◌∷◌, [], ℕ, List, length, take, slice_index_or, None, Result, Ok, Err, IfErr, OnOk, Contains, refl}
 use Rattle.std.proofs.lemmas.List.{take_more}
-use Rattle.std.proofs.lemmas.List.Elements.{Contains-push_cases}
+use Rattle.std.proofs.lemmas.List.Elements.{All-contains, Contains-get_or, Contains-push_cases}
 use Rattle.std.proofs.Common.{ap, sym, ◌∙◌, subst, inl, inr, ⊎_elim, arith}
 use Rattle.view_ports.specs.Disk.{Disk, IfTold, Moves, Tells}
 use Rattle.view_ports.specs.Faults.{Rose}
@@ -16,12 +16,13 @@ use Rattle.gate_file.specs.declared.fault.GateFault.TheVariants.{DiskFault, Dama
 use Rattle.gate_file.specs.Open.{IsFirstDamage}
 use Rattle.view_index.specs.declared.fault.IndexFault.{IndexFault}
 use Rattle.view_index.specs.declared.fault.IndexFault.TheVariants.{Store}
+use Rattle.view_index.specs.Calls.{stem_of}
 use Rattle.view_index.specs.Held.{HoldsIndex, IsFileOf, Stands}
 use Rattle.view_index.specs.Opens.{FindsDamage}
 use Rattle.view_index.specs.Removes.{AreEmpty, Removes}
 use Rattle.view_groups.specs.declared.groups.Groups.{Groups}
-use Rattle.view_groups.specs.Cleans.{AreFewer, IsDamageOf, IsIndexFile, IsUnkept}
-use Rattle.view_groups.specs.Groups.{AreAt, AreOpen, IsClosed}
+use Rattle.view_groups.specs.Cleans.{AreFewer, IsDamageOf, IsIndexFile, IsUnkept, KeptStayOpen}
+use Rattle.view_groups.specs.Groups.{open_of, AreAt, AreOpen, IsClosed}
 use Rattle.view_groups.specs.Pictures.{Pictures}
 use Rattle.view_groups.specs.Removing.{AreLeft, AreRemoved, AreSameOrEmpty, IsNamed, RemovesEach, StandsForFewer}
 use Rattle.view_groups.proofs.Closing.{closed_at, closed_open, set_at, set_stand, set_there, unset}
@@ -33,6 +34,14 @@ abbrev pub well : Result (Unit {0}) IndexFault
 well = Ok tt
 
 module _ (kept : List (List ℕ)) where
+  pub stay_open : (groups : Groups) → KeptStayOpen kept groups groups
+  stay_open groups k d below sig named is = Contains-get_or (open_of groups) k d below
+
+  stay_then : (first second third : Groups) → KeptStayOpen kept first second → KeptStayOpen kept second third → KeptStayOpen kept first third
+  stay_then first second third early late k d below sig named is =
+      let index = slice_index_or (open_of first) k d in
+      All-contains (λ i. (own : List ℕ) → stem_of i ≡ View own → Contains kept own → Contains (open_of third) i) (open_of second) index late (early k d below sig named is) sig named is
+
   pub fewer_refl : (pictures : Pictures) → AreFewer kept pictures pictures
   fewer_refl pictures = λ sig. inl refl
 
@@ -62,6 +71,7 @@ module _ (kept : List (List ℕ)) where
       empty = told_all (f.disk folder) (λ d. AreRemoved kept IsToGo d.now) (λ d sig listed unkept. absurd (never sig listed unkept));
       damaged = told_all (f.disk folder) (λ d. (name : FileName) (at : ℕ) → well ≡ Err (Store (Damaged name at)) → IsDamageOf kept d.now name at) (λ d name at failed. let no : ⊥ = cc in absurd no);
       others = told_refl (f.disk folder) (Moves (IsUnkept kept) (λ image. Unit {0}) (λ files. Unit {0})) (λ d. moves_none (IsUnkept kept) (λ image. Unit {0}) (λ files. Unit {0}) d (λ image is. tt) tt);
+      stay = stay_open groups;
       is_open = λ are. are;
       faults = tt;
       cause = record { later = omega arith; failed = tt };
@@ -78,6 +88,7 @@ module _ (kept : List (List ℕ)) where
       empty = removed_of result removes.empty;
       damaged = removes.damaged;
       others = removes.others;
+      stay = removes.stay;
       is_open = removes.is_open;
       faults = removes.faults;
       cause = removes.cause;
@@ -100,6 +111,7 @@ module _ (kept : List (List ℕ)) where
       empty = tt;
       damaged = removes.damaged;
       others = removes.others;
+      stay = removes.stay;
       is_open = removes.is_open;
       faults = removes.faults;
       cause = removes.cause;
@@ -153,6 +165,7 @@ module _ (kept : List (List ℕ)) where
             (λ d finds name at failed. record { sig = own; unkept = unkept; damage = finds name at failed }) removes.damaged;
         others = told_map (f.disk old) (f.disk new) _ (Moves (IsUnkept kept) (λ image. Unit {0}) (λ files. Unit {0}))
             (λ a b moved. moves_wider (IsFileOf (View own)) (IsUnkept kept) (λ image. Unit {0}) (λ image. Unit {0}) (λ files. Unit {0}) (λ files. Unit {0}) a b (λ n is. (own, is, unkept)) (λ image framed. tt) (λ others ended. tt) moved) removes.others;
+        stay = λ k d below sig named is. closed.stay k d below (λ same. let other : sig ≡ own = cc in unkept (subst (Contains kept) other is));
         is_open = λ are. by_result result (told_after (f.disk old) (f.disk new) (λ d. AreOpen groups d.now) (λ d. AreOpen groups' d.now) _ (λ a b here moved. closed_open own a.now b.now moved.others groups groups' closed here) are removes.others);
         faults = removes.faults;
         cause = removes.cause;
@@ -218,6 +231,7 @@ module _ (kept : List (List ℕ)) where
         others = told_then (f.disk old) (f.disk mid) (f.disk new) _ _ (Moves (IsUnkept kept) (λ image. Unit {0}) (λ files. Unit {0}))
             (λ a b c one other. moves_then (IsUnkept kept) (λ image. Unit {0}) (λ image. Unit {0}) (λ image. Unit {0}) (λ files. Unit {0}) (λ files. Unit {0}) (λ files. Unit {0}) a b c
             (λ image is. tt) (λ ended image is. tt) (λ one_ended other_ended. tt) one other) early.others late.others;
+        stay = stay_then first second third early.stay late.stay;
         is_open = λ are. late.is_open (early.is_open are);
         faults = late.faults;
         cause = record { later = omega (arith, early.cause.later, late.cause.later); failed = by_fault result late.cause.failed };

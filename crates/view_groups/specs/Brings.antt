@@ -27,7 +27,7 @@ use Rattle.view_index.specs.Index.{picture_of, seq_of}
 use Rattle.view_updater.specs.declared.fault.UpdateFault.{UpdateFault}
 use Rattle.view_updater.specs.declared.fault.UpdateFault.TheVariants.{Docs as OfDocuments, Index as OfIndex, NoMemory as OutOfMemory, Pool as OfPool}
 use Rattle.view_updater.specs.Updates.{documents_since, ComplainsRightly, HasAskedFor, IsBodyDamaged, IsFileFault, IsFullWith, IsIdleEnd, IsLost, IsMade, IsMapped, IsOfIndex}
-use Rattle.view_groups.specs.Groups.{AreAt, AreOpen, IsGroup}
+use Rattle.view_groups.specs.Groups.{AreAt, AreOpen, IsGroup, StayOpen}
 use Rattle.view_groups.specs.Pictures.{Pictures}
 use Rattle.view_groups.specs.Sides.{Side}
 use Rattle.view_groups.specs.Updating.{UpdatesAt}
@@ -122,7 +122,9 @@ module _ {F C : Type 0} (f : Folders F) (s : Servers C) (docs : Docs) (design : 
     -- where the index of the design is open it stays open, and nothing is done but its update, unless memory runs out before
     pub there : (place : ℕ) (index : Index) → IsGroup old.groups place (sig_of design) (views_in design) index
         → UpdatesOpen place result ⊎ ((result ≡ Err OutOfMemory) × (new ≡ old))
-    -- and where nothing was written since, nothing is done
+    -- the other open indexes stay open, whether or not it was open
+    pub beside : StayOpen (View (sig_of design)) old.groups new.groups
+    -- where it was and nothing was written since, nothing is done
     pub idle : (place : ℕ) (index : Index) → IsGroup old.groups place (sig_of design) (views_in design) index → seq_of index ≡ written docs
         → ((result ≡ Ok place) ⊎ (result ≡ Err OutOfMemory)) × (new ≡ old)
     -- nothing is damaged where the picture of the design has the rows of as many views as the design

@@ -1,5 +1,5 @@
 -- Removing the files of indexes that no design has.
-use Rattle.std.specs.Prelude.{◌≡◌, ◌⊎◌, ℕ, List, [], None, Result, Ok, Err, IfErr, OnOk, Contains}
+use Rattle.std.specs.Prelude.{◌≡◌, ◌⊎◌, ℕ, List, [], None, Result, Ok, Err, IfErr, OnOk, All, Contains}
 use Rattle.view_ports.specs.Causes.{HasCauseIf}
 use Rattle.view_ports.specs.Disk.{IfTold, Moves, MovesNone, Tells}
 use Rattle.view_ports.specs.File.{File}
@@ -8,10 +8,11 @@ use Rattle.view_ports.specs.declared.file_name.Stem.TheVariants.{View}
 use Rattle.view_ports.specs.declared.folder.Folder.{Ghosts as Folders}
 use Rattle.gate_file.specs.declared.fault.GateFault.TheVariants.{DiskFault, Damaged}
 use Rattle.gate_file.specs.Open.{IsFirstDamage}
+use Rattle.view_index.specs.Calls.{stem_of}
 use Rattle.view_index.specs.declared.fault.IndexFault.{IndexFault}
 use Rattle.view_index.specs.declared.fault.IndexFault.TheVariants.{NoMemory, Store}
 use Rattle.view_groups.specs.declared.groups.Groups.{Groups}
-use Rattle.view_groups.specs.Groups.{AreAt, AreOpen}
+use Rattle.view_groups.specs.Groups.{open_of, AreAt, AreOpen}
 use Rattle.view_groups.specs.Pictures.{Pictures, StandFor}
 
 -- a file of an index
@@ -42,6 +43,10 @@ module _ (kept : List (List ℕ)) where
     pub unkept : Contains kept sig → ⊥
     pub damage : IsFirstDamage (View sig) files name at
 
+  -- the open indexes that are kept stay open, as they are
+  abbrev pub KeptStayOpen : Groups → Groups → Type 0
+  KeptStayOpen groups groups' = All (λ index. (sig : List ℕ) → stem_of index ≡ View sig → Contains kept sig → Contains (open_of groups') index) (open_of groups)
+
   -- so it ends: want of memory leaves all
   abbrev pub EndsAt : Groups → Pictures → Result (Unit {0}) IndexFault → (FileName → File) → Type 0
   EndsAt groups pictures (Ok done) files = (left : Pictures) × AreKept pictures left × AreAt groups files left
@@ -63,6 +68,7 @@ module _ (kept : List (List ℕ)) where
       pub sound : (pictures : Pictures) → IfTold (f.disk old) (λ d. AreAt groups d.now pictures → (name : FileName) (at : ℕ) → result ≡ Err (Store (Damaged name at)) → ⊥)
       -- whatever the files hold, those of indexes that are kept and of no index are as they were
       pub others : Tells (f.disk old) (f.disk new) (Moves IsUnkept (λ image. Unit {0}) (λ files. Unit {0}))
+      pub stay : KeptStayOpen groups groups'
       pub is_open : IfTold (f.disk old) (λ d. AreOpen groups d.now) → IfErr result (λ e. e ≡ NoMemory) → IfTold (f.disk new) (λ d. AreOpen groups' d.now)
       pub faults : IfErr result (λ e. (e ≡ Store DiskFault) ⊎ (e ≡ NoMemory) ⊎ ((name : FileName) × (at : ℕ) × (e ≡ Store (Damaged name at))))
       pub cause : HasCauseIf (λ e. e ≡ Store DiskFault) (f.faults old) (f.faults new) result

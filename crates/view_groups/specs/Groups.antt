@@ -25,10 +25,15 @@ abbrev pub IsPlaceOf : Groups → Stem → Option ℕ → Type 0
 IsPlaceOf groups stem (Some place) = (index : Index) × (slice_get (open_of groups) place ≡ Some index) × (stem_of index ≡ stem)
 IsPlaceOf groups stem None = All (λ index. stem_of index ≢ stem) (open_of groups)
 
--- the index of these files is closed, and nothing else was opened
+-- the open indexes of other files than these stay open, as they are
+abbrev pub StayOpen : Stem → Groups → Groups → Type 0
+StayOpen stem old new = All (λ index. stem_of index ≢ stem → Contains (open_of new) index) (open_of old)
+
+-- the index of these files is closed, and all others stay open, and nothing else was opened
 pub record IsClosed (stem : Stem) (old new : Groups) : Type 0 where
   pub gone : All (λ index. stem_of index ≢ stem) (open_of new)
   pub others : All (Contains (open_of old)) (open_of new)
+  pub stay : StayOpen stem old new
 
 -- what each open index keeps is what the folder holds
 abbrev pub AreOpen : Groups → (FileName → File) → Type 0

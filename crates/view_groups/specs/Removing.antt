@@ -13,7 +13,7 @@ use Rattle.view_index.specs.declared.fault.IndexFault.TheVariants.{Store}
 use Rattle.view_index.specs.Held.{IsFileOf}
 use Rattle.view_index.specs.Removes.{AreEmpty, IsRemoveFault}
 use Rattle.view_groups.specs.declared.groups.Groups.{Groups}
-use Rattle.view_groups.specs.Cleans.{AreFewer, IsDamageOf, IsIndexFile, IsUnkept}
+use Rattle.view_groups.specs.Cleans.{AreFewer, IsDamageOf, IsIndexFile, IsUnkept, KeptStayOpen}
 use Rattle.view_groups.specs.Groups.{AreAt, AreOpen}
 use Rattle.view_groups.specs.Pictures.{Pictures, StandFor}
 
@@ -50,6 +50,7 @@ module _ (kept : List (List ℕ)) where
       pub empty : OnOk result (IfTold (f.disk new) (λ d. AreRemoved IsToGo d.now))
       pub damaged : IfTold (f.disk old) (λ d. (name : FileName) (at : ℕ) → result ≡ Err (Store (Damaged name at)) → IsDamageOf kept d.now name at)
       pub others : Tells (f.disk old) (f.disk new) (Moves (IsUnkept kept) (λ image. Unit {0}) (λ files. Unit {0}))
+      pub stay : KeptStayOpen kept groups groups'
       pub is_open : IfTold (f.disk old) (λ d. AreOpen groups d.now) → OnOk result (IfTold (f.disk new) (λ d. AreOpen groups' d.now))
       pub faults : IfErr result IsRemoveFault
       pub cause : HasCauseIf (λ e. e ≡ Store DiskFault) (f.faults old) (f.faults new) result
