@@ -1,8 +1,7 @@
 //! A built-in reduce as the values of lists of rows.
 
 ghost use Rattle.std.specs.Prelude.{◌≡◌, ◌↔◌, IsTrue};
-ghost use Rattle.design_docs.specs.declared.design.Builtin.TheVariants as builtin;
-ghost use Rattle.builtin_reduces.specs.BuiltinMeaning.{builtin_meaning};
+ghost use Rattle.builtin_reduces.specs.BuiltinMeaning.{FailsSumming, builtin_meaning, kind_of};
 ghost use Rattle.builtin_reduces.specs.SumFits.{FitsUnder, IsUnder};
 
 use crate::item::RowItem;
@@ -35,7 +34,7 @@ pub struct BuiltinSummer {
 
 impl BuiltinSummer {
     pub fn new(kind: Builtin) -> BuiltinSummer
-        ensures kind { result.kind ≡ kind }
+        ensures kind { kind_of result ≡ kind }
         ensures meaning { ⟦<BuiltinSummer as Summer>⟧.meaning result ≡ builtin_meaning kind }
     {
         BuiltinSummer { kind }
@@ -52,17 +51,17 @@ impl Summer for BuiltinSummer {
 
     type Fault = NoMemory;
 
-    ghost meaning = { λ summer. builtin_meaning summer.kind };
+    ghost meaning = { λ summer. builtin_meaning (kind_of summer) };
 
     ghost lawful = { λ summer. Unit {0} };
 
     ghost usable = { λ summer. Unit {0} };
 
-    ghost fits = { λ summer. FitsUnder summer.kind };
+    ghost fits = { λ summer. FitsUnder (kind_of summer) };
 
     ghost goes = { λ a b. b ≡ a };
 
-    ghost fails = { λ a b fault. (b ≡ a) × (a.kind ≡ builtin.Sum) };
+    ghost fails = { λ a b fault. FailsSumming a b };
 
     ghost asked = { λ a b items. Unit {0} };
 
@@ -110,15 +109,15 @@ impl Summer for BuiltinSummer {
 
     ghost keeps = { same_keeps _ _ _ _ };
 
-    ghost stays_caused = { same_stays_caused (λ a b fault. (b ≡ a) × (a.kind ≡ builtin.Sum)) };
+    ghost stays_caused = { same_stays_caused (λ a b fault. FailsSumming a b) };
 
     ghost stays_asked = { nothing_noted _ _ };
 
     ghost stays_given = { nothing_noted _ _ };
 
-    ghost one_spelling = { λ summer. sums_spelled_once_under summer.kind };
+    ghost one_spelling = { λ summer. sums_spelled_once_under (kind_of summer) };
 
-    ghost is_short = { λ summer. sums_are_short summer.kind };
+    ghost is_short = { λ summer. sums_are_short (kind_of summer) };
 }
 
 /// Whether the reduce gives values of this kind.

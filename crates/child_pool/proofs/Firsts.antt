@@ -13,7 +13,7 @@ use Rattle.child_pool.specs.Firsts.{first_prompts, slots_of, HasMappedFirst}
 use Rattle.child_pool.specs.Histories.{WentIn, talk}
 use Rattle.child_pool.specs.Jobs.{Job}
 use Rattle.child_pool.specs.Mapping.{AreHonestRows, AreParts}
-use Rattle.child_pool.specs.Pools.{AfterBatch, AfterPreparing, AreRowsOf, HasGivenUp, IsKept, reducer_of}
+use Rattle.child_pool.specs.Pools.{AfterBatch, AfterPreparing, AreKept, AreRowsOf, HasGivenUp, IsKept, reducer_of}
 use Rattle.child_pool.specs.Prompts.{document_prompt, document_prompts, slots_prompts, update_prompts}
 use Rattle.child_pool.specs.Talk.{AreTurns, Due, talk_of}
 use Rattle.child_pool.specs.Tries.{AllAnswered, Prompt}
@@ -102,7 +102,11 @@ module _ (functions : List ℕ → Functions) (honest : List ℕ → Type 0) (jo
           let so_far = first_prompts job old.width tried.0 done in
           let next = document_prompts job.sources more in
           then_in w v (HasMappedFirst functions honest job old (done ++ more) rose pool' (lists ++ others)) (record {
-            is_ready = v.holds.is_ready;
+            is_ready = record {
+              remembered = subst (λ (p : Pool). AreKept p job.path (slots_of job old.width)) (sym same) w.holds.is_ready.remembered;
+              there = v.holds.there;
+              told = v.holds.told;
+            };
             tried = (
               tried.0,
               tried.1,

@@ -117,7 +117,7 @@ module _ {C : Type 0} (s : Servers C) (design : Design) where
           let known_still = subst (λ languages. path_in languages design.language ≡ Some path) (sym keeps.languages) known in
           let long : length all ≡ (length done + length more) + length rest = length-append (done ++ more) rest ∙ ap (λ n. n + length rest) (length-append done more) in
           subst (λ (n : ℕ). WentIn (s.may_follow new) (job_in path all) n w.now (AfterBatch s.functions s.honest (job_in path all) n slots more (HasRisen s mid new) pool' result w.now)) keeps.width
-          (maps path all slots w.now w.follows known_still (next_among done more rest) (omega (arith, keeps.width)) (omega (arith, keeps.width, long)) w.holds.is_ready)
+          (maps path all slots w.now w.follows known_still (next_among done more rest) (omega (arith, keeps.width)) (omega (arith, keeps.width, long)) w.holds.is_ready.there w.holds.is_ready.told)
 
       pub next_follows : (result : Result DocRowLists PoolFault) → MapsBatch s mid new pool design more pool' result → OnOk result (pool' ≡ pool) → FollowsFirst s old new made pool' design (done ++ more) lists result
       next_follows (Ok others) maps same = record {

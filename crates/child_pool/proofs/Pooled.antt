@@ -4,7 +4,7 @@ use Rattle.std.specs.Str.{bytes_eq}
 use Rattle.std.proofs.lemmas.Bool.{cases_Bool, cases_lt}
 use Rattle.std.proofs.lemmas.Slice.Eq.{bytes_eq-Decides}
 use Rattle.json_terms.specs.Json.{Json}
-use Rattle.view_ports.specs.Calls.{Call, child}
+use Rattle.view_ports.specs.Calls.{Call, Session, child, session}
 use Rattle.view_ports.specs.Functions.{Functions}
 use Rattle.child_pool.specs.declared.doc_rows.DocRowLists.{DocRowLists}
 use Rattle.child_pool.specs.declared.pool.Pool.{Pool}
@@ -13,10 +13,11 @@ use Rattle.child_pool.specs.declared.pool_fault.PoolFault.{PoolFault}
 use Rattle.child_pool.specs.Histories.{AllStops, Went, WentIn}
 use Rattle.child_pool.specs.Jobs.{Job}
 use Rattle.child_pool.specs.PoolCalls.{AreLeft}
-use Rattle.child_pool.specs.Pools.{AfterBatch, AfterMapping, AfterReadying, AfterTrying, IsKeptOf, AreStopped, AreThere, HasItsChildren, HasItsReducer, IsKept, IsReady, KeepsReducer, StandReady}
+use Rattle.child_pool.specs.Pools.{AfterBatch, AfterMapping, AfterReadying, AfterTrying, AreRowsOf, AreStopped, AreThere, AreTold, HasItsChildren, HasItsReducer, IsKept, IsKeptOf, KeepsReducer, StandReady}
 use Rattle.child_pool.specs.Prompts.{document_prompts, slots_prompts}
 use Rattle.child_pool.specs.Sessions.{IsThere}
 use Rattle.child_pool.specs.Tries.{AllAnswered}
+use Rattle.child_pool.proofs.Batches.{no_rows}
 use Rattle.child_pool.proofs.Refusals.{given_up}
 use Rattle.child_pool.proofs.Slots.{map_in, none_in, on_then, stays_elsewhere, went_in}
 
@@ -66,11 +67,27 @@ some_kept pool path (Some started) is = elim (cases_Bool (bytes_eq started.path 
   )
 ]
 
--- children that are ready stand ready beside all that are remembered
-pub ready_stand : (functions : List ℕ → Functions) (honest : List ℕ → Type 0) (job : Job) (slots : ℕ) (pool : Pool) {calls : List Call} (was : IsReady functions honest job slots pool calls)
-    → (was.remembered.0 ≤ pool.width) × StandReady functions honest job slots was.remembered.0 calls
-ready_stand functions honest job slots pool {calls = calls} was =
-    let there = children_there pool job.path was.remembered.0 calls was.remembered.2 was.there in (there.0, record { told = was.told; there = there.1 })
+-- children that have the sources stand ready
+pub told_stand : (functions : List ℕ → Functions) (honest : List ℕ → Type 0) (job : Job) (slots : ℕ) (calls : List Call) → AreTold functions honest job slots calls → StandReady functions honest job slots slots calls
+told_stand functions honest job slots calls told = record { told = told; there = λ slot below. (job.sources, (told slot below).idle) }
+
+-- a child was started by one path
+one_child_path : (path other : List ℕ) (calls : List Call) → IsThere path 0 calls → IsThere other 0 calls → path ≡ other
+one_child_path path other calls first second =
+    let both : Some (session path first.0 [] 0 true) ≡ Some (session other second.0 [] 0 true) = sym first.1.is ∙ second.1.is in
+    let same : session path first.0 [] 0 true ≡ session other second.0 [] 0 true = cc in
+    ap (λ (st : Session). st.path) same
+
+-- where one child maps, and a child of one path is in its slot before and now, what the pool remembers of that slot is there now
+one_stays : (pool : Pool) (path : List ℕ) (before now : List Call) → IsThere path 0 before → IsThere path 0 now → (o : Option Started) → pool.width ≡ 1 → Stands pool before o → Stands pool now o
+one_stays pool path before now was is None one stands = tt
+one_stays pool path before now was is (Some started) one stands = (stands.0, there)
+  where
+    there : AreThere started.path started.count now
+    there slot below =
+        let first : 0 ≡ slot = omega (arith, one, stands.0, below) in
+        let same = one_child_path path started.path before was (stands.1 0 (omega (arith, below))) in
+        subst (λ (at : ℕ). IsThere started.path at now) first (subst (λ (p : List ℕ). IsThere p 0 now) same is)
 
 -- ---- the child that reduces
 
@@ -139,18 +156,31 @@ module _ (functions : List ℕ → Functions) (honest : List ℕ → Type 0) (jo
       → WentIn follow job width calls (AfterTrying functions honest job old slots rose pool (Err f) calls)
   unprepared_pool {width = width} old slots kept rose pool f was w = map_in w (AfterTrying functions honest job old slots rose pool (Err f) calls) (kept, was, w.holds.0)
 
+  -- no document is to be mapped
+  pub unasked_batch : (slots : ℕ) (pool : Pool) (documents : List (List (List ℕ × Json))) (rose : Type 0) (lists : DocRowLists) → documents ≡ [] → lists ≡ [] → follow calls → HasItsChildren pool calls → AreTold functions honest job slots calls
+      → WentIn follow job pool.width calls (AfterBatch functions honest job pool.width slots documents rose pool (Ok lists) calls)
+  unasked_batch slots pool documents rose lists none nothing follows there told =
+      none_in follows (AfterBatch functions honest job pool.width slots documents rose pool (Ok lists) calls) (record {
+        there = there;
+        told = told;
+        answered = subst (λ (d : List (List (List ℕ × Json))). AllAnswered rose (document_prompts job.sources d) []) (sym none) refl;
+        rows = subst (λ (d : List (List (List ℕ × Json))). AreRowsOf functions honest job.path job.sources d lists) (sym none)
+            (subst (λ (l : DocRowLists). AreRowsOf functions honest job.path job.sources [] l) (sym nothing) (no_rows functions honest job));
+      })
+
   -- a batch that was mapped by the one child
-  pub mapped_pool : (slots : ℕ) (pool : Pool) → pool.width ≡ 1 → (documents : List (List (List ℕ × Json))) (rose : Type 0) (lists : DocRowLists) (was : IsReady functions honest job slots pool calls)
-      → Went follow job 0 calls (AfterMapping functions honest job slots was.remembered.0 documents rose (Ok lists) calls) → WentIn follow job pool.width calls (AfterBatch functions honest job pool.width slots documents rose pool (Ok lists) calls)
-  mapped_pool slots pool one documents rose lists was w =
+  pub mapped_pool : (slots kept : ℕ) (pool : Pool) → pool.width ≡ 1 → 0 < slots → (documents : List (List (List ℕ × Json))) (rose : Type 0) (lists : DocRowLists) → HasItsChildren pool calls → AreTold functions honest job slots calls
+      → Went follow job 0 calls (AfterMapping functions honest job slots kept documents rose (Ok lists) calls)
+      → WentIn follow job pool.width calls (AfterBatch functions honest job pool.width slots documents rose pool (Ok lists) calls)
+  mapped_pool slots kept pool one first documents rose lists there told w =
       let some : 0 < pool.width = omega arith in
-      let reducer = reducer_stays pool pool calls w.now refl refl (stays_elsewhere w pool.width (omega arith)) was.there.reducing in
+      let reducer = reducer_stays pool pool calls w.now refl refl (stays_elsewhere w pool.width (omega arith)) there.reducing in
       went_in some w (AfterBatch functions honest job pool.width slots documents rose pool (Ok lists) calls) (record {
-        is_ready = record {
-          remembered = was.remembered;
-          there = stands_kept pool job.path was.remembered.0 w.now was.remembered.2 (ready_stand functions honest job slots pool was).0 w.holds.stand.there reducer;
-          told = w.holds.stand.told;
+        there = record {
+          mapping = one_stays pool job.path calls w.now (job.sources, (told 0 first).idle) (job.sources, (w.holds.stand.told 0 first).idle) pool.started one there.mapping;
+          reducing = reducer;
         };
+        told = w.holds.stand.told;
         answered = w.holds.answered;
         rows = w.holds.rows;
       })

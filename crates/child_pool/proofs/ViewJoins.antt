@@ -1,5 +1,5 @@
 -- The reduces of a design's views: what they ask for, and what they join.
-use Rattle.std.proofs.Common.{◌≡◌, ℕ, List, [], ◌∷◌, map, refl, sym, ap, ◌∙◌, subst, inl, arith}
+use Rattle.std.proofs.Common.{◌≡◌, ◌≢◌, ℕ, List, [], ◌∷◌, map, refl, sym, ap, ◌∙◌, subst, inl, arith}
 use Rattle.std.specs.List.{All}
 use Rattle.std.proofs.lemmas.List.{get_or-map, length-map}
 use Rattle.json_terms.specs.Json.{Json}
@@ -71,6 +71,10 @@ parts_fit kind sums parts are all k d within =
 pub joined_fits : (found : Reduce) (kind : Kind) (parts : List ViewSum) (sum : BuiltinSum) → found ≡ reduce.Builtin kind → (All (FitsView (reduce.Builtin kind)) parts → FitsUnder kind sum) → All (FitsView found) parts → FitsView found (value.Builtin sum)
 joined_fits found kind parts sum is fits all = builtin_fits found kind sum is (fits (subst (λ (r : Reduce). All (FitsView r) parts) is all))
 
+-- where a query server runs the reduce, it has a source
+pub has_source : (found : Reduce) (source : List ℕ) → found ≡ reduce.Source source → reduce_source found ≢ []
+has_source found source is none = let some : reduce_source found ≡ source ∷ [] = ap reduce_source is in absurd (cc)
+
 -- the source of a reduce is asked for by it
 is_own : (found : Reduce) (source asked : List ℕ) → found ≡ reduce.Source source → asked ≡ source → IsAmong (reduce_source found) asked
 is_own found source asked is same = subst (λ (r : Reduce). IsAmong (reduce_source r) asked) (sym is) (inl same)
@@ -83,7 +87,7 @@ module _ {C : Type 0} (s : Servers C) where
     view = view;
     slot = subst (λ (l : List ℕ). Goes s l (reduce_source (reduce_of s a)) a.slot b.slot) of_design
         (talks (reduce_source (reduce_of s a)) (is_own (reduce_of s a) source own is of_view));
-    idle = λ none. let some : reduce_source (reduce_of s a) ≡ source ∷ [] = ap reduce_source is in absurd (cc);
+    idle = λ none. absurd (has_source (reduce_of s a) source is none);
   }
 
   pub source_fails : (a b : Summers C) (source language own : List ℕ) (fault : PoolFault) → reduce_of s a ≡ reduce.Source source → b.design ≡ a.design → b.view ≡ a.view → language ≡ a.design.now.language → own ≡ source → Blames s language own a.slot b.slot fault
@@ -94,11 +98,12 @@ module _ {C : Type 0} (s : Servers C) where
     slot = subst (λ (l : List ℕ). Fails s l (reduce_source (reduce_of s a)) a.slot b.slot fault) of_design
         (blames (reduce_source (reduce_of s a)) (is_own (reduce_of s a) source own is of_view));
     given_up = λ some. given_up;
+    idle = λ none. absurd (has_source (reduce_of s a) source is none);
   }
 
   -- want of memory, where no query server runs the reduce
   pub no_memory : (a : Summers C) → reduce_source (reduce_of s a) ≡ [] → SummersFail s a a NoMemory
-  no_memory a none = record { design = refl; view = refl; slot = fails_none s a.design.now.language (reduce_source (reduce_of s a)) a.slot; given_up = λ some. absurd (some none) }
+  no_memory a none = record { design = refl; view = refl; slot = fails_none s a.design.now.language (reduce_source (reduce_of s a)) a.slot; given_up = λ some. absurd (some none); idle = λ none. (refl, refl) }
 
   module _ (language : List ℕ) (slot : ReduceSlot C) where
     abbrev Joins : Reduce → List ViewSum → ViewSum → Type 0

@@ -98,8 +98,13 @@ module _ {C : Type 0} (s : Servers C) (language : List ℕ) where
     ready = λ begun. absurd (let never : Idle ≡ Begun = sym idle ∙ begun in cc);
   }
 
-  pub reduces_whole : (reduces : List (List ℕ)) (a b : ReduceSlot C) → a.stage ≡ Idle → Goes s language reduces a b → Reduces s a.servers.now b.servers.now a.pool.now b.pool.now language reduces
-  reduces_whole reduces a b idle goes = record {
+  -- where the talk is as it was, so are the servers and the pool
+  lent_same : (a b : ReduceSlot C) → b ≡ a → (b.servers.now ≡ a.servers.now) × (b.pool.now ≡ a.pool.now)
+  lent_same a b same = (ap (λ (slot : ReduceSlot C). slot.servers.now) same, ap (λ (slot : ReduceSlot C). slot.pool.now) same)
+
+  pub reduces_whole : (reduces : List (List ℕ)) (a b : ReduceSlot C) → a.stage ≡ Idle → (reduces ≡ [] → b ≡ a) → Goes s language reduces a b → Reduces s a.servers.now b.servers.now a.pool.now b.pool.now language reduces
+  reduces_whole reduces a b idle same goes = record {
+    idle = λ none. lent_same a b (same none);
     keeps = goes.keeps;
     later = goes.later;
     went = λ path calls follows known children.
@@ -117,8 +122,10 @@ module _ {C : Type 0} (s : Servers C) (language : List ℕ) where
         };
   }
 
-  pub fails_whole : (reduces : List (List ℕ)) (a b : ReduceSlot C) (fault : PoolFault) → a.stage ≡ Idle → Fails s language reduces a b fault → FailsReducing s a.servers.now b.servers.now a.pool.now b.pool.now language reduces fault
-  fails_whole reduces a b fault idle fails = record {
+  pub fails_whole : (reduces : List (List ℕ)) (a b : ReduceSlot C) (fault : PoolFault) → a.stage ≡ Idle → (reduces ≡ [] → (fault ≡ NoMemory) × (b ≡ a)) → Fails s language reduces a b fault
+      → FailsReducing s a.servers.now b.servers.now a.pool.now b.pool.now language reduces fault
+  fails_whole reduces a b fault idle spent fails = record {
+    idle = λ none. let is = spent none in let same = lent_same a b is.1 in (is.0, same.0, same.1);
     keeps = fails.keeps;
     later = fails.later;
     twice = fails.twice;

@@ -15,7 +15,7 @@ use Rattle.child_pool.specs.Ends.{HasRisen}
 use Rattle.child_pool.specs.Histories.{AllStops, Went, WentIn}
 use Rattle.child_pool.specs.Jobs.{IsAmong, Job, job_of, reduce_job}
 use Rattle.child_pool.specs.Languages.{path_in}
-use Rattle.child_pool.specs.Pools.{AfterBatch, AfterMapping, AfterPreparing, AfterReadying, AfterTrying, AreStopped, AreThere, IsReady, HasItsChildren, StandReady, languages_of}
+use Rattle.child_pool.specs.Pools.{AfterBatch, AfterMapping, AfterPreparing, AfterReadying, AfterTrying, AreStopped, AreThere, AreTold, HasItsChildren, StandReady, languages_of}
 use Rattle.child_pool.specs.ReduceSlot.{AfterReset}
 use Rattle.child_pool.specs.Updates.{AfterTries, AfterUpdate}
 
@@ -115,13 +115,13 @@ module _ {C : Type 0} (s : Servers C) (old new : C) where
         → Went (s.may_follow new) (job_by path all) 0 calls
         (AfterMapping s.functions s.honest (job_by path all) slots kept documents (HasRisen s old new) result calls)
 
-    -- documents, each among those of the job, are mapped by the children of so many slots, which are ready: as many as the
-    -- width at most, and as many at least as there are documents, where these are fewer than the width
+    -- documents, each among those of the job, are mapped by the children of so many slots, which have the job's sources, whether the pool
+    -- remembers them or not: as many as the width at most, and as many at least as there are documents, where these are fewer than the width
     abbrev pub MapsBatch : List (List (List ℕ × Json)) → Pool → Result DocRowLists PoolFault → Type 0
     MapsBatch documents pool' result = (path : List ℕ) (all : List (List (List ℕ × Json))) (slots : ℕ) (calls : List Call) → s.may_follow old calls
         → path_for pool design ≡ Some path → AllByRecursion (IsAmong all) documents
         → slots ≤ pool.width → min pool.width (length documents) ≤ slots
-        → IsReady s.functions s.honest (job_by path all) slots pool calls
+        → HasItsChildren pool calls → AreTold s.functions s.honest (job_by path all) slots calls
         → WentIn (s.may_follow new) (job_by path all) pool.width calls
         (AfterBatch s.functions s.honest (job_by path all) pool.width slots documents (HasRisen s old new) pool' result calls)
 

@@ -163,9 +163,11 @@ module _ (functions : List ℕ → Functions) (honest : List ℕ → Type 0) whe
     pub few : AllByRecursion AreFew lists
     pub right : AllZip (AreHonestRows functions honest path sources) documents lists
 
-  -- documents were mapped one after another, and the children of the first slots are ready still
+  -- documents were mapped one after another; the children of the first slots have the job's sources still, and those that the pool remembers
+  -- are there
   pub record HasMappedAll (job : Job) (slots : ℕ) (documents : List (List (List ℕ × Json))) (rose : Type 0) (pool : Pool) (lists : List (List (List (Json × Json)))) (added now : List Call) : Type 0 where
-    pub is_ready : IsReady job slots pool now
+    pub there : HasItsChildren pool now
+    pub told : AreTold job slots now
     pub answered : AllAnswered rose (document_prompts job.sources documents) added
     pub rows : AreRowsOf job.path job.sources documents lists
 

@@ -71,16 +71,18 @@ module _ (path : List ℕ) (reduces : List (List ℕ)) (width : ℕ) (rose : Typ
   HasFailedReducing f added now = IsReducingGivenUp f added now ⊎ ((f ≡ NoMemory) × HasReduced added)
 
 module _ {C : Type 0} (s : Servers C) (old new : C) (pool pool' : Pool) (language : List ℕ) (reduces : List (List ℕ)) where
-  -- values were asked for by these sources of a language, and all were had
+  -- values were asked for by these sources of a language, and all were had; where there is no source nothing was asked
   pub record Reduces : Type 0 where
+    pub idle : reduces ≡ [] → (new ≡ old) × (pool' ≡ pool)
     pub keeps : StaysAsMade pool pool'
     pub later : s.faults old ≤ s.faults new
     pub went : (path : List ℕ) (calls : List Call) → s.may_follow old calls → path_in (languages_of pool) language ≡ Some path → HasItsChildren pool calls
         → WentReducing (s.may_follow new) path reduces pool.width calls (λ added now. HasItsChildren pool' now
         × HasReduced path reduces pool.width (HasRisen s old new) (children_of pool) (children_of pool') added)
 
-  -- or a fault was met, which has its cause among the calls
+  -- or a fault was met, which has its cause among the calls; where there is no source it is want of memory, and nothing was asked or stopped
   pub record FailsReducing (f : PoolFault) : Type 0 where
+    pub idle : reduces ≡ [] → (f ≡ NoMemory) × (new ≡ old) × (pool' ≡ pool)
     pub keeps : StaysAsMade pool pool'
     pub later : s.faults old ≤ s.faults new
     pub twice : f ≡ ServerFault → RoseBy 2 (s.faults old) (s.faults new)

@@ -178,4 +178,5 @@ module _ {C : Type 0} (s : Servers C) where
     view = cause.view ∙ before.view;
     slot = fails_behind s a.design.now.language (own a) a.slot b.slot c.slot fault before.slot (all_fail_as a b b c fault before.design before.view cause.slot);
     given_up = λ some. cause.given_up (subst (λ (r : Reduce). reduce_source r ≢ []) (sym (same_reduce a b before.design before.view)) some);
+    idle = λ none. let still = cause.idle (ap reduce_source (same_reduce a b before.design before.view) ∙ none) in (still.0, still.1 ∙ before.idle none);
   }

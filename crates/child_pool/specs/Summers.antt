@@ -16,6 +16,7 @@ use Rattle.builtin_reduces.specs.Values.{value_of}
 use Rattle.child_pool.specs.declared.child_summer.ChildSummer.{ChildSummer}
 use Rattle.child_pool.specs.declared.pool.Pool.{Pool}
 use Rattle.child_pool.specs.declared.pool_fault.PoolFault.{PoolFault}
+use Rattle.child_pool.specs.declared.pool_fault.PoolFault.TheVariants.{NoMemory}
 use Rattle.child_pool.specs.declared.reduce_slot.ReduceSlot.{ReduceSlot}
 use Rattle.child_pool.specs.declared.reduce_slot.Stage.TheVariants.{GivenUp, Idle}
 use Rattle.child_pool.specs.declared.summers.Summers.{Summers}
@@ -104,9 +105,10 @@ module _ {C : Type 0} (s : Servers C) where
     pub slot : Goes s old.design.now.language (reduce_source (reduce_of old)) old.slot new.slot
     pub idle : reduce_source (reduce_of old) ≡ [] → new.slot ≡ old.slot
 
-  -- and a fault ended the talk, where a query server runs the reduce; any other one came of want of memory, and nothing was asked
+  -- and a fault ended the talk, where a query server runs the reduce; where none does, it is want of memory, and nothing was asked or stopped
   pub record SummersFail (old new : Summers C) (fault : PoolFault) : Type 0 where
     pub design : new.design ≡ old.design
     pub view : new.view ≡ old.view
     pub slot : Fails s old.design.now.language (reduce_source (reduce_of old)) old.slot new.slot fault
     pub given_up : reduce_source (reduce_of old) ≢ [] → new.slot.stage ≡ GivenUp
+    pub idle : reduce_source (reduce_of old) ≡ [] → (fault ≡ NoMemory) × (new.slot ≡ old.slot)

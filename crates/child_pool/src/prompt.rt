@@ -1,6 +1,7 @@
 //! One prompt: a line is sent, and its answer is received behind log lines.
 
 ghost use Rattle.std.specs.Prelude.{◌≡◌, ◌<◌, ◌≤◌, IfOk, IfSome, Ok, None, false};
+ghost use Rattle.view_ports.specs.Calls.{is_short};
 ghost use Rattle.query_protocol.specs.CommandLines.{IsWhole};
 ghost use Rattle.child_pool.specs.Ends.{EndsOnce};
 ghost use Rattle.child_pool.specs.Hearing.{HasBoundedAnswer, HasBoundedParts, IsHeard, IsKept, IsShown};
@@ -67,6 +68,13 @@ fn receive_reply<C: Servers>(
     }
 }
 
+/// Whether a line can be sent: it has 134,217,728 bytes at most.
+fn is_sendable(line: &[u8]) -> bool
+    ensures { result ≡ is_short line.now }
+{
+    line.len() <= LINE_LIMIT
+}
+
 /// Sends a prompt to a child that has answered each line. It is false where the call failed. A line past 134,217,728 bytes
 /// isn't sent: there is no memory for it.
 fn send_prompt<C: Servers>(
@@ -80,7 +88,7 @@ fn send_prompt<C: Servers>(
     ensures went { Sends C.Servers servers.old servers.new slot line.now result }
     ensures ends { EndsOnce C.Servers servers.old servers.new false result }
 {
-    if line.len() > LINE_LIMIT {
+    if !is_sendable(line) {
         return Err(PoolFault::NoMemory);
     }
     match servers.send(alloc, slot, line) {

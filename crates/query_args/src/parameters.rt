@@ -7,68 +7,78 @@ ghost use Rattle.query_args.specs.Parameters as spec;
 use crate::query::{LEVEL_LIMIT, Target};
 use json_terms::Term;
 
+/// The kinds of values that parameters have.
+#[derive(Clone, Copy)]
+pub(crate) enum Kind {
+    /// Any term.
+    Any,
+    List,
+    Text,
+    /// A whole number, 0 or more.
+    Count,
+    /// Such a number up to the greatest level of groups.
+    Level,
+    /// True or false.
+    Switch,
+}
+
 /// Whether a query of this target may have a parameter of this name.
 pub(crate) fn is_allowed(target: Target, name: &str) -> bool
     ensures { result ≡ spec.is_allowed target name.now }
 {
     match target {
         Target::AllDocs => is_list_name(name),
-        Target::View(_) | Target::Cursor(_) => is_list_name(name) || is_view_name(name),
+        Target::View(_) | Target::Cursor(_) => kind_of(name).is_some(),
     }
 }
 
 fn is_list_name(name: &str) -> bool
     ensures { result ≡ spec.is_list_name name.now }
 {
-    is_key_name(name) || is_count_name(name) || name == "inclusive_end" || name == "descending"
+    match name {
+        "key" | "startkey" | "endkey" | "inclusive_end" => true,
+        "descending" | "skip" | "limit" => true,
+        _ => false,
+    }
 }
 
-fn is_view_name(name: &str) -> bool
-    ensures { result ≡ spec.is_view_name name.now }
+/// The kind of the values of the parameter with this name, where there is one.
+fn kind_of(name: &str) -> Option<Kind>
+    ensures { result ≡ spec.kind_of name.now }
 {
-    is_id_name(name) || is_view_switch(name) || name == "keys" || name == "group_level"
-}
-
-fn is_key_name(name: &str) -> bool
-    ensures { result ≡ spec.is_key_name name.now }
-{
-    name == "key" || name == "startkey" || name == "endkey"
-}
-
-fn is_id_name(name: &str) -> bool
-    ensures { result ≡ spec.is_id_name name.now }
-{
-    name == "startkey_docid" || name == "endkey_docid"
-}
-
-fn is_count_name(name: &str) -> bool
-    ensures { result ≡ spec.is_count_name name.now }
-{
-    name == "skip" || name == "limit"
-}
-
-fn is_view_switch(name: &str) -> bool
-    ensures { result ≡ spec.is_view_switch name.now }
-{
-    name == "reduce" || name == "group" || name == "update" || name == "update_seq"
+    match name {
+        "key" | "startkey" | "endkey" => Some(Kind::Any),
+        "keys" => Some(Kind::List),
+        "startkey_docid" | "endkey_docid" => Some(Kind::Text),
+        "skip" | "limit" => Some(Kind::Count),
+        "group_level" => Some(Kind::Level),
+        "inclusive_end" | "descending" => Some(Kind::Switch),
+        "reduce" | "group" => Some(Kind::Switch),
+        "update" | "update_seq" => Some(Kind::Switch),
+        _ => None,
+    }
 }
 
 /// Whether a value is one that the parameter with this name may have.
 pub(crate) fn may_have(name: &str, value: &Term) -> bool
     ensures { result ≡ spec.may_have name.now (json value.now) }
 {
-    if is_key_name(name) {
-        true
-    } else if name == "keys" {
-        matches!(value, Term::Array(_))
-    } else if is_id_name(name) {
-        matches!(value, Term::Text(_))
-    } else if is_count_name(name) {
-        count_of(value).is_some()
-    } else if name == "group_level" {
-        level_in(value).is_some()
-    } else {
-        matches!(value, Term::True | Term::False)
+    match kind_of(name) {
+        Some(kind) => is_of(kind, value),
+        None => false,
+    }
+}
+
+fn is_of(kind: Kind, value: &Term) -> bool
+    ensures { result ≡ spec.is_of kind (json value.now) }
+{
+    match kind {
+        Kind::Any => true,
+        Kind::List => matches!(value, Term::Array(_)),
+        Kind::Text => matches!(value, Term::Text(_)),
+        Kind::Count => count_of(value).is_some(),
+        Kind::Level => level_in(value).is_some(),
+        Kind::Switch => matches!(value, Term::True | Term::False),
     }
 }
 

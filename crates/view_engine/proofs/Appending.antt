@@ -122,7 +122,7 @@ module _ {C : Type 0} (s : Servers C) (old new : C) (pool pool' : Pool) (design 
       asked_is = ap (asked_sources query (reduce_in design.views place)) rows_are
 
       all_by : SummersGo s a b → (reduced : Bool) (groups : List (List Row)) → (reduced ≡ false → b ≡ a) → (groups ≡ [] → b ≡ a) → Reduces s old new pool pool' design.language (asked reduced groups)
-      all_by go true (group ∷ groups) whole empty = said (Reduces s) (reduces_whole s a.design.now.language (reduce_source (reduce_of s a)) a.slot b.slot idle go.slot)
+      all_by go true (group ∷ groups) whole empty = said (Reduces s) (reduces_whole s a.design.now.language (reduce_source (reduce_of s a)) a.slot b.slot idle go.idle go.slot)
       all_by go true [] whole empty = none_by (empty refl)
       all_by go false groups whole empty = none_by (whole refl)
 
@@ -135,7 +135,7 @@ module _ {C : Type 0} (s : Servers C) (old new : C) (pool pool' : Pool) (design 
       met_by : (fault : PoolFault) → SummersFail s a b fault → (reduced : Bool) (groups : List (List Row)) → (reduced ≡ false → b ≡ a) → (groups ≡ [] → b ≡ a)
           → FailsReducing s old new pool pool' design.language (asked reduced groups) fault ⊎ ((fault ≡ NoMemory) × Reduces s old new pool pool' design.language (asked reduced groups))
       met_by fault fail true (group ∷ groups) whole empty =
-          inl (said (λ x y p q l r. FailsReducing s x y p q l r fault) (fails_whole s a.design.now.language (reduce_source (reduce_of s a)) a.slot b.slot fault idle fail.slot))
+          inl (said (λ x y p q l r. FailsReducing s x y p q l r fault) (fails_whole s a.design.now.language (reduce_source (reduce_of s a)) a.slot b.slot fault idle fail.idle fail.slot))
       met_by fault fail true [] whole empty = met_idle fault fail (empty refl)
       met_by fault fail false groups whole empty = met_idle fault fail (whole refl)
 

@@ -71,6 +71,7 @@ memory_alone P spent id fault.Compile = tt
 -- nothing was asked of the child that reduces
 pub nothing_reduced : {C : Type 0} (s : Servers C) (servers : C) (pool : Pool) (language : List ℕ) (reduces : List (List ℕ)) → Reduces s servers servers pool pool language reduces
 nothing_reduced s servers pool language reduces = record {
+  idle = λ none. (refl, refl);
   keeps = record { languages = refl; width = refl };
   later = omega arith;
   went = λ path calls follows is child. record { added = []; now = calls; is_now = refl; follows = follows; lawful = tt; holds = (child, inl (refl, refl)) };

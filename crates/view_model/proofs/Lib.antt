@@ -19,6 +19,7 @@ mod Ends
 mod Prefixes
 mod Printed
 mod RunParts
+pub mod RunGroups
 mod GroupTexts
 pub mod GroupAnswers
 pub mod NoGroups

@@ -6,6 +6,7 @@ pub mod Laws
 pub mod Standing
 pub mod Selection
 pub mod Groups
+pub mod GroupLaws
 pub mod Values
 pub mod Answer
 pub mod Written

@@ -4,6 +4,7 @@ ghost use Rattle.json_terms.specs.Json.{Json};
 ghost use Rattle.view_model.specs.Standing.{DigestsTellDesigns, DropsKeepPictures, FirstsHavePictures, NoPicturesStand, UpdatesKeepPictures, WritesKeepPictures};
 ghost use Rattle.design_docs.specs.declared.design.View.{View};
 ghost use Rattle.view_model.specs.AnswerLaws.{HasAnswer, IsOneAnswer};
+ghost use Rattle.view_model.specs.GroupLaws.{NoRunIsEmpty, RunsAreTheRows, RunsAreWholeGroups};
 ghost use Rattle.view_model.specs.Laws.{AreEmittedByView, AreInsertedInOrder, AreTakenByView, ChangedIsWrittenSince, FirstDropsNewest, MapsDistinctIds, MapsWrittenSince, ComplaintsMeetAll, IsSpoiledAsMet, IsSpoiledByMapped, IsTrueBefore, IsUpdatedInOrder, NoPictureIsTrue, RowsAreBySequence, RisingRowsAreSorted, RowsOfOthers, RowsRise, StaysTrue, TruePicturesAreShaped, UpdatesAreAfresh, UpdatesAreFree, UpdatesExist, UpdatesGoInBatches, UpdatesGoInPages, UpdatesKeepShape, UpdatesOfNothing, UpdatesRise, UpdatesStayTrue, ViewsAreUpdatedApart};
 
 use view_ports::Servers;
@@ -97,4 +98,11 @@ pub fn digests_tell_designs()
 pub fn answers_are_one()
     ensures one { IsOneAnswer }
     ensures some { HasAnswer }
+{}
+
+/// The runs of groups one after another are the rows, none is empty, and of rows in order each is a whole group.
+pub fn runs_are_groups()
+    ensures rows { RunsAreTheRows }
+    ensures some { NoRunIsEmpty }
+    ensures whole { RunsAreWholeGroups }
 {}

@@ -74,7 +74,7 @@ module _ {C : Type 0} (s : Servers C) (old : Summers C) (view : ℕ) (rows : Lis
 
   -- memory ran out before
   pub no_memory : FailsOne s old old view rows NoMemory
-  no_memory = record { design = refl; fails = fails_none s language (tried_sources views rows) old.slot; own = λ is. absurd (let never : NoMemory ≡ Compile = is in cc) }
+  no_memory = record { design = refl; fails = fails_none s language (tried_sources views rows) old.slot; idle = λ none. (refl, refl); own = λ is. absurd (let never : NoMemory ≡ Compile = is in cc) }
 
   -- ---- a value was asked for
 
@@ -104,5 +104,6 @@ module _ {C : Type 0} (s : Servers C) (old : Summers C) (view : ℕ) (rows : Lis
         record {
           design = fails.design;
           fails = fails_wider (reduce_source (reduce_in views view)) (tried_sources views rows) (among_tried views rows view some) s language old.slot new.slot fault fails.slot;
+          idle = λ none. fails.idle (none_tried_here views rows view some none);
           own = λ complains. (source.0, is, some, subst (λ (r : Reduce). Fails s language (reduce_source r) old.slot new.slot fault) is fails.slot);
         }

@@ -12,7 +12,7 @@ use Rattle.view_ports.specs.Functions.{Functions}
 use Rattle.view_ports.specs.Calls.{Call}
 use Rattle.child_pool.specs.declared.pool.Pool.{Pool}
 use Rattle.child_pool.specs.declared.pool_fault.PoolFault.{PoolFault}
-use Rattle.child_pool.specs.declared.pool_fault.PoolFault.TheVariants.{Compile}
+use Rattle.child_pool.specs.declared.pool_fault.PoolFault.TheVariants.{Compile, NoMemory}
 use Rattle.child_pool.specs.declared.reduce_slot.ReduceSlot.{ReduceSlot}
 use Rattle.child_pool.specs.declared.summers.Summers.{Summers}
 use Rattle.child_pool.specs.declared.reduce_slot.Stage.TheVariants.{Idle}
@@ -110,6 +110,12 @@ module _ {C : Type 0} (s : Servers C) (design : Design) (rows : List (List Row))
       pub fails_then : Fails s design.language sources first new.slot fault
       fails_then = fails_behind s design.language sources first old.slot new.slot fault so_far.goes (subst (λ (d : Design). Fails s d.language (tried_sources d.views rows) old.slot new.slot fault) same tried.fails)
 
+      -- where none is to be tried it is want of memory, and nothing was asked
+      pub spent_then : sources ≡ [] → (fault ≡ NoMemory) × (new.slot ≡ first)
+      spent_then none =
+          let spent = subst (λ (d : Design). tried_sources d.views rows ≡ [] → (fault ≡ NoMemory) × (new.slot ≡ old.slot)) same tried.idle none in
+          (spent.0, spent.1 ∙ so_far.idle none)
+
       -- a complaint is right
       pub right_then : first.stage ≡ Idle → fault ≡ Compile → (path : List ℕ) (calls : List Call) → s.may_follow first.servers.now calls → path_for first.pool.now design ≡ Some path → HasItsChildren first.pool.now calls → s.honest path
           → some_reduce_fails (s.functions path) design.views rows ≡ true
@@ -150,10 +156,7 @@ module _ {C : Type 0} (s : Servers C) (design : Design) (rows : List (List Row))
         (subst (λ (c : C). Reduces s c servers' first.pool.now pool' design.language (tried_sources design.views rows)) same_servers
         (subst (λ (p : Pool). Reduces s first.servers.now servers' first.pool.now p design.language (tried_sources design.views rows)) (sym pool_is)
         (subst (λ (c : C). Reduces s first.servers.now c first.pool.now last.pool.now design.language (tried_sources design.views rows)) (sym servers_is)
-        (reduces_whole s design.language (tried_sources design.views rows) first last idle all.goes))));
-    idle = λ none.
-        let same = all.idle none in
-        (servers_is ∙ ap (λ (slot : ReduceSlot C). slot.servers.now) same ∙ same_servers, pool_is ∙ ap (λ (slot : ReduceSlot C). slot.pool.now) same ∙ same_pool);
+        (reduces_whole s design.language (tried_sources design.views rows) first last idle all.idle all.goes))));
     compile = λ path calls follows known children honest.
         none_fails_then s design rows first last (subst (λ (n : ℕ). FirstAreTried s design rows first n last) counted all) idle path calls
         (follows_first path calls follows) (known_first path calls known) (children_first path calls children) honest;
@@ -167,7 +170,8 @@ module _ {C : Type 0} (s : Servers C) (design : Design) (rows : List (List Row))
         (subst (λ (c : C). FailsReducing s c servers' first.pool.now pool' design.language (tried_sources design.views rows) fault) same_servers
         (subst (λ (p : Pool). FailsReducing s first.servers.now servers' first.pool.now p design.language (tried_sources design.views rows) fault) (sym pool_is)
         (subst (λ (c : C). FailsReducing s first.servers.now c first.pool.now new.slot.pool.now design.language (tried_sources design.views rows) fault) (sym servers_is)
-        (fails_whole s design.language (tried_sources design.views rows) first new.slot fault idle (fails_then s design rows first place old new same so_far fault tried)))));
+        (fails_whole s design.language (tried_sources design.views rows) first new.slot fault idle (spent_then s design rows first place old new same so_far fault tried)
+        (fails_then s design rows first place old new same so_far fault tried)))));
     right = λ complains path calls follows known children honest.
         right_then s design rows first place old new same so_far fault tried idle complains path calls
         (follows_first path calls follows) (known_first path calls known) (children_first path calls children) honest;

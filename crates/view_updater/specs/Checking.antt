@@ -10,7 +10,7 @@ use Rattle.view_ports.specs.Calls.{Call}
 use Rattle.view_ports.specs.declared.servers.Servers.{Ghosts as Servers}
 use Rattle.child_pool.specs.declared.pool.Pool.{Pool}
 use Rattle.child_pool.specs.declared.pool_fault.PoolFault.{PoolFault}
-use Rattle.child_pool.specs.declared.pool_fault.PoolFault.TheVariants.{Compile}
+use Rattle.child_pool.specs.declared.pool_fault.PoolFault.TheVariants.{Compile, NoMemory}
 use Rattle.child_pool.specs.declared.summers.Summers.{Summers}
 use Rattle.child_pool.specs.PoolCalls.{path_for}
 use Rattle.child_pool.specs.Pools.{HasItsChildren}
@@ -38,7 +38,6 @@ module _ {C : Type 0} (s : Servers C) (old new : C) (pool pool' : Pool) (design 
   -- each value was had, so the sources compile; where there are none nothing is asked
   pub record HasChecked : Type 0 where
     pub reduces : Reduces s old new pool pool' design.language (tried_sources design.views rows)
-    pub idle : tried_sources design.views rows ≡ [] → (new ≡ old) × (pool' ≡ pool)
     pub compile : FailsThere false
 
   -- a fault was met, and a complaint is right
@@ -68,9 +67,10 @@ module _ {C : Type 0} (s : Servers C) (old new : Summers C) (view : ℕ) (rows :
     pub idle : tried_sources old.design.now.views rows ≡ [] → new.slot ≡ old.slot
     pub compile : (source : List ℕ) → reduce_in old.design.now.views view ≡ Source source → Own ≢ [] → Compiles s old.design.now.language source old.slot
 
-  -- or a fault was met; a complaint is about its own source, and it is wanted
+  -- or a fault was met; a complaint is about its own source, and it is wanted; where none is wanted it is want of memory, and nothing was asked
   pub record FailsOne (f : PoolFault) : Type 0 where
     pub design : new.design ≡ old.design
     pub fails : Fails s old.design.now.language (tried_sources old.design.now.views rows) old.slot new.slot f
+    pub idle : tried_sources old.design.now.views rows ≡ [] → (f ≡ NoMemory) × (new.slot ≡ old.slot)
     pub own : f ≡ Compile
         → (source : List ℕ) × (reduce_in old.design.now.views view ≡ Source source) × (Own ≢ []) × Fails s old.design.now.language (source ∷ []) old.slot new.slot f

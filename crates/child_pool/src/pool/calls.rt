@@ -1,5 +1,5 @@
 // The calls of the pool: children are made ready, map documents, and are stopped.
-ghost use Rattle.std.specs.Prelude.{◌≡◌, ◌≢◌, ◌≤◌, ◌<◌, ◌^◌, ◌⊎◌, [], IfErr, IfOk, OnOk, None, Some, length, min};
+ghost use Rattle.std.specs.Prelude.{◌≡◌, ◌≢◌, ◌≤◌, ◌<◌, ◌^◌, ◌⊎◌, [], IfErr, IfOk, OnOk, None, Some, is_some, length, min};
 ghost use Rattle.design_docs.specs.Design.{map_sources};
 ghost use Rattle.child_pool.specs.Firsts.{MapsNext};
 ghost use Rattle.child_pool.specs.Mapping.{AreBounded};
@@ -57,7 +57,8 @@ impl Pool {
     }
 
     /// Maps documents, one after another, through the children that were made ready for this design: as many as there are
-    /// documents, up to the width. After a refusal no child is left. The refusals are those of `prepare`.
+    /// documents, up to the width. Without documents no server is called, unless the language has no path. After a refusal no child
+    /// is left. The refusals are those of `prepare`.
     pub fn map_batch<C: Servers>(
         &mut self,
         alloc: Global,
@@ -71,9 +72,14 @@ impl Pool {
         ensures ends { Ends C.Servers servers.old servers.new self.old self.new design.now result }
         ensures unknown { RefusesStopping C.Servers servers.old servers.new
             self.old self.new design.now result }
+        ensures idle { documents.now ≡ [] → path_for self.old design.now ≢ None →
+            MapsNothing servers.old servers.new self.old self.new result }
         ensures remembers { OnOk result (self.new ≡ self.old) }
         ensures bounded { IfOk result (AreBounded (length design.now.views) (length documents.now)) }
     {
+        if documents.is_empty() && self.knows(design) {
+            return Ok(DocRowLists::new(alloc));
+        }
         match self.try_map(alloc, servers, design, documents) {
             Ok(lists) => Ok(lists),
             Err(fault) => {
@@ -138,6 +144,13 @@ impl Pool {
             Ok(()) => self.map_batch(alloc, servers, design, documents),
             Err(fault) => Err(fault),
         }
+    }
+
+    /// Whether the language of a design has a path.
+    fn knows(&self, design: &Design) -> bool
+        ensures { result ≡ is_some (path_for self.now design.now) }
+    {
+        self.path_of(design.language.as_str()).is_some()
     }
 
     /// How many slots so many documents need.

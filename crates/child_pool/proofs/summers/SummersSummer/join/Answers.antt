@@ -4,7 +4,7 @@ use Rattle.json_terms.specs.Seen.{json}
 use Rattle.child_pool.specs.declared.view_sum.ViewSum.TheVariants.{Child}
 use Rattle.child_pool.specs.ReduceTalk.{Rejoins, reduce_source}
 use Rattle.child_pool.specs.SummerLaws.{summers_steps}
-use Rattle.child_pool.proofs.ViewJoins.{join_builtin, join_source, no_memory, source_fails, source_goes}
+use Rattle.child_pool.proofs.ViewJoins.{has_source, join_builtin, join_source, no_memory, source_fails, source_goes}
 use Rattle.child_pool.specs.Summers.{reduce_of}
 use Rattle.child_pool.proofs.summers.SummersSummer.join.Goals as goal
 
@@ -14,6 +14,7 @@ returns-in_default-clause-cause g c = record {
   view = refl;
   slot = c.spend.ensures.fails c.args.self.now.design.now.language (reduce_source (reduce_of g.C.Servers c.args.self.now));
   given_up = λ some. c.spend.ensures.stage;
+  idle = λ none. absurd (has_source (reduce_of g.C.Servers c.args.self.now) c.in-Some-Source.source (sym c.in-Some-Source.ensures ∙ c.in-Some-Source.field-0-is) none);
 }
 
 pub returns-in-Ok-rereduce-clause-value : goal.returns-in-Ok-rereduce-clause-value
