@@ -88,6 +88,7 @@ module _ {F : Type 0} (f : Folders F) (own : List ℕ) (views newest : ℕ) wher
     is_open = λ are. are;
     place = (index, group);
     beside = none_close groups groups (View own) refl;
+    shown = λ absent. absurd (absent place index group);
     found = λ at other its. (ap (λ p. Ok p) (one_place groups (View own) place at index other group.there its.there group.named its.named), refl, refl);
     faults = tt;
     cause = record { later = omega arith; failed = tt };
@@ -110,6 +111,7 @@ module _ {F : Type 0} (f : Folders F) (own : List ℕ) (views newest : ℕ) wher
         beside = λ k d below differs.
             let index = slice_index_or (open_of groups) k d in
             All-contains (λ i. stem_of i ≢ View own → Contains (open_of groups') i) (open_of mid) index opens.beside (closed.stay k d below differs) differs;
+        shown = λ none. opens.shown (none_there mid own views closed.gone);
         found = λ place index group. absurd (absent place index group);
         faults = opens.faults;
         cause = opens.cause;
@@ -192,6 +194,7 @@ module _ {F : Type 0} (f : Folders F) (own : List ℕ) (views newest : ℕ) wher
         is_open = λ are. told_after (f.disk old) (f.disk new) _ (λ d. AreOpen groups d.now) _ (λ a b here moves. closed_open own a.now b.now moves.others groups groups (closed_by groups refl) here) are opens.others;
         place = tt;
         beside = none_close groups groups (View own) refl;
+        shown = λ absent. told_map (f.disk old) (f.disk new) (Moves (IsFileOf (View own)) (λ image. Unit {0}) (λ files. Unit {0})) (λ a b. Unit {0}) (λ a b moved. tt) opens.others;
         found = λ place index group. absurd (none_there groups own views none place index group);
         faults = opens.faults;
         cause = record { later = opens.cause.later; failed = opens.cause.failed };
@@ -215,6 +218,7 @@ module _ {F : Type 0} (f : Folders F) (own : List ℕ) (views newest : ℕ) wher
         is_open = λ are. told_after (f.disk old) (f.disk new) _ (λ d. AreOpen groups' d.now) _ (λ a b here moves. closed_open own a.now b.now moves.others groups groups' (closed_by groups' same) here) are opens.others;
         place = tt;
         beside = none_close groups groups' (View own) same;
+        shown = λ absent. told_map (f.disk old) (f.disk new) (Moves (IsFileOf (View own)) (λ image. Unit {0}) (λ files. Unit {0})) (λ a b. Unit {0}) (λ a b moved. tt) opens.others;
         found = λ place index group. absurd (none_there groups own views none place index group);
         faults = inr (inl refl);
         cause = record { later = opens.cause.later; failed = λ is. let no : ⊥ = cc in absurd no };
@@ -251,18 +255,20 @@ module _ {F : Type 0} (f : Folders F) (own : List ℕ) (views newest : ℕ) wher
             (All-push (λ i. IsOpen i b.now) (open_of groups) index (closed_open own a.now b.now told.0.others groups groups (closed_by groups refl) here) told.1.at.is_open))
             are (told_both (f.disk old) (f.disk new) (Moves (IsFileOf (View own)) (λ image. Unit {0}) (λ files. Unit {0})) (λ a b. IsFound (View own) views newest a.now b.now index)
             (λ a b. Moves (IsFileOf (View own)) (λ image. Unit {0}) (λ files. Unit {0}) a b × IsFound (View own) views newest a.now b.now index) (λ a b moves found. (moves, found)) opens.others opens.found);
-        place = (
-          index,
-          record {
-            there = subst (λ (l : List Index). slice_get l place ≡ Some index) (sym items)
-                (slice_get-get_or (open_of groups ++ index ∷ []) place index (let long = length_push (open_of groups) index in omega (arith, long, last)) ∙ ap (λ i. Some i) (get_or_push (open_of groups) index index place (sym last)));
-            named = opens.fresh.named;
-            number = opens.fresh.number;
-          },
-        );
+        place = (index, its_place);
+        shown = λ absent. told_map (f.disk old) (f.disk new) (λ a b. IsFound (View own) views newest a.now b.now index)
+            (λ a b. (one : Index) × IsGroup groups' place own views one × IsFound (View own) views newest a.now b.now one) (λ a b found. (index, its_place, found)) opens.found;
         beside = λ k d below differs. subst (λ (l : List Index). Contains l (slice_index_or (open_of groups) k d)) (sym items)
             (Contains-append_left (open_of groups) (index ∷ []) (slice_index_or (open_of groups) k d) (Contains-get_or (open_of groups) k d below));
         found = λ at other group. absurd (none_there groups own views none at other group);
         faults = tt;
         cause = record { later = opens.cause.later; failed = tt };
       }
+        where
+          its_place : IsGroup groups' place own views index
+          its_place = record {
+            there = subst (λ (l : List Index). slice_get l place ≡ Some index) (sym items)
+                (slice_get-get_or (open_of groups ++ index ∷ []) place index (let long = length_push (open_of groups) index in omega (arith, long, last)) ∙ ap (λ i. Some i) (get_or_push (open_of groups) index index place (sym last)));
+            named = opens.fresh.named;
+            number = opens.fresh.number;
+          }

@@ -10,7 +10,7 @@ use Rattle.view_index.specs.declared.fault.IndexFault.TheVariants.{NoMemory, Sto
 use Rattle.view_index.specs.declared.index.Index.{Index}
 use Rattle.view_index.specs.Calls.{IsCounted}
 use Rattle.view_index.specs.Held.{or_empty, IsDamagedAt, IsFileOf}
-use Rattle.view_index.specs.Opens.{FindsDamage, IsOpenFault}
+use Rattle.view_index.specs.Opens.{FindsDamage, IsFound, IsOpenFault}
 use Rattle.view_groups.specs.declared.groups.Groups.{Groups}
 use Rattle.view_groups.specs.Groups.{AreAt, AreOpen, IsGroup, StayOpen}
 use Rattle.view_groups.specs.Pictures.{Pictures, StandsOf}
@@ -49,6 +49,9 @@ module _ (own : List ℕ) (views newest : ℕ) where
       pub place : IfOk result (λ place. (index : Index) × IsGroup groups' place own views index)
       -- the other open indexes stay open
       pub beside : StayOpen (View own) groups groups'
+      -- where none is open of so many views, the one that is opened is at what its files showed, as far as this reaches the newest write
+      pub shown : ((place : ℕ) (index : Index) → IsGroup groups place own views index → ⊥)
+          → Tells (f.disk old) (f.disk new) (λ a b. IfOk result (λ place. (index : Index) × IsGroup groups' place own views index × IsFound (View own) views newest a.now b.now index))
       -- one that is open, of so many views, is found in its place, and nothing is done
       pub found : (place : ℕ) (index : Index) → IsGroup groups place own views index → (result ≡ Ok place) × (groups' ≡ groups) × (new ≡ old)
       pub faults : IfErr result IsOpenFault

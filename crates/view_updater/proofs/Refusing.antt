@@ -62,7 +62,7 @@ module _ {F C : Type 0} (f : Folders F) (s : Servers C) (docs : Docs) (design : 
     others = refused_others f s docs design old number new reads.disk (refused fault) file is_open;
     same = (same_stem old.index last file, same_views old.index last rows);
     settled = (settled, rows);
-    once = record { idle = λ same. absurd (differs same); due = λ since. tt; refused = inr file };
+    once = record { idle = λ same. absurd (differs same); due = λ since. tt; room = λ since. tt; refused = inr file };
     cause = λ told. elim told [ inl is ↦ reads.cause is | inr is ↦ absurd (of_no_index (Store DiskFault) is) ];
     sound = reads.sound;
     whole = λ name at is. of_no_index (Store (Damaged name at)) (let same : fault ≡ OfIndex (Store (Damaged name at)) = cc in same);

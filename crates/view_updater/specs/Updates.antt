@@ -11,7 +11,7 @@ use Rattle.view_ports.specs.declared.folder.Folder.{Ghosts as Folders}
 use Rattle.view_ports.specs.declared.servers.Servers.{Ghosts as Servers}
 use Rattle.gate_file.specs.declared.fault.GateFault.TheVariants.{DiskFault, Damaged, Full}
 use Rattle.gate_file.specs.GateFile.{length_of, name_of}
-use Rattle.gate_file.specs.Publish.{published, IsTooLong, IsUsedUp}
+use Rattle.gate_file.specs.Publish.{published, IsFull, IsTooLong, IsUsedUp}
 use Rattle.index_record.specs.Record.{record_bytes}
 use Rattle.design_docs.specs.declared.design.Design.{Design}
 use Rattle.design_docs.specs.Design.{map_sources}
@@ -227,12 +227,17 @@ module _ {F C : Type 0} (f : Folders F) (s : Servers C) (docs : Docs) (design : 
       (IsIdle × IsIdleEnd result × OnOk result (seq_of old.index ≡ length history))
       ⊎ ((seq_of old.index ≢ length history) × HasAsked (documents_since (seq_of old.index) history) (λ next. IsMappedTo history picture next × IsLast result next) result)
 
-  -- Where something was written since, the index is committed once, by the record of its next picture behind what its file has. Where
-  -- nothing was, and where it isn't refused by the index itself, its file is as it was.
+  -- how long the record of the picture is that the index has after it
+  abbrev pub new_size : ℕ
+  new_size = length (record_bytes (picture_of new.index).seq (picture_of new.index).rows)
+
+  -- Where something was written since, the index is committed once, by the record of its next picture behind what its file has, for
+  -- which there is room. Where nothing was, and after each refusal but for a fault of the disk in it, its file is as it was.
   pub record CommitsOnce (result : Result (Unit {0}) UpdateFault) : Type 0 where
     pub idle : seq_of old.index ≡ written docs → index_file new.index ≡ index_file old.index
-    pub due : seq_of old.index ≢ written docs → OnOk result (index_file new.index ≡ published (index_file old.index) (length (record_bytes (picture_of new.index).seq (picture_of new.index).rows)) 0)
-    pub refused : IfErr result (λ fault. IsOfIndex fault ⊎ (index_file new.index ≡ index_file old.index))
+    pub due : seq_of old.index ≢ written docs → OnOk result (index_file new.index ≡ published (index_file old.index) new_size 0)
+    pub room : seq_of old.index ≢ written docs → OnOk result (IsFull (index_file old.index) new_size → ⊥)
+    pub refused : IfErr result (λ fault. (fault ≡ OfIndex (Store DiskFault)) ⊎ (index_file new.index ≡ index_file old.index))
 
   pub record Updates (result : Result (Unit {0}) UpdateFault) : Type 0 where
     -- a crash leaves the picture or an updated one, and after Ok the index is at that; the documents' files are as they were

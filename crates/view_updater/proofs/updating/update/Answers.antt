@@ -6,20 +6,23 @@ use Rattle.view_ports.specs.Faults.{Rose}
 use Rattle.view_ports.proofs.DiskRuns.{moves_none}
 use Rattle.view_ports.proofs.Told.{told_all, told_still}
 use Rattle.view_ports.specs.declared.file_name.FileName.{FileName}
+use Rattle.view_ports.specs.declared.folder.Folder.{Ghosts as Folders}
+use Rattle.gate_file.specs.declared.fault.GateFault.{GateFault}
 use Rattle.gate_file.specs.declared.fault.GateFault.TheVariants.{DiskFault, Damaged, Full}
+use Rattle.gate_file.specs.Calls.{too_long, used_up}
 use Rattle.child_pool.specs.declared.pool_fault.PoolFault.TheVariants.{Compile, ServerFault, UnknownLanguage}
 use Rattle.doc_file.specs.declared.docs.Docs.{Docs}
 use Rattle.doc_file.specs.Docs.{info_of, seq_of as documents_seq, IsAt as AreAt}
 use Rattle.doc_file.specs.declared.docs.Info.{Info}
 use Rattle.view_model.specs.Picture.{Picture}
-use Rattle.view_index.specs.Calls.{next_picture, next_size, stem_of, IsOpen}
+use Rattle.view_index.specs.Calls.{next_picture, next_size, stem_of, Commits, IsOpen}
 use Rattle.view_index.specs.Held.{IsFileOf}
 use Rattle.view_index.specs.declared.fault.IndexFault.{IndexFault}
-use Rattle.view_index.specs.declared.fault.IndexFault.TheVariants.{NoMemory, Store, Summer}
+use Rattle.view_index.specs.declared.fault.IndexFault.TheVariants.{NoMemory, Store}
 use Rattle.view_index.specs.declared.index.Index.{Index}
 use Rattle.gate_file.specs.declared.gate.GateFile.{GateFile}
 use Rattle.gate_file.specs.GateFile.{name_of}
-use Rattle.gate_file.specs.Publish.{published}
+use Rattle.gate_file.specs.Publish.{published, IsFull}
 use Rattle.index_record.specs.Record.{record_bytes}
 use Rattle.view_index.specs.Index.{both_in, file_of, is_touched, next_in, seq_of}
 use Rattle.view_index.specs.ViewRows.{next_rows}
@@ -27,7 +30,7 @@ use Rattle.view_updater.specs.declared.fault.UpdateFault.{UpdateFault}
 use Rattle.view_updater.specs.declared.fault.UpdateFault.TheVariants.{Docs as OfDocuments, Index as OfIndex, Pool as OfPool}
 use Rattle.view_updater.specs.Faults.{by_index, by_pool}
 use Rattle.view_updater.specs.Checking.{tried_sources}
-use Rattle.view_updater.specs.Updates.{side, EndsAt, IsFileFault, IsLost, IsOfIndex, IsReached, Updates}
+use Rattle.view_updater.specs.Updates.{side, EndsAt, IsFileFault, IsLost, IsReached, Updates}
 use Rattle.view_updater.proofs.Carrying.{same_stem, same_views, views_by_picture}
 use Rattle.view_updater.proofs.Exchanging.{as_made, by_pool_of}
 use Rattle.view_updater.proofs.Ends.{asked_over, asked_some, checked_next, commit_filled, commit_met, commit_refused, committed_stands, idle_stands, index_of_no_documents, index_of_no_pool, index_stored, is_filled, known_next, others_refused, others_then, refused, well, well_met, IsBack, IsOfCommit}
@@ -65,11 +68,30 @@ commit_full index fault (inr (inl long)) name length is = ap (λ (n : FileName).
 commit_full index fault (inr (inr (inl spent))) name length is = ap (λ (n : FileName). n.stem) (let same : name ≡ name_of (file_of index) = cc in same)
 commit_full index fault (inr (inr (inr want))) name length is = cc
 
--- want of memory leaves the file as it was
-uncommitted : {Same : Type 0} (fault : IndexFault) → (fault ≡ NoMemory → Same) → IsOfIndex (by_index fault) ⊎ Same
-uncommitted NoMemory same = inr (same refl)
-uncommitted (Store fault) same = inl tt
-uncommitted (Summer fault) same = inl tt
+abbrev failed_index : IndexFault → Result (Unit {0}) IndexFault
+failed_index fault = Err fault
+
+-- a commit that fails leaves the file as it was, unless the disk failed
+uncommitted : {F : Type 0} (f : Folders F) (index index' : Index) (old new : F) (seq : ℕ) (fault : IndexFault) → Commits f index index' old new seq (failed_index fault)
+    → (by_index fault ≡ OfIndex (Store DiskFault)) ⊎ (file_of index' ≡ file_of index)
+uncommitted f index index' old new seq fault commits = by_cause commits.faults
+  where
+    by_cause : IsOfCommit index fault → (by_index fault ≡ OfIndex (Store DiskFault)) ⊎ (file_of index' ≡ file_of index)
+    by_cause (inl disk) = inl (ap by_index disk)
+    by_cause (inr (inl long)) = inr (commits.full (inl (commits.long.only (ap failed_index long)))).0
+    by_cause (inr (inr (inl spent))) = inr (commits.full (inr (commits.spent.only (ap failed_index spent)))).0
+    by_cause (inr (inr (inr want))) = inr (ap file_of (commits.untouched (ap failed_index want)).0)
+
+-- one that is done had room
+has_room : {F : Type 0} (f : Folders F) (index index' : Index) (old new : F) (seq : ℕ) → Commits f index index' old new seq well_index → IsFull (file_of index) (next_size seq index) → ⊥
+has_room f index index' old new seq commits full = elim full [
+  | inl long ↦ never (too_long (file_of index)) (commits.long.always long)
+  | inr spent ↦ never (used_up (file_of index)) (commits.spent.always spent)
+]
+  where
+    never : (fault : GateFault) → (well_index ≡ Err (Store fault)) ⊎ (well_index ≡ Err NoMemory) → ⊥
+    never fault (inl is) = cc
+    never fault (inr is) = cc
 
 -- something was written since, where the index is not of the newest write
 written_since : (seq : ℕ) (info : Info) (last : ℕ) (docs : Docs) → seq ≡ last → info ≡ info_of docs → seq ≢ info.update_seq → last ≢ documents_seq docs
@@ -92,7 +114,7 @@ returns-then-seq-newest g c =
           (λ d is. moves_none (IsFileOf stem) (λ image. Unit {0}) (λ files. IsLost well ⊎ IsOpen c.args.index.now files) d (λ image left. tt) (inr is)) c.requires.index;
       same = (refl, refl);
       settled = tt;
-      once = record { idle = λ same. refl; due = λ since. absurd (since newest); refused = tt };
+      once = record { idle = λ same. refl; due = λ since. absurd (since newest); room = λ since. absurd (since newest); refused = tt };
       cause = tt;
       sound = λ history. told_all disk (λ d. AreAt docs d.now history → (name : FileName) (at : ℕ) → well ≢ Err (OfDocuments (Damaged name at))) (λ d here name at is. cc);
       whole = λ name at is. cc;
@@ -193,7 +215,11 @@ returns-in-Err-commit g c =
       once = record {
         idle = λ same. absurd (written_since c.seq.result c.info-newest.result (seq_of index) docs c.seq.ensures c.info-newest.ensures.kept c.if-seq-newest.false same);
         due = λ since. tt;
-        refused = uncommitted fault (λ want. c.roll_back-in-Err-commit.ensures.same.file ∙ ap file_of (commits.untouched (ap Err want)).0 ∙ ex.same.file ∙ back.file);
+        room = λ since. tt;
+        refused = elim (uncommitted g.F.Folder mid.index committed mid.folder c.commit.new.folder newest fault commits) [
+          | inl disk ↦ inl disk
+          | inr same ↦ inr (c.roll_back-in-Err-commit.ensures.same.file ∙ same ∙ ex.same.file ∙ back.file)
+        ];
       };
       cause = λ told. elim told [ inl is ↦ absurd (index_of_no_documents fault DiskFault is) | inr is ↦ rose_later (g.F.Folder.faults c.args.folder.now) (g.F.Folder.faults c.exchange.new.folder) (g.F.Folder.faults c.commit.new.folder) ex.reads.later (commits.cause.failed (index_stored fault DiskFault is)) ];
       sound = λ history. told_all (g.F.Folder.disk c.args.folder.now) (λ d. AreAt docs d.now history → (name : FileName) (at : ℕ) → refused (by_index fault) ≢ Err (OfDocuments (Damaged name at)))
@@ -256,6 +282,9 @@ returns g c =
         idle = λ same. absurd (written_since c.seq.result c.info-newest.result (seq_of index) docs c.seq.ensures c.info-newest.ensures.kept c.if-seq-newest.false same);
         due = λ since. commits.file ∙ ap (λ (file : GateFile). published file (next_size newest c.exchange.new.index) 0) (ex.same.file ∙ back.file)
             ∙ ap (λ (p : Picture). published (file_of index) (length (record_bytes p.seq p.rows)) 0) (sym commits.picture);
+        room = λ since full. has_room g.F.Folder mid.index committed mid.folder c.commit.new.folder newest commits
+            (subst (λ (file : GateFile). IsFull file (next_size newest mid.index)) (sym (ex.same.file ∙ back.file))
+            (subst (λ (p : Picture). IsFull (file_of index) (length (record_bytes p.seq p.rows))) commits.picture full));
         refused = tt;
       };
       cause = tt;
