@@ -1,10 +1,11 @@
 -- The reply to the second view of a load is the answer afresh.
 use Rattle.std.specs.Prelude.{if◌then◌else◌, pos}
-use Rattle.std.proofs.Common.{◌≡◌, ◌≢◌, ◌∙◌, ℕ, List, [], ◌∷◌, Bool, false, length, codes, Option, Some, None, Result, Ok, inl, inr, refl, sym, ap, subst}
+use Rattle.std.proofs.Common.{◌≡◌, ◌≢◌, ◌∙◌, ℕ, List, [], ◌∷◌, Bool, false, codes, Option, Some, None, Result, Ok, inl, inr, refl, sym, ap, subst, arith}
 use Rattle.json_terms.specs.Json.{Json, members_of, number, object}
 use Rattle.design_docs.specs.Design.{design_term, language_of, source_of, views_of}
 use Rattle.design_docs.specs.Documents.{id_of}
 use Rattle.design_docs.specs.declared.design.Builtin.TheVariants.{Stats}
+use Rattle.design_docs.specs.declared.design.Reduce.{Reduce}
 use Rattle.design_docs.specs.declared.design.Reduce.TheVariants.{Builtin}
 use Rattle.child_pool.specs.Languages.{path_in}
 use Rattle.view_ports.specs.Exchanges.{Exchange}
@@ -19,21 +20,19 @@ use Rattle.doc_file.specs.Incoming.{deletes, given_revision}
 use Rattle.doc_file.specs.Stored.{next_revision, write_of}
 use Rattle.doc_file.specs.Writes.{content_of, write_refusal, IsAcceptedPut}
 use Rattle.query_args.specs.declared.query.Query.{Query}
-use Rattle.view_model.specs.Answer.{answer}
-use Rattle.view_model.specs.Rows.{spoiled, view_rows}
-use Rattle.view_model.specs.Values.{builtin_text}
+use Rattle.view_model.specs.Rows.{spoiled}
 use Rattle.view_engine.specs.declared.refusal.Refusal.{Refusal}
-use Rattle.view_engine.specs.declared.refusal.Refusal.TheVariants.{NoMemory as OutOfMemory}
+use Rattle.view_engine.specs.declared.refusal.Refusal.TheVariants.{CompilationError, NoMemory as OutOfMemory}
 use Rattle.view_engine.specs.declared.request.Request.{Request}
 use Rattle.view_engine.specs.declared.request.Request.TheVariants.{Put, View}
-use Rattle.view_engine.specs.Fresh.{fresh_reply, IsPlainView}
+use Rattle.view_engine.specs.Fresh.{due_reply, named_answer, fresh_answer as answer_to, IsHonestView}
 use Rattle.view_engine.specs.Answer.{write_text}
 use Rattle.view_engine.specs.Moments.{Moment, with_world}
 use Rattle.view_engine.specs.Put.{put_write}
 use Rattle.view_engine.specs.Refusals.{refusal_text, request_of}
 use Rattle.view_engine.specs.Steps.{Answers, Does, DoesRequest, DoesRequestText, IsRefusedAs}
 use Rattle.view_engine.specs.Updating.{AreFit, IsSound}
-use Rattle.view_engine.specs.View.{view_refusal, DoesView}
+use Rattle.view_engine.specs.View.{design_id, view_refusal, DoesView}
 use Rattle.view_engine.specs.ViewQuery.{ViewQuery, query_for, reduce_named}
 use Rattle.view_engine.specs.World.{World, written}
 use Rattle.view_engine.proofs.Exclusive.{is_not_refused_and_done}
@@ -156,21 +155,18 @@ module _ (functions : List ℕ → Functions) (honest : List ℕ → Type 0) whe
       history : List Write
       history = (before.world).history
 
-      plain : IsPlainView functions honest [] before.world asked stored_design (codes "builtin:pick") load_map Stats
-      plain = record {
-        updates = refl;
-        live = has_live history has;
-        source_is = stored_source;
-        path_is = stored_path;
-        reduce = stored_reduce;
-        is_honest = is_honest;
-        sound = sound;
-        fit = has_fit history has;
-        answerable = ap (λ (f : Functions). spoiled f (views_of stored_design) history) is_pick ∙ answerable history;
-      }
+      view_is : IsHonestView functions honest [] before.world asked stored_design (codes "builtin:pick") load_map
+      view_is = record { live = has_live history has; source_is = stored_source; path_is = stored_path; is_honest = is_honest; sound = sound; fit = has_fit history has }
+
+      -- where the design is answered the reply that is due is the answer afresh
+      due : due_reply pick before.world asked stored_design load_map ≡ fresh_answer history
+      due =
+          ap (λ (b : Bool). if b then refusal_text (CompilationError (design_id asked.design)) else named_answer pick (views_of stored_design) asked load_map history) (answerable history)
+          ∙ ap (λ (r : Reduce). answer_to pick (query_for (views_of stored_design) asked) r load_map history) stored_reduce
+          ∙ ap (λ (q : Query). answer_to pick q (Builtin Stats) load_map history) stored_query
 
       shown : (reply : List ℕ) → DoesView functions honest [] before asked reply after → reply ≡ fresh_answer history
       shown reply view =
-          replies_are_fresh functions honest [] before after asked reply view calm stored_design (codes "builtin:pick") load_map Stats plain
-          ∙ ap (λ (f : Functions). fresh_reply f (views_of stored_design) asked load_map Stats history) is_pick
-          ∙ ap (λ (q : Query). answer (builtin_text Stats) q (length history) (view_rows pick load_map history)) stored_query
+          replies_are_fresh functions honest [] before after asked reply view (λ two. calm (omega (arith, two))) stored_design (codes "builtin:pick") load_map view_is
+          ∙ ap (λ (f : Functions). due_reply f before.world asked stored_design load_map) is_pick
+          ∙ due

@@ -1,57 +1,99 @@
--- A view with a built-in reduce, on an honest path.
+-- The reply to a view on an honest path.
 use Rattle.std.specs.Prelude.{if◌then◌else◌}
-use Rattle.std.proofs.Common.{◌≡◌, ◌≤◌, ◌⊎◌, ◌^◌, ◌∙◌, ℕ, List, Bool, true, false, length, Option, Some, None, refl, sym, ap, subst, inl, inr, arith}
+use Rattle.std.proofs.Common.{◌≡◌, ◌≤◌, ◌∙◌, ℕ, List, Bool, true, false, length, Option, Some, None, refl, sym, ap, subst, inl, inr, arith}
 use Rattle.std.proofs.lemmas.Slice.Eq.{bytes_eq-Decides}
 use Rattle.json_terms.specs.Json.{Json}
+use Rattle.json_terms.specs.Text.{text_of}
 use Rattle.json_terms.specs.declared.term.Row.{Row}
 use Rattle.design_docs.specs.Design.{language_of, source_of, views_of}
-use Rattle.design_docs.specs.declared.design.Builtin.{Builtin as Kind}
 use Rattle.design_docs.specs.declared.design.Reduce.{Reduce}
-use Rattle.design_docs.specs.declared.design.Reduce.TheVariants.{Builtin}
-use Rattle.design_docs.specs.declared.design.View.{View}
+use Rattle.design_docs.specs.declared.design.Reduce.TheVariants.{Absent, Builtin, Source}
+use Rattle.design_docs.specs.History.{Write, live_document}
 use Rattle.child_pool.specs.Jobs.{Job, reduce_job}
 use Rattle.child_pool.specs.Languages.{path_in}
 use Rattle.query_args.specs.declared.query.Query.{Query}
 use Rattle.view_ports.specs.Calls.{Call}
-use Rattle.view_ports.specs.Faults.{Rose, RoseBy}
+use Rattle.view_ports.specs.Faults.{RoseBy}
 use Rattle.view_ports.specs.Functions.{Functions}
-use Rattle.design_docs.specs.History.{Write, live_document}
 use Rattle.view_model.specs.Answer.{answer, IsAnswer}
 use Rattle.view_model.specs.Picture.{Picture, picture_or_none}
-use Rattle.view_model.specs.Rows.{spoiled, view_rows}
+use Rattle.view_model.specs.Rows.{spoiled}
 use Rattle.view_model.specs.Since.{first}
-use Rattle.view_model.specs.Values.{builtin_text, IsValueText}
-use Rattle.view_model.proofs.Firsts.{first_all}
-use Rattle.view_model.proofs.OneAnswer.{one_answer}
+use Rattle.view_model.specs.Values.{IsValueText}
+use Rattle.view_model.proofs.Firsts.{first_all, length-first}
+use Rattle.view_model.proofs.OneAnswer.{one_answer, weaker_answer}
 use Rattle.view_signature.specs.Signature.{signature_of}
 use Rattle.view_engine.specs.declared.refusal.Refusal.{Refusal}
 use Rattle.view_engine.specs.declared.refusal.Refusal.TheVariants.{CompilationError, ServerFault, ServerReply}
-use Rattle.view_engine.specs.Fresh.{fresh_reply, IsPlainView, RepliesAreFresh}
+use Rattle.view_engine.specs.Fresh.{due_reply, fresh_reply, named_answer, value_text, IsHonestView, RepliesAreFresh}
 use Rattle.view_engine.specs.Moments.{Called, CalledReducing, Moment}
+use Rattle.view_engine.specs.Refusals.{refusal_text}
 use Rattle.view_engine.specs.Updating.{picture_in, AreFit, IsBrought, IsSound}
-use Rattle.view_engine.specs.View.{own_reduces, sources_tried, DoesUpdatedView, DoesView, IsAnswered, IsBroughtUp, IsMappedThen, IsMet, IsRefused, IsRefusedReducing, IsRefusedTrying, PrintsRows}
+use Rattle.view_engine.specs.View.{design_id, own_reduces, sources_tried, DoesKeptView, DoesUpdatedView, IsBroughtUp, IsMappedThen, IsMet, IsNever, IsRefused, IsRefusedReducing, IsRefusedTrying, IsRightly, PrintsRows}
 use Rattle.view_engine.specs.ViewQuery.{ViewQuery, query_for, reduce_named}
-use Rattle.view_engine.specs.World.{World}
+use Rattle.view_engine.specs.World.{World, NoneIsNewer}
 
 unsome : {A : Type 0} (x y : A) → Some x ≡ Some y → x ≡ y
 unsome x y same = cc
 
--- with a built-in reduce the text of each value is known
-builtin_answer : (functions : Functions) (honest : Type 0) (kind : Kind) (reduce : Reduce) (query : Query) (seq : ℕ) (rows : List Row) (reply : List ℕ) → reduce ≡ Builtin kind
-    → IsAnswer (IsValueText functions honest reduce) query seq rows reply → reply ≡ answer (builtin_text kind) query seq rows
-builtin_answer functions honest kind reduce query seq rows reply same is =
-    one_answer (builtin_text kind) query seq rows reply (subst (λ (r : Reduce). IsAnswer (IsValueText functions honest r) query seq rows reply) same is)
+-- ---- on an honest path the text of each value is known, and so is an answer
+
+value_known : (functions : Functions) (honest : Type 0) (reduce : Reduce) → honest → (rows : List Row) (text : List ℕ) → IsValueText functions honest reduce rows text → text ≡ value_text functions reduce rows
+value_known functions honest (Builtin kind) is_honest rows text is = is
+value_known functions honest (Source source) is_honest rows text is = is.1 ∙ ap text_of (is.3 is_honest)
+value_known functions honest Absent is_honest rows text is = absurd is
+
+answer_known : (functions : Functions) (honest : Type 0) (reduce : Reduce) (query : Query) (seq : ℕ) (rows : List Row) (reply : List ℕ) → honest
+    → IsAnswer (IsValueText functions honest reduce) query seq rows reply → reply ≡ answer (value_text functions reduce) query seq rows
+answer_known functions honest reduce query seq rows reply is_honest is =
+    one_answer (value_text functions reduce) query seq rows reply
+    (weaker_answer (IsValueText functions honest reduce) (λ group own. own ≡ value_text functions reduce group) (value_known functions honest reduce is_honest) query seq rows reply is)
+
+-- where no picture is newer than the history, that of a design isn't
+seq_within : (world : World) (design : Json) → NoneIsNewer world → (picture_in world design).seq ≤ length world.history
+seq_within world design newer =
+    elim (world.pictures (signature_of design)) as (λ (p : Option Picture). world.pictures (signature_of design) ≡ p → (picture_or_none (views_of design) p).seq ≤ length world.history) [
+      | None ↦ λ is. omega arith
+      | Some picture ↦ λ is. newer (signature_of design) picture is
+    ] refl
 
 module _ (functions : List ℕ → Functions) (honest : List ℕ → Type 0) (languages : List (List ℕ × List ℕ)) where
-  -- no refusal is met where no fault is counted, the path is honest and there is no complaint
-  unmet : (name : ViewQuery) (job : Job) (before after : Moment) (added : List Call) (refusal : Refusal) → honest job.path → (RoseBy 2 before.faults after.faults → ⊥)
-      → ((id : List ℕ) → refusal ≡ CompilationError id → ⊥) → IsMet functions honest name job before after added refusal → ⊥
-  unmet name job before after added (CompilationError id) is_honest calm right met = right id refl
-  unmet name job before after added ServerFault is_honest calm right met = calm met
-  unmet name job before after added (ServerReply line) is_honest calm right met = met.1 is_honest
-  unmet name job before after added other is_honest calm right met = absurd met
+  -- ---- refusals
 
-  module _ (before after : Moment) (name : ViewQuery) (reply : List ℕ) (calm : Rose before.faults after.faults → ⊥) (does : DoesUpdatedView functions honest languages before name reply after) where
+  -- the only one that is met where no two faults are counted and the path is honest is a complaint
+  only_complaint : (name : ViewQuery) (job : Job) (before after : Moment) (added : List Call) (refusal : Refusal) → honest job.path → (RoseBy 2 before.faults after.faults → ⊥)
+      → IsMet functions honest name job before after added refusal → refusal ≡ CompilationError (design_id name.design)
+  only_complaint name job before after added (CompilationError id) is_honest calm met = ap (λ (i : List ℕ). CompilationError i) met.0
+  only_complaint name job before after added ServerFault is_honest calm met = absurd (calm met)
+  only_complaint name job before after added (ServerReply line) is_honest calm met = absurd (met.1 is_honest)
+  only_complaint name job before after added other is_honest calm met = absurd met
+
+  -- so a refusal as values are asked for is one, and what a complaint means holds
+  complains : (name : ViewQuery) (path : List ℕ) (reduces : List (List ℕ)) (Complaint : Type 0) (before after : Moment) (reply : List ℕ) → honest path → (RoseBy 2 before.faults after.faults → ⊥)
+      → CalledReducing path reduces before after (IsRefusedReducing functions honest name path reduces Complaint before after reply) → (reply ≡ refusal_text (CompilationError (design_id name.design))) × Complaint
+  complains name path reduces Complaint before after reply is_honest calm called =
+      let refused = called.holds in
+      let is : refused.refusal ≡ CompilationError (design_id name.design) = only_complaint name (reduce_job path reduces) before after called.added refused.refusal is_honest calm refused.met in
+      (refused.prints ∙ ap refusal_text is, refused.complaint (design_id name.design) is)
+
+  -- ---- answers
+
+  -- what is printed is the answer over the writes that the picture of the design has seen
+  printed : (name : ViewQuery) (design : Json) (path source : List ℕ) (before after : World) (reply : List ℕ) → honest path → IsSound functions honest languages before → AreFit before.history
+      → (picture_in after design).seq ≤ length before.history → PrintsRows functions honest languages name design path source before after reply
+      → reply ≡ named_answer (functions path) (views_of design) name source (first (picture_in after design).seq before.history)
+  printed name design path source before after reply is_honest sound fit within prints =
+      let seq : ℕ = (picture_in after design).seq in
+      let seen : List Write = first seq before.history in
+      let reduce : Reduce = reduce_named name.view (views_of design) in
+      let query : Query = query_for (views_of design) name in
+      answer_known (functions path) (honest path) reduce query seq prints.rows reply is_honest prints.prints
+      ∙ ap (λ (n : ℕ). answer (value_text (functions path) reduce) query n prints.rows) (sym (length-first seq before.history within))
+      ∙ ap (λ (rows : List Row). answer (value_text (functions path) reduce) query (length seen) rows) (prints.afresh is_honest sound fit)
+
+  -- ---- a view that is brought up to date
+
+  module _ (before after : Moment) (name : ViewQuery) (reply : List ℕ) (calm : RoseBy 2 before.faults after.faults → ⊥) (does : DoesUpdatedView functions honest languages before name reply after) where
     abbrev design : Json
     design = does.design
 
@@ -61,53 +103,55 @@ module _ (functions : List ℕ → Functions) (honest : List ℕ → Type 0) (la
     abbrev world : World
     world = before.world
 
-    abbrev Fresh : Kind → Type 0
-    Fresh kind = reply ≡ fresh_reply (functions path) (views_of design) name does.source kind world.history
+    -- as a reply is chosen
+    abbrev either : Bool → List ℕ
+    either complaint = if complaint then refusal_text (CompilationError (design_id name.design)) else named_answer (functions path) (views_of design) name does.source world.history
 
-    -- two faults from a moment between are one from the first
+    abbrev Fresh : Type 0
+    Fresh = reply ≡ fresh_reply (functions path) (views_of design) name does.source world.history
+
+    complained : reply ≡ refusal_text (CompilationError (design_id name.design)) → spoiled (functions path) (views_of design) world.history ≡ true → Fresh
+    complained prints is = prints ∙ ap either (sym is)
+
+    answered : reply ≡ named_answer (functions path) (views_of design) name does.source world.history → spoiled (functions path) (views_of design) world.history ≡ false → Fresh
+    answered prints is = prints ∙ ap either (sym is)
+
+    -- two faults from a moment between are two from the first
     calm_since : (between : Moment) → before.faults ≤ between.faults → RoseBy 2 between.faults after.faults → ⊥
     calm_since between later two = calm (omega (arith, later, two))
 
-    module _ (kind : Kind) (reduce : reduce_named name.view (views_of design) ≡ Builtin kind) (is_honest : honest path) (sound : IsSound functions honest languages world) (fit : AreFit world.history)
-        (answerable : spoiled (functions path) (views_of design) world.history ≡ false) where
-      not_spoiled : spoiled (functions path) (views_of design) world.history ≡ true → ⊥
-      not_spoiled is = let e : true ≡ false = sym is ∙ answerable in absurd (cc)
-
-      while_mapping : Called does.job before after (IsRefused functions honest languages name design does.job before after reply) → Fresh kind
+    module _ (is_honest : honest path) (sound : IsSound functions honest languages world) (fit : AreFit world.history) where
+      while_mapping : Called does.job before after (IsRefused functions honest languages name design does.job before after reply) → Fresh
       while_mapping called =
           let refused = called.holds in
-          absurd (unmet name does.job before after called.added refused.refusal is_honest (calm_since before (omega arith)) (λ id is. not_spoiled (refused.spoils id is is_honest sound fit)) refused.met)
+          let is : refused.refusal ≡ CompilationError (design_id name.design) = only_complaint name does.job before after called.added refused.refusal is_honest calm refused.met in
+          complained (refused.prints ∙ ap refusal_text is) (refused.spoils (design_id name.design) is is_honest sound fit)
 
-      while_reducing : (reduces : List (List ℕ)) (Complaint : Type 0) (between : Moment) → before.faults ≤ between.faults → (Complaint → ⊥)
-          → CalledReducing path reduces between after (IsRefusedReducing functions honest name path reduces Complaint between after reply) → Fresh kind
-      while_reducing reduces Complaint between later none called =
-          let refused = called.holds in
-          absurd (unmet name (reduce_job path reduces) between after called.added refused.refusal is_honest (calm_since between later) (λ id is. none (refused.complaint id is)) refused.met)
+      tried : (mapped : Moment) → before.faults ≤ mapped.faults → IsRefusedTrying functions honest languages name design path world mapped after reply → Fresh
+      tried mapped later refused =
+          let both = complains name path (sources_tried design world refused.next) (IsRightly functions honest languages design path world) mapped after reply is_honest (calm_since mapped later) refused.called in
+          complained both.0 (both.1 is_honest sound fit)
 
-      printed : IsBrought functions honest languages design path world after.world → PrintsRows functions honest languages name design path does.source world after.world reply → Fresh kind
-      printed brought prints =
-          let history = world.history in
+      shown : IsBrought functions honest languages design path world after.world → PrintsRows functions honest languages name design path does.source world after.world reply → Fresh
+      shown brought prints =
+          let history : List Write = world.history in
           let own : picture_in after.world design ≡ brought.next = ap (λ (p : Option Picture). picture_or_none (views_of design) p)
           (brought.set (signature_of design) ∙ ap (λ (b : Bool). if b then Some brought.next else (world.pictures (signature_of design))) ((bytes_eq-Decides (signature_of design) (signature_of design)).1 refl)) in
           let seq : (picture_in after.world design).seq ≡ length history = ap (λ (p : Picture). p.seq) own ∙ (brought.updated).seq in
-          let rows : prints.rows ≡ view_rows (functions path) does.source history =
-          prints.afresh is_honest sound fit ∙ ap (λ (h : List Write). view_rows (functions path) does.source h) (ap (λ (n : ℕ). first n history) seq ∙ first_all (length history) history (omega arith)) in
-          builtin_answer (functions path) (honest path) kind (reduce_named name.view (views_of design)) (query_for (views_of design) name) (picture_in after.world design).seq prints.rows reply reduce prints.prints
-          ∙ ap (λ (n : ℕ). answer (builtin_text kind) (query_for (views_of design) name) n prints.rows) seq
-          ∙ ap (λ (rs : List Row). answer (builtin_text kind) (query_for (views_of design) name) (length history) rs) rows
+          answered
+          (printed name design path does.source world after.world reply is_honest sound fit (omega (arith, seq)) prints
+          ∙ ap (λ (h : List Write). named_answer (functions path) (views_of design) name does.source h) (ap (λ (n : ℕ). first n history) seq ∙ first_all (length history) history (omega arith)))
+          (brought.answerable is_honest sound fit)
 
-      brought_up : (mapped : Moment) → before.faults ≤ mapped.faults → IsBroughtUp functions honest languages name design path does.source world mapped after reply → Fresh kind
+      brought_up : (mapped : Moment) → before.faults ≤ mapped.faults → IsBroughtUp functions honest languages name design path does.source world mapped after reply → Fresh
       brought_up mapped later up =
           let still : before.faults ≤ (up.between).faults = omega (arith, later, (up.tried).later) in
           elim up.answered [
-            | inl both ↦ printed up.brought both.1
-            | inr called ↦ while_reducing (own_reduces name design after.world) _ up.between still (λ never. never is_honest sound fit) called
+            | inl both ↦ shown up.brought both.1
+            | inr called ↦ absurd ((complains name path (own_reduces name design after.world) (IsNever functions honest languages path world) up.between after reply is_honest (calm_since up.between still) called).1 is_honest sound fit)
           ]
 
-      tried : (mapped : Moment) → before.faults ≤ mapped.faults → IsRefusedTrying functions honest languages name design path world mapped after reply → Fresh kind
-      tried mapped later refused = while_reducing (sources_tried design world refused.next) _ mapped later (λ right. not_spoiled (right is_honest sound fit)) refused.called
-
-      mapped_then : IsMappedThen functions honest languages name design does.job does.source before after reply → Fresh kind
+      mapped_then : IsMappedThen functions honest languages name design does.job does.source before after reply → Fresh
       mapped_then then_ =
           let later = (then_.served).later in
           elim then_.ends [
@@ -115,28 +159,55 @@ module _ (functions : List ℕ → Functions) (honest : List ℕ → Type 0) (la
             | inr up ↦ brought_up then_.mapped later up
           ]
 
-      updated_fresh : Fresh kind
+      updated_fresh : Fresh
       updated_fresh = elim does.ends [
         | inl called ↦ while_mapping called
         | inr then_ ↦ mapped_then then_
       ]
 
-  -- the view that is asked for is the one of the request
-  updated : (before after : Moment) (name : ViewQuery) (reply : List ℕ) → DoesUpdatedView functions honest languages before name reply after → (Rose before.faults after.faults → ⊥)
-      → (design : Json) (path source : List ℕ) (kind : Kind) → IsPlainView functions honest languages before.world name design path source kind
-      → reply ≡ fresh_reply (functions path) (views_of design) name source kind before.world.history
-  updated before after name reply does calm design path source kind plain =
-      let own : does.design ≡ design = unsome _ _ (sym (does.is_job).live ∙ plain.live) in
-      let own_path : (does.job).path ≡ path = unsome _ _ (sym (does.is_job).path_is ∙ ap (λ (d : Json). path_in languages (language_of d)) own ∙ plain.path_is) in
-      let own_source : does.source ≡ source = unsome _ _ (sym (does.is_job).source_is ∙ ap (λ (d : Json). source_of name.view d) own ∙ plain.source_is) in
-      updated_fresh before after name reply calm does kind
-      (ap (λ (d : Json). reduce_named name.view (views_of d)) own ∙ plain.reduce)
-      (subst honest (sym own_path) plain.is_honest) plain.sound plain.fit
-      (ap (λ (p : List ℕ). spoiled (functions p) (views_of does.design) before.world.history) own_path ∙ ap (λ (d : Json). spoiled (functions path) (views_of d) before.world.history) own ∙ plain.answerable)
-      ∙ ap (λ (p : List ℕ). fresh_reply (functions p) (views_of does.design) name does.source kind before.world.history) own_path
-      ∙ ap (λ (d : Json). fresh_reply (functions path) (views_of d) name does.source kind before.world.history) own
-      ∙ ap (λ (s : List ℕ). fresh_reply (functions path) (views_of design) name s kind before.world.history) own_source
+  -- ---- a view that is read as it stands
+
+  kept_fresh : (before after : Moment) (name : ViewQuery) (reply : List ℕ) → (RoseBy 2 before.faults after.faults → ⊥) → (does : DoesKeptView functions honest languages before name reply after)
+      → honest does.path → IsSound functions honest languages before.world → AreFit before.world.history
+      → reply ≡ named_answer (functions does.path) (views_of does.design) name does.source (first (picture_in before.world does.design).seq before.world.history)
+  kept_fresh before after name reply calm does is_honest sound fit =
+      let world : World = before.world in
+      let within : (picture_in world does.design).seq ≤ length world.history = seq_within world does.design (λ sig picture is. (sound fit).within sig picture is) in
+      elim does.answered [
+        | inl both ↦
+            printed name does.design does.path does.source world after.world reply is_honest sound fit
+            (subst (λ (w : World). (picture_in w does.design).seq ≤ length world.history) (sym does.same) within) both.1
+            ∙ ap (λ (w : World). named_answer (functions does.path) (views_of does.design) name does.source (first (picture_in w does.design).seq world.history)) does.same
+        | inr called ↦ absurd ((complains name does.path (own_reduces name does.design after.world) (IsNever functions honest languages does.path world) before after reply is_honest calm called).1 is_honest sound fit)
+      ]
+
+  -- ---- either
+
+  -- as the reply that is due is chosen
+  abbrev chosen : (before : Moment) (name : ViewQuery) (design : Json) (path source : List ℕ) → Bool → List ℕ
+  chosen before name design path source updates =
+      if updates
+      then fresh_reply (functions path) (views_of design) name source before.world.history
+      else named_answer (functions path) (views_of design) name source (first (picture_in before.world design).seq before.world.history)
+
+  -- the view that is answered is the one that is asked for
+  of_own : (world : World) (name : ViewQuery) (reply : List ℕ) (design : Json) (path source : List ℕ) → IsHonestView functions honest languages world name design path source
+      → (own : Json) (own_path own_source : List ℕ) → live_document world.history (design_id name.design) ≡ Some own → source_of name.view own ≡ Some own_source
+      → path_in languages (language_of own) ≡ Some own_path → (honest own_path → reply ≡ due_reply (functions own_path) world name own own_source)
+      → reply ≡ due_reply (functions path) world name design source
+  of_own world name reply design path source view own own_path own_source live source_is path_is due =
+      let same : own ≡ design = unsome _ _ (sym live ∙ view.live) in
+      let same_path : own_path ≡ path = unsome _ _ (sym path_is ∙ ap (λ (d : Json). path_in languages (language_of d)) same ∙ view.path_is) in
+      let same_source : own_source ≡ source = unsome _ _ (sym source_is ∙ ap (λ (d : Json). source_of name.view d) same ∙ view.source_is) in
+      due (subst honest (sym same_path) view.is_honest)
+      ∙ ap (λ (p : List ℕ). due_reply (functions p) world name own own_source) same_path
+      ∙ ap (λ (d : Json). due_reply (functions path) world name d own_source) same
+      ∙ ap (λ (s : List ℕ). due_reply (functions path) world name design s) same_source
 
   pub replies_are_fresh : RepliesAreFresh functions honest languages
-  replies_are_fresh before after name reply (inl does) calm design path source kind plain = updated before after name reply does calm design path source kind plain
-  replies_are_fresh before after name reply (inr does) calm design path source kind plain = let e : true ≡ false = sym plain.updates ∙ does.keeps in absurd (cc)
+  replies_are_fresh before after name reply (inl does) calm design path source view =
+      of_own before.world name reply design path source view does.design (does.job).path does.source (does.is_job).live (does.is_job).source_is (does.is_job).path_is
+      (λ is_honest. updated_fresh before after name reply calm does is_honest view.sound view.fit ∙ ap (chosen before name does.design (does.job).path does.source) (sym does.updates))
+  replies_are_fresh before after name reply (inr does) calm design path source view =
+      of_own before.world name reply design path source view does.design does.path does.source does.live does.source_is does.path_is
+      (λ is_honest. kept_fresh before after name reply calm does is_honest view.sound view.fit ∙ ap (chosen before name does.design does.path does.source) (sym does.keeps))

@@ -40,8 +40,8 @@ pub fn worlds_stay_sound<C: Servers>()
         → SoundWorldsAreShaped C.functions C.honest languages }
 {}
 
-/// The reply to a view with a built-in reduce is what mapping all documents afresh prints, where the path of its language is honest, the
-/// pictures stand and no fault of the servers is counted.
+/// The reply to a view is what mapping all documents afresh gives, where the path of its language is honest, the pictures stand and the
+/// count of the servers' faults doesn't rise by two.
 pub fn replies_are_fresh<C: Servers>()
     ensures { (languages : List (List ℕ × List ℕ))
         → RepliesAreFresh C.functions C.honest languages }
