@@ -88,7 +88,8 @@ module _ (groups : Groups) (stem : Stem) (place : ℕ) (found : IsPlaceOf groups
   beside : (x : Index) → stem_of x ≢ stem → Contains (open_of groups) x → Contains (remove (open_of groups) place) x
   beside x differs there =
       let xs = open_of groups in
-      let whole : take (place + 1) xs ++ drop (suc place) xs ≡ xs = ap (λ (n : ℕ). take n xs ++ drop (suc place) xs) (omega arith) ∙ take-append-drop (suc place) xs in
+      let next : place + 1 ≡ suc place = omega arith in
+      let whole : take (place + 1) xs ++ drop (suc place) xs ≡ xs = ap (λ (n : ℕ). take n xs ++ drop (suc place) xs) next ∙ take-append-drop (suc place) xs in
       ⊎_elim
       (λ early. ⊎_elim
       (λ before. Contains-append_left (take place xs) (drop (suc place) xs) x before)
