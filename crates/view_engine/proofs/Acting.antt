@@ -1,5 +1,5 @@
 -- A request on the documents alone, as the engine performs it.
-use Rattle.std.specs.Prelude.{IfErr, OnOk}
+use Rattle.std.specs.Prelude.{IfErr, IfOk, OnOk}
 use Rattle.std.proofs.Common.{◌≡◌, ◌≢◌, ◌≤◌, ◌∙◌, ℕ, List, length, Option, Some, None, inl, inr, Result, Ok, Err, refl, sym, ap, subst, arith}
 use Rattle.std.proofs.lemmas.Result.{IfErr-weaker}
 use Rattle.json_terms.specs.Json.{members_of, object}
@@ -31,6 +31,7 @@ use Rattle.view_engine.specs.Calls.{scene, ActsHere, AppendsReplyTo, CrashesArou
 use Rattle.view_engine.specs.Delete.{delete_write}
 use Rattle.view_engine.specs.Disks.{HasGivenUp, IfStopped, IsReason, IsReasonOf, IsView, KeepsDocuments, LiesOpen, MayGoOn}
 use Rattle.view_engine.specs.Halts.{DocumentsStandAround, MovesDocuments}
+use Rattle.view_engine.specs.InMemory.{IsRefusedBy}
 use Rattle.view_engine.specs.Put.{put_write}
 use Rattle.view_engine.specs.Worlds.{IsAtWorld, StandsAround, StandsEither, StandsFor}
 use Rattle.view_engine.specs.Moments.{Moment, with_world}
@@ -41,6 +42,7 @@ use Rattle.view_engine.proofs.OnDisk.{documents_reason, documents_still}
 use Rattle.view_engine.proofs.Between.{stands_first}
 use Rattle.view_engine.proofs.Cleared.{clears_none, clears_other}
 use Rattle.view_engine.proofs.Whole.{documents_at, documents_open, indexes_at, kept_whole, leaves_around, told_leaves_before, told_leaves_none}
+use Rattle.view_engine.proofs.Following.{follows_refused, follows_spent}
 use Rattle.view_engine.proofs.Performing.{none_called}
 use Rattle.view_engine.proofs.ServerFaults.{err_unblamed}
 
@@ -234,6 +236,7 @@ acted {f = f} {s = s} {docs = docs} {docs' = docs'} {pool = pool} {groups = grou
       silent = acts.silent;
       refused = tt;
       blames = λ is. absurd (acts.unblamed is);
+      follows = acts.follows;
       fits = acts.fits;
       disk = kept_whole refl is_open acts.disk;
       cleared = clears_other f docs old new (Ok made) _ _ (λ same. other (let one : made ≡ Cleanup = cc in one));
@@ -263,6 +266,7 @@ module _ {F C : Type 0} {f : Folders F} {s : Servers C} {now : Scene F C} {reque
     silent = refl;
     refused = spent_unread request;
     blames = λ never. absurd cc;
+    follows = follows_spent now.engine.docs now.folder out request;
     fits = tt;
     disk = kept_whole refl is_open (documents_still (documents_open _ _ is_open));
     cleared = clears_none f now.engine.docs now.folder now.folder request _ _ (told_refl (f.disk now.folder) MovesNone none_refl) (λ done. done);
@@ -272,9 +276,9 @@ module _ {F C : Type 0} {f : Folders F} {s : Servers C} {now : Scene F C} {reque
   }
 
   -- nothing was called, and the request is refused
-  pub refused_at_once : {refusal : Refusal} → (request ≡ Ok Cleanup → ⊥) → RefusesUnread request (Err (Refused refusal)) → refusal ≢ ServerFault → ((before : Moment) → DoesRequest s.functions s.honest (languages_of now.engine.pool) before request (refusal_text refusal) before)
+  pub refused_at_once : {refusal : Refusal} → (request ≡ Ok Cleanup → ⊥) → RefusesUnread request (Err (Refused refusal)) → refusal ≢ ServerFault → IfOk request (λ one. IsRefusedBy now.engine.docs one refusal) → ((before : Moment) → DoesRequest s.functions s.honest (languages_of now.engine.pool) before request (refusal_text refusal) before)
       → LiesOpen f now.engine now.folder → Performed f s now now request out out (Err (Refused refusal))
-  refused_at_once {refusal} no_cleanup unread other does is_open = record {
+  refused_at_once {refusal} no_cleanup unread other refused does is_open = record {
     does = λ before at. record {
       after = before;
       is_at = at;
@@ -287,6 +291,7 @@ module _ {F C : Type 0} {f : Folders F} {s : Servers C} {now : Scene F C} {reque
     silent = refl;
     refused = unread;
     blames = λ never. absurd (err_unblamed (Refused refusal) (λ same. other (let is_fault : refusal ≡ ServerFault = cc in is_fault)) never);
+    follows = follows_refused now.engine.docs now.folder out request refusal refused;
     fits = tt;
     disk = kept_whole refl is_open (documents_still (documents_open _ _ is_open));
     cleared = clears_other f now.engine.docs now.folder now.folder request _ _ no_cleanup;

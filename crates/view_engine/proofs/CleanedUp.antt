@@ -30,6 +30,7 @@ use Rattle.view_engine.specs.Calls.{scene, AppendsReplyTo, CrashesAround, DoesBy
 use Rattle.view_engine.specs.Cleaning.{CleansUp, EndsCleaned, IsCleanupReason, StandsCleaned}
 use Rattle.view_engine.specs.Cleanup.{done_text, IsCleaned}
 use Rattle.view_engine.specs.Disks.{ClearsIndexes, HasReply, MayWant, IfStopped, IsReasonOf, LiesOpen}
+use Rattle.view_engine.specs.InMemory.{FollowsDocuments, IsUntouchedBy}
 use Rattle.view_engine.specs.Moments.{Moment, with_world}
 use Rattle.view_engine.specs.Steps.{DoesRequestText, MayHaveCalled}
 use Rattle.view_engine.specs.World.{World}
@@ -37,6 +38,7 @@ use Rattle.view_engine.specs.Worlds.{IsAtWorld, IsOpen, StandsAround, StandsEith
 use Rattle.view_engine.proofs.Apart.{documents_beside, documents_stand}
 use Rattle.view_engine.proofs.Beside.{open_beside_indexes}
 use Rattle.view_engine.proofs.Between.{cleaned_fewer, none_newer_left, partly_between, partly_fewer}
+use Rattle.view_engine.proofs.Following.{same_docs}
 use Rattle.view_engine.proofs.Performing.{none_called}
 use Rattle.view_engine.proofs.ReplyLines.{done_line}
 use Rattle.view_engine.proofs.ServerFaults.{unlike_done}
@@ -156,6 +158,17 @@ module _ {F C : Type 0} (f : Folders F) (s : Servers C) (docs : Docs) (pool : Po
   prints_done (Ok done) cleans = record { reply = done_text; line = done_line; appended = cleans.prints; unlike = λ other. unlike_done }
   prints_done (Err halt) cleans = tt
 
+  untouched_but_read : IsUntouchedBy docs docs old new (Ok Cleanup)
+  untouched_but_read = record { documents = same_docs docs; folder = λ other. absurd (other tt) }
+
+  follows_done : (result : Result (Unit {0}) Halt) → CleansUp f docs groups groups' old new out out' result → FollowsDocuments docs docs old new out out' Cleanup result
+  follows_done (Ok done) cleans = record { accepted = tt; reply = done_text; is = refl; appended = cleans.prints; kept = λ none. untouched_but_read }
+  follows_done (Err (Refused refusal)) cleans = absurd cleans.stopped
+  follows_done (Err (Stopped DiskFault)) cleans = tt
+  follows_done (Err (Stopped (Damaged name at))) cleans = untouched_but_read
+  follows_done (Err (Stopped (Full name length))) cleans = untouched_but_read
+  follows_done (Err (Stopped NoMemory)) cleans = untouched_but_read
+
   unblamed : (result : Result (Unit {0}) Halt) → CleansUp f docs groups groups' old new out out' result → result ≡ Err (Refused ServerFault) → ⊥
   unblamed result cleans is = let refused : CleansUp f docs groups groups' old new out out' (Err (Refused ServerFault)) = subst (λ (r : Result (Unit {0}) Halt). CleansUp f docs groups groups' old new out out' r) is cleans in refused.stopped
 
@@ -186,6 +199,7 @@ module _ {F C : Type 0} (f : Folders F) (s : Servers C) (docs : Docs) (pool : Po
     silent = cleans.silent;
     refused = tt;
     blames = λ is. absurd (unblamed result cleans is);
+    follows = follows_done result cleans;
     fits = fits_done result;
     disk = record {
       documents = λ no. absurd (no tt);

@@ -5,15 +5,16 @@ use Rattle.json_terms.specs.Json.{Json, members_of, object}
 use Rattle.view_ports.specs.Functions.{Functions}
 use Rattle.doc_file.specs.declared.fault.DocFault.{DocFault}
 use Rattle.doc_file.specs.declared.fault.DocFault.TheVariants as doc
-use Rattle.doc_file.specs.Accepted.{State}
-use Rattle.design_docs.specs.History.{Write}
+use Rattle.doc_file.specs.Accepted.{State, state_after}
+use Rattle.design_docs.specs.History.{Write, last_write}
 use Rattle.doc_file.specs.Incoming.{IsUnfit, IsWritable}
 use Rattle.doc_file.specs.Writes.{IsAcceptedDelete, IsAcceptedPut, IsRefusedDelete, IsRefusedPut}
 use Rattle.view_engine.specs.declared.refusal.Refusal.{Refusal}
 use Rattle.view_engine.specs.declared.request.Request.TheVariants.{Cleanup, Delete, Get, Info, Put, View}
 use Rattle.view_engine.specs.Get.{not_live}
-use Rattle.view_engine.specs.Laws.{IsNotRefusedAndDone, IsRefusedOnce}
-use Rattle.view_engine.specs.Put.{DoesPut, IsPutRefused}
+use Rattle.view_engine.specs.Delete.{IsDeleteRefusedIn}
+use Rattle.view_engine.specs.Laws.{IsNotRefusedAndAccepted, IsNotRefusedAndDone, IsRefusedOnce, IsRefusedOnceBy}
+use Rattle.view_engine.specs.Put.{DoesPut, IsPutRefused, IsPutRefusedIn}
 use Rattle.view_engine.specs.Refusals.{refused_as}
 use Rattle.view_engine.specs.World.{World}
 
@@ -103,22 +104,25 @@ delete_once state given first second (inl a) (inr b) = absurd (a.1 b.0)
 delete_once state given first second (inr a) (inl b) = absurd (b.1 a.0)
 delete_once state given first second (inr a) (inr b) = let same : Some first ≡ Some second = sym a.1 ∙ b.1 in cc
 
-put_refused_once : (world : World) (document : Json) (first second : Refusal) → IsPutRefused world document first → IsPutRefused world document second → first ≡ second
-put_refused_once world document first second a b = a.2 ∙ ap refused_as (put_once _ document a.0 b.0 a.1 b.1) ∙ sym b.2
+put_refused_once : (state : State) (document : Json) (first second : Refusal) → IsPutRefusedIn state document first → IsPutRefusedIn state document second → first ≡ second
+put_refused_once state document first second a b = a.2 ∙ ap refused_as (put_once state document a.0 b.0 a.1 b.1) ∙ sym b.2
+
+delete_refused_once : (state : State) (given : Option (List ℕ)) (first second : Refusal) → IsDeleteRefusedIn state given first → IsDeleteRefusedIn state given second → first ≡ second
+delete_refused_once state given first second a b = a.2 ∙ ap refused_as (delete_once state given a.0 b.0 a.1 b.1) ∙ sym b.2
 
 -- a document that is live isn't refused to a reader
-live_not_refused : (found : Option Write) (document : Json) (refusal : Refusal) → option_and_then (λ (write : Write). write.document) found ≡ Some document → not_live found ≡ Some refusal → ⊥
-live_not_refused None document refusal live refused = cc
-live_not_refused (Some write) document refusal live refused = by_document write.document live refused
+live_not_refused : (found : Option Write) (rev : List ℕ) (document : Json) (refusal : Refusal) → option_and_then (λ (write : Write). write.document) found ≡ Some document → not_live (state_after found rev) ≡ Some refusal → ⊥
+live_not_refused None rev document refusal live refused = cc
+live_not_refused (Some write) rev document refusal live refused = by_document write.document live refused
   where
-    by_document : (stored : Option Json) → stored ≡ Some document → not_live (Some (record { id = write.id; document = stored })) ≡ Some refusal → ⊥
+    by_document : (stored : Option Json) → stored ≡ Some document → not_live (state_after (Some (record { id = write.id; document = stored })) rev) ≡ Some refusal → ⊥
     by_document None live refused = cc
     by_document (Some other) live refused = cc
 
 module _ (functions : List ℕ → Functions) (honest : List ℕ → Type 0) (languages : List (List ℕ × List ℕ)) where
   pub is_refused_once : IsRefusedOnce functions honest languages
-  is_refused_once world (Put document) first second a b = put_refused_once world (object (members_of document)) first second a b
-  is_refused_once world (Delete id given) first second a b = a.2 ∙ ap refused_as (delete_once _ given a.0 b.0 a.1 b.1) ∙ sym b.2
+  is_refused_once world (Put document) first second a b = put_refused_once _ (object (members_of document)) first second a b
+  is_refused_once world (Delete id given) first second a b = delete_refused_once _ given first second a b
   is_refused_once world (Get id) first second a b = let same : Some first ≡ Some second = sym a ∙ b in cc
   is_refused_once world Info first second a b = absurd a
   is_refused_once world Cleanup first second a b = absurd a
@@ -129,9 +133,29 @@ module _ (functions : List ℕ → Functions) (honest : List ℕ → Type 0) (la
   is_not_refused_and_done before after (Put document) refusal reply refused done =
       not_both_put before.world (object (members_of document)) refusal reply done.0 refused done.1
   is_not_refused_and_done before after (Delete id given) refusal reply refused done = delete_clash _ given refused.0 refused.1 (done.1).accepted
-  is_not_refused_and_done before after (Get id) refusal reply refused done = live_not_refused _ (done.0).0 refusal (done.0).1 refused
+  is_not_refused_and_done before after (Get id) refusal reply refused done = live_not_refused (last_write before.world.history id) _ (done.0).0 refusal (done.0).1 refused
   is_not_refused_and_done before after Info refusal reply refused done = refused
   is_not_refused_and_done before after Cleanup refusal reply refused done = refused
   is_not_refused_and_done before after (View view query) refusal reply refused (inl done) = let clash : Some refusal ≡ None = sym refused ∙ done.accepted in cc
   is_not_refused_and_done before after (View view query) refusal reply refused (inr done) = let clash : Some refusal ≡ None = sym refused ∙ done.accepted in cc
   is_not_refused_and_done before after other refusal reply refused done = done
+
+-- ---- by the documents in memory
+
+pub is_refused_once_by : IsRefusedOnceBy
+is_refused_once_by docs (Put document) first second other a b = put_refused_once _ (object (members_of document)) first second a b
+is_refused_once_by docs (Delete id given) first second other a b = delete_refused_once _ given first second a b
+is_refused_once_by docs (Get id) first second other a b = let same : Some first ≡ Some second = sym a ∙ b in cc
+is_refused_once_by docs Info first second other a b = absurd a
+is_refused_once_by docs Cleanup first second other a b = absurd a
+is_refused_once_by docs (View view query) first second other a b = absurd (other tt)
+is_refused_once_by docs request first second other a b = a ∙ sym b
+
+pub is_not_refused_and_accepted : IsNotRefusedAndAccepted
+is_not_refused_and_accepted docs (Put document) refusal refused accepted = put_clash _ (object (members_of document)) refused.0 refused.1 accepted
+is_not_refused_and_accepted docs (Delete id given) refusal refused accepted = delete_clash _ given refused.0 refused.1 accepted
+is_not_refused_and_accepted docs (Get id) refusal refused accepted = let clash : Some refusal ≡ None = sym refused ∙ accepted in cc
+is_not_refused_and_accepted docs Info refusal refused accepted = refused
+is_not_refused_and_accepted docs Cleanup refusal refused accepted = refused
+is_not_refused_and_accepted docs (View view query) refusal refused accepted = tt
+is_not_refused_and_accepted docs other refusal refused accepted = accepted

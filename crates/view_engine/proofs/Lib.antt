@@ -8,6 +8,7 @@ pub mod Writing
 pub mod Faults
 pub mod Exclusive
 pub mod HaltedAs
+pub mod Following
 pub mod SameFiles
 pub mod Plans
 pub mod Viewed

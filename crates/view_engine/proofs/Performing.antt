@@ -5,6 +5,7 @@ use Rattle.view_ports.specs.Disk.{Disk}
 use Rattle.view_ports.specs.Functions.{Functions}
 use Rattle.view_ports.specs.declared.file_name.FileName.{FileName}
 use Rattle.view_ports.proofs.Told.{told_now}
+use Rattle.doc_file.specs.declared.docs.Docs.{Docs}
 use Rattle.view_engine.specs.declared.engine.Engine.{Engine}
 use Rattle.view_engine.specs.declared.request.Request.{Request}
 use Rattle.view_engine.specs.declared.request.Request.TheVariants.{Cleanup, Put, Delete, Get, View, Info}
@@ -14,6 +15,7 @@ use Rattle.json_terms.specs.declared.term.Members.{Members}
 use Rattle.view_engine.specs.declared.refusal.Refusal.{Refusal}
 use Rattle.view_engine.specs.declared.refusal.Refusal.TheVariants.{NotBuiltYet}
 use Rattle.view_engine.specs.Engine.{Leaves}
+use Rattle.view_engine.specs.InMemory.{IsRefusedBy}
 use Rattle.view_engine.specs.Moments.{Moment}
 use Rattle.view_engine.specs.Steps.{IsRefusedAs, MayHaveCalled}
 use Rattle.view_engine.specs.World.{World}
@@ -44,3 +46,14 @@ module _ (functions : List ℕ → Functions) (honest : List ℕ → Type 0) (la
   unbuilt world Cleanup no_put no_delete no_get no_info no_cleanup no_view = absurd (no_cleanup refl)
   unbuilt world (View view query) no_put no_delete no_get no_info no_cleanup no_view = absurd (no_view view query refl)
   unbuilt world other no_put no_delete no_get no_info no_cleanup no_view = refl
+
+-- and so it is by the documents in memory
+pub unbuilt_by : (docs : Docs) (request : Request) → ((document : Members) → request ≡ Put document → ⊥) → ((id : Chars) (rev : Option Chars) → request ≡ Delete id rev → ⊥)
+    → ((id : Chars) → request ≡ Get id → ⊥) → (request ≡ Info → ⊥) → (request ≡ Cleanup → ⊥) → ((view : ViewName) (query : Option Members) → request ≡ View view query → ⊥) → IsRefusedBy docs request NotBuiltYet
+unbuilt_by docs (Put document) no_put no_delete no_get no_info no_cleanup no_view = absurd (no_put document refl)
+unbuilt_by docs (Delete id rev) no_put no_delete no_get no_info no_cleanup no_view = absurd (no_delete id rev refl)
+unbuilt_by docs (Get id) no_put no_delete no_get no_info no_cleanup no_view = absurd (no_get id refl)
+unbuilt_by docs Info no_put no_delete no_get no_info no_cleanup no_view = absurd (no_info refl)
+unbuilt_by docs Cleanup no_put no_delete no_get no_info no_cleanup no_view = absurd (no_cleanup refl)
+unbuilt_by docs (View view query) no_put no_delete no_get no_info no_cleanup no_view = absurd (no_view view query refl)
+unbuilt_by docs other no_put no_delete no_get no_info no_cleanup no_view = refl

@@ -15,6 +15,7 @@ use Rattle.design_docs.proofs.ViewNames.{has_views_of_names}
 use Rattle.design_docs.proofs.ViewOrder.{views_are_few}
 use Rattle.child_pool.specs.Languages.{path_in}
 use Rattle.child_pool.specs.ReduceTalk.{reduce_in}
+use Rattle.doc_file.specs.Accepted.{state_after}
 use Rattle.doc_file.specs.Held.{IsBodyOf}
 use Rattle.design_docs.specs.History.{Write, last_write, live_document}
 use Rattle.view_updater.proofs.OneTried.{reduce_at}
@@ -42,9 +43,9 @@ pub stored_design : (name : ViewQuery) (id : List ℕ) (document : Json) → id 
 stored_design name id document is body = body.design (ap is_design_id is ∙ is_design name.design)
 
 -- a live document isn't refused
-not_refused : (write : Option Write) (document : Json) → option_and_then (λ w. w.document) write ≡ Some document → not_live write ≡ None
-not_refused None document is = let clash : ⊥ = cc in absurd clash
-not_refused (Some write) document is = rw is refl
+not_refused : (write : Option Write) (rev : List ℕ) (document : Json) → option_and_then (λ w. w.document) write ≡ Some document → not_live (state_after write rev) ≡ None
+not_refused None rev document is = let clash : ⊥ = cc in absurd clash
+not_refused (Some write) rev document is = rw is refl
 
 module _ (languages : List (List ℕ × List ℕ)) (history : List Write) (name : ViewQuery) (id : List ℕ) (document : Json) (design : Design)
     (is : id ≡ design_id name.design) (live : live_document history id ≡ Some document) (has : HasDesign document) (of : IsDesignOf document design) where
@@ -55,7 +56,7 @@ module _ (languages : List (List ℕ × List ℕ)) (history : List Write) (name 
   lives = ap (live_document history) (sym is) ∙ live
 
   got : get_refusal world (design_id name.design) ≡ None
-  got = not_refused (last_write history (design_id name.design)) document lives
+  got = not_refused (last_write history (design_id name.design)) _ document lives
 
   refusals : view_refusal languages world name ≡ first_of (no_view (source_of name.view document) ∷ bad_query name (Some document) ∷ no_path (language_of document) (path_in languages (language_of document)) ∷ [])
   refusals =

@@ -24,7 +24,9 @@ use Rattle.view_engine.specs.declared.request.Request.{Request}
 use Rattle.view_engine.specs.Calls.{ActsHere, DoesHere, DoesHereBy, IsRefusedHere, IsReplyLine, IsUnlikeFault}
 use Rattle.view_engine.specs.Disks.{AreOpen, IfStopped, IsReadReason, Reads, ReadsDocuments}
 use Rattle.view_engine.specs.Halts.{halted_as, FitsFor, IsDamage}
+use Rattle.view_engine.specs.InMemory.{IsAcceptedBy, IsRefusedBy, IsReplyBy, IsUntouchedBy}
 use Rattle.view_engine.specs.World.{World}
+use Rattle.view_engine.proofs.Following.{follows_halt, same_docs}
 use Rattle.view_engine.proofs.HaltedAs.{not_deleted, spoiled_damage}
 use Rattle.view_engine.proofs.Keeping.{at_none}
 use Rattle.view_engine.proofs.OnDisk.{documents_read, read_halted, read_reason}
@@ -52,8 +54,9 @@ halted_so f docs old new request out out' (Stopped (Damaged name at)) none refus
 halted_so f docs old new request out out' (Stopped (Full name length)) none refused = tt
 
 module _ {F : Type 0} {f : Folders F} {docs : Docs} {old new : F} {request : Request} {out out' : List ℕ} (is_open : AreOpen f docs old) (none : Tells (f.disk old) (f.disk new) MovesNone) (later : f.faults old ≤ f.faults new) where
-  pub read_done : FitsFor docs (Ok request) → (reply : List ℕ) → IsReplyLine reply → IsUnlikeFault (Ok request) reply → out' ≡ out ++ ended reply → IsMetIn f docs old (λ world. DoesHere world request reply world) → ActsHere f docs docs old new request out out' (Ok tt)
-  read_done fits reply line unlike appended does = record {
+  pub read_done : FitsFor docs (Ok request) → (reply : List ℕ) → IsReplyLine reply → IsUnlikeFault (Ok request) reply → IsAcceptedBy docs request → IsReplyBy docs request reply → IsUntouchedBy docs docs old new (Ok request) → out' ≡ out ++ ended reply
+      → IsMetIn f docs old (λ world. DoesHere world request reply world) → ActsHere f docs docs old new request out out' (Ok tt)
+  read_done fits reply line unlike accepted prints left appended does = record {
     does = record {
       reply = reply;
       line = line;
@@ -68,18 +71,20 @@ module _ {F : Type 0} {f : Folders F} {docs : Docs} {old new : F} {request : Req
     };
     silent = tt;
     unblamed = λ never. cc;
+    follows = record { accepted = accepted; reply = reply; is = prints; appended = appended; kept = λ none. left };
     fits = fits;
     disk = documents_read none is_open;
     why = tt;
     later = later;
   }
 
-  pub read_stopped : {halt : Halt} → halt ≢ Refused ServerFault → ReadsDocuments (Ok request) → out' ≡ out → ((refusal : Refusal) → halt ≡ Refused refusal → IsMetIn f docs old (λ world. IsRefusedHere world request refusal))
-      → IfStopped (IsReadReason f docs old new) halt → ActsHere f docs docs old new request out out' (Err halt)
-  read_stopped {halt} other is_read silent refused why = record {
+  pub read_stopped : {halt : Halt} → halt ≢ Refused ServerFault → ReadsDocuments (Ok request) → out' ≡ out → ((refusal : Refusal) → halt ≡ Refused refusal → IsRefusedBy docs request refusal)
+      → ((refusal : Refusal) → halt ≡ Refused refusal → IsMetIn f docs old (λ world. IsRefusedHere world request refusal)) → IfStopped (IsReadReason f docs old new) halt → ActsHere f docs docs old new request out out' (Err halt)
+  read_stopped {halt} other is_read silent refuses refused why = record {
     does = halted_so f docs old new request out out' halt none refused;
     silent = silent;
     unblamed = err_unblamed halt other;
+    follows = follows_halt docs docs old new out out' request halt refuses (inr (record { documents = same_docs docs; folder = λ none. absurd (none is_read) }));
     fits = tt;
     disk = documents_read none is_open;
     why = read_halted f docs old new (Ok request) halt is_read why;
@@ -91,7 +96,7 @@ module _ {F : Type 0} {f : Folders F} {docs : Docs} {old new : F} {request : Req
       let err = err_from_is_err_and result is in
       let spent : result ≡ Err (Stopped NoMemory) = err.1 ∙ ap Err err.2 in
       subst (λ (r : Result (Unit {0}) Halt). ActsHere f docs docs old new request out out' r) (sym spent)
-      (read_stopped (λ is. cc) is_read silent (λ refusal is. absurd (let never : ⊥ = cc in never)) tt)
+      (read_stopped (λ is. cc) is_read silent (λ refusal is. absurd (let never : ⊥ = cc in never)) (λ refusal is. absurd (let never : ⊥ = cc in never)) tt)
 
 -- ---- faults of the documents' calls that only read
 

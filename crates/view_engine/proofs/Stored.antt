@@ -30,9 +30,11 @@ use Rattle.view_engine.specs.declared.request.Request.{Request}
 use Rattle.view_engine.specs.Calls.{ActsHere, DoesHere, DoesHereBy, IsRefusedHere, IsReplyLine, IsUnlikeFault, LeavesWorld}
 use Rattle.view_engine.specs.Disks.{AreOpen, IfStopped, IsReason, KeepsDocuments, OverWorld}
 use Rattle.view_engine.specs.Halts.{halted_as, Fits, FitsFor, GoesOn, IsFull, IsFullFor, LeavesFiles, Writes as WritesOne}
+use Rattle.view_engine.specs.InMemory.{IsAcceptedBy, IsRefusedBy, IsReplyBy}
 use Rattle.view_engine.specs.Steps.{IsWrite}
 use Rattle.view_engine.specs.World.{written, World}
 use Rattle.view_engine.proofs.Around.{moves_around}
+use Rattle.view_engine.proofs.Following.{follows_halt, untouched}
 use Rattle.view_engine.proofs.OnDisk.{documents_same, documents_still}
 use Rattle.view_engine.proofs.SameDocs.{IsAt-same}
 use Rattle.view_engine.proofs.ServerFaults.{err_unblamed, halted_unblamed}
@@ -48,6 +50,7 @@ spent_here {f = f} {docs = docs} {old = old} {request = request} {out = out} {ou
       does = λ world at. record { after = world; is_at = at; allowed = told_all (f.disk old) (λ d. world ≡ world) (λ d. refl) };
       silent = silent;
       unblamed = λ never. cc;
+      follows = untouched docs old (Ok request);
       fits = tt;
       disk = documents_still is_open;
       why = tt;
@@ -78,7 +81,8 @@ module _ {F : Type 0} (f : Folders F) (docs docs' : Docs) (old new : F) (request
 
   module _ (id : List ℕ) (content : Option Json) (Accepted : Type 0) (IsRefused : DocFault → Type 0) (reply : List ℕ)
       (does : (files : FileName → File) (world : World) → AreAt docs files world.history → Accepted → DoesHere world request reply (written world (write_of world.history id content)))
-      (writes : (files : FileName → File) (world : World) → AreAt docs files world.history → Accepted → IsWrite world (Ok request) (write_of world.history id content)) (is_write : WritesOne (Ok request)) where
+      (writes : (files : FileName → File) (world : World) → AreAt docs files world.history → Accepted → IsWrite world (Ok request) (write_of world.history id content)) (is_write : WritesOne (Ok request))
+      (accepts : Accepted → IsAcceptedBy docs request) (prints : IsReplyBy docs request reply) where
     abbrev Side : Result Rev DocFault → Type 0
     Side = Writes f docs docs' old new id content Accepted IsRefused
 
@@ -112,6 +116,7 @@ module _ {F : Type 0} (f : Folders F) (docs docs' : Docs) (old new : F) (request
       };
       silent = tt;
       unblamed = λ never. cc;
+      follows = record { accepted = accepts stored.accepted; reply = reply; is = prints; appended = appended; kept = λ none. absurd (none is_write) };
       fits = fits (record { short = stored.stored.short; few = stored.stored.few });
       disk = disk_moved (Ok rev) stored.accepted (λ never. never) (λ goes. stored.stored.is_open) stored;
       why = tt;
@@ -119,8 +124,8 @@ module _ {F : Type 0} (f : Folders F) (docs docs' : Docs) (old new : F) (request
     }
 
     module _ (not_of_file : (fault : GateFault) → IsRefused (doc.Gate fault) → ⊥)
-        (refused : (files : FileName → File) (world : World) → AreAt docs files world.history → (fault : DocFault) → IsRefused fault ⊎ IsFileFault (file_of docs) fault ⊎ (fault ≡ doc.NoMemory)
-        → (refusal : Refusal) → halted_as fault ≡ Refused refusal → IsRefusedHere world request refusal)
+        (refuses : (fault : DocFault) → IsRefused fault ⊎ IsFileFault (file_of docs) fault ⊎ (fault ≡ doc.NoMemory) → (refusal : Refusal) → halted_as fault ≡ Refused refusal → IsRefusedBy docs request refusal)
+        (refused : (files : FileName → File) (world : World) → AreAt docs files world.history → (refusal : Refusal) → IsRefusedBy docs request refusal → IsRefusedHere world request refusal)
         (full : (name : FileName) (length : Option ℕ) → IsFull docs id content name length → IsFullFor docs (Ok request) name length) (fits : Fits docs id content → FitsFor docs (Ok request)) where
       of_file : (fault : DocFault) (g : GateFault) → fault ≡ doc.Gate g → IsRefused fault ⊎ IsFileFault (file_of docs) fault ⊎ (fault ≡ doc.NoMemory) → IsFileFault (file_of docs) fault
       of_file fault g is (inl refused_so) = absurd (not_of_file g (subst IsRefused is refused_so))
@@ -174,6 +179,7 @@ module _ {F : Type 0} (f : Folders F) (docs docs' : Docs) (old new : F) (request
               (λ is. absurd (no_going_on fault so (goes_on (halted_as fault) (Stopped NoMemory) is tt)));
           silent = silent;
           unblamed = err_unblamed (halted_as fault) (halted_unblamed fault);
+          follows = follows_halt docs docs' old new out out' request (halted_as fault) (refuses fault stored.refused) (inl (ap halted_as so));
           fits = tt;
           disk = disk_moved (Err fault) (stored.reached (inl so)) (no_files_left fault so) (λ goes. absurd (no_going_on fault so goes)) stored;
           why = why_halted fault stored;
@@ -185,7 +191,7 @@ module _ {F : Type 0} (f : Folders F) (docs docs' : Docs) (old new : F) (request
                 after = world;
                 is_at = stands_still_at same world at;
                 allowed = told_now (f.disk old) (λ d. AreAt docs d.now world.history) (λ d. (world ≡ world) × IsRefusedHere world request refusal)
-                    (λ d here. (refl, refused d.now world here fault stored.refused refusal is)) at;
+                    (λ d here. (refl, refused d.now world here refusal (refuses fault stored.refused refusal is))) at;
               })
               (λ is world at. record {
                 after = world;
@@ -194,6 +200,7 @@ module _ {F : Type 0} (f : Folders F) (docs docs' : Docs) (old new : F) (request
               });
           silent = silent;
           unblamed = err_unblamed (halted_as fault) (halted_unblamed fault);
+          follows = follows_halt docs docs' old new out out' request (halted_as fault) (refuses fault stored.refused) (inr (record { documents = same.0; folder = λ other. same.1 }));
           fits = tt;
           disk = documents_same same is_open;
           why = why_halted fault stored;
@@ -206,13 +213,14 @@ module _ {F : Type 0} (f : Folders F) (docs docs' : Docs) (old new : F) (request
 module _ {F : Type 0} {f : Folders F} {docs docs' : Docs} {old new : F} {request : Request} {out out' : List ℕ} {id : List ℕ} {content : Option Json} {Accepted : Type 0} {IsRefused : DocFault → Type 0}
     (reply : List ℕ)
     (does : (files : FileName → File) (world : World) → AreAt docs files world.history → Accepted → DoesHere world request reply (written world (write_of world.history id content)))
-    (writes : (files : FileName → File) (world : World) → AreAt docs files world.history → Accepted → IsWrite world (Ok request) (write_of world.history id content)) (is_write : WritesOne (Ok request)) where
+    (writes : (files : FileName → File) (world : World) → AreAt docs files world.history → Accepted → IsWrite world (Ok request) (write_of world.history id content)) (is_write : WritesOne (Ok request))
+    (accepts : Accepted → IsAcceptedBy docs request) (prints : IsReplyBy docs request reply) where
   pub wrote_here : {rev : Rev} → (Fits docs id content → FitsFor docs (Ok request)) → IsReplyLine reply → IsUnlikeFault (Ok request) reply → out' ≡ out ++ ended reply → Writes f docs docs' old new id content Accepted IsRefused (Ok rev) → ActsHere f docs docs' old new request out out' (Ok tt)
-  wrote_here {rev} = stored_done f docs docs' old new request out out' id content Accepted IsRefused reply does writes is_write rev
+  wrote_here {rev} = stored_done f docs docs' old new request out out' id content Accepted IsRefused reply does writes is_write accepts prints rev
 
   pub unwritten_here : {fault : DocFault} → ((g : GateFault) → IsRefused (doc.Gate g) → ⊥)
-      → ((files : FileName → File) (world : World) → AreAt docs files world.history → (e : DocFault) → IsRefused e ⊎ IsFileFault (file_of docs) e ⊎ (e ≡ doc.NoMemory)
-      → (refusal : Refusal) → halted_as e ≡ Refused refusal → IsRefusedHere world request refusal)
+      → ((e : DocFault) → IsRefused e ⊎ IsFileFault (file_of docs) e ⊎ (e ≡ doc.NoMemory) → (refusal : Refusal) → halted_as e ≡ Refused refusal → IsRefusedBy docs request refusal)
+      → ((files : FileName → File) (world : World) → AreAt docs files world.history → (refusal : Refusal) → IsRefusedBy docs request refusal → IsRefusedHere world request refusal)
       → ((name : FileName) (length : Option ℕ) → IsFull docs id content name length → IsFullFor docs (Ok request) name length) → (Fits docs id content → FitsFor docs (Ok request))
       → out' ≡ out → AreOpen f docs old → Writes f docs docs' old new id content Accepted IsRefused (Err fault) → ActsHere f docs docs' old new request out out' (Err (halted_as fault))
-  unwritten_here {fault} not_of_file refused full fits = stored_halted f docs docs' old new request out out' id content Accepted IsRefused reply does writes is_write not_of_file refused full fits fault
+  unwritten_here {fault} not_of_file refuses refused full fits = stored_halted f docs docs' old new request out out' id content Accepted IsRefused reply does writes is_write accepts prints not_of_file refuses refused full fits fault

@@ -19,6 +19,7 @@ use Rattle.view_engine.specs.Calls.{AppendsReplyTo, CrashesAround, DoesBy, Leave
 use Rattle.view_engine.specs.Disks.{IfStopped, IsReasonOf, LiesOpen, MayGoOn, MovesIndexOf}
 use Rattle.view_engine.specs.FullIndex.{IsIndexFull}
 use Rattle.view_engine.specs.Halts.{FitsFor, GoesOn}
+use Rattle.view_engine.specs.InMemory.{FollowsDocuments}
 use Rattle.view_engine.specs.Moments.{Moment}
 use Rattle.view_engine.specs.Refusals.{refusal_text}
 use Rattle.view_engine.specs.Steps.{DoesRequest, MayHaveCalled}
@@ -76,14 +77,16 @@ module _ {F C : Type 0} (f : Folders F) (s : Servers C) (old new : Scene F C) (n
 
   -- a view is performed as these parts say
   pub viewed : {out out' : List ℕ} {result : Result (Unit {0}) Halt} → ((before : Moment) → StandsAt f s old before → DoesBy f s old new before request out out' result) → OnOk result (AppendsReplyTo request out out') → OnErr result (out' ≡ out)
-      → (result ≡ Err (Refused ServerFault) → RoseBy 2 (s.faults old.servers) (s.faults new.servers)) → Tells (f.disk old.folder) (f.disk new.folder) (MovesIndexOf old.engine name)
+      → (result ≡ Err (Refused ServerFault) → RoseBy 2 (s.faults old.servers) (s.faults new.servers)) → FollowsDocuments old.engine.docs new.engine.docs old.folder new.folder out out' (view_request name) result
+      → Tells (f.disk old.folder) (f.disk new.folder) (MovesIndexOf old.engine name)
       → (MayGoOn result → LiesOpen f new.engine new.folder) → FillsIndex result → IfErr result (IfStopped (IsReasonOf f old.engine old.folder new.folder request)) → Stays f s old new → Performed f s old new request out out' result
-  viewed {result = result} does prints silent blames moved is_open filled why stays = record {
+  viewed {result = result} does prints silent blames follows moved is_open filled why stays = record {
     does = does;
     prints = prints;
     silent = silent;
     refused = refused_not result;
     blames = blames;
+    follows = follows;
     fits = fits_always result;
     disk = record { documents = λ no. absurd (no tt); indexes = moved; is_open = is_open };
     cleared = tt;

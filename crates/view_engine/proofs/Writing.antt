@@ -12,15 +12,15 @@ use Rattle.doc_file.specs.declared.fault.DocFault.TheVariants as doc
 use Rattle.doc_file.specs.Accepted.{State, state_in, state_of}
 use Rattle.doc_file.specs.Docs.{bytes_in, entries_of, last_of, IsAt}
 use Rattle.doc_file.specs.Stored.{next_revision}
-use Rattle.doc_file.specs.Writes.{IsAcceptedDelete, IsAcceptedPut, IsFileFault, IsRefusedDelete, IsRefusedPut}
+use Rattle.doc_file.specs.Writes.{IsAcceptedDelete, IsAcceptedPut, IsFileFault}
 use Rattle.doc_file.proofs.Histories.{state_kept}
 use Rattle.view_engine.specs.declared.halt.Halt.TheVariants.{Refused}
 use Rattle.view_engine.specs.declared.request.Request.TheVariants.{Delete, Put}
 use Rattle.view_engine.specs.declared.refusal.Refusal.{Refusal}
 use Rattle.view_engine.specs.Answer.{write_text}
-use Rattle.view_engine.specs.Delete.{delete_write, DoesDelete, IsDeleteRefused}
+use Rattle.view_engine.specs.Delete.{delete_write, DoesDelete, IsDeleteRefused, IsDeleteRefusedIn}
 use Rattle.view_engine.specs.Halts.{halted_as}
-use Rattle.view_engine.specs.Put.{put_write, DoesPut, IsPutRefused}
+use Rattle.view_engine.specs.Put.{put_write, DoesPut, IsPutRefused, IsPutRefusedIn}
 use Rattle.view_engine.specs.Refusals.{refused_as}
 use Rattle.view_engine.specs.Replies.{accepted_reply}
 use Rattle.view_engine.specs.Steps.{IsWrite}
@@ -53,7 +53,7 @@ no_memory : (fault : DocFault) (refusal : Refusal) → fault ≡ doc.NoMemory �
 no_memory fault refusal is met = let never : halted_as doc.NoMemory ≡ Refused refusal = ap halted_as (sym is) ∙ met in cc
 
 -- what is met of a fault is what the documents refuse
-met : (file : GateFile) (fault : DocFault) (refusal : Refusal) (P : DocFault → Type 0) → P fault ⊎ IsFileFault file fault ⊎ (fault ≡ doc.NoMemory) → halted_as fault ≡ Refused refusal → (f : DocFault) × P f × (refusal ≡ refused_as f)
+pub met : (file : GateFile) (fault : DocFault) (refusal : Refusal) (P : DocFault → Type 0) → P fault ⊎ IsFileFault file fault ⊎ (fault ≡ doc.NoMemory) → halted_as fault ≡ Refused refusal → (f : DocFault) × P f × (refusal ≡ refused_as f)
 met file fault refusal P (inl is) same = (fault, is, refusal_is fault refusal same)
 met file fault refusal P (inr (inl of_file)) same = absurd (file_fault file fault refusal of_file same)
 met file fault refusal P (inr (inr spent)) same = absurd (no_memory fault refusal spent same)
@@ -96,15 +96,11 @@ module _ (docs : Docs) (files : FileName → File) (world : World) (at : IsAt do
   delete_is_write id given accepted reply =
       (accepted_reply docs id, (written world (delete_write world id), delete_does id given accepted reply, refl))
 
-  pub put_refused : (file : GateFile) (document : Json) (fault : DocFault) (refusal : Refusal) → IsRefusedPut (state_in (last_of docs (id_of document))) document fault ⊎ IsFileFault file fault ⊎ (fault ≡ doc.NoMemory) → halted_as fault ≡ Refused refusal
-      → IsPutRefused world document refusal
-  put_refused file document fault refusal is same =
-      subst (λ (s : State). (f : DocFault) × IsRefusedPut s document f × (refusal ≡ refused_as f)) (state_kept world.history (bytes_in docs files) (entries_of docs) at.each (id_of document))
-      (met file fault refusal (IsRefusedPut (state_in (last_of docs (id_of document))) document) is same)
+  -- a write that is refused by what is kept in memory is refused in the world
+  pub put_refused : (document : Json) (refusal : Refusal) → IsPutRefusedIn (state_in (last_of docs (id_of document))) document refusal → IsPutRefused world document refusal
+  put_refused document refusal =
+      subst (λ (s : State). IsPutRefusedIn s document refusal) (state_kept world.history (bytes_in docs files) (entries_of docs) at.each (id_of document))
 
-  pub delete_refused : (file : GateFile) (id : List ℕ) (given : Option (List ℕ)) (fault : DocFault) (refusal : Refusal)
-      → IsRefusedDelete (state_in (last_of docs id)) given fault ⊎ IsFileFault file fault ⊎ (fault ≡ doc.NoMemory) → halted_as fault ≡ Refused refusal
-      → IsDeleteRefused world id given refusal
-  delete_refused file id given fault refusal is same =
-      subst (λ (s : State). (f : DocFault) × IsRefusedDelete s given f × (refusal ≡ refused_as f)) (state_kept world.history (bytes_in docs files) (entries_of docs) at.each id)
-      (met file fault refusal (IsRefusedDelete (state_in (last_of docs id)) given) is same)
+  pub delete_refused : (id : List ℕ) (given : Option (List ℕ)) (refusal : Refusal) → IsDeleteRefusedIn (state_in (last_of docs id)) given refusal → IsDeleteRefused world id given refusal
+  delete_refused id given refusal =
+      subst (λ (s : State). IsDeleteRefusedIn s given refusal) (state_kept world.history (bytes_in docs files) (entries_of docs) at.each id)

@@ -26,6 +26,7 @@ use Rattle.view_engine.specs.FullIndex.{IsIndexFullFor}
 use Rattle.view_engine.specs.Engine.{Appends, HasChild, IsAt, Leaves}
 use Rattle.view_engine.specs.Get.{get_refusal, DoesGet, DoesInfo}
 use Rattle.view_engine.specs.Halts.{FitsFor, HasGoneOn, HasLeftFiles}
+use Rattle.view_engine.specs.InMemory.{AnswersRequest, FollowsDocuments, FollowsRequest}
 use Rattle.view_engine.specs.Moments.{Moment}
 use Rattle.view_engine.specs.Put.{DoesPut, IsPutRefused}
 use Rattle.view_engine.specs.Refusals.{request_of, refusal_text}
@@ -109,6 +110,8 @@ module _ {F : Type 0} (f : Folders F) where
       pub does : DoesHereBy result
       pub silent : OnErr result (out' ≡ out)
       pub unblamed : result ≢ Err (Refused ServerFault)
+      -- whatever the folder tells, it is accepted or refused as the documents in memory say
+      pub follows : FollowsDocuments docs docs' old new out out' request result
       -- what is written passes no limit of the file
       pub fits : OnOk result (FitsFor docs (Ok request))
       pub disk : KeepsDocuments f docs docs' old new (Ok request) (HasGivenUp result) (MayGoOn result)
@@ -188,6 +191,8 @@ module _ {F C : Type 0} (f : Folders F) (s : Servers C) where
       pub refused : RefusesUnread request result
       -- it is refused as a fault of the query servers only where their count rose by two
       pub blames : result ≡ Err (Refused ServerFault) → RoseBy 2 (s.faults old.servers) (s.faults new.servers)
+      -- whatever the folder tells, it is accepted or refused as the documents in memory say
+      pub follows : FollowsRequest old.engine.docs new.engine.docs old.folder new.folder out out' request result
       -- what is written passes no limit of the file
       pub fits : OnOk result (FitsFor old.engine.docs request)
       pub disk : KeepsDisk f old.engine new.engine old.folder new.folder request (HasGivenUp result) (MayGoOn result)
@@ -215,6 +220,8 @@ module _ {F C : Type 0} (f : Folders F) (s : Servers C) where
       -- and where it is `ok`, what the request wrote passed no limit of the file
       pub fits : OnOk result (AppendsOk out out' → FitsFor old.engine.docs (request_of line))
       pub refused : RefusesLine line out out' result
+      -- whatever the folder tells, the request is accepted or refused as the documents in memory say, and that is told
+      pub follows : line ≢ [] → AnswersRequest old.engine.docs new.engine.docs old.folder new.folder out out' (request_of line) result
       -- an empty line asks for nothing
       pub asked : OnErr result (line ≢ [])
       pub idle : line ≡ [] → new.folder ≡ old.folder

@@ -1,24 +1,24 @@
 -- What the requests `get` and `info` do.
-use Rattle.std.specs.Prelude.{◌≡◌, ℕ, List, Option, Some, None}
+use Rattle.std.specs.Prelude.{◌≡◌, ℕ, List, true, false, Option, Some, None}
 use Rattle.json_terms.specs.Json.{Json}
 use Rattle.json_terms.specs.Text.{text_of}
+use Rattle.doc_file.specs.Accepted.{State, state_of}
+use Rattle.doc_file.specs.Accepted.State.{known, unseen}
 use Rattle.doc_file.specs.Docs.{info_in}
-use Rattle.design_docs.specs.History.{Write, last_write, live_document}
+use Rattle.design_docs.specs.History.{live_document}
 use Rattle.view_engine.specs.declared.refusal.Refusal.{Refusal}
 use Rattle.view_engine.specs.declared.refusal.Refusal.TheVariants.{Missing, Deleted}
 use Rattle.view_engine.specs.World.{World}
 use Rattle.view_engine.specs.Answer.{info_text}
 
 -- a document must have been written, and its last write mustn't be a deletion
-abbrev pub not_live : Option Write → Option Refusal
-not_live None = Some Missing
-not_live (Some write) = if_deleted write.document where
-  if_deleted : Option Json → Option Refusal
-  if_deleted None = Some Deleted
-  if_deleted (Some document) = None
+abbrev pub not_live : State → Option Refusal
+not_live unseen = Some Missing
+not_live (known rev true) = Some Deleted
+not_live (known rev false) = None
 
 abbrev pub get_refusal : World → List ℕ → Option Refusal
-get_refusal world id = not_live (last_write world.history id)
+get_refusal world id = not_live (state_of world.history id)
 
 -- the live document is printed
 abbrev pub DoesGet : World → List ℕ → List ℕ → Type 0

@@ -1,5 +1,5 @@
 -- What the definitions say together: those of the history, and those of what a request does.
-use Rattle.std.specs.Prelude.{◌≡◌, ◌++◌, ℕ, List, bytes_eq, Result}
+use Rattle.std.specs.Prelude.{◌≡◌, ◌++◌, ℕ, List, bytes_eq, Result, Ok}
 use Rattle.std.specs.Ordering.{nat_cmp}
 use Rattle.std.specs.Cmp.Lexicographic.{slice_cmp}
 use Rattle.std.specs.List.Sorted.{IsStrictlySortedBy}
@@ -7,9 +7,12 @@ use Rattle.std.specs.Map.{lookup, keys_of}
 use Rattle.view_ports.specs.Exchanges.{Exchange}
 use Rattle.view_ports.specs.Functions.{Functions}
 use Rattle.design_docs.specs.History.{Write, last_write, last_writes, live, live_document}
+use Rattle.doc_file.specs.declared.docs.Docs.{Docs}
 use Rattle.view_engine.specs.declared.refusal.Refusal.{Refusal}
 use Rattle.view_engine.specs.declared.request.Request.{Request}
 use Rattle.view_engine.specs.Accepted.{accepted}
+use Rattle.view_engine.specs.Disks.{IsView}
+use Rattle.view_engine.specs.InMemory.{IsAcceptedBy, IsRefusedBy}
 use Rattle.view_engine.specs.Moments.{Moment}
 use Rattle.view_engine.specs.Steps.{Answers, IsRefusedAs, Makes, Performs}
 use Rattle.view_engine.specs.Updating.{AreFit, AreShaped, IsSound}
@@ -31,6 +34,14 @@ IsInOrderOfId history = IsStrictlySortedBy (slice_cmp nat_cmp) (keys_of (live hi
 -- the writes of two runs of lines, one after the other, are those of all their lines
 abbrev pub IsAcceptedInTurn : Type 0
 IsAcceptedInTurn = (world : World) (first second : List Exchange) → accepted world (first ++ second) ≡ accepted (accepted world first) second
+
+-- by the documents in memory a request that is no view is refused for one reason at most
+abbrev pub IsRefusedOnceBy : Type 0
+IsRefusedOnceBy = (docs : Docs) (request : Request) (first second : Refusal) → (IsView (Ok request) → ⊥) → IsRefusedBy docs request first → IsRefusedBy docs request second → first ≡ second
+
+-- and none but a view is both refused and accepted
+abbrev pub IsNotRefusedAndAccepted : Type 0
+IsNotRefusedAndAccepted = (docs : Docs) (request : Request) (refusal : Refusal) → IsRefusedBy docs request refusal → IsAcceptedBy docs request → IsView (Ok request)
 
 module _ (functions : List ℕ → Functions) (honest : List ℕ → Type 0) (languages : List (List ℕ × List ℕ)) where
   -- before any server is asked a request has one refusal at most

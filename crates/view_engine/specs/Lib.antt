@@ -20,6 +20,7 @@ pub mod Halts
 pub mod Worlds
 pub mod Engine
 pub mod Disks
+pub mod InMemory
 pub mod FullIndex
 pub mod Cleaning
 pub mod Openings

@@ -14,10 +14,20 @@ use Rattle.view_engine.specs.declared.halt.Halt.{Halt}
 use Rattle.view_engine.specs.declared.halt.Halt.TheVariants.{Refused}
 use Rattle.view_engine.specs.declared.refusal.Refusal.{Refusal}
 use Rattle.view_engine.specs.Disks.{IsAskedFor}
-use Rattle.view_engine.specs.View.{view_refusal}
+use Rattle.view_engine.specs.InMemory.{IsLiveIn, IsViewRefusedBy}
+use Rattle.view_engine.specs.View.{design_id, view_refusal}
 use Rattle.view_engine.specs.World.{of_history}
 use Rattle.view_engine.specs.ViewPlan.{IsPlan}
 use Rattle.view_engine.specs.ViewQuery.{ViewQuery}
+
+-- a plan is made of a design document that is live in memory, and has its id
+pub record IsOfLive (engine : Engine) (name : ViewQuery) (plan : Plan) : Type 0 where
+  pub named : plan.id ≡ design_id name.design
+  pub live : IsLiveIn engine.docs (design_id name.design)
+
+-- and it is refused as the documents in memory say
+abbrev pub RefusesAsKept : Engine → ViewQuery → Halt → Type 0
+RefusesAsKept engine name halt = (refusal : Refusal) → halt ≡ Refused refusal → IsViewRefusedBy engine.docs (design_id name.design) refusal
 
 -- the language of a plan has a path
 abbrev pub HasPath : Engine → Plan → Type 0

@@ -83,6 +83,8 @@ impl Engine {
     /// On `NoMemory` nothing is appended and no document has changed. At each moment a crash leaves the documents and indexes before
     /// the request or after it, or in a cleanup some of the indexes that are to go; once a write is answered those after it. Only a write that is accepted changes files of the
     /// documents, and only a view or a cleanup those of indexes. After every other fault the engine is not to be used again.
+    ///
+    /// Whatever the folder tells, a request is done only where the documents in memory accept it, and refused as they say.
     pub fn step<F: Folder, C: Servers>(
         &mut self,
         alloc: Global,

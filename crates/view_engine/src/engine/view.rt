@@ -12,7 +12,7 @@ ghost use Rattle.view_engine.specs.Answering.{Shows, ShowsView, fault_of_answer}
 ghost use Rattle.view_engine.specs.Calls.{scene, Performed};
 ghost use Rattle.view_engine.specs.Disks.{LiesOpen, Reads};
 ghost use Rattle.view_engine.specs.View as spec;
-ghost use Rattle.view_engine.specs.Planning.{HasPath, PlansView, ReadsDesign, RefusesView};
+ghost use Rattle.view_engine.specs.Planning.{HasPath, IsOfLive, PlansView, ReadsDesign, RefusesAsKept, RefusesView};
 ghost use Rattle.view_engine.specs.ViewQuery as query;
 ghost use Rattle.view_engine.specs.ViewQuery.{parameters_in, query_for, view_query};
 ghost use Rattle.view_engine.specs.ViewPlan.{met_by, met_by_pool, met_by_query, source_at, HasReduce, IsUpdateFault, ShowsRows};
@@ -105,6 +105,8 @@ impl Engine {
         ensures within { IfOk result (λ plan. plan.place < length plan.design.views) }
         ensures known { IfOk result (HasPath self.now) }
         ensures refused { RefusesView F.Folder self.now folder.old (view_query name.now query) result }
+        ensures live { IfOk result (IsOfLive self.now (view_query name.now query)) }
+        ensures kept { IfErr result (RefusesAsKept self.now (view_query name.now query)) }
         ensures unblamed { IfErr result (λ halt. halt ≢ Halt.Refused Refusal.ServerFault) }
         ensures reads { Reads F.Folder self.now.docs folder.old folder.new result }
     {

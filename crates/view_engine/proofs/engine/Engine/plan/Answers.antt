@@ -1,5 +1,5 @@
 -- The design that is read is that of the live document.
-use Rattle.std.proofs.Common.{◌≡◌, ◌⊎◌, ◌∙◌, ◌≤◌, ℕ, List, length, map, bytes_eq, Option, Some, None, sym, ap, subst}
+use Rattle.std.proofs.Common.{◌≡◌, ◌⊎◌, ◌∙◌, ◌≤◌, ℕ, List, length, map, bytes_eq, Option, Some, None, inl, inr, sym, ap, subst}
 use Rattle.std.specs.Map.{lookup}
 use Rattle.json_terms.specs.Seen.{json}
 use Rattle.view_ports.proofs.Told.{told_now}
@@ -20,6 +20,9 @@ use Rattle.query_args.specs.declared.query.Query.{Query}
 use Rattle.query_args.specs.Faults.{query_fault}
 use Rattle.query_args.specs.Query.{is_updated, query_of}
 use Rattle.view_engine.specs.ViewQuery.{has_reduce, parameters_of, reduce_named, target_for, view_query}
+use Rattle.view_engine.specs.Get.{not_live}
+use Rattle.view_engine.specs.InMemory.{state_at, IsLiveIn, IsOfView}
+use Rattle.view_engine.proofs.Following.{got_live, got_refused, query_of_view}
 use Rattle.view_engine.proofs.Reading.{read_of_get}
 use Rattle.view_engine.proofs.Plans.{has_there, met_query, stored_design, planned, refused_language, reduced_there, refused_query, refused_same, refused_view}
 use Rattle.view_engine.proofs.engine.Engine.plan.Goals as goal
@@ -162,3 +165,51 @@ returns-in-Err-read_query-clause-refused g c = λ refusal is_refusal history.
     (λ d. IsAt docs d.now history → view_refusal languages (of_history history) name ≡ Some refusal)
     (λ d live at. refused_query languages history name id document design is (live at) (stored_design name id document is c.in-Ok.ensures.body) c.in_ok-design.ensures place there refusal bad)
     (c.in-Ok.ensures.document history)
+
+-- ---- as the documents in memory say
+
+pub returns-in-Err-clause-kept : goal.returns-in-Err-clause-kept
+returns-in-Err-clause-kept g c = λ refusal is_refusal.
+    let docs = c.args.self.now.docs in
+    let name = view_query c.args.name.now c.args.query in
+    let id = c.as_str-2.result.now in
+    let is : id ≡ design_id name.design = c.as_str-2.ensures ∙ c.in_ok-id.ensures ∙ ap design_id c.as_str.ensures in
+    inl (subst (λ (i : List ℕ). not_live (state_at docs i) ≡ Some refusal) is (got_refused docs id c.in-Err.fault refusal c.in-Err.ensures.missing.0 c.in-Err.ensures.deleted.0 c.in-Err.ensures.faults (sym c.from.ensures ∙ is_refusal)))
+
+pub returns-in_default-clause-kept : goal.returns-in_default-clause-kept
+returns-in_default-clause-kept g c = λ refusal is_refusal.
+    let docs = c.args.self.now.docs in
+    let name = view_query c.args.name.now c.args.query in
+    let id = c.as_str-2.result.now in
+    let is : id ≡ design_id name.design = c.as_str-2.ensures ∙ c.in_ok-id.ensures ∙ ap design_id c.as_str.ensures in
+    let live : IsLiveIn docs (design_id name.design) = subst (IsLiveIn docs) is (got_live docs id c.in-Ok.document c.in-Ok.ensures.missing.1 c.in-Ok.ensures.deleted.1) in
+    let same : MissingNamedView ≡ refusal = cc in
+    inr (live, subst (IsOfView (design_id name.design)) same tt)
+
+pub returns-in-Err-read_query-clause-kept : goal.returns-in-Err-read_query-clause-kept
+returns-in-Err-read_query-clause-kept g c = λ refusal is_refusal.
+    let docs = c.args.self.now.docs in
+    let name = view_query c.args.name.now c.args.query in
+    let id = c.as_str-2.result.now in
+    let is : id ≡ design_id name.design = c.as_str-2.ensures ∙ c.in_ok-id.ensures ∙ ap design_id c.as_str.ensures in
+    let live : IsLiveIn docs (design_id name.design) = subst (IsLiveIn docs) is (got_live docs id c.in-Ok.document c.in-Ok.ensures.missing.1 c.in-Ok.ensures.deleted.1) in
+    inr (live, query_of_view (design_id name.design) c.in-Err-read_query.fault refusal (sym c.halt_of_query.ensures ∙ is_refusal))
+
+pub returns-clause-kept : goal.returns-clause-kept
+returns-clause-kept g c = λ refusal is_refusal.
+    let docs = c.args.self.now.docs in
+    let name = view_query c.args.name.now c.args.query in
+    let id = c.as_str-2.result.now in
+    let is : id ≡ design_id name.design = c.as_str-2.ensures ∙ c.in_ok-id.ensures ∙ ap design_id c.as_str.ensures in
+    let live : IsLiveIn docs (design_id name.design) = subst (IsLiveIn docs) is (got_live docs id c.in-Ok.document c.in-Ok.ensures.missing.1 c.in-Ok.ensures.deleted.1) in
+    let same : UnknownLanguage c.in_ok-design.design.language ≡ refusal = cc in
+    inr (live, subst (IsOfView (design_id name.design)) same tt)
+
+pub returns-in-Some-path_of-clause-live : goal.returns-in-Some-path_of-clause-live
+returns-in-Some-path_of-clause-live g c =
+    let docs = c.args.self.now.docs in
+    let name = view_query c.args.name.now c.args.query in
+    let id = c.as_str-2.result.now in
+    let is : id ≡ design_id name.design = c.as_str-2.ensures ∙ c.in_ok-id.ensures ∙ ap design_id c.as_str.ensures in
+    let live : IsLiveIn docs (design_id name.design) = subst (IsLiveIn docs) is (got_live docs id c.in-Ok.document c.in-Ok.ensures.missing.1 c.in-Ok.ensures.deleted.1) in
+    record { named = sym c.as_str-2.ensures ∙ is; live = live }

@@ -31,7 +31,7 @@ pub returns-in-Err : goal.returns-in-Err
 returns-in-Err g c =
     let args = c.args.self.now in
     let x = g.F.Folder.disk c.args.folder.now in
-    refused_first g.F.Folder g.C.Servers args.docs args.pool args.groups c.args.folder.now c.plan.new.folder c.args.servers.now (view_query c.args.name c.args.query) c.args.out.now.items c.in-Err.halt c.requires.open c.in-Err.ensures.unblamed c.in-Err.ensures.reads
+    refused_first g.F.Folder g.C.Servers args.docs args.pool args.groups c.args.folder.now c.plan.new.folder c.args.servers.now (view_query c.args.name c.args.query) c.args.out.now.items c.in-Err.halt c.requires.open c.in-Err.ensures.unblamed c.in-Err.ensures.kept c.in-Err.ensures.reads
     (λ before at. unasked g.C.Servers.functions g.C.Servers.honest (languages_of args.pool) before (view_query c.args.name c.args.query) c.in-Err.halt x (g.F.Folder.disk c.plan.new.folder) (g.C.Servers.may_follow c.args.servers.now) (g.C.Servers.faults c.args.servers.now) args at c.in-Err.ensures.reads.disk
     (told_refused x (λ d. AreAt args.docs d.now before.world.history) (languages_of args.pool) before.world.history (view_query c.args.name c.args.query) c.in-Err.halt (documents_at _ _ before.world at.documents) (λ r is. c.in-Err.ensures.refused r is before.world.history)))
 
@@ -47,7 +47,7 @@ returns-in-Ok-update g c =
     let known = c.in-Ok.ensures.known in
     shown_then g.F.Folder g.C.Servers args.docs args.pool args.groups c.args.folder.now c.plan.new.folder c.args.servers.now (view_query c.args.name c.args.query) c.args.out.now.items
     c.update.new.pool c.update.new.self c.update.new.folder c.update.new.servers plan.id plan.design plan.place known.0 c.in-Ok.ensures.within known.1 (sym (ap (λ (q : Query). q.update) c.in-Ok.ensures.query) ∙ c.if-not-plan.false)
-    c.in-Ok.ensures.reads.disk c.in-Ok.ensures.reads.later (λ history. told_now (g.F.Folder.disk c.args.folder.now) _ _ (λ d is there. subst (λ (updating : Bool). IsPlan updating (languages_of args.pool) history (view_query c.args.name c.args.query) plan.id plan.design plan.place known.0) c.if-not-plan.false (is there known.0 known.1)) (c.in-Ok.ensures.plan history)) c.requires.open c.in-Ok.ensures.read
+    c.in-Ok.ensures.reads.disk c.in-Ok.ensures.reads.later (λ history. told_now (g.F.Folder.disk c.args.folder.now) _ _ (λ d is there. subst (λ (updating : Bool). IsPlan updating (languages_of args.pool) history (view_query c.args.name c.args.query) plan.id plan.design plan.place known.0) c.if-not-plan.false (is there known.0 known.1)) (c.in-Ok.ensures.plan history)) c.requires.open c.in-Ok.ensures.read c.in-Ok.ensures.live.named c.in-Ok.ensures.live.live
     c.in-Ok-update.slot c.in-Ok-update.ensures c.index-index.result.now c.index-index.ensures plan.query c.in-Ok.ensures.query c.show-in-Ok-update.new.pool c.show-in-Ok-update.new.servers c.show-in-Ok-update.result c.show-in-Ok-update.ensures
 
 pub returns : goal.returns
@@ -59,7 +59,7 @@ returns g c =
     let brings = c.in-Err-update.ensures in
     rw c.halt_of-in-Err-update.ensures (refused_then g.F.Folder g.C.Servers args.docs args.pool args.groups c.args.folder.now c.plan.new.folder c.args.servers.now (view_query c.args.name c.args.query) c.args.out.now.items
     c.update.new.pool c.update.new.self c.update.new.folder c.update.new.servers plan.id plan.design plan.place known.0 c.in-Ok.ensures.within known.1 (sym (ap (λ (q : Query). q.update) c.in-Ok.ensures.query) ∙ c.if-not-plan.false)
-    c.in-Ok.ensures.reads.disk c.in-Ok.ensures.reads.later (λ history. told_now (g.F.Folder.disk c.args.folder.now) _ _ (λ d is there. subst (λ (updating : Bool). IsPlan updating (languages_of args.pool) history (view_query c.args.name c.args.query) plan.id plan.design plan.place known.0) c.if-not-plan.false (is there known.0 known.1)) (c.in-Ok.ensures.plan history)) c.requires.open c.in-Ok.ensures.read
+    c.in-Ok.ensures.reads.disk c.in-Ok.ensures.reads.later (λ history. told_now (g.F.Folder.disk c.args.folder.now) _ _ (λ d is there. subst (λ (updating : Bool). IsPlan updating (languages_of args.pool) history (view_query c.args.name c.args.query) plan.id plan.design plan.place known.0) c.if-not-plan.false (is there known.0 known.1)) (c.in-Ok.ensures.plan history)) c.requires.open c.in-Ok.ensures.read c.in-Ok.ensures.live.named c.in-Ok.ensures.live.live
     met (brings.file, λ is. let none = brings.unknown (ap Err is) in let clash : ⊥ = cc in clash) brings)
 
 -- ---- the index is read as it stands
@@ -92,9 +92,9 @@ returns-in-Err-open g c =
     let is : c.halt_of.result ≡ met_by plan.id (by_index fault) = c.halt_of.ensures ∙ ap (met_by plan.id) c.from.ensures in
     rw is (⊎_elim
     (λ opens. kept_refused g.F.Folder g.C.Servers args.docs args.pool args.groups c.open.new.self c.args.folder.now c.plan.new.folder c.open.new.folder c.args.servers.now name c.args.out.now.items plan.id plan.design plan.place known.0
-    c.in-Ok.ensures.within known.1 (sym (ap (λ (q : Query). q.update) c.in-Ok.ensures.query) ∙ c.if-not-plan.true) c.in-Ok.ensures.reads.disk c.in-Ok.ensures.reads.later plans c.requires.open c.in-Ok.ensures.read fault opens.faults opens)
+    c.in-Ok.ensures.within known.1 (sym (ap (λ (q : Query). q.update) c.in-Ok.ensures.query) ∙ c.if-not-plan.true) c.in-Ok.ensures.reads.disk c.in-Ok.ensures.reads.later plans c.requires.open c.in-Ok.ensures.read c.in-Ok.ensures.live.named c.in-Ok.ensures.live.live fault opens.faults opens)
     (λ none. kept_idle g.F.Folder g.C.Servers args.docs args.pool args.groups c.open.new.self c.args.folder.now c.plan.new.folder c.open.new.folder c.args.servers.now name c.args.out.now.items plan.id plan.design plan.place known.0
-    c.in-Ok.ensures.within known.1 (sym (ap (λ (q : Query). q.update) c.in-Ok.ensures.query) ∙ c.if-not-plan.true) c.in-Ok.ensures.reads.disk c.in-Ok.ensures.reads.later plans c.requires.open c.in-Ok.ensures.read fault none.0 none.1 none.2)
+    c.in-Ok.ensures.within known.1 (sym (ap (λ (q : Query). q.update) c.in-Ok.ensures.query) ∙ c.if-not-plan.true) c.in-Ok.ensures.reads.disk c.in-Ok.ensures.reads.later plans c.requires.open c.in-Ok.ensures.read c.in-Ok.ensures.live.named c.in-Ok.ensures.live.live fault none.0 none.1 none.2)
     c.in-Err-open.ensures)
 
 pub returns-then-not-plan : goal.returns-then-not-plan
@@ -107,6 +107,6 @@ returns-then-not-plan g c =
     λ history. told_now (g.F.Folder.disk c.args.folder.now) _ _ (λ d is there. subst (λ (updating : Bool). IsPlan updating (languages_of args.pool) history name plan.id plan.design plan.place known.0) c.if-not-plan.true (is there known.0 known.1)) (c.in-Ok.ensures.plan history) in
     ⊎_elim
     (λ opens. kept_then g.F.Folder g.C.Servers args.docs args.pool args.groups c.open.new.self c.args.folder.now c.plan.new.folder c.open.new.folder c.args.servers.now name c.args.out.now.items plan.id plan.design plan.place known.0
-    c.in-Ok.ensures.within known.1 (sym (ap (λ (q : Query). q.update) c.in-Ok.ensures.query) ∙ c.if-not-plan.true) c.in-Ok.ensures.reads.disk c.in-Ok.ensures.reads.later plans c.requires.open c.in-Ok.ensures.read c.in-Ok-open.slot opens c.index-kept.result.now c.index-kept.ensures
+    c.in-Ok.ensures.within known.1 (sym (ap (λ (q : Query). q.update) c.in-Ok.ensures.query) ∙ c.if-not-plan.true) c.in-Ok.ensures.reads.disk c.in-Ok.ensures.reads.later plans c.requires.open c.in-Ok.ensures.read c.in-Ok.ensures.live.named c.in-Ok.ensures.live.live c.in-Ok-open.slot opens c.index-kept.result.now c.index-kept.ensures
     plan.query c.in-Ok.ensures.query c.show.new.pool c.show.new.servers c.show.result c.show.ensures)
     (λ none. absurd (let clash : ⊥ = cc in clash)) c.in-Ok-open.ensures
