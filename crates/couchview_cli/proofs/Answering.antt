@@ -19,7 +19,7 @@ use Rattle.view_engine.specs.Refusals.{refusal_text, request_of}
 use Rattle.view_engine.specs.Steps.{Answers, Does, MayHaveCalled}
 use Rattle.view_engine.specs.Worlds.{HasRoomAt}
 use Rattle.view_engine.specs.Calls.{IsStep, Scene}
-use Rattle.view_engine.specs.Disks.{IsReasonOf, LiesOpen}
+use Rattle.view_engine.specs.Disks.{IsReasonOf, LiesOpen, SparesStep}
 use Rattle.view_engine.specs.Worlds.{languages as languages_of}
 use Rattle.view_engine.proofs.Stepping.{step_damaged, step_filled, step_full, step_full_in, step_kept, step_room_left, step_sound, step_on, step_still, step_stopped}
 use Rattle.view_ports.specs.declared.folder.Folder.{Ghosts as Folders}
@@ -71,8 +71,8 @@ disk_rose f engine old new request (inr why) = absurd why
 
 module _ {F C : Type 0} {f : Folders F} {s : Servers C} {old new : Scene F C} {line start out : List ℕ} where
   -- a step of the engine that is done is an answer
-  pub answered_by : start ≡ [] → IsStep f s old new line start out (Ok tt) → IsAnswered f s old new line out
-  answered_by empty step = record {
+  pub answered_by : start ≡ [] → IsStep f s old new line start out (Ok tt) → SparesStep f old.folder new.folder (Ok tt) → IsAnswered f s old new line out
+  answered_by empty step spares = record {
     answers = λ before at.
         answered_done s.functions s.honest (languages_of old.engine) before (f.disk old.folder) (f.disk new.folder) (s.may_follow new.servers) (s.faults new.servers) new.engine line start out empty
         (step.does before at);
@@ -85,14 +85,16 @@ module _ {F C : Type 0} {f : Folders F} {s : Servers C} {old new : Scene F C} {l
     };
     blames = λ is. step.blames (appended_fault line start out empty is);
     still = step_still step;
+    own = λ never. (step.disk.documents never).own;
     on = step_on step;
     is_open = step.disk.is_open tt;
+    spares = spares (λ is. let no : ⊥ = cc in no);
     stays = step.stays;
   }
 
   -- where it had no memory the answer is a constant
-  pub answered_constant : IsStep f s old new line start out (Err halt.NoMemory) → IsAnswered f s old new line (ended (refusal_text NoMemory))
-  answered_constant step = record {
+  pub answered_constant : IsStep f s old new line start out (Err halt.NoMemory) → SparesStep f old.folder new.folder (Err halt.NoMemory) → IsAnswered f s old new line (ended (refusal_text NoMemory))
+  answered_constant step spares = record {
     answers = λ before at.
         answered_spent s.functions s.honest (languages_of old.engine) before (f.disk old.folder) (f.disk new.folder) (s.may_follow new.servers) (s.faults new.servers) new.engine line step.asked
         (step.does before at);
@@ -100,14 +102,17 @@ module _ {F C : Type 0} {f : Folders F} {s : Servers C} {old new : Scene F C} {l
     prints = record { none = λ none. absurd (step.asked none); some = λ some. (refusal_text NoMemory, refusal_line NoMemory, refl); refused = λ some. spent_refused (request_of line) };
     blames = λ is. absurd (constant_no_fault line is);
     still = step_still step;
+    own = λ never. (step.disk.documents never).own;
     on = step_on step;
     is_open = step.disk.is_open tt;
+    spares = spares (λ is. let no : ⊥ = cc in no);
     stays = step.stays;
   }
 
   -- after each other fault the line is not answered
-  pub unanswered_by : (fault : StepFault) → fault ≢ halt.NoMemory → LiesOpen f old.engine old.folder → IsStep f s old new line start out (Err fault) → IsUnanswered f s old new line fault
-  unanswered_by fault other is_open step = record {
+  pub unanswered_by : (fault : StepFault) → fault ≢ halt.NoMemory → LiesOpen f old.engine old.folder → IsStep f s old new line start out (Err fault) → SparesStep f old.folder new.folder (Err fault)
+      → IsUnanswered f s old new line fault
+  unanswered_by fault other is_open step spares = record {
     halts = λ before at.
         let stopped = step_stopped step before at other in
         record {
@@ -121,6 +126,7 @@ module _ {F C : Type 0} {f : Folders F} {s : Servers C} {old new : Scene F C} {l
           left = (stopped.1).child;
         };
     cause = λ is. disk_rose f old.engine old.folder new.folder (request_of line) (subst (IsReasonOf f old.engine old.folder new.folder (request_of line)) is step.why);
+    spares = λ apart. spares (λ is. apart (let same : fault ≡ halt.DiskFault = cc in same));
     found = record {
       halts = other;
       asks = IfErr-weaker (request_of line) (λ refusal. fault ≡ halt.NoMemory) (λ refusal. ⊥) (λ refusal is. other is) step.refused;
@@ -128,6 +134,7 @@ module _ {F C : Type 0} {f : Folders F} {s : Servers C} {old new : Scene F C} {l
       full = step_full_in is_open step;
     };
     still = step_still step;
+    own = λ never. (step.disk.documents never).own;
     on = step_on step;
     kept = step_kept step;
     stays = step.stays;

@@ -1,6 +1,6 @@
 -- A session goes on by the lines that it answers, and comes to an end.
-use Rattle.std.specs.Prelude.{◌≡◌, ◌*◌, ℕ, List, [], ◌∷◌, true, Option, Result}
-use Rattle.std.proofs.Common.{refl, sym, ◌∙◌, subst, arith}
+use Rattle.std.specs.Prelude.{◌≡◌, ◌≢◌, ◌*◌, ℕ, List, [], ◌∷◌, true, Option, Result}
+use Rattle.std.proofs.Common.{refl, sym, ap, ◌∙◌, subst, arith}
 use Rattle.view_ports.specs.declared.folder.Folder.{Ghosts as Folders}
 use Rattle.view_ports.specs.declared.servers.Servers.{Ghosts as Servers}
 use Rattle.view_ports.specs.Disk.{IfTold, LeavesOnly, MovesNone, Tells}
@@ -8,12 +8,14 @@ use Rattle.view_ports.specs.Exchanges.{Exchange, LeadsTo}
 use Rattle.view_ports.specs.Faults.{Rose, RoseBy}
 use Rattle.view_ports.proofs.Counting.{Rose-earlier}
 use Rattle.view_ports.proofs.Moments.{joined, started}
+use Rattle.view_ports.proofs.DiskRuns.{moves_none, moves_then}
 use Rattle.view_ports.proofs.Told.{told_all, told_now, told_pair, told_refl, told_then}
 use Rattle.line_loop.specs.declared.loop_end.LoopEnd.{LoopEnd}
 use Rattle.line_loop.specs.declared.loop_end.LoopEnd.TheVariants as loop_end
 use Rattle.line_loop.specs.declared.responder.Responder.{Ghosts as Responds}
 use Rattle.line_loop.specs.Loops.{HasEnded, Loops, Steps}
 use Rattle.line_loop.proofs.Seeing.{LeadsTo-kept, LeadsTo-seen}
+use Rattle.doc_file.specs.Docs.{IsDocsFile}
 use Rattle.view_engine.specs.declared.halt.StepFault.{StepFault}
 use Rattle.view_engine.specs.declared.halt.StepFault.TheVariants.{DiskFault}
 use Rattle.view_engine.specs.declared.engine.Engine.{Engine}
@@ -28,14 +30,16 @@ use Rattle.view_engine.specs.Calls.{Scene, StandsAt, Stays, scene}
 use Rattle.view_engine.specs.Moments.{Moment}
 use Rattle.view_engine.specs.ServerFaults.{is_server_fault, server_faults}
 use Rattle.view_engine.proofs.ServerFaults.{none_rose, one_more, rose_on}
+use Rattle.view_engine.specs.Fresh.{IsFreshStep}
 use Rattle.view_engine.specs.Steps.{Answers}
 use Rattle.view_engine.specs.Worlds.{at_start, HasRoomAt, StandsEither, StandsFor, languages as languages_of}
 use Rattle.view_engine.proofs.AcceptedWrites.{Answers-accepted, each_ok_same}
 use Rattle.view_engine.proofs.Sound.{answers_sound}
 use Rattle.view_engine.proofs.Worlds.{answers_grow, holds_at, images_at, stays_still, stays_still_then}
+use Rattle.view_engine.proofs.Fresh.{steps_are_fresh}
 use Rattle.couchview_cli.specs.declared.session.Session.{Session}
 use Rattle.couchview_cli.specs.Ends.{Comes}
-use Rattle.couchview_cli.specs.Reading.{ComesTo, HasReplied, NoneChanges, Replies, Told}
+use Rattle.couchview_cli.specs.Reading.{ComesTo, HasReplied, MovesOwn, NoneChanges, NoneOnIndexes, Replies, Told}
 use Rattle.couchview_cli.specs.Replied.{IsReplied}
 use Rattle.couchview_cli.specs.Serving.{width, HadRoom}
 use Rattle.couchview_cli.specs.Session.{HasCome, IsAnswered, IsUnanswered, KeepsPorts, Origin, StepsOf, scene_of}
@@ -68,7 +72,8 @@ module _ {F C : Type 0} (f : Folders F) (s : Servers C) (origin : Origin) where
         after = there.after;
         step = (
           answered.prints,
-          told_pair origin.disk (λ d. Step) (λ d. Sound origin.opening → Sound before.world) (λ d. Step × (Sound origin.opening → Sound before.world)) (λ d answers sound. (answers, sound))
+          told_pair origin.disk (λ d. Step) (λ d. Sound origin.opening → Sound before.world) (λ d. Step × (Sound origin.opening → Sound before.world) × IsFreshStep s.functions s.honest origin.languages before e there.after)
+              (λ d answers sound. (answers, sound, steps_are_fresh s.functions s.honest origin.languages before there.after e answers))
               (told_first s.functions s.honest origin (f.disk old.folder) (f.disk new.folder) before.world come.moved Step there.answers) come.moved.sound,
         );
         come = record {
@@ -120,7 +125,7 @@ module _ {F C : Type 0} (f : Folders F) (s : Servers C) (origin : Origin) where
         leads = (gone.after, gone.step, rest.leads);
         come = rest.come;
         went = went;
-        fits = told_pair origin.disk (λ d. Answers s.functions s.honest origin.languages before e gone.after × (Sound origin.opening → Sound before.world)) (λ d. EachOk Room (gone.after).world es) (λ d. EachOk Room before.world (e ∷ es))
+        fits = told_pair origin.disk (λ d. Answers s.functions s.honest origin.languages before e gone.after × (Sound origin.opening → Sound before.world) × IsFreshStep s.functions s.honest origin.languages before e gone.after) (λ d. EachOk Room (gone.after).world es) (λ d. EachOk Room before.world (e ∷ es))
             (λ d step each. (had, each_ok_same {P = Room} {Q = Room} (λ a b request same room. had_same a b request same room) (gone.after).world (after_exchange before.world e) es (Answers-accepted s.functions s.honest origin.languages before e gone.after step.0) each))
             (gone.step).1 rest.fits;
       }
@@ -193,6 +198,16 @@ module _ {F C : Type 0} (f : Folders F) (s : Servers C) (r : Responds (Session F
   still start now (e ∷ es) leads none =
       stays_still_then (f.disk start.folder.now) (f.disk (leads.0).folder.now) (f.disk now.folder.now) (((answers start leads.0 e.line leads.1.0).1).still none.0) (still leads.0 now es leads.2 none.1)
 
+  -- and where none of them is a view or a cleanup only files of the documents change
+  own : (start now : Session F C) (es : List Exchange) → LeadsTo (Steps r) start es now → NoneOnIndexes es → Tells (f.disk start.folder.now) (f.disk now.folder.now) MovesOwn
+  own start now [] leads none = subst (λ (session : Session F C). Tells (f.disk start.folder.now) (f.disk session.folder.now) MovesOwn) (sym leads)
+      (told_refl (f.disk start.folder.now) MovesOwn (λ d. moves_none IsDocsFile (λ image. Unit {0}) (λ files. Unit {0}) d (λ image is. tt) tt))
+  own start now (e ∷ es) leads none =
+      told_then (f.disk start.folder.now) (f.disk (leads.0).folder.now) (f.disk now.folder.now) MovesOwn MovesOwn MovesOwn
+      (λ a b c early late. moves_then IsDocsFile (λ image. Unit {0}) (λ image. Unit {0}) (λ image. Unit {0}) (λ files. Unit {0}) (λ files. Unit {0}) (λ files. Unit {0}) a b c
+      (λ image is. tt) (λ ended image is. tt) (λ first_ended second_ended. tt) early late)
+      (((answers start leads.0 e.line leads.1.0).1).own none.0) (own leads.0 now es leads.2 none.1)
+
   -- the disk comes behind the one before, line by line
   on_lines : (start now : Session F C) (es : List Exchange) → LeadsTo (Steps r) start es now → ComesTo (f.disk start.folder.now) (f.disk now.folder.now)
   on_lines start now [] leads = subst (λ (session : Session F C). ComesTo (f.disk start.folder.now) (f.disk session.folder.now)) (sym leads)
@@ -234,6 +249,7 @@ module _ {F C : Type 0} (f : Folders F) (s : Servers C) (r : Responds (Session F
           };
           wrote = finishes.wrote;
           still = still start last run.exchanges run.leads;
+          own = own start last run.exchanges run.leads;
           twice = twice start last run.exchanges run.leads;
         };
       }
@@ -261,6 +277,8 @@ module _ {F C : Type 0} (f : Folders F) (s : Servers C) (r : Responds (Session F
           found = stopped.found;
           still = still start cut.mid cut.exchanges cut.leads;
           kept = stopped.still;
+          own = own start cut.mid cut.exchanges cut.leads;
+          own_kept = stopped.own;
           twice = rose_on (2 * server_faults cut.exchanges) (s.faults start.servers.now) (s.faults cut.mid.servers.now) (s.faults last.servers.now) (twice start cut.mid cut.exchanges cut.leads) stopped.stays.server_faults;
         };
       }
@@ -303,6 +321,9 @@ module _ {F C : Type 0} (f : Folders F) (s : Servers C) (r : Responds (Session F
       LeadsTo-kept (λ (session : Session F C). LiesOpen f session.engine.now session.folder.now) (λ old new e before step. ((answers old new e.line step.0).1).is_open) start last run.exchanges is_open run.leads
   stays_open start last left left' held held' (loop_end.Stopped fault) loops is_open ended = absurd cc
 
+  spared_line : (start old new : Session F C) (e : Exchange) → f.faults old.folder.now ≡ f.faults start.folder.now → Steps r old e new → f.faults new.folder.now ≡ f.faults start.folder.now
+  spared_line start old new e before step = ((answers old new e.line step.0).1).spares ∙ before
+
   -- only a fault of the folder ends it with one
   pub disk_failed : (start last : Session F C) (left left' held held' : Option (List ℕ)) (end : LoopEnd StepFault) → Loops r start last left left' held held' end → end ≡ loop_end.Stopped DiskFault
       → Rose (f.faults start.folder.now) (f.faults last.folder.now)
@@ -312,6 +333,17 @@ module _ {F C : Type 0} (f : Folders F) (s : Servers C) (r : Responds (Session F
       let before = LeadsTo-kept (KeepsAll start) (keeps_line start) start cut.mid cut.exchanges (keeps_none start) cut.leads in
       let by_disk : fault ≡ DiskFault = cc in
       Rose-earlier (f.faults start.folder.now) (f.faults cut.mid.folder.now) (f.faults last.folder.now) before.1.disk_faults ((stops cut.mid last cut.line fault cut.stops).1.cause by_disk)
+
+  -- and where it ends by another, or goes on to the end of its input, the folder counted none
+  pub disk_spared : (start last : Session F C) (left left' held held' : Option (List ℕ)) (end : LoopEnd StepFault) → Loops r start last left left' held held' end → end ≢ loop_end.Stopped DiskFault
+      → f.faults last.folder.now ≡ f.faults start.folder.now
+  disk_spared start last left left' held held' (loop_end.Run end) loops other =
+      let run = loops.ends.run in
+      LeadsTo-kept (λ (session : Session F C). f.faults session.folder.now ≡ f.faults start.folder.now) (spared_line start) start last run.exchanges refl run.leads
+  disk_spared start last left left' held held' (loop_end.Stopped fault) loops other =
+      let cut = loops.ends in
+      let before = LeadsTo-kept (λ (session : Session F C). f.faults session.folder.now ≡ f.faults start.folder.now) (spared_line start) start cut.mid cut.exchanges refl cut.leads in
+      (stops cut.mid last cut.line fault cut.stops).1.spares (λ is. other (ap loop_end.Stopped is)) ∙ before
 
 -- what a session was lent is as it left it
 pub comes_behind : {F C : Type 0} (f : Folders F) (s : Servers C) (origin : Origin) (ran : Session F C) (engine : Engine) (folder : F) (servers : C) → engine ≡ ran.engine.now → folder ≡ ran.folder.now → servers ≡ ran.servers.now

@@ -25,7 +25,7 @@ use Rattle.view_engine.specs.declared.refusal.Refusal.{Refusal}
 use Rattle.view_engine.specs.declared.refusal.Refusal.TheVariants.{CompilationError, NoMemory as OutOfMemory}
 use Rattle.view_engine.specs.declared.request.Request.{Request}
 use Rattle.view_engine.specs.declared.request.Request.TheVariants.{Put, View}
-use Rattle.view_engine.specs.Fresh.{due_reply, named_answer, fresh_answer as answer_to, IsHonestView}
+use Rattle.view_engine.specs.Fresh.{answer_afresh, due_reply, named_answer, IsDueOrFault, IsHonestViewOfSound}
 use Rattle.view_engine.specs.Answer.{write_text}
 use Rattle.view_engine.specs.Moments.{Moment, with_world}
 use Rattle.view_engine.specs.Put.{put_write}
@@ -155,18 +155,24 @@ module _ (functions : List ℕ → Functions) (honest : List ℕ → Type 0) whe
       history : List Write
       history = (before.world).history
 
-      view_is : IsHonestView functions honest [] before.world asked stored_design (codes "builtin:pick") load_map
+      view_is : IsHonestViewOfSound functions honest [] before.world asked stored_design (codes "builtin:pick") load_map
       view_is = record { live = has_live history has; source_is = stored_source; path_is = stored_path; is_honest = is_honest; sound = sound; fit = has_fit history has }
 
       -- where the design is answered the reply that is due is the answer afresh
       due : due_reply pick before.world asked stored_design load_map ≡ fresh_answer history
       due =
           ap (λ (b : Bool). if b then refusal_text (CompilationError (design_id asked.design)) else named_answer pick (views_of stored_design) asked load_map history) (answerable history)
-          ∙ ap (λ (r : Reduce). answer_to pick (query_for (views_of stored_design) asked) r load_map history) stored_reduce
-          ∙ ap (λ (q : Query). answer_to pick q (Builtin Stats) load_map history) stored_query
+          ∙ ap (λ (r : Reduce). answer_afresh pick (query_for (views_of stored_design) asked) r load_map history) stored_reduce
+          ∙ ap (λ (q : Query). answer_afresh pick q (Builtin Stats) load_map history) stored_query
+
+      -- and that one comes, since the servers' count of faults didn't rise
+      comes : (text reply : List ℕ) → IsDueOrFault text before after reply → reply ≡ text
+      comes text reply (inl is) = is
+      comes text reply (inr names) = let two = names.1 in absurd (calm (omega (arith, two)))
 
       shown : (reply : List ℕ) → DoesView functions honest [] before asked reply after → reply ≡ fresh_answer history
       shown reply view =
-          replies_are_fresh functions honest [] before after asked reply view (λ two. calm (omega (arith, two))) stored_design (codes "builtin:pick") load_map view_is
+          comes (due_reply (functions (codes "builtin:pick")) before.world asked stored_design load_map) reply
+          (replies_are_fresh functions honest [] before after asked reply view stored_design (codes "builtin:pick") load_map view_is)
           ∙ ap (λ (f : Functions). due_reply f before.world asked stored_design load_map) is_pick
           ∙ due

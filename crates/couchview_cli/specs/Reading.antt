@@ -15,7 +15,7 @@ use Rattle.line_loop.specs.Loops.{HasReadBy}
 use Rattle.view_engine.specs.declared.halt.StepFault.{StepFault}
 use Rattle.view_engine.specs.declared.halt.StepFault.TheVariants.{Damaged, Full, NoMemory}
 use Rattle.view_engine.specs.Disks.{ChangesFiles, IsOfIndex, IsOnIndexes, MeetsIndexDamageIn, ReadsDocuments}
-use Rattle.view_engine.specs.Halts.{Writes}
+use Rattle.view_engine.specs.Halts.{MovesDocuments, Writes}
 use Rattle.view_engine.specs.Openings.{IsMovedByOpening}
 use Rattle.view_engine.specs.Refusals.{request_of}
 use Rattle.view_engine.specs.ServerFaults.{server_faults}
@@ -48,14 +48,23 @@ Told = Option (Disk FileName)
 abbrev pub ComesTo : Told → Told → Type 0
 ComesTo old new = Tells old new (LeavesOnly (λ image. Unit {0}))
 
+-- none of them is a view or a cleanup
+abbrev pub NoneOnIndexes : List Exchange → Type 0
+NoneOnIndexes exchanges = AllByRecursion (λ e. IsOnIndexes (request_of e.line) → ⊥) exchanges
+
+-- only files of the documents changed
+abbrev pub MovesOwn : Disk FileName → Disk FileName → Type 0
+MovesOwn = MovesDocuments (λ image. Unit {0})
+
 module _ (IsOver : Type 0) (held now : Option (List ℕ)) (bytes : List ℕ) (old new : Told) (faults faults' : ℕ) where
   -- The lines of these bytes were answered, as a run that came to this end answers them. Where none of them writes a document, asks
-  -- for a view or cleans up, no file changed. The count of the query servers' faults rose by two for each line that was answered `server_fault`.
+  -- for a view or cleans up, no file changed, and where none asks for a view or cleans up, only files of the documents did. The count of the query servers' faults rose by two for each line that was answered `server_fault`.
   pub record AreReplied (end : RunEnd) : Type 0 where
     pub gained : List ℕ
     pub run : Run Replies IsOver tt bytes gained end tt
     pub wrote : Appends held now gained
     pub still : NoneChanges run.exchanges → Tells old new MovesNone
+    pub own : NoneOnIndexes run.exchanges → Tells old new MovesOwn
     pub twice : RoseBy (2 * server_faults run.exchanges) faults faults'
 
   -- the first lines of them were answered, and the one behind them was not, for this fault, which it met as the disk was `mid`
@@ -75,6 +84,8 @@ module _ (IsOver : Type 0) (held now : Option (List ℕ)) (bytes : List ℕ) (ol
     pub found : IsFoundOn mid new line fault
     pub still : NoneChanges exchanges → Tells old mid MovesNone
     pub kept : (ChangesFiles (request_of line) → ⊥) → Tells mid new MovesNone
+    pub own : NoneOnIndexes exchanges → Tells old mid MovesOwn
+    pub own_kept : (IsOnIndexes (request_of line) → ⊥) → Tells mid new MovesOwn
     pub twice : RoseBy (2 * server_faults exchanges) faults faults'
 
   abbrev pub AreRepliedBy : LoopEnd StepFault → Type 0

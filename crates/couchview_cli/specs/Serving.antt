@@ -22,6 +22,7 @@ use Rattle.view_engine.specs.declared.request.Request.{Request}
 use Rattle.view_engine.specs.World.{World}
 use Rattle.view_engine.specs.Moments.{Moment}
 use Rattle.view_engine.specs.Disks.{IsOfIndex, IsOnIndexes, IsShapedFor, IsView}
+use Rattle.view_engine.specs.Fresh.{IsFreshStep}
 use Rattle.view_engine.specs.FullIndex.{IsIndexFullFor}
 use Rattle.view_engine.specs.Updating.{IsSound}
 use Rattle.view_engine.specs.Worlds.{at_start, GoesOnFrom, HasRoomAt, Holds, IsFullAt, StandsAround, StandsFor}
@@ -86,10 +87,11 @@ module _ (functions : List ℕ → Functions) (honest : List ℕ → Type 0) (la
   abbrev pub HaveRoom : World → World → Option (Disk FileName) → Option (Disk FileName) → List Exchange → Type 0
   HaveRoom opening last old new exchanges = IfTold old (λ d. EachOk (HadRoom opening last old new) opening exchanges)
 
-  -- A step of a run: the line is answered with a line. Where the disk is told it is one of the definition, and the pictures before it
-  -- stand where those of the opening did.
+  -- A step of a run: the line is answered with a line. Where the disk is told it is one of the definition, the reply to a view on an honest
+  -- path is from mapping all documents afresh, or names a fault, and the pictures before it stand where those of the opening did.
   abbrev pub Steps : World → Option (Disk FileName) → Moment → Exchange → Moment → Type 0
-  Steps opening disk before exchange after = IsReplied exchange.line exchange.text × IfTold disk (λ d. Answers functions honest languages before exchange after × (Sound opening → Sound before.world))
+  Steps opening disk before exchange after = IsReplied exchange.line exchange.text
+      × IfTold disk (λ d. Answers functions honest languages before exchange after × (Sound opening → Sound before.world) × IsFreshStep functions honest languages before exchange after)
 
 module _ (functions : List ℕ → Functions) (honest : List ℕ → Type 0) (languages : List (List ℕ × List ℕ)) (opening : World) where
   -- A run that read the bytes that the source lost, that wrote what the sink gained, and that ended with this status. The

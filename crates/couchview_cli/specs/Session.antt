@@ -24,7 +24,7 @@ use Rattle.view_groups.specs.Cleans.{IsIndexFile}
 use Rattle.view_engine.specs.World.{World}
 use Rattle.view_engine.specs.Worlds.{at_start, GoesOnFrom, HasRoomAt, IsFullAt, StandsAround, StandsEither, languages as languages_of}
 use Rattle.couchview_cli.specs.declared.session.Session.{Session}
-use Rattle.couchview_cli.specs.Reading.{ComesTo, IsFoundOn}
+use Rattle.couchview_cli.specs.Reading.{ComesTo, IsFoundOn, MovesOwn}
 use Rattle.couchview_cli.specs.Replied.{IsReplied}
 use Rattle.couchview_cli.specs.Serving.{StandsSince, Steps, width}
 
@@ -75,17 +75,23 @@ module _ {F C : Type 0} (f : Folders F) (s : Servers C) where
     pub prints : IsReplied line text
     pub blames : is_server_fault (record { line = line; text = text }) ≡ true → RoseBy 2 (s.faults old.servers) (s.faults new.servers)
     pub still : (ChangesFiles (request_of line) → ⊥) → Tells (f.disk old.folder) (f.disk new.folder) MovesNone
+    -- but for a view and a cleanup, only files of the documents changed
+    pub own : (IsOnIndexes (request_of line) → ⊥) → Tells (f.disk old.folder) (f.disk new.folder) MovesOwn
     pub on : ComesTo (f.disk old.folder) (f.disk new.folder)
     pub is_open : LiesOpen f new.engine new.folder
+    -- no fault of the folder was counted
+    pub spares : f.faults new.folder ≡ f.faults old.folder
     pub stays : Stays f s old new
 
   -- a line was not answered, for this fault
   pub record IsUnanswered (old new : Scene F C) (line : List ℕ) (fault : StepFault) : Type 0 where
     pub halts : (before : Moment) → StandsAt f s old before → IsHalted s.functions s.honest (languages_of old.engine) fault (f.disk old.folder) (f.disk new.folder) before line (KeepsChild f s new)
     pub cause : fault ≡ DiskFault → Rose (f.faults old.folder) (f.faults new.folder)
+    pub spares : fault ≢ DiskFault → f.faults new.folder ≡ f.faults old.folder
     pub found : IsFoundOn (f.disk old.folder) (f.disk new.folder) line fault
     pub on : ComesTo (f.disk old.folder) (f.disk new.folder)
     pub still : (ChangesFiles (request_of line) → ⊥) → Tells (f.disk old.folder) (f.disk new.folder) MovesNone
+    pub own : (IsOnIndexes (request_of line) → ⊥) → Tells (f.disk old.folder) (f.disk new.folder) MovesOwn
     pub kept : fault ≢ DiskFault → (IsOnIndexes (request_of line) → ⊥) → Tells (f.disk old.folder) (f.disk new.folder) MovesNone
     pub stays : Stays f s old new
 

@@ -1,5 +1,5 @@
 //! The commands.
-ghost use Rattle.std.specs.Prelude.{◌≡◌, ◌≤◌, ◌⊎◌, ◌↔◌, ℕ, [], IfOk, IfSome, IsTrue, Vec, String, Ok, None, bytes_eq, map, string_bytes};
+ghost use Rattle.std.specs.Prelude.{◌≡◌, ◌≢◌, ◌≤◌, ◌⊎◌, ◌↔◌, ℕ, [], IfOk, IfSome, IsTrue, Vec, String, Ok, None, bytes_eq, map, string_bytes};
 ghost use Rattle.std.specs.declared.alloc.Global.{Global};
 ghost use Rattle.std.specs.Io.KnownBytes.{IsAtEnd};
 ghost use Rattle.std.specs.List.{IsDistinct, list_all, list_any};
@@ -218,6 +218,8 @@ pub fn couchview<S: Source, K: Sink, F: Folder, C: Servers>(
         → (result ≡ 2) ⊎ (result ≡ 6) }
     ensures disk_failed { result ≡ 3 → IsToDo words.now
         × Rose (F.faults folder.old) (F.faults folder.new) }
+    ensures disk_spared { IsServe words.now → result ≢ 3 → result ≢ 4
+        → F.faults folder.new ≡ F.faults folder.old }
     ensures sink_failed { result ≡ 4 → Rose (K.faults sink.old) (K.faults sink.new) }
     ensures source_failed { result ≡ 5 → IsServe words.now
         × Rose (S.faults source.old) (S.faults source.new) }

@@ -47,6 +47,7 @@ pub fn serve<S: Source, K: Sink, F: Folder, C: Servers>(
     ensures no_load { result ≢ 10 }
     ensures ended { result ≡ 0 → IsAtEnd (S.left source.new) }
     ensures disk_failed { result ≡ 3 → Rose (F.faults folder.old) (F.faults folder.new) }
+    ensures disk_spared { result ≢ 3 → result ≢ 4 → F.faults folder.new ≡ F.faults folder.old }
     ensures sink_failed { result ≡ 4 → Rose (K.faults sink.old) (K.faults sink.new) }
     ensures source_failed { result ≡ 5 → Rose (S.faults source.old) (S.faults source.new) }
     ensures source_count { S.faults source.old ≤ S.faults source.new }
@@ -98,6 +99,8 @@ pub fn run<S: Source, K: Sink, F: Folder, C: Servers>(
     ensures ended { HasEnded result → IsAtEnd (S.left source.new) }
     ensures disk_failed { result ≡ LoopEnd.Stopped StepFault.DiskFault
         → Rose (F.faults folder.old) (F.faults folder.new) }
+    ensures disk_spared { result ≢ LoopEnd.Stopped StepFault.DiskFault
+        → F.faults folder.new ≡ F.faults folder.old }
     ensures sink_failed { HasSinkFailed result → Rose (K.faults sink.old) (K.faults sink.new) }
     ensures source_failed { HasSourceFailed result
         → Rose (S.faults source.old) (S.faults source.new) }

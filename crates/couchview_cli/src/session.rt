@@ -1,5 +1,5 @@
 //! An engine between its ports, which answers request lines.
-ghost use Rattle.std.specs.Prelude.{◌≡◌, ◌≤◌};
+ghost use Rattle.std.specs.Prelude.{◌≡◌, ◌≢◌, ◌≤◌};
 ghost use Rattle.std.specs.Io.KnownBytes.{IsAtEnd};
 ghost use Rattle.view_ports.specs.Disk.{IfTold};
 ghost use Rattle.view_ports.specs.Faults.{Rose};
@@ -45,6 +45,8 @@ impl<F: Folder, C: Servers> Session<'_, F, C> {
         ensures ended { HasEnded result → IsAtEnd (S.left source.new) }
         ensures disk_failed { result ≡ LoopEnd.Stopped StepFault.DiskFault
             → Rose (F.faults self.old.folder.now) (F.faults self.new.folder.now) }
+        ensures disk_spared { result ≢ LoopEnd.Stopped StepFault.DiskFault
+            → F.faults self.new.folder.now ≡ F.faults self.old.folder.now }
         ensures sink_failed { HasSinkFailed result → Rose (K.faults sink.old) (K.faults sink.new) }
         ensures source_failed { HasSourceFailed result
             → Rose (S.faults source.old) (S.faults source.new) }

@@ -24,6 +24,8 @@ module _ {F : Type 0} (f : Folders F) (docs : Docs) (folder : F) (id : List ℕ)
   unstored : (fault : DocFault) → ((g : GateFault) → fault ≡ Gate g → ⊥) → Stores f docs docs folder folder id content (Err fault)
   unstored fault other = record {
     revision = tt;
+    counted = tt;
+    entered = tt;
     is_open = told_all (f.disk folder) (λ d. Unit {0}) (λ d. tt);
     stands = λ history at. stays_at docs (f.disk folder) history (write_of history id content) (λ files. Unit {0}) (λ files. tt) at;
     others = others_still (f.disk folder);
@@ -32,7 +34,7 @@ module _ {F : Type 0} (f : Folders F) (docs : Docs) (folder : F) (id : List ℕ)
     spent = λ is. absurd (other (used_up (file_of docs)) (let same : fault ≡ Gate (used_up (file_of docs)) = cc in same));
     few = tt;
     failed = λ is. absurd (other DiskFault (let same : fault ≡ Gate DiskFault = cc in same));
-    cause = record { later = omega arith; failed = λ is. absurd (other DiskFault is) };
+    cause = record { later = omega arith; failed = λ is. absurd (other DiskFault is); still = λ spared. refl };
     reads = refl;
   }
 

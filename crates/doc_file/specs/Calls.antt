@@ -17,7 +17,7 @@ use Rattle.doc_file.specs.Docs.{entries_of, file_of, last_of, seq_of, IsAt, IsDo
 use Rattle.doc_file.specs.Held.{Stands}
 use Rattle.design_docs.specs.History.{Write}
 use Rattle.doc_file.specs.Reads.{IsCounted}
-use Rattle.doc_file.specs.Stored.{next_rev, size_of, write_of}
+use Rattle.doc_file.specs.Stored.{next_rev, revised, size_of, with_last, write_of, last_of as kept_of}
 use Rattle.doc_file.specs.Writes.{content_of, write_refusal, IsAcceptedDelete, IsAcceptedPut, IsFileFault, IsRefusedDelete, IsRefusedPut}
 
 -- the length of the documents' file with the next write of an id
@@ -36,6 +36,9 @@ module _ {F : Type 0} (f : Folders F) (docs docs' : Docs) (old new : F) where
   -- the next write of an id, stored or not
   pub record Stores (id : List ℕ) (content : Option Json) (result : Result Rev DocFault) : Type 0 where
     pub revision : IfOk result (λ rev. rev ≡ next_rev (seq_of docs) (entries_of docs) id)
+    -- whatever the files hold, the object has the last writes with this one
+    pub counted : OnOk result (seq_of docs' ≡ seq_of docs + 1)
+    pub entered : IfOk result (λ rev. entries_of docs' ≡ with_last id (kept_of (start_of (file_of docs)) rev (revised content rev)) (entries_of docs))
     pub is_open : IfTold (f.disk new) (λ d. OnOk result (IsOpen docs' d.now))
     -- a crash leaves the history before the write or with it, and once the revision is answered the latter
     pub stands : (history : List Write) → IfTold (f.disk old) (λ d. IsAt docs d.now history) → Tells (f.disk old) (f.disk new)

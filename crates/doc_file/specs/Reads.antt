@@ -1,6 +1,6 @@
 -- Words that the contracts of calls share that read the documents' file.
 use Rattle.std.specs.Prelude.{◌≡◌, ◌⊎◌, ℕ, List, Result, Err, IfOk}
-use Rattle.view_ports.specs.Causes.{HasCauseIf}
+use Rattle.view_ports.specs.Causes.{CountsFor}
 use Rattle.view_ports.specs.Disk.{Disk, IfTold, Moves}
 use Rattle.view_ports.specs.declared.file_name.FileName.{FileName}
 use Rattle.view_ports.specs.declared.file_name.Stem.TheVariants.{Docs as DocsStem}
@@ -15,9 +15,9 @@ use Rattle.doc_file.specs.Held.{Stands}
 use Rattle.design_docs.specs.History.{Write}
 
 module _ {F : Type 0} (f : Folders F) where
-  -- a fault of the disk comes only where the folder counted one
+  -- a fault of the disk comes only where the folder counted one, and it counted none for any other answer
   abbrev pub IsCounted : {T : Type 0} → F → F → Result T DocFault → Type 0
-  IsCounted old new result = HasCauseIf (λ e. e ≡ Gate DiskFault) (f.faults old) (f.faults new) result
+  IsCounted old new result = CountsFor (Gate DiskFault) (f.faults old) (f.faults new) result
 
   -- over each history that the documents and the folder are at
   abbrev pub AtHistory : Docs → F → (List Write → Type 0) → Type 0

@@ -1,6 +1,6 @@
 -- Words that the contracts of calls on gate files share.
 use Rattle.std.specs.Prelude.{◌≡◌, ◌⊎◌, ℕ, List, length, Result, Err, Some, None, OnOk}
-use Rattle.view_ports.specs.Causes.{HasCauseIf, RisesBy}
+use Rattle.view_ports.specs.Causes.{CountsFor, RisesBy}
 use Rattle.view_ports.specs.Disk.{Disk, IfTold, MovesFile, Tells}
 use Rattle.view_ports.specs.File.{File}
 use Rattle.view_ports.specs.declared.file_name.FileName.{FileName}
@@ -23,9 +23,9 @@ module _ {F : Type 0} (f : Folders F) where
   abbrev pub Moved : F → F → (Disk FileName → Disk FileName → Type 0) → Type 0
   Moved old new R = Tells (f.disk old) (f.disk new) R
 
-  -- a fault of the disk comes only where the folder counted one
+  -- a fault of the disk comes only where the folder counted one, and it counted none for any other answer
   abbrev pub IsCounted : {T : Type 0} → F → F → Result T GateFault → Type 0
-  IsCounted old new result = HasCauseIf (λ e. e ≡ DiskFault) (f.faults old) (f.faults new) result
+  IsCounted old new result = CountsFor DiskFault (f.faults old) (f.faults new) result
 
   -- so many reads were made at most
   abbrev pub ReadsUpTo : ℕ → F → F → Type 0

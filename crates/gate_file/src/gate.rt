@@ -24,7 +24,7 @@ pub struct GateFile {
 
 impl GateFile {
     ghost use Rattle.std.specs.Prelude.{◌≡◌, ◌↔◌, ◌⊎◌, ◌+◌, ◌<◌, ◌≤◌, ◌^◌, Some, length, OnOk, OnErr, IfOk, IfErr, IfSome, IsTrue};
-    ghost use Rattle.view_ports.specs.Faults.{HasCause};
+    ghost use Rattle.view_ports.specs.Faults.{CountsOnce, HasCause};
     ghost use Rattle.gate_file.specs.Header.{data_start, place_of};
     ghost use Rattle.gate_file.specs.GateFile.{name_of, length_of, commits_of, root_record, start_of, appended, next_root, committed};
     ghost use Rattle.gate_file.specs.Append.{IsMade};
@@ -73,6 +73,7 @@ impl GateFile {
         ensures disk { Moved F.Folder folder.old folder.new
             (KeepsRoot self.now result (IsMade self.now)) }
         ensures cause { HasCause (F.faults folder.old) (F.faults folder.new) result }
+        ensures counted { CountsOnce (F.faults folder.old) (F.faults folder.new) result }
         ensures reads { F.reads folder.new ≡ F.reads folder.old }
     {
         if self.length > 0 {
@@ -138,6 +139,7 @@ impl GateFile {
         ensures disk { Moved F.Folder folder.old folder.new
             (KeepsRoot self.now result (λ file now. IsReady self.now now × Continues file now)) }
         ensures cause { HasCause (F.faults folder.old) (F.faults folder.new) result }
+        ensures counted { CountsOnce (F.faults folder.old) (F.faults folder.new) result }
         ensures reads { F.reads folder.new ≡ F.reads folder.old }
     {
         if !self.next_is_open {
@@ -155,6 +157,7 @@ impl GateFile {
         ensures disk { Moved F.Folder folder.old folder.new
             (KeepsRoot self.now result (λ file now. IsStaged self.now root now × Continues file now)) }
         ensures cause { HasCause (F.faults folder.old) (F.faults folder.new) result }
+        ensures counted { CountsOnce (F.faults folder.old) (F.faults folder.new) result }
         ensures reads { F.reads folder.new ≡ F.reads folder.old }
     {
         put_synced(folder, self.name, self.next_place(), &header_of(root))?;
@@ -172,6 +175,7 @@ impl GateFile {
         ensures err { OnErr result (self.new ≡ self.old) }
         ensures disk { Moved F.Folder folder.old folder.new (Commits self.old root result) }
         ensures cause { HasCause (F.faults folder.old) (F.faults folder.new) result }
+        ensures counted { CountsOnce (F.faults folder.old) (F.faults folder.new) result }
         ensures reads { F.reads folder.new ≡ F.reads folder.old }
     {
         put_synced(folder, self.name, self.next_place() + GATE, &[1])?;

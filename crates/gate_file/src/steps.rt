@@ -3,7 +3,7 @@
 
 ghost use Rattle.std.specs.Prelude.{◌≡◌, ◌+◌, ◌≤◌, ◌^◌, [], length, OnOk};
 ghost use Rattle.view_ports.specs.Disk.{MovesFile};
-ghost use Rattle.view_ports.specs.Faults.{HasCause};
+ghost use Rattle.view_ports.specs.Faults.{CountsOnce, HasCause};
 ghost use Rattle.view_ports.specs.File.{grew, settled, wrote};
 ghost use Rattle.gate_file.specs.Append.{IsZeros, IsGrown};
 ghost use Rattle.gate_file.specs.Calls.{Moved, Told};
@@ -22,6 +22,7 @@ pub(crate) fn put_synced<F: Folder>(
     requires { Told F.Folder folder.old (λ d. at + length bytes.now ≤ length (d.now name).seen) }
     ensures disk { Moved F.Folder folder.old folder.new (SyncsStep name (wrote at bytes.now) result) }
     ensures cause { HasCause (F.faults folder.old) (F.faults folder.new) result }
+    ensures counted { CountsOnce (F.faults folder.old) (F.faults folder.new) result }
     ensures reads { F.reads folder.new ≡ F.reads folder.old }
 {
     folder.write_at(name, at, bytes)?;
@@ -38,6 +39,7 @@ pub(crate) fn grow_synced<F: Folder>(
     requires { Told F.Folder folder.old (λ d. length (d.now name).seen + by ≤ 2 ^ 40) }
     ensures disk { Moved F.Folder folder.old folder.new (SyncsStep name (grew by) result) }
     ensures cause { HasCause (F.faults folder.old) (F.faults folder.new) result }
+    ensures counted { CountsOnce (F.faults folder.old) (F.faults folder.new) result }
     ensures reads { F.reads folder.new ≡ F.reads folder.old }
 {
     folder.grow(name, by)?;
@@ -56,6 +58,7 @@ pub(crate) fn grow_new<F: Folder>(
     ensures disk { Moved F.Folder folder.old folder.new
         (MovesFile name (λ file image. IsZeros image) (λ file now. OnOk result (IsGrown size now))) }
     ensures cause { HasCause (F.faults folder.old) (F.faults folder.new) result }
+    ensures counted { CountsOnce (F.faults folder.old) (F.faults folder.new) result }
     ensures reads { F.reads folder.new ≡ F.reads folder.old }
 {
     grow_synced(folder, name, size)?;
@@ -73,6 +76,7 @@ pub(crate) fn add<F: Folder>(
         (λ d. (length (d.now name).seen ≡ at) × (at + length bytes.now ≤ 2 ^ 40)) }
     ensures disk { Moved F.Folder folder.old folder.new (Adds name at bytes.now result) }
     ensures cause { HasCause (F.faults folder.old) (F.faults folder.new) result }
+    ensures counted { CountsOnce (F.faults folder.old) (F.faults folder.new) result }
     ensures reads { F.reads folder.new ≡ F.reads folder.old }
 {
     folder.grow(name, bytes.len() as u64)?;
@@ -84,6 +88,7 @@ pub(crate) fn add<F: Folder>(
 pub(crate) fn cut_synced<F: Folder>(folder: &mut F, name: FileName) -> Result<(), PortFault>
     ensures disk { Moved F.Folder folder.old folder.new (Empties name result) }
     ensures cause { HasCause (F.faults folder.old) (F.faults folder.new) result }
+    ensures counted { CountsOnce (F.faults folder.old) (F.faults folder.new) result }
     ensures reads { F.reads folder.new ≡ F.reads folder.old }
 {
     folder.cut_to_zero(name)?;

@@ -34,7 +34,10 @@ module _ (old new : Index) (same : IsSame old new) (shown : picture_of new ≡ p
 
   at_kept : (files : FileName → File) (picture : Option Picture) → IsAt old files picture → IsAt new files picture
   at_kept files picture at = record {
-    is_open = subst (λ (g : GateFile). IsOpenPair (name_of g).stem g files) (sym same.file) at.is_open;
+    is_open = record {
+      pair = subst (λ (g : GateFile). IsOpenPair (name_of g).stem g files) (sym same.file) at.is_open.pair;
+      commits = (let file = same.file in let commits = at.is_open.commits in cc);
+    };
     holds = subst (λ (g : GateFile). HoldsPicture (views_of new) (root_of g) (own_bytes g files) picture) (sym same.file)
         (subst (λ n. HoldsPicture n (root_of (file_of old)) (own_bytes (file_of old) files) picture) (sym number_kept) at.holds);
     last = shown ∙ at.last ∙ ap (λ n. or_empty n picture) (sym number_kept);

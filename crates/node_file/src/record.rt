@@ -4,7 +4,7 @@ ghost use Rattle.std.specs.Prelude.{◌≡◌, ◌⊎◌, ◌+◌, ◌≤◌, So
 ghost use Rattle.gate_file.specs.Calls.{IsCounted, Moved, ReadsUpTo, Told};
 ghost use Rattle.view_ports.specs.Causes.{one_more};
 ghost use Rattle.view_ports.specs.Disk.{MovesNone};
-ghost use Rattle.view_ports.specs.Faults.{HasCause};
+ghost use Rattle.view_ports.specs.Faults.{CountsOnce, HasCause};
 ghost use Rattle.view_ports.specs.FolderCalls.{Passes};
 ghost use Rattle.tree_laws.specs.Nodes.{sized};
 ghost use Rattle.node_file.specs.Records.{node_at, size_in};
@@ -92,6 +92,7 @@ fn length_at<F: Folder>(folder: &mut F, name: FileName, at: u64) -> Result<Optio
         (λ found. found ≡ Some (size_in (drop at (d.now name).seen)))) }
     ensures disk { Moved F.Folder folder.old folder.new Passes }
     ensures cause { HasCause (F.faults folder.old) (F.faults folder.new) result }
+    ensures counted { CountsOnce (F.faults folder.old) (F.faults folder.new) result }
     ensures reads { F.reads folder.new ≡ one_more (F.reads folder.old) }
 {
     let mut head = [0; 8];

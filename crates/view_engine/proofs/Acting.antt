@@ -27,7 +27,7 @@ use Rattle.view_engine.specs.declared.refusal.Refusal.{Refusal}
 use Rattle.view_engine.specs.declared.refusal.Refusal.TheVariants.{ServerFault}
 use Rattle.view_engine.specs.declared.request.Request.{Request}
 use Rattle.view_engine.specs.declared.request.Request.TheVariants.{Cleanup, Put, Delete, Get, Info, View}
-use Rattle.view_engine.specs.Calls.{scene, ActsHere, AppendsReplyTo, CrashesAround, DoesBy, DoesHere, DoesHereBy, IsRefusedHere, KeepsChild, LeavesChild, LeavesMoment, LeavesWorld, Performed, RefusesUnread, Scene, StandsAt}
+use Rattle.view_engine.specs.Calls.{scene, ActsHere, AppendsReplyTo, CrashesAround, DoesBy, DoesHere, DoesHereBy, FitsDesign, IsRefusedHere, KeepsChild, LeavesAlone, LeavesChild, LeavesMoment, LeavesWorld, Performed, RefusesUnread, Scene, StandsAt}
 use Rattle.view_engine.specs.Delete.{delete_write}
 use Rattle.view_engine.specs.Disks.{HasGivenUp, IfStopped, IsReason, IsReasonOf, IsView, KeepsDocuments, LiesOpen, MayGoOn}
 use Rattle.view_engine.specs.Halts.{DocumentsStandAround, MovesDocuments}
@@ -220,6 +220,25 @@ module _ {F C : Type 0} (f : Folders F) (s : Servers C) (docs docs' : Docs) (poo
   prints_here request (Ok value) done = record { reply = done.reply; line = done.line; appended = done.appended; unlike = done.unlike }
   prints_here request (Err halt) done = tt
 
+-- nothing was called
+pub leaves_all : {F C : Type 0} {Wants : Type 0} (now : Scene F C) (request : Result Request Refusal) → LeavesAlone request Wants now now
+leaves_all now (Ok request) = record { servers = λ none. refl; pool = λ none. refl; groups = λ none. refl; wanting = λ wants none. refl; all = tt }
+leaves_all now (Err refusal) = record { servers = λ none. refl; pool = λ none. refl; groups = λ none. refl; wanting = λ wants none. refl; all = refl }
+
+-- of what is no view nothing is said of a design document
+pub fits_other : {F C : Type 0} (f : Folders F) (s : Servers C) (old new : Scene F C) (request : Result Request Refusal) → (IsView request → ⊥) → (refusal : Option Refusal) → FitsDesign f s old new request refusal
+fits_other f s old new (Ok (View view query)) no_view refusal = absurd (no_view tt)
+fits_other f s old new other no_view refusal = tt
+
+-- what holds, holds where it is done
+pub on_ok_of : {P : Type 0} (result : Result (Unit {0}) Halt) → P → OnOk result P
+on_ok_of (Ok done) holds = holds
+on_ok_of (Err halt) holds = tt
+
+-- the same by how the line ends
+pub leaves_ends : {F C : Type 0} {old new : Scene F C} {request : Result Request Refusal} {Wants Wanting : Type 0} → (Wanting → Wants) → LeavesAlone request Wants old new → LeavesAlone request Wanting old new
+leaves_ends wants leaves = record { servers = leaves.servers; pool = leaves.pool; groups = leaves.groups; wanting = λ now. leaves.wanting (wants now); all = leaves.all }
+
 -- a view isn't one of these, so that it meets no full file here
 full_here : {F : Type 0} (f : Folders F) (docs : Docs) (old new : F) (request : Request) (P : Type 0) (name : FileName) (length : Option ℕ) → IsReason f docs old new (Ok request) (Full name length) → IsView (Ok request) → P
 full_here f docs old new (View view limits) P name length why is = absurd why.0
@@ -227,9 +246,9 @@ full_here f docs old new other P name length why is = absurd is
 
 -- what a request function promises of the documents is what the engine promises of the request
 pub acted : {F C : Type 0} {f : Folders F} {s : Servers C} {docs docs' : Docs} {pool : Pool} {groups : Groups} {old new : F} {servers : C} {request made : Request} {out out' : List ℕ} {result : Result (Unit {0}) Halt}
-    → request ≡ made → (made ≡ Cleanup → ⊥) → LiesOpen f (record { docs = docs; pool = pool; groups = groups }) old → ActsHere f docs docs' old new made out out' result
+    → request ≡ made → (made ≡ Cleanup → ⊥) → (IsView (Ok made) → ⊥) → LiesOpen f (record { docs = docs; pool = pool; groups = groups }) old → ActsHere f docs docs' old new made out out' result
     → Performed f s (scene (record { docs = docs; pool = pool; groups = groups }) old servers) (scene (record { docs = docs'; pool = pool; groups = groups }) new servers) (Ok request) out out' result
-acted {f = f} {s = s} {docs = docs} {docs' = docs'} {pool = pool} {groups = groups} {old = old} {new = new} {servers = servers} {request = request} {made = made} {out = out} {out' = out'} {result = result} is other is_open acts =
+acted {f = f} {s = s} {docs = docs} {docs' = docs'} {pool = pool} {groups = groups} {old = old} {new = new} {servers = servers} {request = request} {made = made} {out = out} {out' = out'} {result = result} is other no_view is_open acts =
     subst (λ (r : Request). Performed f s (scene (record { docs = docs; pool = pool; groups = groups }) old servers) (scene (record { docs = docs'; pool = pool; groups = groups }) new servers) (Ok r) out out' result) (sym is) (record {
       does = λ before at. does_here f s docs docs' pool groups old new servers out out' made before at result acts.disk acts.does;
       prints = prints_here f s docs docs' pool groups old new servers out out' made result acts.does;
@@ -237,6 +256,9 @@ acted {f = f} {s = s} {docs = docs} {docs' = docs'} {pool = pool} {groups = grou
       refused = tt;
       blames = λ is. absurd (acts.unblamed is);
       follows = acts.follows;
+      designed = on_ok_of result (fits_other f s _ _ (Ok made) no_view None);
+      unasked = λ refusal refused. fits_other f s _ _ (Ok made) no_view (Some refusal);
+      leaves = record { servers = λ none. refl; pool = λ none. refl; groups = λ none. refl; wanting = λ wants none. refl; all = tt };
       fits = acts.fits;
       disk = kept_whole refl is_open acts.disk;
       cleared = clears_other f docs old new (Ok made) _ _ (λ same. other (let one : made ≡ Cleanup = cc in one));
@@ -266,7 +288,10 @@ module _ {F C : Type 0} {f : Folders F} {s : Servers C} {now : Scene F C} {reque
     silent = refl;
     refused = spent_unread request;
     blames = λ never. absurd cc;
-    follows = follows_spent now.engine.docs now.folder out request;
+    follows = follows_spent f now.engine.docs now.folder out request;
+    designed = tt;
+    unasked = λ refusal never. absurd (let no : ⊥ = cc in no);
+    leaves = leaves_all now request;
     fits = tt;
     disk = kept_whole refl is_open (documents_still (documents_open _ _ is_open));
     cleared = clears_none f now.engine.docs now.folder now.folder request _ _ (told_refl (f.disk now.folder) MovesNone none_refl) (λ done. done);
@@ -276,9 +301,9 @@ module _ {F C : Type 0} {f : Folders F} {s : Servers C} {now : Scene F C} {reque
   }
 
   -- nothing was called, and the request is refused
-  pub refused_at_once : {refusal : Refusal} → (request ≡ Ok Cleanup → ⊥) → RefusesUnread request (Err (Refused refusal)) → refusal ≢ ServerFault → IfOk request (λ one. IsRefusedBy now.engine.docs one refusal) → ((before : Moment) → DoesRequest s.functions s.honest (languages_of now.engine.pool) before request (refusal_text refusal) before)
+  pub refused_at_once : {refusal : Refusal} → (request ≡ Ok Cleanup → ⊥) → (IsView request → ⊥) → RefusesUnread request (Err (Refused refusal)) → refusal ≢ ServerFault → IfOk request (λ one. IsRefusedBy now.engine.docs one refusal) → ((before : Moment) → DoesRequest s.functions s.honest (languages_of now.engine.pool) before request (refusal_text refusal) before)
       → LiesOpen f now.engine now.folder → Performed f s now now request out out (Err (Refused refusal))
-  refused_at_once {refusal} no_cleanup unread other refused does is_open = record {
+  refused_at_once {refusal} no_cleanup no_view unread other refused does is_open = record {
     does = λ before at. record {
       after = before;
       is_at = at;
@@ -291,7 +316,10 @@ module _ {F C : Type 0} {f : Folders F} {s : Servers C} {now : Scene F C} {reque
     silent = refl;
     refused = unread;
     blames = λ never. absurd (err_unblamed (Refused refusal) (λ same. other (let is_fault : refusal ≡ ServerFault = cc in is_fault)) never);
-    follows = follows_refused now.engine.docs now.folder out request refusal refused;
+    follows = follows_refused f now.engine.docs now.folder out request refusal refused;
+    designed = tt;
+    unasked = λ told is. fits_other f s _ _ request no_view (Some told);
+    leaves = leaves_all now request;
     fits = tt;
     disk = kept_whole refl is_open (documents_still (documents_open _ _ is_open));
     cleared = clears_other f now.engine.docs now.folder now.folder request _ _ no_cleanup;

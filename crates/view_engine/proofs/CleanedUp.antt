@@ -161,12 +161,12 @@ module _ {F C : Type 0} (f : Folders F) (s : Servers C) (docs : Docs) (pool : Po
   untouched_but_read : IsUntouchedBy docs docs old new (Ok Cleanup)
   untouched_but_read = record { documents = same_docs docs; folder = λ other. absurd (other tt) }
 
-  follows_done : (result : Result (Unit {0}) Halt) → CleansUp f docs groups groups' old new out out' result → FollowsDocuments docs docs old new out out' Cleanup result
-  follows_done (Ok done) cleans = record { accepted = tt; reply = done_text; is = refl; appended = cleans.prints; kept = λ none. untouched_but_read }
+  follows_done : (result : Result (Unit {0}) Halt) → CleansUp f docs groups groups' old new out out' result → FollowsDocuments f docs docs old new out out' Cleanup result
+  follows_done (Ok done) cleans = record { accepted = tt; reply = done_text; is = refl; appended = cleans.prints; kept = λ none. untouched_but_read; wrote = tt }
   follows_done (Err (Refused refusal)) cleans = absurd cleans.stopped
-  follows_done (Err (Stopped DiskFault)) cleans = tt
-  follows_done (Err (Stopped (Damaged name at))) cleans = untouched_but_read
-  follows_done (Err (Stopped (Full name length))) cleans = untouched_but_read
+  follows_done (Err (Stopped DiskFault)) cleans = (tt, λ none. untouched_but_read)
+  follows_done (Err (Stopped (Damaged name at))) cleans = (tt, untouched_but_read)
+  follows_done (Err (Stopped (Full name length))) cleans = (tt, untouched_but_read)
   follows_done (Err (Stopped NoMemory)) cleans = untouched_but_read
 
   unblamed : (result : Result (Unit {0}) Halt) → CleansUp f docs groups groups' old new out out' result → result ≡ Err (Refused ServerFault) → ⊥
@@ -192,6 +192,14 @@ module _ {F C : Type 0} (f : Folders F) (s : Servers C) (docs : Docs) (pool : Po
   clears_done (Err (Stopped (Full name length))) cleans = record { spared = cleans.spared; empty = λ is. absurd is; unmoved = λ wants. absurd wants }
   clears_done (Err (Stopped NoMemory)) cleans = record { spared = cleans.spared; empty = λ is. absurd is; unmoved = λ wants. (cleans.unmoved refl).1 }
 
+  groups_left : (result : Result (Unit {0}) Halt) → CleansUp f docs groups groups' old new out out' result → MayWant result → groups' ≡ groups
+  groups_left (Ok done) cleans wants = absurd wants
+  groups_left (Err (Refused refusal)) cleans wants = absurd cleans.stopped
+  groups_left (Err (Stopped DiskFault)) cleans wants = absurd wants
+  groups_left (Err (Stopped (Damaged name at))) cleans wants = absurd wants
+  groups_left (Err (Stopped (Full name length))) cleans wants = absurd wants
+  groups_left (Err (Stopped NoMemory)) cleans wants = (cleans.unmoved refl).0
+
   cleaned_up : (result : Result (Unit {0}) Halt) → LiesOpen f before_it old → CleansUp f docs groups groups' old new out out' result → Performed f s now later (Ok Cleanup) out out' result
   cleaned_up result is_open cleans = record {
     does = λ before at. does_clean before at result is_open cleans;
@@ -200,6 +208,9 @@ module _ {F C : Type 0} (f : Folders F) (s : Servers C) (docs : Docs) (pool : Po
     refused = tt;
     blames = λ is. absurd (unblamed result cleans is);
     follows = follows_done result cleans;
+    designed = fits_done result;
+    unasked = λ refusal is. tt;
+    leaves = record { servers = λ other. refl; pool = λ other. refl; groups = λ other. absurd (other tt); wanting = λ wants other. groups_left result cleans wants; all = tt };
     fits = fits_done result;
     disk = record {
       documents = λ no. absurd (no tt);

@@ -1,5 +1,5 @@
 -- A view, performed: refused before any server is asked, refused by the update of its index, or answered.
-use Rattle.std.specs.Prelude.{◌≡◌, ◌≢◌, ◌<◌, ◌≤◌, ℕ, List, length, Option, Some, Result, Ok, Err, slice_get}
+use Rattle.std.specs.Prelude.{◌≡◌, ◌≢◌, ◌<◌, ◌≤◌, ℕ, List, length, Option, None, Some, Result, Ok, Err, slice_get}
 use Rattle.std.proofs.Common.{true, refl, sym, ap, ◌∙◌, subst, inl, ⊎_elim, arith}
 use Rattle.std.proofs.lemmas.List.{length-map}
 use Rattle.json_terms.specs.declared.term.Row.{Row}
@@ -42,7 +42,8 @@ use Rattle.query_args.specs.declared.query.Query.{Query}
 use Rattle.view_engine.specs.Calls.{scene, LeavesMoment, Performed, Scene, StandsAt, Stays}
 use Rattle.view_engine.specs.Disks.{IfStopped, IsAskedFor, IsReadReason, IsReasonOf, LiesOpen, MovesIndexOf, Reads}
 use Rattle.view_engine.specs.Halts.{GoesOn}
-use Rattle.view_engine.specs.InMemory.{IsLiveIn, IsViewRefusedBy}
+use Rattle.view_engine.specs.InMemory.{IsLiveIn, IsSaidByDesign, IsViewRefusedBy}
+use Rattle.view_engine.specs.Planning.{RefusesByDesign, StopsLive}
 use Rattle.view_engine.specs.Moments.{Moment}
 use Rattle.view_engine.specs.Steps.{MayHaveCalled}
 use Rattle.view_engine.specs.View.{design_id}
@@ -57,7 +58,7 @@ use Rattle.view_engine.proofs.Reduced.{memory_alone, never_refused, stops_for_me
 use Rattle.view_updater.proofs.Exchanging.{rose_since}
 use Rattle.view_engine.proofs.Reasons.{view_moves, view_open, view_why}
 use Rattle.view_engine.proofs.ServerFaults.{met_server_fault, pool_server_fault}
-use Rattle.view_engine.proofs.Viewing.{does_halted, viewed, Halts}
+use Rattle.view_engine.proofs.Viewing.{does_halted, leaves_asked, leaves_pool, leaves_unasked, unmet, viewed, Halts}
 use Rattle.view_engine.proofs.Whole.{leaves_none, view_moves_none}
 use Rattle.view_engine.proofs.Between.{stands_same}
 use Rattle.query_args.specs.Query.{is_updated}
@@ -82,10 +83,10 @@ module _ {F C : Type 0} (f : Folders F) (s : Servers C) (docs : Docs) (pool : Po
   engine = record { docs = docs; pool = pool; groups = groups }
 
   -- ---- refused before any server was asked
-  pub refused_first : {T : Type 0} (halt : Halt) → LiesOpen f engine old → halt ≢ Refused ServerFault → ((r : Refusal) → halt ≡ Refused r → IsViewRefusedBy docs (design_id name.design) r) → Reads f {T = T} docs old mid (Err halt)
+  pub refused_first : {T : Type 0} (halt : Halt) → LiesOpen f engine old → halt ≢ Refused ServerFault → ((r : Refusal) → halt ≡ Refused r → IsViewRefusedBy docs (design_id name.design) r) → StopsLive engine name halt → RefusesByDesign f engine old name halt → Reads f {T = T} docs old mid (Err halt)
       → ((before : Moment) → StandsAt f s (scene engine old servers) before → LeavesMoment f s (scene engine old servers) (scene engine mid servers) before (Halts f s (scene engine old servers) (scene engine mid servers) name before halt))
       → Performed f s (scene engine old servers) (scene engine mid servers) (Ok (view_request name)) out out (Err halt)
-  refused_first halt is_open other refused reads leaves =
+  refused_first halt is_open other refused live own reads leaves =
       viewed f s (scene engine old servers) (scene engine mid servers) name
       (does_halted f s (scene engine old servers) (scene engine mid servers) name out out halt (λ goes. leaves)
       (λ step is not before at. (
@@ -98,7 +99,8 @@ module _ {F C : Type 0} (f : Folders F) (s : Servers C) (docs : Docs) (pool : Po
         },
       )))
       tt refl (λ is. absurd (other (let same : halt ≡ Refused ServerFault = cc in same)))
-      (follows_unasked docs old mid name out out halt refused)
+      (follows_unasked f docs old mid name out out halt refused live) tt
+      (λ r is. let met : halt ≡ Refused r = cc in leaves_unasked f s (scene engine old servers) (scene engine mid servers) name (record { servers = refl; pool = refl; groups = refl; files = reads.disk }) r (own r met) (unmet f s (scene engine old servers) (scene engine mid servers) name r (refused r met) (own r met)))
       (view_moves_none f engine old mid name reads.disk)
       (λ goes. open_still engine (f.disk old) (f.disk mid) reads.disk is_open)
       (λ before at file limit is. let full : halt ≡ Stopped (Full file limit) = cc in absurd (subst (IfStopped (IsReadReason f docs old mid)) full reads.why))
@@ -111,7 +113,7 @@ module _ {F C : Type 0} (f : Folders F) (s : Servers C) (docs : Docs) (pool : Po
       (read : Tells (f.disk old) (f.disk mid) MovesNone) (earlier : f.faults old ≤ f.faults mid)
       (plans : (history : List Write) → IfTold (f.disk old) (λ d. AreAt docs d.now history → IsPlan true (languages_of pool) history name id design place path))
       (is_open : LiesOpen f engine old) (asked : IfTold (f.disk old) (λ d. (document : Json) × IsAskedFor docs d.now name document × IsDesignOf document design))
-      (named : id ≡ design_id name.design) (live : IsLiveIn docs (design_id name.design)) where
+      (named : id ≡ design_id name.design) (live : IsLiveIn docs (design_id name.design)) (taken : IsSaidByDesign f docs (languages_of pool) old name None) where
     abbrev engine' : Engine
     engine' = record { docs = docs; pool = pool'; groups = groups' }
 
@@ -129,7 +131,8 @@ module _ {F C : Type 0} (f : Folders F) (s : Servers C) (docs : Docs) (pool : Po
           (λ goes before at. refused_leaves f s docs pool pool' groups groups' old mid new servers servers' name id design place path within path_is read plans met kind brings (goes_on_of_none met id kind goes) before at)
           (stopped_leaves f s docs pool pool' groups groups' old mid new servers servers' name id design place path within path_is read plans met kind brings))
           tt refl (λ is. brings.blames (ap Err (met_server_fault id met (let same : met_by id met ≡ Refused ServerFault = cc in same))))
-          (follows_asked docs old new name out out id named live (met_by id met) (met_of_view id met))
+          (follows_asked f docs old new name out out id named live (met_by id met) (met_of_view id met)) tt
+          (λ r is. leaves_asked f s now later name taken id met r (let same : met_by id met ≡ Refused r = cc in same))
           (view_moves f s docs pool pool' groups groups' old mid new servers servers' name id design place path true updates read earlier plans is_open asked (Err met) refl brings)
           (λ goes. view_open f s docs pool pool' groups groups' old mid new servers servers' name id design place path true updates read earlier plans is_open asked (Err met) refl brings (goes_on_of_none met id kind goes))
           (λ before at file limit is. filled_then f s docs pool pool' groups groups' old mid new servers servers' name id design place path within path_is read plans met kind.0 brings before at file limit (let full : met_by id met ≡ Stopped (Full file limit) = cc in full))
@@ -173,7 +176,7 @@ module _ {F C : Type 0} (f : Folders F) (s : Servers C) (docs : Docs) (pool : Po
           viewed f s now last name
           (λ before at. shown_leaves f s docs pool pool' groups groups' old mid new servers servers' name id design place path within path_is read plans slot brings before at pool'' servers'' query query_is each answers.parts out out' (answers, all))
           (record { reply = answers.reply; line = answers.line; appended = answers.appended; unlike = λ other. answers.unlike }) tt (λ is. let clash : ⊥ = cc in absurd clash)
-          (follows_view docs old new name out out' live answers.reply answers.appended)
+          (follows_view f docs old new name out out' live answers.reply answers.appended) taken (λ r is. absurd (let clash : ⊥ = cc in clash))
           moves (λ goes. opens) (λ before at file limit is. absurd cc) tt (stays all.keeps all.later)
 
       -- or they were not
@@ -187,7 +190,8 @@ module _ {F C : Type 0} (f : Folders F) (s : Servers C) (docs : Docs) (pool : Po
           tt silent
           (λ is. ⊎_elim (λ fails. rose_since _ _ _ brings.later.1 (fails.twice (pool_server_fault id fault (let same : met_by_pool id fault ≡ Refused ServerFault = cc in same))))
           (λ spent. absurd (never_refused id fault ServerFault spent.0 (let same : met_by_pool id fault ≡ Refused ServerFault = cc in same))) met)
-          (follows_asked docs old new name out out' id named live (met_by_pool id fault) (pool_of_view id fault))
+          (follows_asked f docs old new name out out' id named live (met_by_pool id fault) (pool_of_view id fault)) tt
+          (λ r is. leaves_pool f s now last name taken id fault r (let same : met_by_pool id fault ≡ Refused r = cc in same))
           moves (λ goes. opens)
           (λ before at file limit is. absurd (let full : met_by_pool id fault ≡ Stopped (Full file limit) = cc in let spent : Full file limit ≡ NoMemory = stops_for_memory id fault (Full file limit) full in cc))
           (memory_alone (IsReasonOf f engine old new (Ok (view_request name))) (inl tt) id fault)

@@ -1,6 +1,6 @@
 -- The reply to a view on an honest path.
 use Rattle.std.specs.Prelude.{if◌then◌else◌}
-use Rattle.std.proofs.Common.{◌≡◌, ◌≤◌, ◌∙◌, ℕ, List, Bool, true, false, length, Option, Some, None, refl, sym, ap, subst, inl, inr, arith}
+use Rattle.std.proofs.Common.{◌≡◌, ◌≢◌, ◌≤◌, ◌⊎◌, ◌∙◌, ℕ, List, [], ◌∷◌, Result, Ok, Bool, true, false, length, Option, Some, None, refl, sym, ap, subst, inl, inr, arith}
 use Rattle.std.proofs.lemmas.Slice.Eq.{bytes_eq-Decides}
 use Rattle.json_terms.specs.Json.{Json}
 use Rattle.json_terms.specs.Text.{text_of}
@@ -11,10 +11,13 @@ use Rattle.design_docs.specs.declared.design.Reduce.TheVariants.{Absent, Builtin
 use Rattle.design_docs.specs.History.{Write, live_document}
 use Rattle.child_pool.specs.Jobs.{Job, reduce_job}
 use Rattle.child_pool.specs.Languages.{path_in}
+use Rattle.query_args.specs.Query.{is_updated}
 use Rattle.query_args.specs.declared.query.Query.{Query}
 use Rattle.view_ports.specs.Calls.{Call}
+use Rattle.view_ports.specs.Exchanges.{Exchange}
 use Rattle.view_ports.specs.Faults.{RoseBy}
 use Rattle.view_ports.specs.Functions.{Functions}
+use Rattle.view_ports.specs.Lines.{ended}
 use Rattle.view_model.specs.Answer.{answer, IsAnswer}
 use Rattle.view_model.specs.Picture.{Picture, picture_or_none}
 use Rattle.view_model.specs.Rows.{spoiled}
@@ -24,13 +27,15 @@ use Rattle.view_model.proofs.Firsts.{first_all, length-first}
 use Rattle.view_model.proofs.OneAnswer.{one_answer, weaker_answer}
 use Rattle.view_signature.specs.Signature.{signature_of}
 use Rattle.view_engine.specs.declared.refusal.Refusal.{Refusal}
-use Rattle.view_engine.specs.declared.refusal.Refusal.TheVariants.{CompilationError, ServerFault, ServerReply}
-use Rattle.view_engine.specs.Fresh.{due_reply, fresh_reply, named_answer, value_text, IsHonestView, RepliesAreFresh}
+use Rattle.view_engine.specs.declared.refusal.Refusal.TheVariants.{CompilationError, NoMemory, ServerFault, ServerReply}
+use Rattle.view_engine.specs.declared.request.Request.{Request}
+use Rattle.view_engine.specs.Fresh.{due_reply, fresh_reply, named_answer, value_text, IsDueOrFault, IsHonestViewOfSound, IsRefusedWith, NamesFault, RepliesAreFresh, StepsAreFresh}
 use Rattle.view_engine.specs.Moments.{Called, CalledReducing, Moment}
-use Rattle.view_engine.specs.Refusals.{refusal_text}
+use Rattle.view_engine.specs.Refusals.{refusal_text, request_of}
+use Rattle.view_engine.specs.Steps.{Does, DoesRequestText}
 use Rattle.view_engine.specs.Updating.{picture_in, AreFit, IsBrought, IsSound}
 use Rattle.view_engine.specs.View.{design_id, own_reduces, sources_tried, DoesKeptView, DoesUpdatedView, IsBroughtUp, IsMappedThen, IsMet, IsNever, IsRefused, IsRefusedReducing, IsRefusedTrying, IsRightly, PrintsRows}
-use Rattle.view_engine.specs.ViewQuery.{ViewQuery, query_for, reduce_named}
+use Rattle.view_engine.specs.ViewQuery.{ViewQuery, parameters_of, query_for, reduce_named, view_request}
 use Rattle.view_engine.specs.World.{World, NoneIsNewer}
 
 unsome : {A : Type 0} (x y : A) → Some x ≡ Some y → x ≡ y
@@ -57,24 +62,37 @@ seq_within world design newer =
       | Some picture ↦ λ is. newer (signature_of design) picture is
     ] refl
 
+-- ---- the reply that is due, or a fault
+
+-- two faults from a moment between are two from the first
+fault_since : (before between after : Moment) (reply : List ℕ) → before.faults ≤ between.faults → NamesFault between after reply → NamesFault before after reply
+fault_since before between after reply later names = let two = names.1 in (names.0, omega (arith, later, two))
+
+-- an equal text is due as well
+due_as : (due same : List ℕ) (before after : Moment) (reply : List ℕ) → due ≡ same → IsDueOrFault due before after reply → IsDueOrFault same before after reply
+due_as due same before after reply are = subst (λ (text : List ℕ). IsDueOrFault text before after reply) are
+
 module _ (functions : List ℕ → Functions) (honest : List ℕ → Type 0) (languages : List (List ℕ × List ℕ)) where
   -- ---- refusals
 
-  -- the only one that is met where no two faults are counted and the path is honest is a complaint
-  only_complaint : (name : ViewQuery) (job : Job) (before after : Moment) (added : List Call) (refusal : Refusal) → honest job.path → (RoseBy 2 before.faults after.faults → ⊥)
-      → IsMet functions honest name job before after added refusal → refusal ≡ CompilationError (design_id name.design)
-  only_complaint name job before after added (CompilationError id) is_honest calm met = ap (λ (i : List ℕ). CompilationError i) met.0
-  only_complaint name job before after added ServerFault is_honest calm met = absurd (calm met)
-  only_complaint name job before after added (ServerReply line) is_honest calm met = absurd (met.1 is_honest)
-  only_complaint name job before after added other is_honest calm met = absurd met
+  -- one that is met on an honest path is a complaint, or it is a fault of the servers and two were counted
+  complaint_or_fault : (name : ViewQuery) (job : Job) (before after : Moment) (added : List Call) (refusal : Refusal) → honest job.path → IsMet functions honest name job before after added refusal
+      → (refusal ≡ CompilationError (design_id name.design)) ⊎ ((refusal ≡ ServerFault) × RoseBy 2 before.faults after.faults)
+  complaint_or_fault name job before after added (CompilationError id) is_honest met = inl (ap (λ (i : List ℕ). CompilationError i) met.0)
+  complaint_or_fault name job before after added ServerFault is_honest met = inr (refl, met)
+  complaint_or_fault name job before after added (ServerReply line) is_honest met = absurd (met.1 is_honest)
+  complaint_or_fault name job before after added other is_honest met = absurd met
 
-  -- so a refusal as values are asked for is one, and what a complaint means holds
-  complains : (name : ViewQuery) (path : List ℕ) (reduces : List (List ℕ)) (Complaint : Type 0) (before after : Moment) (reply : List ℕ) → honest path → (RoseBy 2 before.faults after.faults → ⊥)
-      → CalledReducing path reduces before after (IsRefusedReducing functions honest name path reduces Complaint before after reply) → (reply ≡ refusal_text (CompilationError (design_id name.design))) × Complaint
-  complains name path reduces Complaint before after reply is_honest calm called =
+  -- so where one is met as values are asked for, a complaint is printed, and what that means holds; or the reply names a fault
+  complains : (name : ViewQuery) (path : List ℕ) (reduces : List (List ℕ)) (Complaint : Type 0) (before after : Moment) (reply : List ℕ) → honest path
+      → CalledReducing path reduces before after (IsRefusedReducing functions honest name path reduces Complaint before after reply)
+      → ((reply ≡ refusal_text (CompilationError (design_id name.design))) × Complaint) ⊎ NamesFault before after reply
+  complains name path reduces Complaint before after reply is_honest called =
       let refused = called.holds in
-      let is : refused.refusal ≡ CompilationError (design_id name.design) = only_complaint name (reduce_job path reduces) before after called.added refused.refusal is_honest calm refused.met in
-      (refused.prints ∙ ap refusal_text is, refused.complaint (design_id name.design) is)
+      elim (complaint_or_fault name (reduce_job path reduces) before after called.added refused.refusal is_honest refused.met) [
+        | inl is ↦ inl (refused.prints ∙ ap refusal_text is, refused.complaint (design_id name.design) is)
+        | inr fault ↦ inr (refused.prints ∙ ap refusal_text fault.0, fault.1)
+      ]
 
   -- ---- answers
 
@@ -93,7 +111,7 @@ module _ (functions : List ℕ → Functions) (honest : List ℕ → Type 0) (la
 
   -- ---- a view that is brought up to date
 
-  module _ (before after : Moment) (name : ViewQuery) (reply : List ℕ) (calm : RoseBy 2 before.faults after.faults → ⊥) (does : DoesUpdatedView functions honest languages before name reply after) where
+  module _ (before after : Moment) (name : ViewQuery) (reply : List ℕ) (does : DoesUpdatedView functions honest languages before name reply after) where
     abbrev design : Json
     design = does.design
 
@@ -108,29 +126,29 @@ module _ (functions : List ℕ → Functions) (honest : List ℕ → Type 0) (la
     either complaint = if complaint then refusal_text (CompilationError (design_id name.design)) else named_answer (functions path) (views_of design) name does.source world.history
 
     abbrev Fresh : Type 0
-    Fresh = reply ≡ fresh_reply (functions path) (views_of design) name does.source world.history
+    Fresh = IsDueOrFault (fresh_reply (functions path) (views_of design) name does.source world.history) before after reply
 
     complained : reply ≡ refusal_text (CompilationError (design_id name.design)) → spoiled (functions path) (views_of design) world.history ≡ true → Fresh
-    complained prints is = prints ∙ ap either (sym is)
+    complained prints is = inl (prints ∙ ap either (sym is))
 
     answered : reply ≡ named_answer (functions path) (views_of design) name does.source world.history → spoiled (functions path) (views_of design) world.history ≡ false → Fresh
-    answered prints is = prints ∙ ap either (sym is)
-
-    -- two faults from a moment between are two from the first
-    calm_since : (between : Moment) → before.faults ≤ between.faults → RoseBy 2 between.faults after.faults → ⊥
-    calm_since between later two = calm (omega (arith, later, two))
+    answered prints is = inl (prints ∙ ap either (sym is))
 
     module _ (is_honest : honest path) (sound : IsSound functions honest languages world) (fit : AreFit world.history) where
       while_mapping : Called does.job before after (IsRefused functions honest languages name design does.job before after reply) → Fresh
       while_mapping called =
           let refused = called.holds in
-          let is : refused.refusal ≡ CompilationError (design_id name.design) = only_complaint name does.job before after called.added refused.refusal is_honest calm refused.met in
-          complained (refused.prints ∙ ap refusal_text is) (refused.spoils (design_id name.design) is is_honest sound fit)
+          elim (complaint_or_fault name does.job before after called.added refused.refusal is_honest refused.met) [
+            | inl is ↦ complained (refused.prints ∙ ap refusal_text is) (refused.spoils (design_id name.design) is is_honest sound fit)
+            | inr fault ↦ inr (refused.prints ∙ ap refusal_text fault.0, fault.1)
+          ]
 
       tried : (mapped : Moment) → before.faults ≤ mapped.faults → IsRefusedTrying functions honest languages name design path world mapped after reply → Fresh
       tried mapped later refused =
-          let both = complains name path (sources_tried design world refused.next) (IsRightly functions honest languages design path world) mapped after reply is_honest (calm_since mapped later) refused.called in
-          complained both.0 (both.1 is_honest sound fit)
+          elim (complains name path (sources_tried design world refused.next) (IsRightly functions honest languages design path world) mapped after reply is_honest refused.called) [
+            | inl both ↦ complained both.0 (both.1 is_honest sound fit)
+            | inr names ↦ inr (fault_since before mapped after reply later names)
+          ]
 
       shown : IsBrought functions honest languages design path world after.world → PrintsRows functions honest languages name design path does.source world after.world reply → Fresh
       shown brought prints =
@@ -148,7 +166,11 @@ module _ (functions : List ℕ → Functions) (honest : List ℕ → Type 0) (la
           let still : before.faults ≤ (up.between).faults = omega (arith, later, (up.tried).later) in
           elim up.answered [
             | inl both ↦ shown up.brought both.1
-            | inr called ↦ absurd ((complains name path (own_reduces name design after.world) (IsNever functions honest languages path world) up.between after reply is_honest (calm_since up.between still) called).1 is_honest sound fit)
+            | inr called ↦
+                elim (complains name path (own_reduces name design after.world) (IsNever functions honest languages path world) up.between after reply is_honest called) [
+                  | inl both ↦ absurd (both.1 is_honest sound fit)
+                  | inr names ↦ inr (fault_since before up.between after reply still names)
+                ]
           ]
 
       mapped_then : IsMappedThen functions honest languages name design does.job does.source before after reply → Fresh
@@ -167,18 +189,23 @@ module _ (functions : List ℕ → Functions) (honest : List ℕ → Type 0) (la
 
   -- ---- a view that is read as it stands
 
-  kept_fresh : (before after : Moment) (name : ViewQuery) (reply : List ℕ) → (RoseBy 2 before.faults after.faults → ⊥) → (does : DoesKeptView functions honest languages before name reply after)
+  kept_fresh : (before after : Moment) (name : ViewQuery) (reply : List ℕ) (does : DoesKeptView functions honest languages before name reply after)
       → honest does.path → IsSound functions honest languages before.world → AreFit before.world.history
-      → reply ≡ named_answer (functions does.path) (views_of does.design) name does.source (first (picture_in before.world does.design).seq before.world.history)
-  kept_fresh before after name reply calm does is_honest sound fit =
+      → IsDueOrFault (named_answer (functions does.path) (views_of does.design) name does.source (first (picture_in before.world does.design).seq before.world.history)) before after reply
+  kept_fresh before after name reply does is_honest sound fit =
       let world : World = before.world in
       let within : (picture_in world does.design).seq ≤ length world.history = seq_within world does.design (λ sig picture is. (sound fit).within sig picture is) in
       elim does.answered [
         | inl both ↦
-            printed name does.design does.path does.source world after.world reply is_honest sound fit
+            inl
+            (printed name does.design does.path does.source world after.world reply is_honest sound fit
             (subst (λ (w : World). (picture_in w does.design).seq ≤ length world.history) (sym does.same) within) both.1
-            ∙ ap (λ (w : World). named_answer (functions does.path) (views_of does.design) name does.source (first (picture_in w does.design).seq world.history)) does.same
-        | inr called ↦ absurd ((complains name does.path (own_reduces name does.design after.world) (IsNever functions honest languages does.path world) before after reply is_honest calm called).1 is_honest sound fit)
+            ∙ ap (λ (w : World). named_answer (functions does.path) (views_of does.design) name does.source (first (picture_in w does.design).seq world.history)) does.same)
+        | inr called ↦
+            elim (complains name does.path (own_reduces name does.design after.world) (IsNever functions honest languages does.path world) before after reply is_honest called) [
+              | inl both ↦ absurd (both.1 is_honest sound fit)
+              | inr names ↦ inr names
+            ]
       ]
 
   -- ---- either
@@ -191,23 +218,46 @@ module _ (functions : List ℕ → Functions) (honest : List ℕ → Type 0) (la
       else named_answer (functions path) (views_of design) name source (first (picture_in before.world design).seq before.world.history)
 
   -- the view that is answered is the one that is asked for
-  of_own : (world : World) (name : ViewQuery) (reply : List ℕ) (design : Json) (path source : List ℕ) → IsHonestView functions honest languages world name design path source
-      → (own : Json) (own_path own_source : List ℕ) → live_document world.history (design_id name.design) ≡ Some own → source_of name.view own ≡ Some own_source
-      → path_in languages (language_of own) ≡ Some own_path → (honest own_path → reply ≡ due_reply (functions own_path) world name own own_source)
-      → reply ≡ due_reply (functions path) world name design source
-  of_own world name reply design path source view own own_path own_source live source_is path_is due =
+  of_own : (before after : Moment) (name : ViewQuery) (reply : List ℕ) (design : Json) (path source : List ℕ) → IsHonestViewOfSound functions honest languages before.world name design path source
+      → (own : Json) (own_path own_source : List ℕ) → live_document before.world.history (design_id name.design) ≡ Some own → source_of name.view own ≡ Some own_source
+      → path_in languages (language_of own) ≡ Some own_path → (honest own_path → IsDueOrFault (due_reply (functions own_path) before.world name own own_source) before after reply)
+      → IsDueOrFault (due_reply (functions path) before.world name design source) before after reply
+  of_own before after name reply design path source view own own_path own_source live source_is path_is due =
+      let world : World = before.world in
       let same : own ≡ design = unsome _ _ (sym live ∙ view.live) in
       let same_path : own_path ≡ path = unsome _ _ (sym path_is ∙ ap (λ (d : Json). path_in languages (language_of d)) same ∙ view.path_is) in
       let same_source : own_source ≡ source = unsome _ _ (sym source_is ∙ ap (λ (d : Json). source_of name.view d) same ∙ view.source_is) in
-      due (subst honest (sym same_path) view.is_honest)
-      ∙ ap (λ (p : List ℕ). due_reply (functions p) world name own own_source) same_path
+      due_as (due_reply (functions own_path) world name own own_source) (due_reply (functions path) world name design source) before after reply
+      (ap (λ (p : List ℕ). due_reply (functions p) world name own own_source) same_path
       ∙ ap (λ (d : Json). due_reply (functions path) world name d own_source) same
-      ∙ ap (λ (s : List ℕ). due_reply (functions path) world name design s) same_source
+      ∙ ap (λ (s : List ℕ). due_reply (functions path) world name design s) same_source)
+      (due (subst honest (sym same_path) view.is_honest))
 
   pub replies_are_fresh : RepliesAreFresh functions honest languages
-  replies_are_fresh before after name reply (inl does) calm design path source view =
-      of_own before.world name reply design path source view does.design (does.job).path does.source (does.is_job).live (does.is_job).source_is (does.is_job).path_is
-      (λ is_honest. updated_fresh before after name reply calm does is_honest view.sound view.fit ∙ ap (chosen before name does.design (does.job).path does.source) (sym does.updates))
-  replies_are_fresh before after name reply (inr does) calm design path source view =
-      of_own before.world name reply design path source view does.design does.path does.source does.live does.source_is does.path_is
-      (λ is_honest. kept_fresh before after name reply calm does is_honest view.sound view.fit ∙ ap (chosen before name does.design does.path does.source) (sym does.keeps))
+  replies_are_fresh before after name reply (inl does) design path source view =
+      let own : Bool → List ℕ = chosen before name does.design (does.job).path does.source in
+      of_own before after name reply design path source view does.design (does.job).path does.source (does.is_job).live (does.is_job).source_is (does.is_job).path_is
+      (λ is_honest. due_as (own true) (own (is_updated (parameters_of name))) before after reply (ap own (sym does.updates)) (updated_fresh before after name reply does is_honest view.sound view.fit))
+  replies_are_fresh before after name reply (inr does) design path source view =
+      let own : Bool → List ℕ = chosen before name does.design does.path does.source in
+      of_own before after name reply design path source view does.design does.path does.source does.live does.source_is does.path_is
+      (λ is_honest. due_as (own false) (own (is_updated (parameters_of name))) before after reply (ap own (sym does.keeps)) (kept_fresh before after name reply does is_honest view.sound view.fit))
+
+  -- ---- a line of a run
+
+  fresh_text : (before after : Moment) (exchange : Exchange) (name : ViewQuery) → DoesRequestText functions honest languages before (Ok (view_request name)) exchange.text after → (design : Json) (path source : List ℕ)
+      → IsHonestViewOfSound functions honest languages before.world name design path source
+      → (exchange.text ≡ ended (refusal_text NoMemory)) ⊎ IsRefusedWith functions honest languages before.world name exchange.text
+      ⊎ ((reply : List ℕ) × (exchange.text ≡ ended reply) × IsDueOrFault (due_reply (functions path) before.world name design source) before after reply)
+  fresh_text before after exchange name (reply, inl does, is) stored found source view = inr (inr (reply, is, replies_are_fresh before after name reply does stored found source view))
+  fresh_text before after exchange name (reply, inr (refusal, refused, told), is) stored found source view = inr (inl (refusal, refused, is ∙ ap ended told.0))
+
+  pub steps_are_fresh : StepsAreFresh functions honest languages
+  steps_are_fresh before after exchange (inr gives_up) name some is stored found source view = inl gives_up.1
+  steps_are_fresh before after exchange (inl does) name some is stored found source view =
+      fresh_text before after exchange name
+      (subst (λ (r : Result Request Refusal). DoesRequestText functions honest languages before r exchange.text after) is (does_line before exchange.line exchange.text after some does)) stored found source view
+    where
+      does_line : (before : Moment) (line text : List ℕ) (after : Moment) → line ≢ [] → Does functions honest languages before line text after → DoesRequestText functions honest languages before (request_of line) text after
+      does_line before [] text after some does = absurd (some refl)
+      does_line before (byte ∷ bytes) text after some does = does

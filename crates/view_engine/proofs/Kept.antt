@@ -1,5 +1,5 @@
 -- A view whose index is read as it stands: it is opened where it isn't open, and nothing else is done.
-use Rattle.std.specs.Prelude.{◌≡◌, ◌≢◌, ◌<◌, ◌≤◌, ℕ, List, [], Bool, true, false, length, Some, Result, Ok, Err, All, slice_get, slice_index_or}
+use Rattle.std.specs.Prelude.{◌≡◌, ◌≢◌, ◌<◌, ◌≤◌, ℕ, List, [], Bool, true, false, length, None, Some, Result, Ok, Err, All, slice_get, slice_index_or}
 use Rattle.std.specs.List.{AllByRecursion}
 use Rattle.std.proofs.Common.{refl, sym, ap, ◌∙◌, subst, inl, inr, ⊎_elim, arith}
 use Rattle.std.proofs.lemmas.List.{length-map}
@@ -65,7 +65,7 @@ use Rattle.view_engine.specs.Refusals.{refusal_text}
 use Rattle.view_engine.specs.Calls.{scene, AppendsText, LeavesMoment, Performed, Scene, StandsAt, Stays}
 use Rattle.view_engine.specs.Disks.{IsAskedFor, IsReasonOf, LiesOpen, MovesIndexOf}
 use Rattle.view_engine.specs.declared.refusal.Refusal.TheVariants.{ServerFault}
-use Rattle.view_engine.specs.InMemory.{IsLiveIn}
+use Rattle.view_engine.specs.InMemory.{IsLiveIn, IsSaidByDesign}
 use Rattle.view_engine.specs.Moments.{CalledReducing, Moment}
 use Rattle.view_engine.specs.Reducing.{Reduced, ReducedSomehow}
 use Rattle.view_engine.specs.Steps.{AskedBy, DoesRequest, DoesRequestText, MayHaveCalled}
@@ -88,7 +88,7 @@ use Rattle.view_engine.proofs.Reduced.{all_had, complains_of_reduce, memory_alon
 use Rattle.view_engine.proofs.ServerFaults.{pool_server_fault}
 use Rattle.view_engine.proofs.Updated.{fails_of_own, rows_at_place, spoiled_by_reduce, true_before}
 use Rattle.view_engine.proofs.Viewed.{planned_picture}
-use Rattle.view_engine.proofs.Viewing.{does_halted, viewed, Halts, LeavesStopped}
+use Rattle.view_engine.proofs.Viewing.{does_halted, leaves_pool, viewed, Halts, LeavesStopped}
 use Rattle.view_engine.proofs.Whole.{leaves_none, world_none}
 
 -- what holds of each holds of the one in a place
@@ -103,7 +103,7 @@ module _ {F C : Type 0} (f : Folders F) (s : Servers C) (docs : Docs) (pool : Po
     (read : Tells (f.disk old) (f.disk mid) MovesNone) (earlier : f.faults old ≤ f.faults mid)
     (plans : (history : List Write) → IfTold (f.disk old) (λ d. AreAt docs d.now history → IsPlan false (languages_of pool) history name id design place path))
     (is_open : LiesOpen f (record { docs = docs; pool = pool; groups = groups }) old) (asked : IfTold (f.disk old) (λ d. (document : Json) × IsAskedFor docs d.now name document × IsDesignOf document design))
-    (named : id ≡ design_id name.design) (live : IsLiveIn docs (design_id name.design)) where
+    (named : id ≡ design_id name.design) (live : IsLiveIn docs (design_id name.design)) (taken : IsSaidByDesign f docs (languages_of pool) old name None) where
   abbrev engine : Engine
   engine = record { docs = docs; pool = pool; groups = groups }
 
@@ -191,7 +191,7 @@ module _ {F C : Type 0} (f : Folders F) (s : Servers C) (docs : Docs) (pool : Po
   failed opens =
       viewed f s now later name
       (does_halted f s now later name out out (Stopped DiskFault) (λ goes. absurd goes) (stopped (index.Store gate.DiskFault) opens DiskFault (λ is. cc)))
-      tt refl (λ is. absurd (let clash : ⊥ = cc in clash)) (follows_unasked docs old new name out out (Stopped DiskFault) (λ r is. absurd (let clash : ⊥ = cc in clash))) (moves_of opens) (λ goes. opened_open (index.Store gate.DiskFault) opens) (λ before at file limit is. absurd (let clash : ⊥ = cc in clash))
+      tt refl (λ is. absurd (let clash : ⊥ = cc in clash)) (follows_unasked f docs old new name out out (Stopped DiskFault) (λ r is. absurd (let clash : ⊥ = cc in clash)) (λ fault is other. live)) tt (λ r is. absurd (let clash : ⊥ = cc in clash)) (moves_of opens) (λ goes. opened_open (index.Store gate.DiskFault) opens) (λ before at file limit is. absurd (let clash : ⊥ = cc in clash))
       (inl (let rises = opens.cause.failed refl in omega (arith, earlier, rises), tt))
       (stays (index.Store gate.DiskFault) opens)
 
@@ -199,7 +199,7 @@ module _ {F C : Type 0} (f : Folders F) (s : Servers C) (docs : Docs) (pool : Po
   damaged n k opens =
       viewed f s now later name
       (does_halted f s now later name out out (Stopped (Damaged n k)) (λ goes. absurd goes) (stopped (index.Store (gate.Damaged n k)) opens (Damaged n k) (λ is. cc)))
-      tt refl (λ is. absurd (let clash : ⊥ = cc in clash)) (follows_unasked docs old new name out out (Stopped (Damaged n k)) (λ r is. absurd (let clash : ⊥ = cc in clash))) (moves_of opens) (λ goes. opened_open (index.Store (gate.Damaged n k)) opens) (λ before at file limit is. absurd (let clash : ⊥ = cc in clash))
+      tt refl (λ is. absurd (let clash : ⊥ = cc in clash)) (follows_unasked f docs old new name out out (Stopped (Damaged n k)) (λ r is. absurd (let clash : ⊥ = cc in clash)) (λ fault is other. live)) tt (λ r is. absurd (let clash : ⊥ = cc in clash)) (moves_of opens) (λ goes. opened_open (index.Store (gate.Damaged n k)) opens) (λ before at file limit is. absurd (let clash : ⊥ = cc in clash))
       (inr (
         tt,
         damaged_there f s docs pool pool groups groups' old mid new servers servers name id design place path false keeps read earlier plans is_open asked n k
@@ -216,7 +216,7 @@ module _ {F C : Type 0} (f : Folders F) (s : Servers C) (docs : Docs) (pool : Po
       (λ goes before at. left_before (Err index.NoMemory) opens before at (Halts f s now later name before (Stopped NoMemory)) (λ d ends. ends)
       (told_all (f.disk old) _ (λ d. (λ r same. absurd (let clash : ⊥ = cc in clash), none_called s.functions s.honest (languages_of pool) before (Ok (view_request name))))))
       (λ step is other. absurd (other (let same : step ≡ NoMemory = cc in same))))
-      tt refl (λ is. absurd (let clash : ⊥ = cc in clash)) (follows_unasked docs old new name out out (Stopped NoMemory) (λ r is. absurd (let clash : ⊥ = cc in clash))) (moves_of opens) (λ goes. opened_open index.NoMemory opens) (λ before at file limit is. absurd (let clash : ⊥ = cc in clash))
+      tt refl (λ is. absurd (let clash : ⊥ = cc in clash)) (follows_unasked f docs old new name out out (Stopped NoMemory) (λ r is. absurd (let clash : ⊥ = cc in clash)) (λ fault is other. live)) tt (λ r is. absurd (let clash : ⊥ = cc in clash)) (moves_of opens) (λ goes. opened_open index.NoMemory opens) (λ before at file limit is. absurd (let clash : ⊥ = cc in clash))
       (inl tt)
       (stays index.NoMemory opens)
 
@@ -233,7 +233,7 @@ module _ {F C : Type 0} (f : Folders F) (s : Servers C) (docs : Docs) (pool : Po
   kept_idle fault want same_groups same_folder =
       let is : fault ≡ index.NoMemory = cc in
       let at_once : Performed f s now (scene engine mid servers) (Ok (view_request name)) out out (Err (Stopped NoMemory)) =
-      refused_first f s docs pool groups old mid servers name out {T = Unit {0}} (Stopped NoMemory) is_open (λ is. let clash : ⊥ = cc in clash) (λ r is. absurd (let clash : ⊥ = cc in clash)) (record { disk = read; why = tt; later = earlier })
+      refused_first f s docs pool groups old mid servers name out {T = Unit {0}} (Stopped NoMemory) is_open (λ is. let clash : ⊥ = cc in clash) (λ r is. absurd (let clash : ⊥ = cc in clash)) (λ step is other. live) (λ r is. absurd (let clash : ⊥ = cc in clash)) (record { disk = read; why = tt; later = earlier })
       (λ before at. unasked s.functions s.honest (languages_of pool) before name (Stopped NoMemory) (f.disk old) (f.disk mid) (s.may_follow servers) (s.faults servers) engine at read
       (told_all (f.disk old) _ (λ d r met. let clash : ⊥ = cc in absurd clash))) in
       subst (λ (e : IndexFault). Performed f s now later (Ok (view_request name)) out out (Err (met_by id (by_index e)))) (sym is)
@@ -444,7 +444,7 @@ module _ {F C : Type 0} (f : Folders F) (s : Servers C) (docs : Docs) (pool : Po
         viewed f s now last name
         (λ before at. shown_leaves before at out' (answers, all))
         (record { reply = answers.reply; line = answers.line; appended = answers.appended; unlike = λ other. answers.unlike }) tt (λ is. let clash : ⊥ = cc in absurd clash)
-        (follows_view docs old new name out out' live answers.reply answers.appended)
+        (follows_view f docs old new name out out' live answers.reply answers.appended) taken (λ r is. absurd (let clash : ⊥ = cc in clash))
         (moves_of opens) (λ goes. kept_open) (λ before at file limit is. absurd (let clash : ⊥ = cc in clash)) tt (kept_stays all.keeps all.later)
 
     met_then : {out' : List ℕ} (fault : PoolFault) → HasMet s servers servers'' pool pool'' design place query (picture_of found) fault → out' ≡ out → Performed f s now last (Ok (view_request name)) out out' (Err (met_by_pool id fault))
@@ -457,7 +457,8 @@ module _ {F C : Type 0} (f : Folders F) (s : Servers C) (docs : Docs) (pool : Po
         tt silent
         (λ is. ⊎_elim (λ fails. fails.twice (pool_server_fault id fault (let same : met_by_pool id fault ≡ Refused ServerFault = cc in same)))
         (λ spent. absurd (never_refused id fault ServerFault spent.0 (let same : met_by_pool id fault ≡ Refused ServerFault = cc in same))) met)
-        (follows_asked docs old new name out out' id named live (met_by_pool id fault) (pool_of_view id fault))
+        (follows_asked f docs old new name out out' id named live (met_by_pool id fault) (pool_of_view id fault)) tt
+        (λ r is. leaves_pool f s now last name taken id fault r (let same : met_by_pool id fault ≡ Refused r = cc in same))
         (moves_of opens) (λ goes. kept_open)
         (λ before at file limit is. absurd (let full : met_by_pool id fault ≡ Stopped (Full file limit) = cc in let spent : Full file limit ≡ NoMemory = stops_for_memory id fault (Full file limit) full in cc))
         (memory_alone (IsReasonOf f engine old new (Ok (view_request name))) (inl tt) id fault)

@@ -1,5 +1,5 @@
 -- No step lowers the count of the servers' faults.
-use Rattle.std.proofs.Common.{◌≡◌, ◌≤◌, ℕ, List, [], ◌∷◌, Bool, true, false, Result, Ok, Err, inl, inr, ap, refl, arith, subst}
+use Rattle.std.proofs.Common.{◌≡◌, ◌≤◌, ℕ, List, [], ◌∷◌, Bool, true, false, Result, Ok, Err, inl, inr, ap, arith}
 use Rattle.view_ports.specs.Exchanges.{Exchange, LeadsTo}
 use Rattle.view_ports.specs.Functions.{Functions}
 use Rattle.json_terms.specs.Json.{Json}

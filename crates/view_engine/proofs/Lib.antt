@@ -21,6 +21,9 @@ pub mod Performing
 pub mod Between
 pub mod Slots
 pub mod Cleared
+pub mod Sparing
+pub mod StayOpen
+pub mod Stages
 pub mod Stepping
 pub mod AcceptedWrites
 pub mod Worlds

@@ -1,8 +1,8 @@
 -- The last writes are listed, or a fault says why not.
 use Rattle.std.specs.Prelude.{min}
-use Rattle.std.proofs.Common.{◌≡◌, ◌⊎◌, ◌<◌, ◌≤◌, ◌∙◌, ℕ, List, length, map, take, Option, Result, Err, IfErr, IfOk, Ok, inl, inr, refl, sym, ap, subst, arith}
+use Rattle.std.proofs.Common.{◌≡◌, ◌<◌, ◌∙◌, ℕ, List, length, map, take, Result, Err, inr, sym, ap, subst, arith}
 use Rattle.std.proofs.lemmas.List.{length-map, length-take, take_all}
-use Rattle.view_ports.specs.Causes.{HasCauseIf}
+use Rattle.view_ports.specs.Causes.{CountsFor}
 use Rattle.view_ports.specs.Disk.{IfTold}
 use Rattle.view_ports.specs.File.{File}
 use Rattle.view_ports.specs.declared.file_name.FileName.{FileName}
@@ -11,20 +11,18 @@ use Rattle.view_ports.proofs.Told.{told_now, told_pair}
 use Rattle.gate_file.specs.GateFile.{name_of}
 use Rattle.gate_file.specs.declared.fault.GateFault.TheVariants as gate
 use Rattle.doc_file.specs.declared.docs.Docs.{Docs}
-use Rattle.doc_file.specs.declared.docs.changes.Change.{Change}
 use Rattle.doc_file.specs.declared.fault.DocFault.{DocFault}
 use Rattle.doc_file.specs.declared.fault.DocFault.TheVariants as doc
-use Rattle.doc_file.specs.Changes.{numbered, IsSpoiledAfter}
-use Rattle.doc_file.specs.Docs.{bytes_in, file_of, is_deleted, last_of, IsAt as AreAt, IsLoaded, IsOpen as AreOpen, IsSpoiled}
+use Rattle.doc_file.specs.Changes.{IsSpoiledAfter}
+use Rattle.doc_file.specs.Docs.{bytes_in, file_of, is_deleted, IsAt as AreAt, IsLoaded, IsOpen as AreOpen, IsSpoiled}
 use Rattle.design_docs.specs.History.{Write}
 use Rattle.doc_file.specs.Reads.{FindsDamage, FindsNoDamage, IsReadFault}
 use Rattle.view_engine.specs.declared.halt.Halt.{Halt}
 use Rattle.view_engine.specs.declared.halt.Halt.TheVariants.{Refused, Stopped}
 use Rattle.view_engine.specs.declared.halt.StepFault.{StepFault}
-use Rattle.view_engine.specs.declared.halt.StepFault.TheVariants.{Damaged, NoMemory}
+use Rattle.view_engine.specs.declared.halt.StepFault.TheVariants.{NoMemory}
 use Rattle.view_engine.specs.Disks.{IfStopped, IsReadReason}
 use Rattle.view_engine.specs.Halts.{fault_of, halted_as, IsDamage}
-use Rattle.view_engine.specs.World.{World}
 use Rattle.view_engine.proofs.OnDisk.{read_reason}
 use Rattle.view_engine.proofs.Reading.{not_full_get}
 
@@ -53,7 +51,7 @@ abbrev failed : (T : Type 0) → DocFault → Result T DocFault
 failed T fault = Err fault
 
 module _ {F : Type 0} (T : Type 0) (f : Folders F) (docs : Docs) (old new : F) (is_open : IfTold (f.disk old) (λ d. AreOpen docs d.now)) where
-  pub why_unlisted : (fault : DocFault) → HasCauseIf (λ e. e ≡ doc.Gate gate.DiskFault) (f.faults old) (f.faults new) (failed T fault)
+  pub why_unlisted : (fault : DocFault) → CountsFor (doc.Gate gate.DiskFault) (f.faults old) (f.faults new) (failed T fault)
       → IfTold (f.disk old) (λ d. IsLoaded docs d.now → FindsDamage (λ name at. (name ≡ name_of (file_of docs)) × IsSpoiledAfter docs (bytes_in docs d.now) 0 at) (failed T fault))
       → ((history : List Write) → IfTold (f.disk old) (λ d. AreAt docs d.now history → FindsNoDamage (failed T fault)))
       → IsReadFault fault → IsReadReason f docs old new (fault_of (halted_as fault))

@@ -14,6 +14,7 @@ use Rattle.json_terms.specs.declared.term.Chars.{Chars}
 use Rattle.json_terms.specs.declared.term.Members.{Members}
 use Rattle.view_engine.specs.declared.refusal.Refusal.{Refusal}
 use Rattle.view_engine.specs.declared.refusal.Refusal.TheVariants.{NotBuiltYet}
+use Rattle.view_engine.specs.Disks.{IsView}
 use Rattle.view_engine.specs.Engine.{Leaves}
 use Rattle.view_engine.specs.InMemory.{IsRefusedBy}
 use Rattle.view_engine.specs.Moments.{Moment}
@@ -46,6 +47,11 @@ module _ (functions : List ℕ → Functions) (honest : List ℕ → Type 0) (la
   unbuilt world Cleanup no_put no_delete no_get no_info no_cleanup no_view = absurd (no_cleanup refl)
   unbuilt world (View view query) no_put no_delete no_get no_info no_cleanup no_view = absurd (no_view view query refl)
   unbuilt world other no_put no_delete no_get no_info no_cleanup no_view = refl
+
+-- what is no view is none
+pub no_view : (request : Request) → ((view : ViewName) (query : Option Members) → request ≡ View view query → ⊥) → IsView (Ok request) → ⊥
+no_view (View view query) other is = other view query refl
+no_view request other is = is
 
 -- and so it is by the documents in memory
 pub unbuilt_by : (docs : Docs) (request : Request) → ((document : Members) → request ≡ Put document → ⊥) → ((id : Chars) (rev : Option Chars) → request ≡ Delete id rev → ⊥)

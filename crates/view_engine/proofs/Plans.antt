@@ -23,6 +23,7 @@ use Rattle.view_engine.specs.declared.refusal.Refusal.{Refusal}
 use Rattle.view_engine.specs.declared.refusal.Refusal.TheVariants.{BadQuery, MissingNamedView, UnknownLanguage}
 use Rattle.view_engine.specs.World.{World, of_history}
 use Rattle.view_engine.specs.Get.{get_refusal, not_live}
+use Rattle.view_engine.specs.InMemory.{own_refusal}
 use Rattle.view_engine.specs.Refusals.{first_of}
 use Rattle.query_args.specs.declared.fault.QueryFault.{QueryFault}
 use Rattle.query_args.specs.declared.fault.QueryFault.TheVariants as query
@@ -47,6 +48,46 @@ not_refused : (write : Option Write) (rev : List ℕ) (document : Json) → opti
 not_refused None rev document is = let clash : ⊥ = cc in absurd clash
 not_refused (Some write) rev document is = rw is refl
 
+-- ---- as the design document says
+
+module _ (languages : List (List ℕ × List ℕ)) (name : ViewQuery) (document : Json) (design : Design) (has : HasDesign document) (of : IsDesignOf document design) where
+  abbrev Own : Option Refusal
+  Own = own_refusal languages name document
+
+  named : lookup (λ key. bytes_eq key name.view) (map entry_of design.views) ≡ source_of name.view document
+  named = ap (λ (views : List View). lookup (λ key. bytes_eq key name.view) (map entry_of views)) of.1 ∙ has_views_of_names document has name.view
+
+  pub own_view : None ≡ lookup (λ key. bytes_eq key name.view) (map entry_of design.views) → Own ≡ Some MissingNamedView
+  own_view none = ap (λ (s : Option (List ℕ)). first_of (no_view s ∷ bad_query name (Some document) ∷ no_path (language_of document) (path_in languages (language_of document)) ∷ [])) (sym (none ∙ named))
+
+  module _ (place : ℕ) (there : Some (source_at design.views place) ≡ lookup (λ key. bytes_eq key name.view) (map entry_of design.views)) where
+    own_source : source_of name.view document ≡ Some (source_at design.views place)
+    own_source = sym (there ∙ named)
+
+    own_viewed : Own ≡ first_of (bad_query name (Some document) ∷ no_path (language_of document) (path_in languages (language_of document)) ∷ [])
+    own_viewed = ap (λ (s : Option (List ℕ)). first_of (no_view s ∷ bad_query name (Some document) ∷ no_path (language_of document) (path_in languages (language_of document)) ∷ [])) own_source
+
+    -- the query is read for the view of the design that was read
+    own_fault : query_fault (target_for design.views name) (parameters_of name) ≡ query_fault (target_for (views_of document) name) (parameters_of name)
+    own_fault = ap (λ (views : List View). query_fault (target_for views name) (parameters_of name)) of.1
+
+    pub own_query : (refusal : Refusal) → option_map BadQuery (query_fault (target_for design.views name) (parameters_of name)) ≡ Some refusal → Own ≡ Some refusal
+    own_query refusal stands = own_viewed ∙ ap (λ (r : Option Refusal). first_of (r ∷ no_path (language_of document) (path_in languages (language_of document)) ∷ [])) (ap (option_map BadQuery) (sym own_fault) ∙ stands)
+
+    own_served : query_fault (target_for design.views name) (parameters_of name) ≡ None → Own ≡ first_of (no_path (language_of document) (path_in languages (language_of document)) ∷ [])
+    own_served fits = own_viewed ∙ ap (λ (f : Option QueryFault). first_of (option_map BadQuery f ∷ no_path (language_of document) (path_in languages (language_of document)) ∷ [])) (sym own_fault ∙ fits)
+
+    pub own_language : query_fault (target_for design.views name) (parameters_of name) ≡ None → None ≡ path_in languages design.language → Own ≡ Some (UnknownLanguage design.language)
+    own_language fits none =
+        own_served fits
+        ∙ ap (λ (l : List ℕ). first_of (no_path l (path_in languages l) ∷ [])) (sym of.0)
+        ∙ ap (λ (p : Option (List ℕ)). first_of (no_path design.language p ∷ [])) (sym none)
+
+    pub own_taken : query_fault (target_for design.views name) (parameters_of name) ≡ None → (path : List ℕ) → path_in languages design.language ≡ Some path → Own ≡ None
+    own_taken fits path known = own_served fits ∙ ap (λ (p : Option (List ℕ)). first_of (no_path (language_of document) p ∷ [])) (ap (path_in languages) (sym of.0) ∙ known)
+
+-- ---- over a history at which that is live
+
 module _ (languages : List (List ℕ × List ℕ)) (history : List Write) (name : ViewQuery) (id : List ℕ) (document : Json) (design : Design)
     (is : id ≡ design_id name.design) (live : live_document history id ≡ Some document) (has : HasDesign document) (of : IsDesignOf document design) where
   abbrev world : World
@@ -58,39 +99,23 @@ module _ (languages : List (List ℕ × List ℕ)) (history : List Write) (name 
   got : get_refusal world (design_id name.design) ≡ None
   got = not_refused (last_write history (design_id name.design)) _ document lives
 
-  refusals : view_refusal languages world name ≡ first_of (no_view (source_of name.view document) ∷ bad_query name (Some document) ∷ no_path (language_of document) (path_in languages (language_of document)) ∷ [])
+  refusals : view_refusal languages world name ≡ own_refusal languages name document
   refusals =
       ap (λ r. first_of (r ∷ no_view (option_and_then (source_of name.view) (live_document history (design_id name.design))) ∷ bad_query name (live_document history (design_id name.design)) ∷ no_language languages (live_document history (design_id name.design)) ∷ [])) got
       ∙ ap (λ (l : Option Json). first_of (no_view (option_and_then (source_of name.view) l) ∷ bad_query name l ∷ no_language languages l ∷ [])) lives
 
-  named : lookup (λ key. bytes_eq key name.view) (map entry_of design.views) ≡ source_of name.view document
-  named = ap (λ (views : List View). lookup (λ key. bytes_eq key name.view) (map entry_of views)) of.1 ∙ has_views_of_names document has name.view
-
   pub refused_view : None ≡ lookup (λ key. bytes_eq key name.view) (map entry_of design.views) → view_refusal languages world name ≡ Some MissingNamedView
-  refused_view none = refusals ∙ ap (λ (s : Option (List ℕ)). first_of (no_view s ∷ bad_query name (Some document) ∷ no_path (language_of document) (path_in languages (language_of document)) ∷ [])) (sym (none ∙ named))
+  refused_view none = refusals ∙ own_view languages name document design has of none
 
   module _ (place : ℕ) (there : Some (source_at design.views place) ≡ lookup (λ key. bytes_eq key name.view) (map entry_of design.views)) where
-    source : source_of name.view document ≡ Some (source_at design.views place)
-    source = sym (there ∙ named)
-
-    viewed : view_refusal languages world name ≡ first_of (bad_query name (Some document) ∷ no_path (language_of document) (path_in languages (language_of document)) ∷ [])
-    viewed = refusals ∙ ap (λ (s : Option (List ℕ)). first_of (no_view s ∷ bad_query name (Some document) ∷ no_path (language_of document) (path_in languages (language_of document)) ∷ [])) source
-
-    -- the query is read for the view of the design that was read
-    own_query : query_fault (target_for design.views name) (parameters_of name) ≡ query_fault (target_for (views_of document) name) (parameters_of name)
-    own_query = ap (λ (views : List View). query_fault (target_for views name) (parameters_of name)) of.1
-
     pub refused_query : (refusal : Refusal) → option_map BadQuery (query_fault (target_for design.views name) (parameters_of name)) ≡ Some refusal → view_refusal languages world name ≡ Some refusal
-    refused_query refusal stands = viewed ∙ ap (λ (r : Option Refusal). first_of (r ∷ no_path (language_of document) (path_in languages (language_of document)) ∷ [])) (ap (option_map BadQuery) (sym own_query) ∙ stands)
+    refused_query refusal stands = refusals ∙ own_query languages name document design has of place there refusal stands
 
     served : query_fault (target_for design.views name) (parameters_of name) ≡ None → view_refusal languages world name ≡ first_of (no_path (language_of document) (path_in languages (language_of document)) ∷ [])
-    served fits = viewed ∙ ap (λ (f : Option QueryFault). first_of (option_map BadQuery f ∷ no_path (language_of document) (path_in languages (language_of document)) ∷ [])) (sym own_query ∙ fits)
+    served fits = refusals ∙ own_served languages name document design has of place there fits
 
     pub refused_language : query_fault (target_for design.views name) (parameters_of name) ≡ None → None ≡ path_in languages design.language → view_refusal languages world name ≡ Some (UnknownLanguage design.language)
-    refused_language fits none =
-        served fits
-        ∙ ap (λ (l : List ℕ). first_of (no_path l (path_in languages l) ∷ [])) (sym of.0)
-        ∙ ap (λ (p : Option (List ℕ)). first_of (no_path design.language p ∷ [])) (sym none)
+    refused_language fits none = refusals ∙ own_language languages name document design has of place there fits none
 
     pub planned : {updating : Bool} → is_updated (parameters_of name) ≡ updating → query_fault (target_for design.views name) (parameters_of name) ≡ None → ShowsRows design.views name.view place → HasReduce design.views name.view place → (path : List ℕ) → path_in languages design.language ≡ Some path
         → IsPlan updating languages history name id design place path
@@ -99,7 +124,7 @@ module _ (languages : List (List ℕ × List ℕ)) (history : List Write) (name 
         record {
           document = document;
           live = lives;
-          source_is = source;
+          source_is = own_source languages name document design has of place there;
           path_is = there_is;
           language = of.0;
           views = of.1;

@@ -2,7 +2,7 @@
 use Rattle.std.specs.Result.{IsErrAnd}
 use Rattle.std.proofs.Common.{◌≡◌, ◌≢◌, ◌≤◌, ◌⊎◌, ◌++◌, ℕ, List, true, false, Option, inl, inr, Result, Ok, Err, refl, sym, ap, ◌∙◌, subst}
 use Rattle.std.proofs.lemmas.Result.{err_from_is_err_and}
-use Rattle.view_ports.specs.Causes.{HasCauseIf}
+use Rattle.view_ports.specs.Causes.{CountsFor}
 use Rattle.view_ports.specs.Disk.{IfTold, MovesNone, Tells}
 use Rattle.view_ports.specs.declared.file_name.FileName.{FileName}
 use Rattle.gate_file.specs.GateFile.{name_of}
@@ -17,6 +17,7 @@ use Rattle.doc_file.specs.Docs.{bytes_in, file_of, is_deleted, last_of, IsAt as 
 use Rattle.design_docs.specs.History.{Write}
 use Rattle.view_engine.specs.declared.halt.Halt.{Halt}
 use Rattle.view_engine.specs.declared.halt.Halt.TheVariants.{Refused, Stopped}
+use Rattle.view_engine.specs.declared.halt.StepFault.{StepFault}
 use Rattle.view_engine.specs.declared.halt.StepFault.TheVariants.{DiskFault, Damaged, Full, NoMemory}
 use Rattle.view_engine.specs.declared.refusal.Refusal.{Refusal}
 use Rattle.view_engine.specs.declared.refusal.Refusal.TheVariants.{ServerFault}
@@ -24,7 +25,7 @@ use Rattle.view_engine.specs.declared.request.Request.{Request}
 use Rattle.view_engine.specs.Calls.{ActsHere, DoesHere, DoesHereBy, IsRefusedHere, IsReplyLine, IsUnlikeFault}
 use Rattle.view_engine.specs.Disks.{AreOpen, IfStopped, IsReadReason, Reads, ReadsDocuments}
 use Rattle.view_engine.specs.Halts.{halted_as, FitsFor, IsDamage}
-use Rattle.view_engine.specs.InMemory.{IsAcceptedBy, IsRefusedBy, IsReplyBy, IsUntouchedBy}
+use Rattle.view_engine.specs.InMemory.{IsAcceptedBy, IsRefusedBy, IsReplyBy, IsUntouchedBy, IsWrittenBy}
 use Rattle.view_engine.specs.World.{World}
 use Rattle.view_engine.proofs.Following.{follows_halt, same_docs}
 use Rattle.view_engine.proofs.HaltedAs.{not_deleted, spoiled_damage}
@@ -54,9 +55,9 @@ halted_so f docs old new request out out' (Stopped (Damaged name at)) none refus
 halted_so f docs old new request out out' (Stopped (Full name length)) none refused = tt
 
 module _ {F : Type 0} {f : Folders F} {docs : Docs} {old new : F} {request : Request} {out out' : List ℕ} (is_open : AreOpen f docs old) (none : Tells (f.disk old) (f.disk new) MovesNone) (later : f.faults old ≤ f.faults new) where
-  pub read_done : FitsFor docs (Ok request) → (reply : List ℕ) → IsReplyLine reply → IsUnlikeFault (Ok request) reply → IsAcceptedBy docs request → IsReplyBy docs request reply → IsUntouchedBy docs docs old new (Ok request) → out' ≡ out ++ ended reply
+  pub read_done : FitsFor docs (Ok request) → (reply : List ℕ) → IsReplyLine reply → IsUnlikeFault (Ok request) reply → IsAcceptedBy docs request → IsReplyBy f docs old request reply → IsWrittenBy docs docs request → IsUntouchedBy docs docs old new (Ok request) → out' ≡ out ++ ended reply
       → IsMetIn f docs old (λ world. DoesHere world request reply world) → ActsHere f docs docs old new request out out' (Ok tt)
-  read_done fits reply line unlike accepted prints left appended does = record {
+  read_done fits reply line unlike accepted prints wrote left appended does = record {
     does = record {
       reply = reply;
       line = line;
@@ -71,20 +72,20 @@ module _ {F : Type 0} {f : Folders F} {docs : Docs} {old new : F} {request : Req
     };
     silent = tt;
     unblamed = λ never. cc;
-    follows = record { accepted = accepted; reply = reply; is = prints; appended = appended; kept = λ none. left };
+    follows = record { accepted = accepted; reply = reply; is = prints; appended = appended; kept = λ none. left; wrote = wrote };
     fits = fits;
     disk = documents_read none is_open;
     why = tt;
     later = later;
   }
 
-  pub read_stopped : {halt : Halt} → halt ≢ Refused ServerFault → ReadsDocuments (Ok request) → out' ≡ out → ((refusal : Refusal) → halt ≡ Refused refusal → IsRefusedBy docs request refusal)
+  pub read_stopped : {halt : Halt} → halt ≢ Refused ServerFault → ReadsDocuments (Ok request) → out' ≡ out → ((refusal : Refusal) → halt ≡ Refused refusal → IsRefusedBy docs request refusal) → ((fault : StepFault) → halt ≡ Stopped fault → fault ≢ NoMemory → IsAcceptedBy docs request)
       → ((refusal : Refusal) → halt ≡ Refused refusal → IsMetIn f docs old (λ world. IsRefusedHere world request refusal)) → IfStopped (IsReadReason f docs old new) halt → ActsHere f docs docs old new request out out' (Err halt)
-  read_stopped {halt} other is_read silent refuses refused why = record {
+  read_stopped {halt} other is_read silent refuses accepted refused why = record {
     does = halted_so f docs old new request out out' halt none refused;
     silent = silent;
     unblamed = err_unblamed halt other;
-    follows = follows_halt docs docs old new out out' request halt refuses (inr (record { documents = same_docs docs; folder = λ none. absurd (none is_read) }));
+    follows = follows_halt f docs docs old new out out' request halt refuses accepted (inr (record { documents = same_docs docs; folder = λ none. absurd (none is_read) }));
     fits = tt;
     disk = documents_read none is_open;
     why = read_halted f docs old new (Ok request) halt is_read why;
@@ -96,7 +97,7 @@ module _ {F : Type 0} {f : Folders F} {docs : Docs} {old new : F} {request : Req
       let err = err_from_is_err_and result is in
       let spent : result ≡ Err (Stopped NoMemory) = err.1 ∙ ap Err err.2 in
       subst (λ (r : Result (Unit {0}) Halt). ActsHere f docs docs old new request out out' r) (sym spent)
-      (read_stopped (λ is. cc) is_read silent (λ refusal is. absurd (let never : ⊥ = cc in never)) (λ refusal is. absurd (let never : ⊥ = cc in never)) tt)
+      (read_stopped (λ is. cc) is_read silent (λ refusal is. absurd (let never : ⊥ = cc in never)) (λ fault is other. absurd (other (let same : fault ≡ NoMemory = cc in same))) (λ refusal is. absurd (let never : ⊥ = cc in never)) tt)
 
 -- ---- faults of the documents' calls that only read
 
@@ -124,7 +125,7 @@ damage_live T docs id fault n at deleted is =
 
 module _ {F : Type 0} (T : Type 0) (f : Folders F) (docs : Docs) (old new : F) where
   -- `get` failed
-  pub why_of_get : (id : List ℕ) (fault : DocFault) → HasCauseIf (λ e. e ≡ doc.Gate gate.DiskFault) (f.faults old) (f.faults new) (failed T fault)
+  pub why_of_get : (id : List ℕ) (fault : DocFault) → CountsFor (doc.Gate gate.DiskFault) (f.faults old) (f.faults new) (failed T fault)
       → (is_deleted (last_of docs id) ≡ true → failed T fault ≡ Err doc.Deleted)
       → IfTold (f.disk old) (λ d. (n : FileName) (at : ℕ) → failed T fault ≡ Err (doc.Gate (gate.Damaged n at)) → (n ≡ name_of (file_of docs)) × IsSpoiled id (bytes_in docs d.now) (last_of docs id) at)
       → ((history : List Write) → IfTold (f.disk old) (λ d. AreAt docs d.now history → (n : FileName) (at : ℕ) → failed T fault ≡ Err (doc.Gate (gate.Damaged n at)) → ⊥))
@@ -140,7 +141,7 @@ module _ {F : Type 0} (T : Type 0) (f : Folders F) (docs : Docs) (old new : F) w
 
 -- the same of a call that only reads
 pub read_of_get : {F T S : Type 0} {f : Folders F} {docs : Docs} {old new : F} (id : List ℕ) (fault : DocFault) → Tells (f.disk old) (f.disk new) MovesNone
-    → HasCauseIf (λ e. e ≡ doc.Gate gate.DiskFault) (f.faults old) (f.faults new) (failed T fault)
+    → CountsFor (doc.Gate gate.DiskFault) (f.faults old) (f.faults new) (failed T fault)
     → (is_deleted (last_of docs id) ≡ true → failed T fault ≡ Err doc.Deleted)
     → IfTold (f.disk old) (λ d. (n : FileName) (at : ℕ) → failed T fault ≡ Err (doc.Gate (gate.Damaged n at)) → (n ≡ name_of (file_of docs)) × IsSpoiled id (bytes_in docs d.now) (last_of docs id) at)
     → ((history : List Write) → IfTold (f.disk old) (λ d. AreAt docs d.now history → (n : FileName) (at : ℕ) → failed T fault ≡ Err (doc.Gate (gate.Damaged n at)) → ⊥))

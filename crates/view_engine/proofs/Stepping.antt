@@ -25,7 +25,7 @@ use Rattle.view_engine.specs.declared.refusal.Refusal.{Refusal}
 use Rattle.view_engine.specs.declared.refusal.Refusal.TheVariants as refusal
 use Rattle.view_engine.specs.declared.request.Request.{Request}
 use Rattle.view_engine.specs.declared.request.Request.TheVariants.{Cleanup, Delete, Put, View}
-use Rattle.view_engine.specs.Calls.{CrashesAround, DoesBy, IsStep, IsToldAs, LeavesChild, Performed, RefusesUnread, Scene, StandsAt, StepsBy}
+use Rattle.view_engine.specs.Calls.{CrashesAround, DoesBy, FitsDesign, IsStep, IsToldAs, LeavesChild, Performed, RefusesUnread, Scene, StandsAt, StepsBy}
 use Rattle.view_engine.specs.Disks.{ChangesFiles, IsOfIndex, IsOnIndexes, IsReasonOf, IsShapedFor, IsView, LiesOpen, MayWant, MeetsIndexDamage, MeetsIndexDamageIn, MovesIndexes, MovesIndexOf, ReadsDocuments}
 use Rattle.view_engine.specs.FullIndex.{IsIndexFullFor}
 use Rattle.view_engine.specs.Halts.{halted_by, FitsFor, IsDamage, IsFullFor, LeavesFiles, WouldWrite, Writes}
@@ -35,7 +35,7 @@ use Rattle.view_engine.specs.Refusals.{request_of, refusal_text}
 use Rattle.view_engine.specs.Steps.{Does, DoesRequest, DoesRequestText, MayHaveCalled}
 use Rattle.view_engine.specs.World.{World}
 use Rattle.view_engine.specs.Worlds.{HasBodyDamage, HasRoomAt, IsAtWorld, IsFullAt, IsFullIn}
-use Rattle.view_engine.proofs.Acting.{refused_at_once, spent_at_once}
+use Rattle.view_engine.proofs.Acting.{leaves_all, leaves_ends, refused_at_once, spent_at_once}
 use Rattle.view_engine.proofs.Beside.{damage_beside_indexes, open_beside_indexes}
 use Rattle.view_engine.proofs.Following.{answers_done, answers_stopped, answers_told, answers_untold}
 use Rattle.view_engine.proofs.Keeping.{open_none}
@@ -108,6 +108,7 @@ module _ {F C : Type 0} {f : Folders F} {s : Servers C} where
     fits = λ appends. absurd (nothing_no_ok out appends);
     refused = λ some. absurd (some refl);
     follows = λ some. absurd (some refl);
+    leaves = leaves_all now (request_of []);
     asked = tt;
     idle = λ none. refl;
     disk = kept_whole refl is_open (documents_still (documents_open _ _ is_open));
@@ -134,7 +135,8 @@ module _ {F C : Type 0} {f : Folders F} {s : Servers C} where
       blames = λ appends. absurd (reply_no_fault (request_of line) out out' performed.prints appends);
       fits = λ appends. performed.fits;
       refused = λ filled. done_read out out' (request_of line) performed.refused;
-      follows = λ filled. answers_done old.engine.docs new.engine.docs old.folder new.folder out out' (request_of line) performed.follows;
+      follows = λ filled. answers_done f old.engine.docs new.engine.docs old.folder new.folder out out' (FitsDesign f s old new (request_of line)) (request_of line) performed.designed performed.follows;
+      leaves = leaves_ends (λ never. let no : ⊥ = cc in no) performed.leaves;
       asked = tt;
       idle = λ none. absurd (some none);
       disk = disk_ends (λ never. never) (λ goes. tt) performed.disk;
@@ -161,7 +163,8 @@ module _ {F C : Type 0} {f : Folders F} {s : Servers C} where
       blames = λ appends. performed.blames (ap (λ (r : Refusal). Err (Refused r)) (told_is_fault refusal (request_of line) out out' (is.0 ∙ ap (λ (o : List ℕ). o ++ ended (refusal_text refusal)) performed.silent) appends));
       fits = λ appends. absurd (refused_no_ok refusal out out' (is.0 ∙ ap (λ (o : List ℕ). o ++ ended (refusal_text refusal)) performed.silent) appends);
       refused = λ filled. told_unread out out' (request_of line) refusal performed.refused (is.0 ∙ ap (λ (o : List ℕ). o ++ ended (refusal_text refusal)) performed.silent);
-      follows = λ filled. answers_told old.engine.docs new.engine.docs old.folder new.folder out out' mid (request_of line) refusal (is.0 ∙ ap (λ (o : List ℕ). o ++ ended (refusal_text refusal)) performed.silent) performed.follows;
+      follows = λ filled. answers_told f old.engine.docs new.engine.docs old.folder new.folder out out' (FitsDesign f s old new (request_of line)) mid (request_of line) refusal (is.0 ∙ ap (λ (o : List ℕ). o ++ ended (refusal_text refusal)) performed.silent) (performed.unasked refusal refl) performed.follows;
+      leaves = leaves_ends (λ never. tt) performed.leaves;
       asked = tt;
       idle = λ none. absurd (some none);
       disk = disk_ends (λ never. absurd never) (λ goes. tt) performed.disk;
@@ -181,7 +184,8 @@ module _ {F C : Type 0} {f : Folders F} {s : Servers C} where
           blames = tt;
           fits = tt;
           refused = spent_unread (request_of line);
-          follows = λ filled. answers_untold old.engine.docs new.engine.docs old.folder new.folder out out' mid (request_of line) refusal performed.follows;
+          follows = λ filled. answers_untold f old.engine.docs new.engine.docs old.folder new.folder out out' (FitsDesign f s old new (request_of line)) mid (request_of line) refusal performed.follows;
+          leaves = leaves_ends (λ spent. tt) performed.leaves;
           asked = some;
           idle = λ none. absurd (some none);
           disk = disk_ends (λ given. tt) (λ goes. tt) performed.disk;
@@ -198,7 +202,8 @@ module _ {F C : Type 0} {f : Folders F} {s : Servers C} where
           blames = tt;
           fits = tt;
           refused = stopped_unread (request_of line) fault performed.refused;
-          follows = λ filled. answers_stopped old.engine.docs new.engine.docs old.folder new.folder out out' mid (request_of line) fault performed.follows;
+          follows = λ filled. answers_stopped f old.engine.docs new.engine.docs old.folder new.folder out out' (FitsDesign f s old new (request_of line)) mid (request_of line) fault performed.follows;
+          leaves = leaves_ends (λ wants. let same : fault ≡ NoMemory = cc in subst (λ (e : StepFault). MayWant (Err (Stopped e))) (sym same) tt) performed.leaves;
           asked = some;
           idle = λ none. absurd (some none);
           disk = disk_ends (λ left. left) (λ goes. goes) performed.disk;
@@ -214,7 +219,7 @@ module _ {F C : Type 0} {f : Folders F} {s : Servers C} where
       → Performed f s now now request out out (Err (halted_by refused))
   unread refusal.NoMemory unblamed is is_open = spent_at_once is_open
   unread {now = now} {request = request} other unblamed is is_open =
-      refused_at_once (λ same. let never : Err other ≡ Ok Cleanup = sym (is (λ spent. let no : ⊥ = cc in no)) ∙ same in let no : ⊥ = cc in no) (read_as request other (is (λ same. let never : ⊥ = cc in never))) (λ same. unblamed (is (λ spent. let never : refusal.NoMemory ≡ refusal.ServerFault = sym spent ∙ same in cc) ∙ ap Err same))
+      refused_at_once (λ same. let never : Err other ≡ Ok Cleanup = sym (is (λ spent. let no : ⊥ = cc in no)) ∙ same in let no : ⊥ = cc in no) (λ view. subst IsView (is (λ spent. let no : ⊥ = cc in no)) view) (read_as request other (is (λ same. let never : ⊥ = cc in never))) (λ same. unblamed (is (λ spent. let never : refusal.NoMemory ≡ refusal.ServerFault = sym spent ∙ same in cc) ∙ ap Err same))
       (subst (λ (r : Result Request Refusal). IfOk r (λ one. IsRefusedBy now.engine.docs one other)) (sym (is (λ same. let never : ⊥ = cc in never))) tt) (λ before. subst (λ (r : Result Request Refusal). DoesRequest s.functions s.honest (languages_of now.engine.pool) before r (refusal_text other) before)
       (sym (is (λ same. let never : ⊥ = cc in never))) (refl, refl)) is_open
 

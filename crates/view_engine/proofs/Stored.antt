@@ -2,7 +2,7 @@
 use Rattle.std.specs.Prelude.{OnOk}
 use Rattle.std.specs.Result.{IsErrAnd}
 use Rattle.std.proofs.lemmas.Result.{err_from_is_err_and}
-use Rattle.std.proofs.Common.{◌≡◌, ◌⊎◌, ◌++◌, ℕ, List, ◌∷◌, inl, inr, Result, Ok, Err, Option, Some, None, refl, sym, ap, ◌∙◌, subst, arith}
+use Rattle.std.proofs.Common.{◌≡◌, ◌≢◌, ◌⊎◌, ◌++◌, ℕ, List, ◌∷◌, inl, inr, Result, Ok, Err, Option, Some, None, refl, sym, ap, ◌∙◌, subst, arith}
 use Rattle.json_terms.specs.Json.{Json}
 use Rattle.view_ports.specs.Disk.{IfTold}
 use Rattle.view_ports.specs.File.{File}
@@ -24,13 +24,14 @@ use Rattle.doc_file.specs.Stored.{write_of}
 use Rattle.doc_file.specs.Writes.{IsFileFault}
 use Rattle.view_engine.specs.declared.halt.Halt.{Halt}
 use Rattle.view_engine.specs.declared.halt.Halt.TheVariants.{Refused, Stopped}
+use Rattle.view_engine.specs.declared.halt.StepFault.{StepFault}
 use Rattle.view_engine.specs.declared.halt.StepFault.TheVariants.{DiskFault, Damaged, Full, NoMemory}
 use Rattle.view_engine.specs.declared.refusal.Refusal.{Refusal}
 use Rattle.view_engine.specs.declared.request.Request.{Request}
 use Rattle.view_engine.specs.Calls.{ActsHere, DoesHere, DoesHereBy, IsRefusedHere, IsReplyLine, IsUnlikeFault, LeavesWorld}
 use Rattle.view_engine.specs.Disks.{AreOpen, IfStopped, IsReason, KeepsDocuments, OverWorld}
 use Rattle.view_engine.specs.Halts.{halted_as, Fits, FitsFor, GoesOn, IsFull, IsFullFor, LeavesFiles, Writes as WritesOne}
-use Rattle.view_engine.specs.InMemory.{IsAcceptedBy, IsRefusedBy, IsReplyBy}
+use Rattle.view_engine.specs.InMemory.{HasWritten, IsAcceptedBy, IsRefusedBy, IsReplyBy, IsWrittenBy}
 use Rattle.view_engine.specs.Steps.{IsWrite}
 use Rattle.view_engine.specs.World.{written, World}
 use Rattle.view_engine.proofs.Around.{moves_around}
@@ -82,7 +83,7 @@ module _ {F : Type 0} (f : Folders F) (docs docs' : Docs) (old new : F) (request
   module _ (id : List ℕ) (content : Option Json) (Accepted : Type 0) (IsRefused : DocFault → Type 0) (reply : List ℕ)
       (does : (files : FileName → File) (world : World) → AreAt docs files world.history → Accepted → DoesHere world request reply (written world (write_of world.history id content)))
       (writes : (files : FileName → File) (world : World) → AreAt docs files world.history → Accepted → IsWrite world (Ok request) (write_of world.history id content)) (is_write : WritesOne (Ok request))
-      (accepts : Accepted → IsAcceptedBy docs request) (prints : IsReplyBy docs request reply) where
+      (accepts : Accepted → IsAcceptedBy docs request) (prints : IsReplyBy f docs old request reply) (has : HasWritten docs docs' id content → IsWrittenBy docs docs' request) where
     abbrev Side : Result Rev DocFault → Type 0
     Side = Writes f docs docs' old new id content Accepted IsRefused
 
@@ -116,7 +117,7 @@ module _ {F : Type 0} (f : Folders F) (docs docs' : Docs) (old new : F) (request
       };
       silent = tt;
       unblamed = λ never. cc;
-      follows = record { accepted = accepts stored.accepted; reply = reply; is = prints; appended = appended; kept = λ none. absurd (none is_write) };
+      follows = record { accepted = accepts stored.accepted; reply = reply; is = prints; appended = appended; kept = λ none. absurd (none is_write); wrote = has (record { rev = rev; next = stored.stored.revision; counted = stored.stored.counted; entered = stored.stored.entered }) };
       fits = fits (record { short = stored.stored.short; few = stored.stored.few });
       disk = disk_moved (Ok rev) stored.accepted (λ never. never) (λ goes. stored.stored.is_open) stored;
       why = tt;
@@ -158,6 +159,21 @@ module _ {F : Type 0} (f : Folders F) (docs docs' : Docs) (old new : F) (request
       why_halted doc.Missing stored = tt
       why_halted doc.Deleted stored = tt
 
+      -- a fault of a write that isn't want of memory comes only of one that is accepted
+      met_accepted : (fault : DocFault) → Side (Err fault) → (step : StepFault) → halted_as fault ≡ Stopped step → step ≢ NoMemory → IsAcceptedBy docs request
+      met_accepted (doc.Gate gate.NoMemory) stored step is other = absurd (other (let same : step ≡ NoMemory = cc in same))
+      met_accepted (doc.Gate g) stored step is other = accepts (stored.reached (of_file (doc.Gate g) g refl stored.refused))
+      met_accepted doc.NoMemory stored step is other = absurd (other (let same : step ≡ NoMemory = cc in same))
+      met_accepted doc.BadId stored step is other = absurd (let never : ⊥ = cc in never)
+      met_accepted (doc.BadMember name) stored step is other = absurd (let never : ⊥ = cc in never)
+      met_accepted doc.BadRev stored step is other = absurd (let never : ⊥ = cc in never)
+      met_accepted doc.TooLarge stored step is other = absurd (let never : ⊥ = cc in never)
+      met_accepted doc.TooDeep stored step is other = absurd (let never : ⊥ = cc in never)
+      met_accepted (doc.BadDesign fault) stored step is other = absurd (let never : ⊥ = cc in never)
+      met_accepted doc.Conflict stored step is other = absurd (let never : ⊥ = cc in never)
+      met_accepted doc.Missing stored step is other = absurd (let never : ⊥ = cc in never)
+      met_accepted doc.Deleted stored step is other = absurd (let never : ⊥ = cc in never)
+
       no_going_on : (fault : DocFault) → fault ≡ doc.Gate gate.DiskFault → GoesOn (halted_as fault) → ⊥
       no_going_on fault is goes = subst (λ (e : DocFault). GoesOn (halted_as e)) is goes
 
@@ -179,7 +195,7 @@ module _ {F : Type 0} (f : Folders F) (docs docs' : Docs) (old new : F) (request
               (λ is. absurd (no_going_on fault so (goes_on (halted_as fault) (Stopped NoMemory) is tt)));
           silent = silent;
           unblamed = err_unblamed (halted_as fault) (halted_unblamed fault);
-          follows = follows_halt docs docs' old new out out' request (halted_as fault) (refuses fault stored.refused) (inl (ap halted_as so));
+          follows = follows_halt f docs docs' old new out out' request (halted_as fault) (refuses fault stored.refused) (met_accepted fault stored) (inl (ap halted_as so, is_write));
           fits = tt;
           disk = disk_moved (Err fault) (stored.reached (inl so)) (no_files_left fault so) (λ goes. absurd (no_going_on fault so goes)) stored;
           why = why_halted fault stored;
@@ -200,7 +216,7 @@ module _ {F : Type 0} (f : Folders F) (docs docs' : Docs) (old new : F) (request
               });
           silent = silent;
           unblamed = err_unblamed (halted_as fault) (halted_unblamed fault);
-          follows = follows_halt docs docs' old new out out' request (halted_as fault) (refuses fault stored.refused) (inr (record { documents = same.0; folder = λ other. same.1 }));
+          follows = follows_halt f docs docs' old new out out' request (halted_as fault) (refuses fault stored.refused) (met_accepted fault stored) (inr (record { documents = same.0; folder = λ other. same.1 }));
           fits = tt;
           disk = documents_same same is_open;
           why = why_halted fault stored;
@@ -214,13 +230,13 @@ module _ {F : Type 0} {f : Folders F} {docs docs' : Docs} {old new : F} {request
     (reply : List ℕ)
     (does : (files : FileName → File) (world : World) → AreAt docs files world.history → Accepted → DoesHere world request reply (written world (write_of world.history id content)))
     (writes : (files : FileName → File) (world : World) → AreAt docs files world.history → Accepted → IsWrite world (Ok request) (write_of world.history id content)) (is_write : WritesOne (Ok request))
-    (accepts : Accepted → IsAcceptedBy docs request) (prints : IsReplyBy docs request reply) where
+    (accepts : Accepted → IsAcceptedBy docs request) (prints : IsReplyBy f docs old request reply) (has : HasWritten docs docs' id content → IsWrittenBy docs docs' request) where
   pub wrote_here : {rev : Rev} → (Fits docs id content → FitsFor docs (Ok request)) → IsReplyLine reply → IsUnlikeFault (Ok request) reply → out' ≡ out ++ ended reply → Writes f docs docs' old new id content Accepted IsRefused (Ok rev) → ActsHere f docs docs' old new request out out' (Ok tt)
-  wrote_here {rev} = stored_done f docs docs' old new request out out' id content Accepted IsRefused reply does writes is_write accepts prints rev
+  wrote_here {rev} = stored_done f docs docs' old new request out out' id content Accepted IsRefused reply does writes is_write accepts prints has rev
 
   pub unwritten_here : {fault : DocFault} → ((g : GateFault) → IsRefused (doc.Gate g) → ⊥)
       → ((e : DocFault) → IsRefused e ⊎ IsFileFault (file_of docs) e ⊎ (e ≡ doc.NoMemory) → (refusal : Refusal) → halted_as e ≡ Refused refusal → IsRefusedBy docs request refusal)
       → ((files : FileName → File) (world : World) → AreAt docs files world.history → (refusal : Refusal) → IsRefusedBy docs request refusal → IsRefusedHere world request refusal)
       → ((name : FileName) (length : Option ℕ) → IsFull docs id content name length → IsFullFor docs (Ok request) name length) → (Fits docs id content → FitsFor docs (Ok request))
       → out' ≡ out → AreOpen f docs old → Writes f docs docs' old new id content Accepted IsRefused (Err fault) → ActsHere f docs docs' old new request out out' (Err (halted_as fault))
-  unwritten_here {fault} not_of_file refuses refused full fits = stored_halted f docs docs' old new request out out' id content Accepted IsRefused reply does writes is_write accepts prints not_of_file refuses refused full fits fault
+  unwritten_here {fault} not_of_file refuses refused full fits = stored_halted f docs docs' old new request out out' id content Accepted IsRefused reply does writes is_write accepts prints has not_of_file refuses refused full fits fault

@@ -1,6 +1,6 @@
 -- A folder that isn't opened: nothing of it changes.
-use Rattle.std.proofs.Common.{◌≡◌, ℕ, List, [], ◌∷◌, ◌++◌, Option, Some, None, inl, refl, subst}
-use Rattle.view_ports.specs.Disk.{Disk, Framed, IfTold, IsImageOf, LeavesOnly, Tells}
+use Rattle.std.proofs.Common.{ℕ, List, [], Option, Some, None, inl, refl, subst}
+use Rattle.view_ports.specs.Disk.{Disk, IfTold, IsImageOf, LeavesOnly, Tells}
 use Rattle.view_ports.specs.File.{File, IsImage}
 use Rattle.view_ports.specs.declared.file_name.FileName.{FileName}
 use Rattle.view_ports.specs.declared.file_name.Stem.TheVariants.{Docs as DocsStem}

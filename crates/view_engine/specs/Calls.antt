@@ -1,7 +1,7 @@
 -- What a request promises, whole: over the documents alone, over the engine, and as the step of a line.
-use Rattle.std.specs.Prelude.{◌≡◌, ◌≢◌, ◌⊎◌, ◌≤◌, ◌++◌, ℕ, List, [], true, false, Result, Ok, Err, IfErr, OnErr, OnOk, Option, Some}
+use Rattle.std.specs.Prelude.{◌≡◌, ◌≢◌, ◌⊎◌, ◌≤◌, ◌++◌, ℕ, List, [], true, false, Result, Ok, Err, IfErr, OnErr, OnOk, Option, None, Some}
 use Rattle.json_terms.specs.Json.{object, members_of}
-use Rattle.view_ports.specs.Disk.{IfTold, LeavesOnly, Tells}
+use Rattle.view_ports.specs.Disk.{IfTold, LeavesOnly, MovesNone, Tells}
 use Rattle.view_ports.specs.Faults.{RoseBy}
 use Rattle.view_ports.specs.Lines.{ended, IsLine}
 use Rattle.view_ports.specs.declared.file_name.FileName.{FileName}
@@ -16,22 +16,24 @@ use Rattle.view_engine.specs.declared.halt.Halt.TheVariants.{Refused, Stopped}
 use Rattle.view_engine.specs.declared.halt.StepFault.{StepFault}
 use Rattle.view_engine.specs.declared.halt.StepFault.TheVariants.{Full, NoMemory}
 use Rattle.view_engine.specs.declared.refusal.Refusal.{Refusal}
-use Rattle.view_engine.specs.declared.refusal.Refusal.TheVariants.{ServerFault}
+use Rattle.view_engine.specs.declared.refusal.Refusal.TheVariants.{CompilationError, ServerFault, ServerReply}
 use Rattle.view_engine.specs.declared.request.Request.{Request}
-use Rattle.view_engine.specs.declared.request.Request.TheVariants.{Put, Delete, Get, Info}
+use Rattle.view_engine.specs.declared.request.Request.TheVariants.{Put, Delete, Get, Info, View}
 use Rattle.view_engine.specs.Accepted.{is_ok}
 use Rattle.view_engine.specs.Delete.{DoesDelete, IsDeleteRefused}
-use Rattle.view_engine.specs.Disks.{Clears, HasGivenUp, HasReply, IfStopped, IsReason, IsReasonOf, KeepsDisk, KeepsDocuments, IsView, MayGoOn, MayWant, OverWorld}
+use Rattle.view_engine.specs.Disks.{Clears, HasGivenUp, HasReply, IfStopped, IsReason, IsReasonOf, KeepsDisk, KeepsDocuments, IsOnIndexes, IsView, MayGoOn, MayWant, OverWorld}
 use Rattle.view_engine.specs.FullIndex.{IsIndexFullFor}
 use Rattle.view_engine.specs.Engine.{Appends, HasChild, IsAt, Leaves}
 use Rattle.view_engine.specs.Get.{get_refusal, DoesGet, DoesInfo}
 use Rattle.view_engine.specs.Halts.{FitsFor, HasGoneOn, HasLeftFiles}
-use Rattle.view_engine.specs.InMemory.{AnswersRequest, FollowsDocuments, FollowsRequest}
+use Rattle.view_engine.specs.InMemory.{AnswersRequest, FollowsDocuments, FollowsRequest, IsLiveIn, IsSaidByDesign}
 use Rattle.view_engine.specs.Moments.{Moment}
 use Rattle.view_engine.specs.Put.{DoesPut, IsPutRefused}
 use Rattle.view_engine.specs.Refusals.{request_of, refusal_text}
 use Rattle.view_engine.specs.ServerFaults.{AppendsServerFault, is_get}
 use Rattle.view_engine.specs.Steps.{Does, DoesRequest, DoesRequestText, MayHaveCalled}
+use Rattle.view_engine.specs.View.{design_id}
+use Rattle.view_engine.specs.ViewQuery.{view_query, ViewQuery}
 use Rattle.view_engine.specs.World.{World}
 use Rattle.view_engine.specs.Worlds.{StandsAround}
 
@@ -111,7 +113,7 @@ module _ {F : Type 0} (f : Folders F) where
       pub silent : OnErr result (out' ≡ out)
       pub unblamed : result ≢ Err (Refused ServerFault)
       -- whatever the folder tells, it is accepted or refused as the documents in memory say
-      pub follows : FollowsDocuments docs docs' old new out out' request result
+      pub follows : FollowsDocuments f docs docs' old new out out' request result
       -- what is written passes no limit of the file
       pub fits : OnOk result (FitsFor docs (Ok request))
       pub disk : KeepsDocuments f docs docs' old new (Ok request) (HasGivenUp result) (MayGoOn result)
@@ -138,6 +140,15 @@ pub record Scene (F C : Type 0) : Type 0 where
 abbrev pub scene : {F C : Type 0} → Engine → F → C → Scene F C
 scene engine folder servers = record { engine = engine; folder = folder; servers = servers }
 
+-- What a request leaves as it was, however it ends: one that is no view the query servers and their pool, one that is no cleanup either
+-- the open indexes too, as does a cleanup that wants memory, and a line that is no request all.
+pub record LeavesAlone {F C : Type 0} (request : Result Request Refusal) (Wants : Type 0) (old new : Scene F C) : Type 0 where
+  pub servers : (IsView request → ⊥) → new.servers ≡ old.servers
+  pub pool : (IsView request → ⊥) → new.engine.pool ≡ old.engine.pool
+  pub groups : (IsOnIndexes request → ⊥) → new.engine.groups ≡ old.engine.groups
+  pub wanting : Wants → (IsView request → ⊥) → new.engine.groups ≡ old.engine.groups
+  pub all : IfErr request (λ refusal. new ≡ old)
+
 module _ {F C : Type 0} (f : Folders F) (s : Servers C) where
   abbrev pub StandsAt : Scene F C → Moment → Type 0
   StandsAt now = IsAt (f.disk now.folder) (s.may_follow now.servers) (s.faults now.servers) now.engine
@@ -155,6 +166,31 @@ module _ {F C : Type 0} (f : Folders F) (s : Servers C) where
   module _ (old new : Scene F C) where
     abbrev Languages : List (List ℕ × List ℕ)
     Languages = languages_of old.engine.pool
+
+    -- no query server was asked: they, their pool and the open indexes are as they were, and so is each file
+    pub record IsUnasked : Type 0 where
+      pub servers : new.servers ≡ old.servers
+      pub pool : new.engine.pool ≡ old.engine.pool
+      pub groups : new.engine.groups ≡ old.engine.groups
+      pub files : Tells (f.disk old.folder) (f.disk new.folder) MovesNone
+
+    -- so says the design document of a view of its own refusals
+    abbrev IsSaid : ViewQuery → Option Refusal → Type 0
+    IsSaid = IsSaidByDesign f old.engine.docs Languages old.folder
+
+    -- A view is done, or refused by what its query servers tell, only where its design document doesn't refuse it. At each other refusal no
+    -- query server was asked, and it is what the design document says, where that is live.
+    abbrev pub FitsView : ViewQuery → Option Refusal → Type 0
+    FitsView name None = IsSaid name None
+    FitsView name (Some (CompilationError id)) = IsSaid name None
+    FitsView name (Some ServerFault) = IsSaid name None
+    FitsView name (Some (ServerReply line)) = IsSaid name None
+    FitsView name (Some other) = IsUnasked × (IsLiveIn old.engine.docs (design_id name.design) → IsSaid name (Some other))
+
+    -- of a request that is no view nothing is said here
+    abbrev pub FitsDesign : Result Request Refusal → Option Refusal → Type 0
+    FitsDesign (Ok (View view query)) refusal = FitsView (view_query view query) refusal
+    FitsDesign other refusal = Unit {0}
 
     -- the engine is left at a moment that the definition allows
     abbrev pub LeavesMoment : Moment → (Moment → Type 0) → Type 0
@@ -192,7 +228,12 @@ module _ {F C : Type 0} (f : Folders F) (s : Servers C) where
       -- it is refused as a fault of the query servers only where their count rose by two
       pub blames : result ≡ Err (Refused ServerFault) → RoseBy 2 (s.faults old.servers) (s.faults new.servers)
       -- whatever the folder tells, it is accepted or refused as the documents in memory say
-      pub follows : FollowsRequest old.engine.docs new.engine.docs old.folder new.folder out out' request result
+      pub follows : FollowsRequest f old.engine.docs new.engine.docs old.folder new.folder out out' request result
+      -- and a view as its design document says
+      pub designed : OnOk result (FitsDesign request None)
+      pub unasked : (refusal : Refusal) → result ≡ Err (Refused refusal) → FitsDesign request (Some refusal)
+      -- what isn't asked for is left alone
+      pub leaves : LeavesAlone request (MayWant result) old new
       -- what is written passes no limit of the file
       pub fits : OnOk result (FitsFor old.engine.docs request)
       pub disk : KeepsDisk f old.engine new.engine old.folder new.folder request (HasGivenUp result) (MayGoOn result)
@@ -221,10 +262,12 @@ module _ {F C : Type 0} (f : Folders F) (s : Servers C) where
       pub fits : OnOk result (AppendsOk out out' → FitsFor old.engine.docs (request_of line))
       pub refused : RefusesLine line out out' result
       -- whatever the folder tells, the request is accepted or refused as the documents in memory say, and that is told
-      pub follows : line ≢ [] → AnswersRequest old.engine.docs new.engine.docs old.folder new.folder out out' (request_of line) result
-      -- an empty line asks for nothing
+      pub follows : line ≢ [] → AnswersRequest f old.engine.docs new.engine.docs old.folder new.folder out out' (FitsDesign (request_of line)) (request_of line) result
+      -- what isn't asked for is left alone
+      pub leaves : LeavesAlone (request_of line) (result ≡ Err NoMemory) old new
+      -- an empty line asks for nothing, and leaves all as it was
       pub asked : OnErr result (line ≢ [])
-      pub idle : line ≡ [] → new.folder ≡ old.folder
+      pub idle : line ≡ [] → new ≡ old
       pub disk : KeepsDisk f old.engine new.engine old.folder new.folder (request_of line) (HasLeftFiles result) (HasGoneOn result)
       -- a cleanup removes the files of indexes that no live design has, and no others
       pub cleared : line ≢ [] → Clears f old.engine.docs old.folder new.folder (request_of line) (result ≡ Ok tt) (result ≡ Err NoMemory)

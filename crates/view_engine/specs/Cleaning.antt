@@ -1,11 +1,12 @@
 -- What a cleanup promises, over the documents and the indexes.
-use Rattle.std.specs.Prelude.{◌≡◌, ◌⊎◌, ◌≤◌, ◌++◌, ℕ, List, [], Result, Ok, Err, Some, IfErr, OnErr, OnOk, Contains}
+use Rattle.std.specs.Prelude.{◌≡◌, ◌⊎◌, ◌≤◌, ◌++◌, ℕ, List, [], Result, Ok, Err, Some, IfErr, OnErr, OnOk, All, Contains}
 use Rattle.json_terms.specs.Json.{Json}
 use Rattle.view_signature.specs.Signature.{signature_of}
 use Rattle.view_ports.specs.Disk.{IfTold, Moves, MovesNone, Tells}
 use Rattle.view_ports.specs.File.{File}
 use Rattle.view_ports.specs.Lines.{ended}
 use Rattle.view_ports.specs.declared.file_name.FileName.{FileName}
+use Rattle.view_ports.specs.declared.file_name.Stem.TheVariants.{View}
 use Rattle.view_ports.specs.declared.folder.Folder.{Ghosts as Folders}
 use Rattle.doc_file.specs.declared.docs.Docs.{Docs}
 use Rattle.doc_file.specs.Docs.{IsAt as AreAt}
@@ -14,13 +15,17 @@ use Rattle.design_docs.specs.History.{Write, live_document}
 use Rattle.gate_file.specs.declared.fault.GateFault.TheVariants as gate
 use Rattle.view_index.specs.declared.fault.IndexFault.{IndexFault}
 use Rattle.view_index.specs.declared.fault.IndexFault.TheVariants as index
+use Rattle.view_index.specs.Calls.{stem_of}
 use Rattle.view_groups.specs.declared.groups.Groups.{Groups}
 use Rattle.view_groups.specs.Cleans.{IsIndexFile}
-use Rattle.view_groups.specs.Groups.{AreAt as AreIndexesAt, AreOpen as AreIndexesOpen}
+use Rattle.view_groups.specs.Groups.{open_of, AreAt as AreIndexesAt, AreOpen as AreIndexesOpen}
 use Rattle.view_groups.specs.Pictures.{StandFor}
 use Rattle.view_engine.specs.declared.halt.Halt.{Halt}
 use Rattle.view_engine.specs.declared.halt.Halt.TheVariants.{Refused, Stopped}
 use Rattle.view_engine.specs.declared.halt.StepFault.{StepFault}
+use Rattle.view_engine.specs.declared.refusal.Refusal.{Refusal}
+use Rattle.view_engine.specs.declared.request.Request.{Request}
+use Rattle.view_engine.specs.declared.request.Request.TheVariants.{Cleanup}
 use Rattle.view_engine.specs.declared.halt.StepFault.TheVariants.{Damaged, NoMemory}
 use Rattle.view_engine.specs.Cleanup.{done_text, IsCleaned, IsLiveSignature, IsPartlyCleaned}
 use Rattle.view_engine.specs.Disks.{HasSlotDamage, IfStopped, IsOfNone, IsReadReason, MayGoOn}
@@ -58,6 +63,11 @@ abbrev pub EndsCleaned : Groups → World → Result (Unit {0}) Halt → (FileNa
 EndsCleaned groups world (Ok done) files = (after : World) × IsCleaned world after × AreIndexesAt groups files after.pictures
 EndsCleaned groups world (Err halt) files = Unit {0}
 
+-- over documents at a history each open index of a live signature stays open
+abbrev pub LiveStayOpen : {F : Type 0} → Folders F → Docs → Groups → Groups → F → Type 0
+LiveStayOpen f docs groups groups' old = (history : List Write) → IfTold (f.disk old) (λ d. AreAt docs d.now history
+    → All (λ index. (sig : List ℕ) → stem_of index ≡ View sig → IsLiveSignature history sig → Contains (open_of groups') index) (open_of groups))
+
 module _ {F : Type 0} (f : Folders F) (docs : Docs) (groups groups' : Groups) (old new : F) where
   -- why it is stopped: as reading documents is, or by a file of an index that is damaged, which there is in no world
   abbrev pub IsCleanupReason : StepFault → Type 0
@@ -81,3 +91,8 @@ module _ {F : Type 0} (f : Folders F) (docs : Docs) (groups groups' : Groups) (o
     pub stopped : IfErr result IsStopped
     pub why : IfErr result (IfStopped IsCleanupReason)
     pub later : f.faults old ≤ f.faults new
+
+-- the same of a request, where it is a cleanup
+abbrev pub StaysOpenFor : {F : Type 0} → Folders F → Docs → Groups → Groups → F → Result Request Refusal → Type 0
+StaysOpenFor f docs groups groups' old (Ok Cleanup) = LiveStayOpen f docs groups groups' old
+StaysOpenFor f docs groups groups' old other = Unit {0}

@@ -1,5 +1,5 @@
 -- What a request promises of the files and their disk, and why it meets a fault.
-use Rattle.std.specs.Prelude.{◌≡◌, ◌⊎◌, ◌≤◌, ℕ, List, [], length, true, false, Some, Result, Ok, Err, IfErr}
+use Rattle.std.specs.Prelude.{◌≡◌, ◌≢◌, ◌⊎◌, ◌≤◌, ℕ, List, [], length, true, false, Some, Result, Ok, Err, IfErr}
 use Rattle.json_terms.specs.Json.{Json}
 use Rattle.design_docs.specs.Design.{views_of}
 use Rattle.gate_file.specs.Open.{IsFirstDamage}
@@ -236,6 +236,14 @@ module _ {F : Type 0} (f : Folders F) where
   -- of the documents or of an index
   abbrev pub IsReasonOf : Engine → F → F → Result Request Refusal → StepFault → Type 0
   IsReasonOf engine old new request fault = IsReason engine.docs old new request fault ⊎ IsIndexReason engine old request fault
+
+  -- a request that isn't ended by a fault of the disk counts none
+  abbrev pub Spares : {T : Type 0} → F → F → Result T Halt → Type 0
+  Spares old new result = result ≢ Err (Stopped DiskFault) → f.faults new ≡ f.faults old
+
+  -- the same of a step
+  abbrev pub SparesStep : F → F → Result (Unit {0}) StepFault → Type 0
+  SparesStep old new result = result ≢ Err DiskFault → f.faults new ≡ f.faults old
 
   -- a call that only reads
   pub record Reads {T : Type 0} (docs : Docs) (old new : F) (result : Result T Halt) : Type 0 where

@@ -1,19 +1,26 @@
 -- What the documents that are kept in memory say of a request, whatever the folder tells: whether it is accepted, how it is refused, and
 -- what is printed of it.
-use Rattle.std.specs.Prelude.{◌≡◌, ◌⊎◌, ◌++◌, ℕ, List, Some, None, Result, Ok, Err}
+use Rattle.std.specs.Prelude.{◌≡◌, ◌≢◌, ◌⊎◌, ◌+◌, ◌++◌, ℕ, List, [], ◌∷◌, Option, Some, None, Result, Ok, Err}
 use Rattle.json_terms.specs.Json.{Json, object, members_of}
 use Rattle.json_terms.specs.Text.{text_of}
+use Rattle.view_ports.specs.Disk.{IfTold}
 use Rattle.view_ports.specs.Lines.{ended}
+use Rattle.view_ports.specs.declared.folder.Folder.{Ghosts as Folders}
+use Rattle.design_docs.specs.Design.{source_of}
 use Rattle.design_docs.specs.Documents.{id_of}
 use Rattle.doc_file.specs.declared.docs.Docs.{Docs}
 use Rattle.doc_file.specs.Accepted.{State, state_in}
-use Rattle.doc_file.specs.Docs.{info_of, last_of, IsSame}
+use Rattle.doc_file.specs.Docs.{bytes_in, entries_of, file_of, info_of, last_of, seq_of, IsLive, IsSame}
 use Rattle.doc_file.specs.Held.{IsBodyOf}
-use Rattle.doc_file.specs.Writes.{IsAcceptedDelete, IsAcceptedPut}
+use Rattle.doc_file.specs.declared.rev.Rev.{Rev}
+use Rattle.doc_file.specs.Stored.{next_rev, revised, with_last, last_of as kept_of}
+use Rattle.doc_file.specs.Writes.{content_of, IsAcceptedDelete, IsAcceptedPut}
+use Rattle.gate_file.specs.GateFile.{start_of}
+use Rattle.query_args.specs.declared.fault.QueryFault.TheVariants as query
 use Rattle.view_engine.specs.declared.halt.Halt.{Halt}
 use Rattle.view_engine.specs.declared.halt.Halt.TheVariants.{Refused, Stopped}
 use Rattle.view_engine.specs.declared.halt.StepFault.{StepFault}
-use Rattle.view_engine.specs.declared.halt.StepFault.TheVariants.{DiskFault}
+use Rattle.view_engine.specs.declared.halt.StepFault.TheVariants.{DiskFault, NoMemory}
 use Rattle.view_engine.specs.declared.refusal.Refusal.{Refusal}
 use Rattle.view_engine.specs.declared.refusal.Refusal.TheVariants.{BadQuery, CompilationError, MissingNamedView, NotBuiltYet, ServerFault, ServerReply, UnknownLanguage}
 use Rattle.view_engine.specs.declared.request.Request.{Request}
@@ -21,13 +28,14 @@ use Rattle.view_engine.specs.declared.request.Request.TheVariants.{Put, Delete, 
 use Rattle.view_engine.specs.Answer.{info_text}
 use Rattle.view_engine.specs.Cleanup.{done_text}
 use Rattle.view_engine.specs.Delete.{IsDeleteRefusedIn}
-use Rattle.view_engine.specs.Disks.{ReadsDocuments}
+use Rattle.view_engine.specs.Disks.{IsAskedFor, ReadsDocuments}
 use Rattle.view_engine.specs.Get.{not_live}
 use Rattle.view_engine.specs.Halts.{Writes}
 use Rattle.view_engine.specs.Put.{IsPutRefusedIn}
-use Rattle.view_engine.specs.Refusals.{refusal_text}
+use Rattle.view_engine.specs.Refusals.{first_of, refusal_text}
 use Rattle.view_engine.specs.Replies.{accepted_reply}
-use Rattle.view_engine.specs.View.{design_id}
+use Rattle.view_engine.specs.View.{bad_query, design_id, no_language, no_view}
+use Rattle.view_engine.specs.ViewQuery.{ViewQuery}
 
 -- ---- what they say of a request
 
@@ -53,7 +61,7 @@ IsAcceptedBy docs other = ⊥
 -- the refusals that a view of a live design document, with this id, may meet
 abbrev pub IsOfView : List ℕ → Refusal → Type 0
 IsOfView id MissingNamedView = Unit {0}
-IsOfView id (BadQuery fault) = Unit {0}
+IsOfView id (BadQuery fault) = fault ≢ query.NoMemory
 IsOfView id (UnknownLanguage language) = Unit {0}
 IsOfView id (CompilationError named) = named ≡ id
 IsOfView id ServerFault = Unit {0}
@@ -63,6 +71,19 @@ IsOfView id other = ⊥
 -- a view is refused as missing or deleted where its design document is, and else for one of these
 abbrev pub IsViewRefusedBy : Docs → List ℕ → Refusal → Type 0
 IsViewRefusedBy docs id refusal = (not_live (state_at docs id) ≡ Some refusal) ⊎ (IsLiveIn docs id × IsOfView id refusal)
+
+-- why a view is refused whose design document is this one: it has no such view, or else the parameters are no query of it, or else its
+-- language has no path
+abbrev pub own_refusal : List (List ℕ × List ℕ) → ViewQuery → Json → Option Refusal
+own_refusal languages name document =
+    first_of (no_view (source_of name.view document) ∷ bad_query name (Some document) ∷ no_language languages (Some document) ∷ [])
+
+-- so says a document that may stand under the id of the view's design document, and that stands there where the folder tells
+pub record IsSaidByDesign {F : Type 0} (f : Folders F) (docs : Docs) (languages : List (List ℕ × List ℕ)) (folder : F) (name : ViewQuery) (said : Option Refusal) : Type 0 where
+  pub document : Json
+  pub body : IsBodyOf (design_id name.design) document
+  pub asked : IfTold (f.disk folder) (λ d. IsAskedFor docs d.now name document)
+  pub says : own_refusal languages name document ≡ said
 
 -- why a request is refused
 abbrev pub IsRefusedBy : Docs → Request → Refusal → Type 0
@@ -74,15 +95,35 @@ IsRefusedBy docs Info refusal = ⊥
 IsRefusedBy docs Cleanup refusal = ⊥
 IsRefusedBy docs other refusal = refusal ≡ NotBuiltYet
 
--- what is printed of a request that is done: the next revision of the id that is written, a document that may stand under the id that is
--- read, or the counts; of a view nothing is said here
-abbrev pub IsReplyBy : Docs → Request → List ℕ → Type 0
-IsReplyBy docs (Put document) reply = reply ≡ accepted_reply docs (id_of (object (members_of document)))
-IsReplyBy docs (Delete id given) reply = reply ≡ accepted_reply docs id
-IsReplyBy docs (Get id) reply = (document : Json) × IsBodyOf id document × (reply ≡ text_of document)
-IsReplyBy docs Info reply = reply ≡ info_text (info_of docs)
-IsReplyBy docs Cleanup reply = reply ≡ done_text
-IsReplyBy docs other reply = Unit {0}
+-- the text is that of a document that may stand under the id, and that stands there where the folder tells
+pub record IsTextOfLive {F : Type 0} (f : Folders F) (docs : Docs) (folder : F) (id text : List ℕ) : Type 0 where
+  pub document : Json
+  pub body : IsBodyOf id document
+  pub live : IfTold (f.disk folder) (λ d. IsLive id (bytes_in docs d.now) (last_of docs id) document)
+  pub is : text ≡ text_of document
+
+-- what is printed of a request that is done: the next revision of the id that is written, the document of the id that is read, or the
+-- counts; of a view nothing is said here
+abbrev pub IsReplyBy : {F : Type 0} → Folders F → Docs → F → Request → List ℕ → Type 0
+IsReplyBy f docs folder (Put document) reply = reply ≡ accepted_reply docs (id_of (object (members_of document)))
+IsReplyBy f docs folder (Delete id given) reply = reply ≡ accepted_reply docs id
+IsReplyBy f docs folder (Get id) reply = IsTextOfLive f docs folder id reply
+IsReplyBy f docs folder Info reply = reply ≡ info_text (info_of docs)
+IsReplyBy f docs folder Cleanup reply = reply ≡ done_text
+IsReplyBy f docs folder other reply = Unit {0}
+
+-- the documents have one write more, the next of this id with this content
+pub record HasWritten (docs docs' : Docs) (id : List ℕ) (content : Option Json) : Type 0 where
+  pub rev : Rev
+  pub next : rev ≡ next_rev (seq_of docs) (entries_of docs) id
+  pub counted : seq_of docs' ≡ seq_of docs + 1
+  pub entered : entries_of docs' ≡ with_last id (kept_of (start_of (file_of docs)) rev (revised content rev)) (entries_of docs)
+
+-- so it is of a request that writes
+abbrev pub IsWrittenBy : Docs → Docs → Request → Type 0
+IsWrittenBy docs docs' (Put document) = HasWritten docs docs' (id_of (object (members_of document))) (content_of (object (members_of document)))
+IsWrittenBy docs docs' (Delete id given) = HasWritten docs docs' id None
+IsWrittenBy docs docs' other = Unit {0}
 
 -- ---- what a request does by them
 
@@ -92,37 +133,46 @@ module _ {F : Type 0} (docs docs' : Docs) (old new : F) where
     pub documents : IsSame docs docs'
     pub folder : (ReadsDocuments request → ⊥) → new ≡ old
 
+module _ {F : Type 0} (f : Folders F) (docs docs' : Docs) (old new : F) where
   module _ (out out' : List ℕ) where
-    -- It is done, so it was accepted, and its reply line is appended. Only a write changes the documents.
+    -- It is done, so it was accepted, and its reply line is appended. Only a write changes the documents, which have it then.
     pub record IsDoneBy (request : Request) : Type 0 where
       pub accepted : IsAcceptedBy docs request
       pub reply : List ℕ
-      pub is : IsReplyBy docs request reply
+      pub is : IsReplyBy f docs old request reply
       pub appended : out' ≡ out ++ ended reply
-      pub kept : (Writes (Ok request) → ⊥) → IsUntouchedBy (Ok request)
+      pub kept : (Writes (Ok request) → ⊥) → IsUntouchedBy docs docs' old new (Ok request)
+      pub wrote : IsWrittenBy docs docs' request
 
-    -- it is refused, and its refusal is appended
-    pub record IsToldBy (request : Request) : Type 0 where
-      pub refusal : Refusal
-      pub refused : IsRefusedBy docs request refusal
-      pub appended : out' ≡ out ++ ended (refusal_text refusal)
-      pub kept : IsUntouchedBy (Ok request)
+    -- It is stopped: all but a fault of the disk in a write leaves them as they were, and a fault that isn't want of memory is met only by
+    -- what they accept.
+    abbrev pub IsStoppedBy : Request → StepFault → Type 0
+    IsStoppedBy request NoMemory = IsUntouchedBy docs docs' old new (Ok request)
+    IsStoppedBy request DiskFault = IsAcceptedBy docs request × ((Writes (Ok request) → ⊥) → IsUntouchedBy docs docs' old new (Ok request))
+    IsStoppedBy request other = IsAcceptedBy docs request × IsUntouchedBy docs docs' old new (Ok request)
 
-    -- a request does as they say, by how it ends: all but a fault of the disk leaves them as they were
+    -- a request does as they say, by how it ends
     abbrev pub FollowsDocuments : Request → Result (Unit {0}) Halt → Type 0
     FollowsDocuments request (Ok done) = IsDoneBy request
-    FollowsDocuments request (Err (Refused refusal)) = IsRefusedBy docs request refusal × IsUntouchedBy (Ok request)
-    FollowsDocuments request (Err (Stopped DiskFault)) = Unit {0}
-    FollowsDocuments request (Err (Stopped fault)) = IsUntouchedBy (Ok request)
+    FollowsDocuments request (Err (Refused refusal)) = IsRefusedBy docs request refusal × IsUntouchedBy docs docs' old new (Ok request)
+    FollowsDocuments request (Err (Stopped fault)) = IsStoppedBy request fault
 
     -- and what is no request changes nothing
     abbrev pub FollowsRequest : Result Request Refusal → Result (Unit {0}) Halt → Type 0
     FollowsRequest (Ok request) result = FollowsDocuments request result
-    FollowsRequest (Err refusal) result = IsUntouchedBy (Err refusal)
+    FollowsRequest (Err refusal) result = IsUntouchedBy docs docs' old new (Err refusal)
 
-    -- a line is answered as they say of its request
-    abbrev pub AnswersRequest : Result Request Refusal → Result (Unit {0}) StepFault → Type 0
-    AnswersRequest (Ok request) (Ok done) = IsDoneBy request ⊎ IsToldBy request
-    AnswersRequest (Ok request) (Err DiskFault) = Unit {0}
-    AnswersRequest (Ok request) (Err fault) = IsUntouchedBy (Ok request)
-    AnswersRequest (Err refusal) result = IsUntouchedBy (Err refusal)
+    module _ (Fits : Option Refusal → Type 0) where
+      -- it is refused, and its refusal is appended, which fits what else is left
+      pub record IsToldBy (request : Request) : Type 0 where
+        pub refusal : Refusal
+        pub refused : IsRefusedBy docs request refusal
+        pub appended : out' ≡ out ++ ended (refusal_text refusal)
+        pub kept : IsUntouchedBy docs docs' old new (Ok request)
+        pub fits : Fits (Some refusal)
+
+      -- a line is answered as they say of its request, and what is done fits too
+      abbrev pub AnswersRequest : Result Request Refusal → Result (Unit {0}) StepFault → Type 0
+      AnswersRequest (Ok request) (Ok done) = (IsDoneBy request × Fits None) ⊎ IsToldBy request
+      AnswersRequest (Ok request) (Err fault) = IsStoppedBy request fault
+      AnswersRequest (Err refusal) result = IsUntouchedBy docs docs' old new (Err refusal)

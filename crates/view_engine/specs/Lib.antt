@@ -27,6 +27,7 @@ pub mod Openings
 pub mod ServerFaults
 pub mod Calls
 pub mod Answering
+pub mod Viewed
 pub mod Accepted
 pub mod Laws
 pub mod ViewQuery

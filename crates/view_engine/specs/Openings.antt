@@ -1,6 +1,6 @@
 -- What opening an engine promises, over a folder that tells its disk.
 use Rattle.std.specs.Prelude.{◌≡◌, ℕ, Option, Result, Err, IfOk}
-use Rattle.view_ports.specs.Causes.{HasCauseIf}
+use Rattle.view_ports.specs.Causes.{CountsFor}
 use Rattle.view_ports.specs.Disk.{Disk, IfTold, Moves, Tells}
 use Rattle.view_ports.specs.declared.file_name.FileName.{FileName}
 use Rattle.view_ports.specs.declared.file_name.Stem.TheVariants.{Docs as DocsStem}
@@ -46,9 +46,9 @@ module _ {F : Type 0} (f : Folders F) where
   MeetsDamage old result = IfTold (f.disk old)
       (λ d. (name : FileName) (at : ℕ) → result ≡ Err (Damaged name at) → HasDamage d.now name at)
 
-  -- a fault of the disk was counted
+  -- a fault of the disk was counted, and none for any other answer
   abbrev pub FailsByDisk : F → F → Result Engine StepFault → Type 0
-  FailsByDisk old new result = HasCauseIf (λ fault. fault ≡ DiskFault) (f.faults old) (f.faults new) result
+  FailsByDisk old new result = CountsFor DiskFault (f.faults old) (f.faults new) result
 
 -- opening fills no file
 abbrev pub FillsNone : Result Engine StepFault → Type 0

@@ -7,9 +7,9 @@ ghost use Rattle.doc_file.specs.Docs.{last_of};
 ghost use Rattle.doc_file.specs.Reads.{AtHistory};
 ghost use Rattle.view_ports.specs.Lines.{ended};
 ghost use Rattle.view_engine.specs.Calls.{IsReplyLine};
-ghost use Rattle.view_engine.specs.Cleaning.{met_by_index, AreLiveSignatures, CleansUp, IsCleanFault, IsSignatureOf, IsStopped};
+ghost use Rattle.view_engine.specs.Cleaning.{met_by_index, AreLiveSignatures, CleansUp, IsCleanFault, IsSignatureOf, IsStopped, LiveStayOpen};
 ghost use Rattle.view_engine.specs.Cleanup.{done_text};
-ghost use Rattle.view_engine.specs.Disks.{Reads};
+ghost use Rattle.view_engine.specs.Disks.{Reads, Spares};
 
 use crate::design::design_of;
 use crate::halt::{Halt, StepFault};
@@ -31,8 +31,10 @@ pub(crate) fn cleanup<F: Folder>(
     folder: &mut F,
     out: &mut Vec<u8>,
 ) -> Result<(), Halt>
-    ensures { CleansUp F.Folder docs.now groups.old groups.new folder.old folder.new
+    ensures does { CleansUp F.Folder docs.now groups.old groups.new folder.old folder.new
         out.old.items out.new.items result }
+    ensures spares { Spares F.Folder folder.old folder.new result }
+    ensures stay { LiveStayOpen F.Folder docs.now groups.old groups.new folder.old }
 {
     let kept = live_signatures(alloc, docs, folder)?;
     let start = out.len();
@@ -56,6 +58,7 @@ fn live_signatures<F: Folder>(
         (λ history. IfOk result (λ sigs. AreLiveSignatures history sigs.items)) }
     ensures stopped { IfErr result IsStopped }
     ensures reads { Reads F.Folder docs.now folder.old folder.new result }
+    ensures spares { Spares F.Folder folder.old folder.new result }
 {
     let ids = docs.design_ids(alloc)?;
     let mut signatures = Vec::with_capacity(alloc, ids.len())?;
@@ -78,6 +81,7 @@ fn signature_in<F: Folder>(
         (λ history. IfOk result (IsSignatureOf history id.now)) }
     ensures stopped { IfErr result IsStopped }
     ensures reads { Reads F.Folder docs.now folder.old folder.new result }
+    ensures spares { Spares F.Folder folder.old folder.new result }
 {
     let document = match docs.get(alloc, folder, id) {
         Ok(document) => document,

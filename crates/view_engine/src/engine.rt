@@ -1,15 +1,17 @@
 //! The engine: the documents, the query servers, and one request line at a time.
 
-ghost use Rattle.std.specs.Prelude.{◌≡◌, ◌++◌, List, IfOk, IfErr, OnOk, OnErr, map, string_bytes, Ok};
+ghost use Rattle.std.specs.Prelude.{◌≡◌, ◌≢◌, ◌++◌, List, [], IfOk, IfErr, OnOk, OnErr, map, string_bytes, Ok};
 ghost use Rattle.view_ports.specs.Calls.{Call};
 ghost use Rattle.view_ports.specs.Lines.{ended};
 ghost use Rattle.child_pool.specs.Languages.{languages_in};
 ghost use Rattle.view_engine.specs.Calls.{scene, IsStep, IsToldAs, Performed};
-ghost use Rattle.view_engine.specs.Disks.{LiesOpen};
+ghost use Rattle.view_engine.specs.Cleaning.{StaysOpenFor};
+ghost use Rattle.view_engine.specs.Disks.{LiesOpen, Spares, SparesStep};
 ghost use Rattle.view_engine.specs.Engine.{HasStopped};
 ghost use Rattle.view_engine.specs.Halts.{fault_of, halted_as};
-ghost use Rattle.view_engine.specs.Refusals.{refusal_text};
+ghost use Rattle.view_engine.specs.Refusals.{refusal_text, request_of};
 ghost use Rattle.view_engine.specs.Openings.{FailsByDisk, FillsNone, LeavesWorlds, MeetsDamage, MeetsNoDamage, MovesByOpening, OpensWhole, OpensWorlds};
+ghost use Rattle.view_engine.specs.Viewed.{ViewsFor, ViewsLine};
 ghost use Rattle.view_engine.specs.Worlds.{IsChildless, Knows, width as width_of};
 
 mod view;
@@ -81,10 +83,12 @@ impl Engine {
     ///
     /// The line comes without its newline. Of a line of more than 2,097,152 bytes the first 2,097,153 are enough.
     /// On `NoMemory` nothing is appended and no document has changed. At each moment a crash leaves the documents and indexes before
-    /// the request or after it, or in a cleanup some of the indexes that are to go; once a write is answered those after it. Only a write that is accepted changes files of the
-    /// documents, and only a view or a cleanup those of indexes. After every other fault the engine is not to be used again.
+    /// the request or after it, or in a cleanup some of the indexes that are to go; once a write is answered those after it. Only a
+    /// write that is accepted changes files of the documents, and only a view or a cleanup those of indexes. After every other fault
+    /// the engine is not to be used again. The folder counts a fault only where the step ends by `DiskFault`.
     ///
-    /// Whatever the folder tells, a request is done only where the documents in memory accept it, and refused as they say.
+    /// Whatever the folder tells, a request is done only where the documents in memory accept it, and refused as they say; and a view
+    /// has its index opened or brought up to date as `Groups` does it, and then shown.
     pub fn step<F: Folder, C: Servers>(
         &mut self,
         alloc: Global,
@@ -94,8 +98,14 @@ impl Engine {
         out: &mut Vec<u8>,
     ) -> Result<(), StepFault>
         requires open { LiesOpen F.Folder self.old folder.old }
-        ensures { IsStep F.Folder C.Servers (scene self.old folder.old servers.old)
+        ensures does { IsStep F.Folder C.Servers (scene self.old folder.old servers.old)
             (scene self.new folder.new servers.new) line.now out.old.items out.new.items result }
+        ensures spares { SparesStep F.Folder folder.old folder.new result }
+        ensures views { line.now ≢ [] → ViewsLine F.Folder C.Servers
+            (scene self.old folder.old servers.old) (scene self.new folder.new servers.new)
+            out.old.items out.new.items (request_of line.now) result }
+        ensures stay { StaysOpenFor F.Folder self.old.docs self.old.groups self.new.groups
+            folder.old (request_of line.now) }
     {
         if line.is_empty() {
             return Ok(());
@@ -129,9 +139,14 @@ impl Engine {
         out: &mut Vec<u8>,
     ) -> Result<(), Halt>
         requires open { LiesOpen F.Folder self.old folder.old }
-        ensures { Performed F.Folder C.Servers (scene self.old folder.old servers.old)
+        ensures does { Performed F.Folder C.Servers (scene self.old folder.old servers.old)
             (scene self.new folder.new servers.new)
             (Ok request) out.old.items out.new.items result }
+        ensures spares { Spares F.Folder folder.old folder.new result }
+        ensures views { ViewsFor F.Folder C.Servers (scene self.old folder.old servers.old)
+            (scene self.new folder.new servers.new) out.old.items out.new.items (Ok request) result }
+        ensures stay { StaysOpenFor F.Folder self.old.docs self.old.groups self.new.groups
+            folder.old (Ok request) }
     {
         match request {
             Request::Put { document } => put(alloc, &mut self.docs, folder, document, out),

@@ -2,7 +2,7 @@
 
 ghost use Rattle.std.specs.Prelude.{List, ℕ};
 ghost use Rattle.design_docs.specs.History.{Write};
-ghost use Rattle.view_engine.specs.Fresh.{RepliesAreFresh};
+ghost use Rattle.view_engine.specs.Fresh.{RepliesAreFresh, StepsAreFresh};
 ghost use Rattle.view_engine.specs.Laws.{HasLastWrites, HasLiveDocuments, IsAcceptedInTurn, IsInOrderOfId, IsNotRefusedAndAccepted, IsNotRefusedAndDone, IsRefusedOnce, IsRefusedOnceBy, MadeWorldsAreSound, SoundWorldsAreShaped, StepsKeepSound, WorldsBetweenAreSound};
 
 use view_ports::Servers;
@@ -43,9 +43,11 @@ pub fn worlds_stay_sound<C: Servers>()
         → SoundWorldsAreShaped C.functions C.honest languages }
 {}
 
-/// The reply to a view is what mapping all documents afresh gives, where the path of its language is honest, the pictures stand and the
-/// count of the servers' faults doesn't rise by two.
+/// The reply to a view is what mapping all documents afresh gives, where the path of its language is honest and the pictures stand; or it
+/// names a fault of the servers, and the count of these rises by two in the request.
 pub fn replies_are_fresh<C: Servers>()
-    ensures { (languages : List (List ℕ × List ℕ))
+    ensures replies { (languages : List (List ℕ × List ℕ))
         → RepliesAreFresh C.functions C.honest languages }
+    ensures steps { (languages : List (List ℕ × List ℕ))
+        → StepsAreFresh C.functions C.honest languages }
 {}

@@ -8,7 +8,7 @@ ghost use Rattle.doc_file.specs.Docs.{info_of, IsAt};
 ghost use Rattle.design_docs.specs.History.{Write};
 ghost use Rattle.view_engine.specs.Answer.{info_text};
 ghost use Rattle.view_engine.specs.Calls.{ActsHere, IsReplyLine};
-ghost use Rattle.view_engine.specs.Disks.{AreOpen};
+ghost use Rattle.view_engine.specs.Disks.{AreOpen, Spares};
 ghost use Rattle.view_engine.specs.Get.{DoesInfo};
 ghost use Rattle.view_engine.specs.World.{of_history};
 
@@ -30,8 +30,9 @@ pub(crate) fn get<F: Folder>(
     out: &mut Vec<u8>,
 ) -> Result<(), Halt>
     requires open { AreOpen F.Folder docs.now folder.old }
-    ensures { ActsHere F.Folder docs.now docs.now folder.old folder.new
+    ensures does { ActsHere F.Folder docs.now docs.now folder.old folder.new
         (Request.Get id.now) out.old.items out.new.items result }
+    ensures spares { Spares F.Folder folder.old folder.new result }
 {
     match docs.get(alloc, folder, id) {
         Ok(document) => {

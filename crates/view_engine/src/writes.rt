@@ -3,7 +3,7 @@
 ghost use Rattle.std.specs.Prelude.{◌≡◌, ◌++◌, OnErr, OnOk, option_map};
 ghost use Rattle.view_ports.specs.Lines.{ended};
 ghost use Rattle.view_engine.specs.Calls.{ActsHere, IsReplyLine};
-ghost use Rattle.view_engine.specs.Disks.{AreOpen};
+ghost use Rattle.view_engine.specs.Disks.{AreOpen, Spares};
 ghost use Rattle.view_engine.specs.Replies.{accepted_reply, SaysRevision};
 
 use crate::answer::write_accepted;
@@ -25,8 +25,9 @@ pub(crate) fn put<F: Folder>(
     out: &mut Vec<u8>,
 ) -> Result<(), Halt>
     requires open { AreOpen F.Folder docs.old folder.old }
-    ensures { ActsHere F.Folder docs.old docs.new folder.old folder.new
+    ensures does { ActsHere F.Folder docs.old docs.new folder.old folder.new
         (Request.Put document) out.old.items out.new.items result }
+    ensures spares { Spares F.Folder folder.old folder.new result }
 {
     let document = Term::Object(document);
     let start = out.len();
@@ -50,8 +51,9 @@ pub(crate) fn delete<F: Folder>(
     out: &mut Vec<u8>,
 ) -> Result<(), Halt>
     requires open { AreOpen F.Folder docs.old folder.old }
-    ensures { ActsHere F.Folder docs.old docs.new folder.old folder.new
+    ensures does { ActsHere F.Folder docs.old docs.new folder.old folder.new
         (Request.Delete id rev) out.old.items out.new.items result }
+    ensures spares { Spares F.Folder folder.old folder.new result }
 {
     let start = out.len();
     append_accepted(alloc, docs, id.as_str(), out)?;

@@ -38,17 +38,17 @@ use Rattle.view_index.specs.declared.fault.IndexFault.TheVariants as fault_of
 use Rattle.view_index.specs.declared.index.Index.{Index}
 use Rattle.view_index.specs.Calls.{stem_of, IsAt, IsOpen}
 use Rattle.view_index.specs.Held.{or_empty, IsDamagedAt, IsFileOf, Stands}
-use Rattle.view_index.specs.Index.{seq_of, views_of}
+use Rattle.view_index.specs.Index.{picture_of, seq_of, views_of}
 use Rattle.view_index.specs.Opens.{FindsDamage, IsOpenFault}
 use Rattle.view_updater.specs.declared.fault.UpdateFault.{UpdateFault}
 use Rattle.view_updater.specs.declared.fault.UpdateFault.TheVariants.{Docs as OfDocuments, Index as OfIndex, NoMemory, Pool as OfPool}
 use Rattle.view_updater.specs.Faults.{by_index, by_pool}
-use Rattle.view_updater.specs.Updates.{documents_since, side as side_of_index, Side as IndexSide, AsksSince as AsksOf, ComplainsRightly, EndsAt as EndsIndex, HasAskedFor, IsBodyDamaged, IsFileFault, IsFullWith, IsIdleEnd, IsLast as IsLastOf, IsLost, IsMade, IsMadeBy as IsMadeOf, IsMapped, IsMappedTo as IsMappedOf, IsMetBy, IsOfIndex, IsThenChecked}
+use Rattle.view_updater.specs.Updates.{documents_since, side as side_of_index, Side as IndexSide, AsksSince as AsksOf, ComplainsRightly, EndsAt as EndsIndex, HasAskedFor, IsBodyDamaged, IsFileFault, IsFullWith, IsIdleEnd, IsLast as IsLastOf, IsLost, IsMade, IsMadeBy as IsMadeOf, IsMapped, IsMappedTo as IsMappedOf, IsMetBy, IsOfDisk, IsOfIndex, IsSpared, IsThenChecked, IsUpdatedFreely}
 use Rattle.view_updater.proofs.Ends.{index_of_no_documents, index_of_no_pool, index_stored}
 use Rattle.view_groups.specs.declared.groups.Groups.{Groups}
-use Rattle.view_groups.specs.Brings.{AsksSince, Brings, EndsAt, HasAsked, IsGroupFault, IsIdle, IsLast, IsMadeBy, IsMappedTo, IsNext, MayLeave, UpdatesOpen, placed}
+use Rattle.view_groups.specs.Brings.{AsksSince, Brings, EndsAt, HasAsked, IsGroupFault, IsIdle, IsLast, IsMadeBy, IsMappedTo, IsNext, MayLeave, OpensThenUpdates, placed}
 use Rattle.view_groups.specs.Sides.{side, Side}
-use Rattle.view_groups.specs.Groups.{open_of, AreAt, AreOpen, IsGroup, StayOpen}
+use Rattle.view_groups.specs.Groups.{open_of, AreAt, AreOpen, IsGroup, OpensOnly, StayOpen}
 use Rattle.view_groups.specs.Openings.{EndsOpen, IsFit, IsWithin, OpensGroup}
 use Rattle.view_groups.specs.Pictures.{Pictures, StandsOf}
 use Rattle.view_groups.specs.Reached.{picture_for, sig_of, views_in, IsReached, StandsAround}
@@ -217,8 +217,9 @@ module _ {F C : Type 0} (f : Folders F) (s : Servers C) (docs : Docs) (design : 
     asks = λ history pictures. told_all (f.disk folder) _ (λ d k. inl ((refl, refl), tt, tt));
     spoils = λ history pictures reached is. let no : ⊥ = cc in absurd no;
     asked = inl ((refl, refl), tt);
-    there = λ place index group. inr (refl, refl);
+    steps = inr (record { fault = fault_of.NoMemory; opens = inr (refl, refl, refl); servers = refl; pool = refl; is = refl });
     beside = none_close groups groups (View (sig_of design)) refl;
+    only = none_close groups groups (View (sig_of design)) refl;
     idle = λ place index group last. (inr refl, refl);
     sound = λ history pictures. told_all (f.disk folder) _ (λ d k shaped name at. (λ is. cc, λ is. cc));
     read = λ history. told_all (f.disk folder) (λ d. AreDocumentsAt docs d.now history → (name : FileName) (at : ℕ) → refused NoMemory ≢ Err (OfDocuments (Damaged name at))) (λ d k name at is. cc);
@@ -230,7 +231,10 @@ module _ {F C : Type 0} (f : Folders F) (s : Servers C) (docs : Docs) (design : 
     others = told_still (f.disk folder) (λ d. AreOpen groups d.now) _
         (λ d here. moves_none (IsFileOf (View (sig_of design))) (λ image. Unit {0}) (λ files. IsLost {T = ℕ} (Err NoMemory) ⊎ AreOpen groups files) d (λ image is. tt) (inr here)) are;
     place = tt;
+    newest = tt;
+    freely = λ history pictures. told_all (f.disk folder) _ (λ d k. tt);
     cause = λ told. absurd (⊎_elim (λ is. let no : ⊥ = cc in no) (λ is. let no : ⊥ = cc in no) told);
+    still = λ spared. refl;
     blames = λ is. let no : ⊥ = cc in absurd no;
     unknown = λ is. let no : ⊥ = cc in absurd no;
     later = (omega arith, omega arith);
@@ -238,6 +242,11 @@ module _ {F C : Type 0} (f : Folders F) (s : Servers C) (docs : Docs) (design : 
   })
 
   module _ (newest : ℕ) (newest_is : newest ≡ documents_seq docs) (open_before : IfTold (f.disk folder) (λ d. AreOpen groups d.now)) (mid_groups : Groups) (mid : F) where
+    -- it is opened over what the documents tell
+    of_documents : (opened : Result ℕ IndexFault) → OpensGroup (sig_of design) (views_in design) newest f groups mid_groups folder mid opened
+        → OpensGroup (sig_of design) (views_in design) (documents_seq docs) f groups mid_groups folder mid opened
+    of_documents opened opens = subst (λ (n : ℕ). OpensGroup (sig_of design) (views_in design) n f groups mid_groups folder mid opened) newest_is opens
+
     -- ---- the index could not be opened
 
     module _ (fault : IndexFault) (opens : OpensGroup (sig_of design) (views_in design) newest f groups mid_groups folder mid (Err fault)) where
@@ -258,8 +267,9 @@ module _ {F C : Type 0} (f : Folders F) (s : Servers C) (docs : Docs) (design : 
         asks = λ history pictures. told_all (f.disk folder) _ (λ d k. inl ((refl, refl), open_idle fault, tt));
         spoils = λ history pictures reached is. absurd (index_of_no_pool fault Compile (let same : by_index fault ≡ OfPool Compile = cc in same));
         asked = inl ((refl, refl), open_idle fault);
-        there = λ place index group. absurd (let no : unopened fault ≡ Ok place = (opens.found place index group).0 in cc);
+        steps = inr (record { fault = fault; opens = inl (of_documents (Err fault) opens); servers = refl; pool = refl; is = refl });
         beside = opens.beside;
+        only = opens.only;
         idle = λ place index group last. absurd (let no : unopened fault ≡ Ok place = (opens.found place index group).0 in cc);
         sound = λ history pictures. told_now (f.disk folder) _ _ (λ d never k shaped name at. (
           λ is. index_of_no_documents fault (Damaged name at) (let same : by_index fault ≡ OfDocuments (Damaged name at) = cc in same),
@@ -282,7 +292,10 @@ module _ {F C : Type 0} (f : Folders F) (s : Servers C) (docs : Docs) (design : 
             (λ n is. is) (λ image framed. tt) (λ others ended. inr told.1) told.0)
             (told_end (f.disk folder) (f.disk mid) (Moves (IsFileOf (View (sig_of design))) (λ image. Unit {0}) (λ files. Unit {0})) (λ d. AreOpen mid_groups d.now) opens.others (opens.is_open open_before));
         place = tt;
+        newest = tt;
+        freely = λ history pictures. told_all (f.disk folder) _ (λ d k. tt);
         cause = λ told. ⊎_elim (λ is. absurd (index_of_no_documents fault DiskFault is)) (λ is. opens.cause.failed (index_stored fault DiskFault is)) told;
+        still = λ spared. opens.cause.still (λ is. spared (inr (let disk : fault ≡ fault_of.Store DiskFault = cc in ap by_index disk)));
         blames = λ is. absurd (index_of_no_pool fault ServerFault (let same : by_index fault ≡ OfPool ServerFault = cc in same));
         unknown = λ is. absurd (index_of_no_pool fault UnknownLanguage (let same : by_index fault ≡ OfPool UnknownLanguage = cc in same));
         later = (opens.cause.later, omega arith);
@@ -524,18 +537,22 @@ module _ {F C : Type 0} (f : Folders F) (s : Servers C) (docs : Docs) (design : 
           subst (λ (l : List Index). Contains l index) (sym at.placed)
           (there_still.0, omega (arith, long, there_still.1), get_or-set_other xs place there_still.0 at.after index elsewhere ∙ there_still.2)
 
-      -- where it was open, it was found there, and updated as it stood
-      updates_there : (p : ℕ) (index : Index) → IsGroup groups p (sig_of design) (views_in design) index → UpdatesOpen f s docs design given left p (placed place result)
-      updates_there p index was =
-          let found = opens.found p index was in
-          let in_place : p ≡ place = let ok : opened_at place ≡ Ok p = found.0 in cc in
-          record {
-            done = result;
-            updates = subst (λ (k : ℕ). UpdatesAt f s docs design given left k result) (sym in_place)
-                (subst (λ (x : Groups). UpdatesAt f s docs design (side folder servers pool x) left place result) found.1
-                (subst (λ (x : F). UpdatesAt f s docs design (side x servers pool mid_groups) left place result) found.2 at));
-            is = ap (λ (k : ℕ). placed k result) (sym in_place);
-          }
+      -- and no other is open that wasn't: the opening opens none, and in their places they are as they were
+      only_it : OpensOnly (View (sig_of design)) groups groups'
+      only_it = placed_all (λ i. stem_of i ≢ View (sig_of design) → Contains (open_of groups) i) (λ differs. absurd (differs named)) (λ k d below other differs. opens.only k d below differs)
+
+      -- the opening, and the update of what is open then
+      opens_then : OpensThenUpdates f s docs design given left (placed place result)
+      opens_then = record {
+        between = side mid servers pool mid_groups;
+        place = place;
+        opens = of_documents (Ok place) opens;
+        servers = refl;
+        pool = refl;
+        done = result;
+        updates = at;
+        is = refl;
+      }
 
       -- where it was open, and nothing was written since, nothing is done
       idle_there : (p : ℕ) (index : Index) → IsGroup groups p (sig_of design) (views_in design) index → seq_of index ≡ documents_seq docs → ((placed place result ≡ Ok p) ⊎ (placed place result ≡ Err NoMemory)) × (left ≡ given)
@@ -603,10 +620,25 @@ module _ {F C : Type 0} (f : Folders F) (s : Servers C) (docs : Docs) (design : 
       place_is (Ok done) = (at.after, group)
       place_is (Err fault) = tt
 
-      rising : (r : Result (Unit {0}) UpdateFault) → IfErr r (λ fault. (fault ≡ OfDocuments DiskFault) ⊎ (fault ≡ OfIndex (fault_of.Store DiskFault)) → Rose (f.faults mid) (f.faults new))
-          → IfErr (placed place r) (λ fault. (fault ≡ OfDocuments DiskFault) ⊎ (fault ≡ OfIndex (fault_of.Store DiskFault)) → Rose (f.faults folder) (f.faults new))
+      newest_placed : (r : Result (Unit {0}) UpdateFault) → OnOk r (seq_of at.after ≡ documents_seq docs)
+          → IfOk (placed place r) (λ p. (index : Index) × IsGroup groups' p (sig_of design) (views_in design) index × (seq_of index ≡ documents_seq docs))
+      newest_placed (Ok done) is = (at.after, group, is)
+      newest_placed (Err fault) is = tt
+
+      freely_placed : (history : List Write) (pictures : Pictures) (r : Result (Unit {0}) UpdateFault)
+          → OnOk r (IsUpdatedFreely design.views history (or_empty (views_of at.before) (pictures (sig_of design))) (picture_of at.after))
+          → IfOk (placed place r) (λ p. (index : Index) × IsGroup groups' p (sig_of design) (views_in design) index × IsUpdatedFreely design.views history (picture_for design pictures) (picture_of index))
+      freely_placed history pictures (Ok done) is =
+          (at.after, group, subst (λ (n : ℕ). IsUpdatedFreely design.views history (or_empty n (pictures (sig_of design))) (picture_of at.after)) at.there.number is)
+      freely_placed history pictures (Err fault) is = tt
+
+      rising : (r : Result (Unit {0}) UpdateFault) → IfErr r (λ fault. IsOfDisk fault → Rose (f.faults mid) (f.faults new)) → IfErr (placed place r) (λ fault. IsOfDisk fault → Rose (f.faults folder) (f.faults new))
       rising (Ok done) rose = tt
       rising (Err fault) rose = λ is. let early = opens.cause.later in let rises = rose is in omega (arith, early, rises)
+
+      spared_by : (r : Result (Unit {0}) UpdateFault) → IsSpared (placed place r) → IsSpared r
+      spared_by (Ok done) spared = tt
+      spared_by (Err fault) spared = spared
 
       brought : Brings f s docs design (side folder servers pool groups) (side new servers' pool' groups') (placed place result)
       brought = record {
@@ -615,8 +647,9 @@ module _ {F C : Type 0} (f : Folders F) (s : Servers C) (docs : Docs) (design : 
             (at.updates.asks history (pictures (sig_of design))));
         spoils = spoils;
         asked = asked_some at.updates.asked;
-        there = λ p index was. inl (updates_there p index was);
+        steps = inl opens_then;
         beside = stay_beside;
+        only = only_it;
         idle = idle_there;
         sound = λ history pictures. told_now (f.disk folder) _ _ (λ d never reached shaped name k. (λ is. never reached name k (unplaced place result (OfDocuments (Damaged name k)) is), λ is. at.updates.whole name k (unplaced place result (OfIndex (fault_of.Store (Damaged name k))) is)))
             (known_before history pictures ((name : FileName) (k : ℕ) → result ≢ Err (OfDocuments (Damaged name k))) (told_now (f.disk mid) _ _ (λ d never known. never known.0) (at.updates.sound history)));
@@ -629,7 +662,12 @@ module _ {F C : Type 0} (f : Folders F) (s : Servers C) (docs : Docs) (design : 
         body = found_before at.updates.damaged;
         others = others_stay;
         place = place_is result;
+        newest = newest_placed result at.updates.newest;
+        freely = λ history pictures. known_before history pictures _ (told_now (f.disk mid) _ _
+            (λ d freely known. freely_placed history pictures result (freely (record { documents = known.0; at = before_at d.now pictures known.1 })))
+            (at.updates.freely history (pictures (sig_of design))));
         cause = rising result at.updates.cause;
+        still = λ spared. at.updates.still (spared_by result spared) ∙ opens.cause.still (λ is. let no : ⊥ = cc in no);
         blames = λ is. at.updates.blames (unplaced place result (OfPool ServerFault) is);
         unknown = λ is. at.updates.unknown (unplaced place result (OfPool UnknownLanguage) is);
         later = (let early = opens.cause.later in let late = at.updates.later.0 in omega (arith, early, late), at.updates.later.1);

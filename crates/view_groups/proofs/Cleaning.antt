@@ -103,7 +103,8 @@ module _ {F : Type 0} (f : Folders F) (kept : List (List ℕ)) (groups : Groups)
   open_mid : IfTold (f.disk old) (λ d. AreOpen groups d.now) → IfTold (f.disk mid) (λ d. AreOpen groups d.now)
   open_mid are = told_after (f.disk old) (f.disk mid) (λ d. AreOpen groups d.now) (λ d. AreOpen groups d.now) Passes (λ a b here same. (others_matter_not groups a.now b.now (λ sig. None) (λ n is. same.same n)).1 here) are passes
 
-  module _ (names : List FileName) (groups' : Groups) (new : F) (result : Result (Unit {0}) IndexFault) (listing : IfTold (f.disk old) (λ d. IsListing d.now names)) (removes : RemovesEach kept (IsNamed names) f groups groups' mid new result) where
+  module _ (spared : f.faults mid ≡ f.faults old) (names : List FileName) (groups' : Groups) (new : F) (result : Result (Unit {0}) IndexFault) (listing : IfTold (f.disk old) (λ d. IsListing d.now names))
+      (removes : RemovesEach kept (IsNamed names) f groups groups' mid new result) where
     stands : (pictures : Pictures) → IfTold (f.disk old) (λ d. AreAt groups d.now pictures) → Tells (f.disk old) (f.disk new) (Moves IsIndexFile (StandsForFewer kept pictures) (EndsAt kept groups' pictures result))
     stands pictures at =
         told_then (f.disk old) (f.disk mid) (f.disk new) (λ a b. (IsListing a.now names × AreAt groups a.now pictures) × Passes a b) (Moves IsIndexFile (StandsForFewer kept pictures) (λ files. OnOk result (Left kept names groups groups' pictures files)))
@@ -130,7 +131,7 @@ module _ {F : Type 0} (f : Folders F) (kept : List (List ℕ)) (groups : Groups)
       stay = removes.stay;
       is_open = λ are want. by_result result want removes.faults (removes.is_open (open_mid are));
       faults = named result removes.faults;
-      cause = record { later = omega (arith, later, removes.cause.later); failed = rising result removes.cause.failed };
+      cause = record { later = omega (arith, later, removes.cause.later); failed = rising result removes.cause.failed; still = λ is. removes.cause.still is ∙ spared };
     }
       where
         by_result : (r : Result (Unit {0}) IndexFault) → IfErr r (λ e. e ≡ NoMemory) → IfErr r IsRemoveFault → OnOk r (IfTold (f.disk new) (λ d. AreOpen groups' d.now)) → IfTold (f.disk new) (λ d. AreOpen groups' d.now)
@@ -159,7 +160,7 @@ module _ {F : Type 0} (f : Folders F) (kept : List (List ℕ)) (groups : Groups)
         rising (Err fault) rose = λ is. let rises = rose is in omega (arith, later, rises)
 
   -- the names could not be listed
-  module _ (fault : FolderFault) (rose : fault ≡ Failed → Rose (f.faults old) (f.faults mid)) where
+  module _ (fault : FolderFault) (rose : fault ≡ Failed → Rose (f.faults old) (f.faults mid)) (spared : (fault ≡ Failed → ⊥) → f.faults mid ≡ f.faults old) where
     ends_failed : (reason : FolderFault) (pictures : Pictures) (files : FileName → File) → AreAt groups files pictures → EndsAt kept groups pictures (Err (folder_fault reason)) files
     ends_failed Failed pictures files at = tt
     ends_failed FolderNoMemory pictures files at = at
@@ -189,5 +190,5 @@ module _ {F : Type 0} (f : Folders F) (kept : List (List ℕ)) (groups : Groups)
       stay = stay_open kept groups;
       is_open = λ are want. open_mid are;
       faults = named_failed fault;
-      cause = record { later = later; failed = λ is. rose (failed_disk fault is) };
+      cause = record { later = later; failed = λ is. rose (failed_disk fault is); still = λ other. spared (λ is. other (ap (λ e. Err (folder_fault e)) is)) };
     }

@@ -12,7 +12,7 @@ use Rattle.view_ports.specs.declared.file_name.Stem.TheVariants.{View}
 use Rattle.view_ports.specs.declared.folder.Folder.{Ghosts as Folders}
 use Rattle.view_ports.proofs.DiskRuns.{moves_none, moves_wider}
 use Rattle.view_ports.proofs.Told.{told_after, told_all, told_both, told_map, told_now, told_refl, told_still}
-use Rattle.gate_file.specs.declared.fault.GateFault.TheVariants.{Damaged}
+use Rattle.gate_file.specs.declared.fault.GateFault.TheVariants.{Damaged, DiskFault}
 use Rattle.gate_file.specs.declared.root.Root.{Root}
 use Rattle.gate_file.specs.GateFile.{name_of, root_of}
 use Rattle.gate_file.specs.Open.{opened, side_of, slots_of}
@@ -44,7 +44,7 @@ use Rattle.view_groups.proofs.Telling.{told_from}
 pub at_holds : (own : List ℕ) (views : ℕ) (index : Index) (files : FileName → File) (picture : Option Picture) → stem_of index ≡ View own → views_of index ≡ views → IsAt index files picture → HoldsIndex (View own) views files picture
 at_holds own views index files picture named number at =
     subst (λ (s : Stem). HoldsIndex s views files picture) named
-    (subst (λ (n : ℕ). HoldsIndex (stem_of index) n files picture) number (open_holds (stem_of index) (file_of index) files at.is_open (HoldsPicture (views_of index)) (picture_of_root (views_of index)) picture at.holds))
+    (subst (λ (n : ℕ). HoldsIndex (stem_of index) n files picture) number (open_holds (stem_of index) (file_of index) files at.is_open.pair (HoldsPicture (views_of index)) (picture_of_root (views_of index)) picture at.holds))
 
 -- what is damaged of an index is one of its files
 pub damaged_of : (stem : Stem) (views : ℕ) (files : FileName → File) (name : FileName) (at : ℕ) → IsDamagedAt stem views files name at → IsFileOf stem name
@@ -88,10 +88,11 @@ module _ {F : Type 0} (f : Folders F) (own : List ℕ) (views newest : ℕ) wher
     is_open = λ are. are;
     place = (index, group);
     beside = none_close groups groups (View own) refl;
+    only = none_close groups groups (View own) refl;
     shown = λ absent. absurd (absent place index group);
     found = λ at other its. (ap (λ p. Ok p) (one_place groups (View own) place at index other group.there its.there group.named its.named), refl, refl);
     faults = tt;
-    cause = record { later = omega arith; failed = tt };
+    cause = record { later = omega arith; failed = tt; still = λ spared. refl };
   }
 
   -- ---- one of another number of views was closed before
@@ -111,6 +112,9 @@ module _ {F : Type 0} (f : Folders F) (own : List ℕ) (views newest : ℕ) wher
         beside = λ k d below differs.
             let index = slice_index_or (open_of groups) k d in
             All-contains (λ i. stem_of i ≢ View own → Contains (open_of groups') i) (open_of mid) index opens.beside (closed.stay k d below differs) differs;
+        only = λ k d below differs.
+            let index = slice_index_or (open_of groups') k d in
+            All-contains (Contains (open_of groups)) (open_of mid) index closed.others (opens.only k d below differs);
         shown = λ none. opens.shown (none_there mid own views closed.gone);
         found = λ place index group. absurd (absent place index group);
         faults = opens.faults;
@@ -194,10 +198,11 @@ module _ {F : Type 0} (f : Folders F) (own : List ℕ) (views newest : ℕ) wher
         is_open = λ are. told_after (f.disk old) (f.disk new) _ (λ d. AreOpen groups d.now) _ (λ a b here moves. closed_open own a.now b.now moves.others groups groups (closed_by groups refl) here) are opens.others;
         place = tt;
         beside = none_close groups groups (View own) refl;
+        only = none_close groups groups (View own) refl;
         shown = λ absent. told_map (f.disk old) (f.disk new) (Moves (IsFileOf (View own)) (λ image. Unit {0}) (λ files. Unit {0})) (λ a b. Unit {0}) (λ a b moved. tt) opens.others;
         found = λ place index group. absurd (none_there groups own views none place index group);
         faults = opens.faults;
-        cause = record { later = opens.cause.later; failed = opens.cause.failed };
+        cause = record { later = opens.cause.later; failed = opens.cause.failed; still = λ spared. opens.cause.still (λ is. spared (let same : fault ≡ Store DiskFault = cc in ap unplaced same)) };
       }
 
     module _ (index : Index) (opens : Opens f (View own) views newest old new (Ok index)) where
@@ -218,10 +223,11 @@ module _ {F : Type 0} (f : Folders F) (own : List ℕ) (views newest : ℕ) wher
         is_open = λ are. told_after (f.disk old) (f.disk new) _ (λ d. AreOpen groups' d.now) _ (λ a b here moves. closed_open own a.now b.now moves.others groups groups' (closed_by groups' same) here) are opens.others;
         place = tt;
         beside = none_close groups groups' (View own) same;
+        only = none_close groups' groups (View own) (sym same);
         shown = λ absent. told_map (f.disk old) (f.disk new) (Moves (IsFileOf (View own)) (λ image. Unit {0}) (λ files. Unit {0})) (λ a b. Unit {0}) (λ a b moved. tt) opens.others;
         found = λ place index group. absurd (none_there groups own views none place index group);
         faults = inr (inl refl);
-        cause = record { later = opens.cause.later; failed = λ is. let no : ⊥ = cc in absurd no };
+        cause = record { later = opens.cause.later; failed = λ is. let no : ⊥ = cc in absurd no; still = λ spared. opens.cause.still (λ is. let no : ⊥ = cc in no) };
       }
 
       pub refused_push : (groups' : Groups) → open_of groups' ≡ open_of groups → (result : Result ℕ IndexFault) → result ≡ Err NoMemory → OpensGroup own views newest f groups groups' old new result
@@ -260,9 +266,11 @@ module _ {F : Type 0} (f : Folders F) (own : List ℕ) (views newest : ℕ) wher
             (λ a b. (one : Index) × IsGroup groups' place own views one × IsFound (View own) views newest a.now b.now one) (λ a b found. (index, its_place, found)) opens.found;
         beside = λ k d below differs. subst (λ (l : List Index). Contains l (slice_index_or (open_of groups) k d)) (sym items)
             (Contains-append_left (open_of groups) (index ∷ []) (slice_index_or (open_of groups) k d) (Contains-get_or (open_of groups) k d below));
+        only = All-same (λ i. stem_of i ≢ View own → Contains (open_of groups) i) (open_of groups') (open_of groups ++ index ∷ []) items
+            (All-push (λ i. stem_of i ≢ View own → Contains (open_of groups) i) (open_of groups) index (none_close groups groups (View own) refl) (λ differs. absurd (differs opens.fresh.named)));
         found = λ at other group. absurd (none_there groups own views none at other group);
         faults = tt;
-        cause = record { later = opens.cause.later; failed = tt };
+        cause = record { later = opens.cause.later; failed = tt; still = λ spared. opens.cause.still (λ is. let no : ⊥ = cc in no) };
       }
         where
           its_place : IsGroup groups' place own views index

@@ -74,7 +74,7 @@ module _ (kept : List (List ℕ)) where
       stay = stay_open groups;
       is_open = λ are. are;
       faults = tt;
-      cause = record { later = omega arith; failed = tt };
+      cause = record { later = omega arith; failed = tt; still = λ spared. refl };
     }
 
     -- fewer were to go
@@ -234,7 +234,11 @@ module _ (kept : List (List ℕ)) where
         stay = stay_then first second third early.stay late.stay;
         is_open = λ are. late.is_open (early.is_open are);
         faults = late.faults;
-        cause = record { later = omega (arith, early.cause.later, late.cause.later); failed = by_fault result late.cause.failed };
+        cause = record {
+          later = omega (arith, early.cause.later, late.cause.later);
+          failed = by_fault result late.cause.failed;
+          still = λ spared. late.cause.still spared ∙ early.cause.still (λ is. let no : ⊥ = cc in no);
+        };
       }
         where
           by_fault : (r : Result (Unit {0}) IndexFault) → IfErr r (λ e. e ≡ Store DiskFault → Rose (f.faults mid) (f.faults new)) → IfErr r (λ e. e ≡ Store DiskFault → Rose (f.faults old) (f.faults new))

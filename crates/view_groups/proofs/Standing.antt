@@ -50,7 +50,7 @@ settled_stand sig views files image picture holds left =
 
 module _ (index : Index) (files files' : FileName → File) (same : (n : FileName) → n.stem ≡ stem_of index → files' n ≡ files n) where
   pub open_still : IsOpen index files → IsOpen index files'
-  open_still is_open = open_beside (stem_of index) files files' same (file_of index) is_open
+  open_still is_open = record { pair = open_beside (stem_of index) files files' same (file_of index) is_open.pair; commits = is_open.commits }
 
   pub at_still : (picture : Option Picture) → IsAt index files picture → IsAt index files' picture
   at_still picture at = record {

@@ -9,7 +9,7 @@ use Rattle.view_ports.specs.declared.file_name.FileName.{FileName}
 use Rattle.view_ports.specs.declared.file_name.Stem.TheVariants.{View}
 use Rattle.view_ports.specs.declared.folder.Folder.{Ghosts as Folders}
 use Rattle.view_ports.specs.declared.servers.Servers.{Ghosts as Servers}
-use Rattle.gate_file.specs.declared.fault.GateFault.TheVariants.{DiskFault, Damaged, Full, NoMemory}
+use Rattle.gate_file.specs.declared.fault.GateFault.TheVariants.{Damaged, Full, NoMemory}
 use Rattle.gate_file.specs.GateFile.{name_of}
 use Rattle.design_docs.specs.declared.design.Design.{Design}
 use Rattle.doc_file.specs.declared.docs.Docs.{Docs}
@@ -19,6 +19,7 @@ use Rattle.child_pool.specs.declared.pool_fault.PoolFault.TheVariants.{Compile, 
 use Rattle.child_pool.specs.PoolCalls.{path_for, StaysAsMade}
 use Rattle.child_pool.specs.Pools.{HasItsChildren}
 use Rattle.view_model.specs.Picture.{Picture}
+use Rattle.view_index.specs.declared.fault.IndexFault.{IndexFault}
 use Rattle.view_index.specs.declared.fault.IndexFault.TheVariants.{Store}
 use Rattle.view_index.specs.declared.index.Index.{Index}
 use Rattle.view_index.specs.Calls.{IsAt}
@@ -26,8 +27,10 @@ use Rattle.view_index.specs.Held.{or_empty, IsDamagedAt, IsFileOf}
 use Rattle.view_index.specs.Index.{picture_of, seq_of}
 use Rattle.view_updater.specs.declared.fault.UpdateFault.{UpdateFault}
 use Rattle.view_updater.specs.declared.fault.UpdateFault.TheVariants.{Docs as OfDocuments, Index as OfIndex, NoMemory as OutOfMemory, Pool as OfPool}
-use Rattle.view_updater.specs.Updates.{documents_since, ComplainsRightly, HasAskedFor, IsBodyDamaged, IsFileFault, IsFullWith, IsIdleEnd, IsLost, IsMade, IsMapped, IsOfIndex}
-use Rattle.view_groups.specs.Groups.{AreAt, AreOpen, IsGroup, StayOpen}
+use Rattle.view_updater.specs.Faults.{by_index}
+use Rattle.view_updater.specs.Updates.{documents_since, ComplainsRightly, HasAskedFor, IsBodyDamaged, IsFileFault, IsFullWith, IsIdleEnd, IsLost, IsMade, IsMapped, IsOfDisk, IsOfIndex, IsSpared, IsUpdatedFreely}
+use Rattle.view_groups.specs.Groups.{AreAt, AreOpen, IsGroup, OpensOnly, StayOpen}
+use Rattle.view_groups.specs.Openings.{OpensDesign, OpensGroup}
 use Rattle.view_groups.specs.Pictures.{Pictures}
 use Rattle.view_groups.specs.Sides.{Side}
 use Rattle.view_groups.specs.Updating.{UpdatesAt}
@@ -47,11 +50,25 @@ placed place (Ok done) = Ok place
 placed place (Err fault) = Err fault
 
 module _ {F C : Type 0} (f : Folders F) (s : Servers C) (docs : Docs) (design : Design) (old new : Side F C) where
-  -- an index that is open isn't opened again: it is updated as it stands in its place, and the others stay open in theirs
-  pub record UpdatesOpen (place : ℕ) (result : Result ℕ UpdateFault) : Type 0 where
+  -- Where no index of the design is open, it is opened first, and then updated as one that is. So one commit is made at most, of what its
+  -- files showed, unless the disk fails in it.
+  pub record OpensThenUpdates (result : Result ℕ UpdateFault) : Type 0 where
+    pub between : Side F C
+    pub place : ℕ
+    pub opens : OpensGroup (sig_of design) (views_in design) (written docs) f old.groups between.groups old.folder between.folder (Ok place)
+    pub servers : between.servers ≡ old.servers
+    pub pool : between.pool ≡ old.pool
     pub done : Result (Unit {0}) UpdateFault
-    pub updates : UpdatesAt f s docs design old new place done
+    pub updates : UpdatesAt f s docs design between new place done
     pub is : result ≡ placed place done
+
+  -- or it can't be opened, and nothing is asked
+  pub record FailsToOpen (result : Result ℕ UpdateFault) : Type 0 where
+    pub fault : IndexFault
+    pub opens : OpensDesign f docs design old.groups new.groups old.folder new.folder (Err fault)
+    pub servers : new.servers ≡ old.servers
+    pub pool : new.pool ≡ old.pool
+    pub is : result ≡ Err (by_index fault)
 
   -- a picture that the update makes: over each list of calls that may have been made, of the path of the design's language
   abbrev pub IsNext : List Write → Pictures → Picture → Type 0
@@ -119,11 +136,11 @@ module _ {F C : Type 0} (f : Folders F) (s : Servers C) (docs : Docs) (design : 
         → result ≡ Err (OfPool Compile) → IfTold (f.disk old.folder) (λ d. ComplainsRightly s design old.servers old.pool history (picture_for design pictures))
     -- whatever is told, some documents were asked for, all or the first ones, or nothing was
     pub asked : (IsIdle × IsIdleEnd result) ⊎ ((documents : List (List (List ℕ × Json))) × HasAsked documents (IsLast result) result)
-    -- where the index of the design is open it stays open, and nothing is done but its update, unless memory runs out before
-    pub there : (place : ℕ) (index : Index) → IsGroup old.groups place (sig_of design) (views_in design) index
-        → UpdatesOpen place result ⊎ ((result ≡ Err OutOfMemory) × (new ≡ old))
-    -- the other open indexes stay open, whether or not it was open
+    -- it is opened where it isn't open yet, and then updated in its place; or it can't be opened, for want of memory where it was open
+    pub steps : OpensThenUpdates result ⊎ FailsToOpen result
+    -- the other open indexes stay open, whether or not it was open, and no other is opened
     pub beside : StayOpen (View (sig_of design)) old.groups new.groups
+    pub only : OpensOnly (View (sig_of design)) old.groups new.groups
     -- where it was and nothing was written since, nothing is done
     pub idle : (place : ℕ) (index : Index) → IsGroup old.groups place (sig_of design) (views_in design) index → seq_of index ≡ written docs
         → ((result ≡ Ok place) ⊎ (result ≡ Err OutOfMemory)) × (new ≡ old)
@@ -149,8 +166,14 @@ module _ {F C : Type 0} (f : Folders F) (s : Servers C) (docs : Docs) (design : 
     pub others : Tells (f.disk old.folder) (f.disk new.folder) (Moves (IsFileOf (View (sig_of design))) (λ image. Unit {0})
         (λ files. IsLost result ⊎ AreOpen new.groups files))
     pub place : IfOk result (λ place. (index : Index) × IsGroup new.groups place (sig_of design) (views_in design) index)
-    -- a fault of the disk comes only where the folder counted one, and one of the query servers only where they counted two
-    pub cause : IfErr result (λ fault. (fault ≡ OfDocuments DiskFault) ⊎ (fault ≡ OfIndex (Store DiskFault)) → Rose (f.faults old.folder) (f.faults new.folder))
+    -- whatever is held, the index is then of the newest write, and over a history it is updated whatever its path is
+    pub newest : IfOk result (λ place. (index : Index) × IsGroup new.groups place (sig_of design) (views_in design) index × (seq_of index ≡ written docs))
+    pub freely : (history : List Write) (pictures : Pictures) → IfTold (f.disk old.folder) (λ d. IsReached docs old.groups design history pictures d.now
+        → IfOk result (λ place. (index : Index) × IsGroup new.groups place (sig_of design) (views_in design) index × IsUpdatedFreely design.views history (picture_for design pictures) (picture_of index)))
+    -- a fault of the disk comes only where the folder counted one, and it counted none for any other answer; one of the query servers
+    -- comes only where they counted two
+    pub cause : IfErr result (λ fault. IsOfDisk fault → Rose (f.faults old.folder) (f.faults new.folder))
+    pub still : IsSpared result → f.faults new.folder ≡ f.faults old.folder
     pub blames : result ≡ Err (OfPool ServerFault) → RoseBy 2 (s.faults old.servers) (s.faults new.servers)
     pub unknown : result ≡ Err (OfPool UnknownLanguage) → path_for old.pool design ≡ None
     pub later : (f.faults old.folder ≤ f.faults new.folder) × (s.faults old.servers ≤ s.faults new.servers)

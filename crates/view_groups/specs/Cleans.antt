@@ -1,6 +1,6 @@
 -- Removing the files of indexes that no design has.
 use Rattle.std.specs.Prelude.{◌≡◌, ◌⊎◌, ℕ, List, [], None, Result, Ok, Err, IfErr, OnOk, All, Contains}
-use Rattle.view_ports.specs.Causes.{HasCauseIf}
+use Rattle.view_ports.specs.Causes.{CountsFor}
 use Rattle.view_ports.specs.Disk.{IfTold, Moves, MovesNone, Tells}
 use Rattle.view_ports.specs.File.{File}
 use Rattle.view_ports.specs.declared.file_name.FileName.{FileName}
@@ -71,4 +71,4 @@ module _ (kept : List (List ℕ)) where
       pub stay : KeptStayOpen groups groups'
       pub is_open : IfTold (f.disk old) (λ d. AreOpen groups d.now) → IfErr result (λ e. e ≡ NoMemory) → IfTold (f.disk new) (λ d. AreOpen groups' d.now)
       pub faults : IfErr result (λ e. (e ≡ Store DiskFault) ⊎ (e ≡ NoMemory) ⊎ ((name : FileName) × (at : ℕ) × (e ≡ Store (Damaged name at))))
-      pub cause : HasCauseIf (λ e. e ≡ Store DiskFault) (f.faults old) (f.faults new) result
+      pub cause : CountsFor (Store DiskFault) (f.faults old) (f.faults new) result

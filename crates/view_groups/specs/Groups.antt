@@ -29,6 +29,10 @@ IsPlaceOf groups stem None = All (λ index. stem_of index ≢ stem) (open_of gro
 abbrev pub StayOpen : Stem → Groups → Groups → Type 0
 StayOpen stem old new = All (λ index. stem_of index ≢ stem → Contains (open_of new) index) (open_of old)
 
+-- and no other was opened
+abbrev pub OpensOnly : Stem → Groups → Groups → Type 0
+OpensOnly stem old new = All (λ index. stem_of index ≢ stem → Contains (open_of old) index) (open_of new)
+
 -- the index of these files is closed, and all others stay open, and nothing else was opened
 pub record IsClosed (stem : Stem) (old new : Groups) : Type 0 where
   pub gone : All (λ index. stem_of index ≢ stem) (open_of new)

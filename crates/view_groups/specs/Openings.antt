@@ -12,7 +12,7 @@ use Rattle.view_index.specs.Calls.{IsCounted}
 use Rattle.view_index.specs.Held.{or_empty, IsDamagedAt, IsFileOf}
 use Rattle.view_index.specs.Opens.{FindsDamage, IsFound, IsOpenFault}
 use Rattle.view_groups.specs.declared.groups.Groups.{Groups}
-use Rattle.view_groups.specs.Groups.{AreAt, AreOpen, IsGroup, StayOpen}
+use Rattle.view_groups.specs.Groups.{AreAt, AreOpen, IsGroup, OpensOnly, StayOpen}
 use Rattle.view_groups.specs.Pictures.{Pictures, StandsOf}
 use Rattle.view_groups.specs.Reached.{sig_of, views_in}
 use Rattle.design_docs.specs.declared.design.Design.{Design}
@@ -47,8 +47,9 @@ module _ (own : List ℕ) (views newest : ℕ) where
       pub others : Tells (f.disk old) (f.disk new) (Moves (IsFileOf (View own)) (λ image. Unit {0}) (λ files. Unit {0}))
       pub is_open : IfTold (f.disk old) (λ d. AreOpen groups d.now) → IfTold (f.disk new) (λ d. AreOpen groups' d.now)
       pub place : IfOk result (λ place. (index : Index) × IsGroup groups' place own views index)
-      -- the other open indexes stay open
+      -- the other open indexes stay open, and no other is opened
       pub beside : StayOpen (View own) groups groups'
+      pub only : OpensOnly (View own) groups groups'
       -- where none is open of so many views, the one that is opened is at what its files showed, as far as this reaches the newest write
       pub shown : ((place : ℕ) (index : Index) → IsGroup groups place own views index → ⊥)
           → Tells (f.disk old) (f.disk new) (λ a b. IfOk result (λ place. (index : Index) × IsGroup groups' place own views index × IsFound (View own) views newest a.now b.now index))

@@ -1,6 +1,6 @@
 -- What removing the indexes of some files promises, one after another.
 use Rattle.std.specs.Prelude.{◌≡◌, ◌⊎◌, ℕ, List, None, Result, Err, IfErr, OnOk, Contains}
-use Rattle.view_ports.specs.Causes.{HasCauseIf}
+use Rattle.view_ports.specs.Causes.{CountsFor}
 use Rattle.view_ports.specs.Disk.{IfTold, Moves, Tells}
 use Rattle.view_ports.specs.File.{File}
 use Rattle.view_ports.specs.declared.file_name.FileName.{FileName}
@@ -53,4 +53,4 @@ module _ (kept : List (List ℕ)) where
       pub stay : KeptStayOpen kept groups groups'
       pub is_open : IfTold (f.disk old) (λ d. AreOpen groups d.now) → OnOk result (IfTold (f.disk new) (λ d. AreOpen groups' d.now))
       pub faults : IfErr result IsRemoveFault
-      pub cause : HasCauseIf (λ e. e ≡ Store DiskFault) (f.faults old) (f.faults new) result
+      pub cause : CountsFor (Store DiskFault) (f.faults old) (f.faults new) result

@@ -12,11 +12,12 @@ use Rattle.view_ports.specs.Disk.{Disk, IfTold, Moves, OthersStay, Tells}
 use Rattle.view_ports.specs.File.{File}
 use Rattle.view_ports.specs.declared.file_name.FileName.{FileName}
 use Rattle.gate_file.specs.declared.gate.GateFile.{GateFile}
-use Rattle.gate_file.specs.GateFile.{name_of, root_of, start_of}
+use Rattle.gate_file.specs.GateFile.{commits_of, name_of, root_of, start_of}
 use Rattle.gate_file.specs.Open.{IsPart}
 use Rattle.gate_file.specs.Pair.{IsOpenPair, own_bytes}
 use Rattle.gate_file.specs.Publish.{IsPublished, Publishes, WillHold, published}
 use Rattle.gate_file.proofs.Published.{image_now, published_holds, published_open, publishing_stands}
+use Rattle.doc_file.specs.Held.{commits_in}
 use Rattle.index_record.specs.Record.{record_bytes, IsRecordOf}
 use Rattle.index_record.specs.Rows.{PlacesRise}
 use Rattle.view_model.specs.Picture.{Picture}
@@ -60,7 +61,7 @@ pub stays_at : (index : Index) (disk : Option (Disk FileName)) (picture : Option
 stays_at index disk picture next ends ended at =
     told_still disk (λ d. IsAt index d.now picture) (Moves (IsFileOf (stem_of index)) (λ image. Stands (stem_of index) (views_of index) image picture ⊎ Stands (stem_of index) (views_of index) image (Some next)) ends)
     (λ d is. moves_none (IsFileOf (stem_of index)) (λ image. Stands (stem_of index) (views_of index) image picture ⊎ Stands (stem_of index) (views_of index) image (Some next)) ends d
-    (λ image left. inl (image_now (stem_of index) (file_of index) d.now is.is_open (HoldsPicture (views_of index)) (picture_of_root (views_of index)) picture is.holds image (λ n of_pair. left n))) (ended d.now))
+    (λ image left. inl (image_now (stem_of index) (file_of index) d.now is.is_open.pair (HoldsPicture (views_of index)) (picture_of_root (views_of index)) picture is.holds image (λ n of_pair. left n))) (ended d.now))
     at
 
 -- ---- the next picture is published
@@ -69,6 +70,14 @@ part_last : (front part : List ℕ) → IsPart (front ++ part) (length front) (l
 part_last front part =
     let whole : front ++ (part ++ []) ≡ front ++ part = ap (λ l. front ++ l) (append-nil part) in
     record { long = refl; same = sym (ap (λ b. take (length part) (drop (length front) b)) (sym whole) ∙ ap (take (length part)) (drop-append_seam front (part ++ [])) ∙ take-append_seam part []) }
+
+-- the object is of its files once it is published, and its root is that of the new commit
+pub open_published : (index now : Index) (bytes : List ℕ) (a b : Disk FileName) → file_of now ≡ published (file_of index) (length bytes) 0 → IsOpen index a.now → OthersStay (λ n. n ≡ name_of (file_of index)) a.now b.now
+    → IsPublished (published (file_of index) (length bytes) 0) bytes (a.now (name_of (file_of index))) (b.now (name_of (file_of index))) → IsOpen now b.now
+open_published index now bytes a b file_now is others done = record {
+  pair = subst (λ (g : GateFile). IsOpenPair (name_of g).stem g b.now) (sym file_now) (published_open (stem_of index) (file_of index) bytes 0 a.now is.pair b.now others done);
+  commits = subst (λ (g : GateFile). commits_of g ≡ commits_in (root_of g)) (sym file_now) refl;
+}
 
 module _ (index : Index) (seq : ℕ) (bytes : List ℕ) (bytes_are : bytes ≡ record_bytes seq (next_in index)) (spelled : AllByRecursion PlacesRise (next_in index) → IsRecordOf (views_of index) bytes seq (next_in index)) where
   pub is_picture : AllByRecursion PlacesRise (next_in index) → IsPictureOf (views_of index) (next_picture seq index)
@@ -88,7 +97,7 @@ module _ (index : Index) (seq : ℕ) (bytes : List ℕ) (bytes_are : bytes ≡ r
       → Tells old new (Moves (IsFileOf (stem_of index)) (λ image. Stands (stem_of index) (views_of index) image picture ⊎ Stands (stem_of index) (views_of index) image (Some (next_picture seq index))) ends)
   publishes old new picture result ends endings at moves =
       publishing_stands (stem_of index) (file_of index) bytes 0 (HoldsPicture (views_of index)) (picture_of_root (views_of index)) old new (λ files. IsAt index files picture) picture (Some (next_picture seq index)) result ends
-      (λ files here. record { is_open = here.is_open; holds = here.holds; will = λ few. will_hold (own_bytes (file_of index) files) (next_rises index files picture here) })
+      (λ files here. record { is_open = here.is_open.pair; holds = here.holds; will = λ few. will_hold (own_bytes (file_of index) files) (next_rises index files picture here) })
       endings at moves
 
   module _ (now : Index) (file_now : file_of now ≡ published (file_of index) (length bytes) 0) (views_now : views_of now ≡ views_of index) (picture_now : picture_of now ≡ next_picture seq index) (pending : ArePending now)
@@ -97,15 +106,12 @@ module _ (index : Index) (seq : ℕ) (bytes : List ℕ) (bytes_are : bytes ≡ r
     abbrev last : GateFile
     last = published (file_of index) (length bytes) 0
 
-    pub open_now : IsOpen now b.now
-    open_now = subst (λ (g : GateFile). IsOpenPair (name_of g).stem g b.now) (sym file_now) (published_open (stem_of index) (file_of index) bytes 0 a.now at.is_open b.now others done)
-
     pub at_now : IsAt now b.now (Some (next_picture seq index))
     at_now = record {
-      is_open = open_now;
+      is_open = open_published index now bytes a b file_now at.is_open others done;
       holds = subst (λ (g : GateFile). HoldsPicture (views_of now) (root_of g) (own_bytes g b.now) (Some (next_picture seq index))) (sym file_now)
           (subst (λ n. HoldsPicture n (root_of last) (own_bytes last b.now) (Some (next_picture seq index))) (sym views_now)
-          (published_holds (stem_of index) (file_of index) bytes 0 a.now at.is_open b.now others done (HoldsPicture (views_of index)) (picture_of_root (views_of index)) (Some (next_picture seq index))
+          (published_holds (stem_of index) (file_of index) bytes 0 a.now at.is_open.pair b.now others done (HoldsPicture (views_of index)) (picture_of_root (views_of index)) (Some (next_picture seq index))
           (will_hold (own_bytes (file_of index) a.now) (next_rises index a.now picture at))));
       last = picture_now;
       pending = pending;
@@ -127,9 +133,3 @@ others_stay_published index bytes old new result ends endings is_open moves =
 pub others_unmoved : (disk : Option (Disk FileName)) (stem : _) (ends : (FileName → File) → Type 0) → ((files : FileName → File) → ends files) → Tells disk disk (Moves (IsFileOf stem) (λ image. Unit {0}) ends)
 others_unmoved disk stem ends ended =
     told_still disk (λ d. Unit {0}) (Moves (IsFileOf stem) (λ image. Unit {0}) ends) (λ d is. moves_none (IsFileOf stem) (λ image. Unit {0}) ends d (λ image left. tt) (ended d.now)) (told_all disk (λ d. Unit {0}) (λ d. tt))
-
--- the object is of its files once it is published
-pub open_published : (index now : Index) (bytes : List ℕ) (a b : Disk FileName) → file_of now ≡ published (file_of index) (length bytes) 0 → IsOpen index a.now → OthersStay (λ n. n ≡ name_of (file_of index)) a.now b.now
-    → IsPublished (published (file_of index) (length bytes) 0) bytes (a.now (name_of (file_of index))) (b.now (name_of (file_of index))) → IsOpen now b.now
-open_published index now bytes a b file_now is others done =
-    subst (λ (g : GateFile). IsOpenPair (name_of g).stem g b.now) (sym file_now) (published_open (stem_of index) (file_of index) bytes 0 a.now is b.now others done)

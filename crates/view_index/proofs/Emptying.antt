@@ -1,5 +1,5 @@
 -- An index that is emptied, and what it stands for meanwhile.
-use Rattle.std.specs.Prelude.{◌≡◌, ◌≢◌, ◌⊎◌, ◌<◌, ◌≤◌, ℕ, List, [], true, false, length, nat_le, Option, Some, None, Result, Ok, Err, OnOk, IfOk, if◌then◌else◌, refl}
+use Rattle.std.specs.Prelude.{◌≡◌, ◌≢◌, ◌⊎◌, ◌<◌, ◌≤◌, ℕ, List, [], Bool, true, false, length, nat_le, nat_lt, is_none, Option, Some, None, Result, Ok, Err, OnOk, IfOk, if◌then◌else◌, refl}
 use Rattle.std.proofs.Common.{ap, sym, ◌∙◌, subst, inl, inr, ⊎_elim, arith}
 use Rattle.std.proofs.lemmas.Bool.Decides.{nat_tests}
 use Rattle.view_ports.specs.Disk.{Disk, IfTold, Moves, OthersStay, Tells}
@@ -10,8 +10,10 @@ use Rattle.view_ports.proofs.DiskRuns.{moves_then, moves_wider}
 use Rattle.view_ports.proofs.Images.{IsImage-settled}
 use Rattle.view_ports.proofs.Told.{told_after, told_given, told_map, told_then}
 use Rattle.gate_file.specs.declared.gate.GateFile.{GateFile}
-use Rattle.gate_file.specs.GateFile.{name_of, root_of}
-use Rattle.gate_file.specs.Open.{side_of}
+use Rattle.gate_file.specs.declared.root.Root.{Root}
+use Rattle.gate_file.specs.GateFile.{length_of, name_of, root_of}
+use Rattle.gate_file.specs.Header.{newer, open_root, slot_at}
+use Rattle.gate_file.specs.Open.{found, found_newest, opened, opened_of, side_of}
 use Rattle.gate_file.specs.Opens.{Empties}
 use Rattle.gate_file.specs.Pair.{IsOpenPair, own_bytes}
 use Rattle.gate_file.proofs.Images.{empty_holds, empty_stands}
@@ -37,6 +39,10 @@ pub up_to_past : (views newest : ℕ) (picture : Option Picture) → newest < (o
 up_to_past views newest None past = refl
 up_to_past views newest (Some p) past = let test : nat_le p.seq newest ≡ false = grind (arith, nat_tests) in ap (λ b. if b then Some p else None) test
 
+never_kept : (views newest : ℕ) (picture : Option Picture) → newest < (or_empty views picture).seq → up_to newest picture ≢ picture
+never_kept views newest None past same = absurd (omega (arith, past))
+never_kept views newest (Some p) past same = let gone = up_to_past views newest (Some p) past in cc
+
 -- ---- a side is cleared
 
 -- the other file of the pair has no bytes
@@ -56,15 +62,57 @@ own_or_other stem own n own_of n_of = by_side (sides stem n n_of) (sides stem ow
 both_empty : (stem : Stem) (own : FileName) (old new : FileName → File) → own.stem ≡ stem → IsOtherEmpty stem own old → OthersStay (λ n. n ≡ own) old new → new own ≡ settled [] → AreEmpty stem new
 both_empty stem own old new own_of other others done = λ n of_pair. ⊎_elim (λ same. ap new same ∙ done) (λ differs. others n differs ∙ other n of_pair differs) (own_or_other stem own n own_of of_pair)
 
+-- where nothing failed
+own_empty : {E : Type 0} (stem : Stem) (own : FileName) → own.stem ≡ stem → (result : Result (Unit {0}) E) (old new : FileName → File) → IsOtherEmpty stem own old → OthersStay (λ n. n ≡ own) old new
+    → OnOk result (new own ≡ settled []) → OnOk result (AreEmpty stem new)
+own_empty stem own own_of (Ok v) old new empty others done = both_empty stem own old new own_of empty others done
+own_empty stem own own_of (Err e) old new empty others done = tt
+
 -- the side that was opened is cleared
 pub cleared_empty : {E : Type 0} (stem : Stem) (own : FileName) → own.stem ≡ stem → (result : Result (Unit {0}) E) (mid new : Option (Disk FileName)) → IfTold mid (λ d. IsOtherEmpty stem own d.now)
     → Tells mid new (Empties own result) → IfTold new (λ d. OnOk result (AreEmpty stem d.now))
 cleared_empty {E} stem own own_of result mid new other clears =
-    told_after mid new (λ d. IsOtherEmpty stem own d.now) (λ d. OnOk result (AreEmpty stem d.now)) (Empties own result) (λ b d empty moved. by_result result b.now d.now empty moved.others moved.ended) other clears
+    told_after mid new (λ d. IsOtherEmpty stem own d.now) (λ d. OnOk result (AreEmpty stem d.now)) (Empties own result) (λ b d empty moved. own_empty stem own own_of result b.now d.now empty moved.others moved.ended) other clears
+
+-- ---- what files without bytes open to
+
+-- a file of no length, of this index
+pub record IsOfNone (stem : Stem) (gate : GateFile) : Type 0 where
+  pub own : (name_of gate).stem ≡ stem
+  pub long : length_of gate ≡ 0
+
+opened_none : (stem : Stem) (files : FileName → File) → AreEmpty stem files → IsOfNone stem (opened stem files)
+opened_none stem files empty = by_side (side_of stem false) (side_of stem true) (λ name. (files name).seen) refl refl (ap (λ (f : File). f.seen) (empty (side_of stem false) refl)) (ap (λ (f : File). f.seen) (empty (side_of stem true) refl))
   where
-    by_result : (r : Result (Unit {0}) E) (old new : FileName → File) → IsOtherEmpty stem own old → OthersStay (λ n. n ≡ own) old new → OnOk r (new own ≡ settled []) → OnOk r (AreEmpty stem new)
-    by_result (Ok v) old new empty others done = both_empty stem own old new own_of empty others done
-    by_result (Err e) old new empty others done = tt
+    newest : (name : FileName) (size : ℕ) (low high root : Option Root) → name.stem ≡ stem → size ≡ 0 → IsOfNone stem (found_newest name size low high root)
+    newest name size low high None own long = record { own = own; long = long }
+    newest name size low high (Some root) own long = record { own = own; long = long }
+
+    whole : (name : FileName) (bytes : List ℕ) → name.stem ≡ stem → bytes ≡ [] → IsOfNone stem (found name bytes)
+    whole name bytes own none = newest name (length bytes) (open_root (slot_at bytes 0)) (open_root (slot_at bytes 4096)) (newer (open_root (slot_at bytes 0)) (open_root (slot_at bytes 4096))) own (ap length none)
+
+    one_of : (first second : GateFile) → IsOfNone stem first → IsOfNone stem second → (less none : Bool)
+        → IsOfNone stem (if less then second else (if none then record first { length = 0 } else first))
+    one_of first second is is' true none = is'
+    one_of first second is is' false true = record { own = is.own; long = refl }
+    one_of first second is is' false false = is
+
+    by_side : (one other : FileName) (image : FileName → List ℕ) → one.stem ≡ stem → other.stem ≡ stem → image one ≡ [] → image other ≡ []
+        → IsOfNone stem (opened_of (found one (image one)) (found other (image other)))
+    by_side one other image one_of_pair other_of_pair none none' =
+        let first = found one (image one) in
+        let second = found other (image other) in
+        one_of first second (whole one (image one) one_of_pair none) (whole other (image other) other_of_pair none') (nat_lt first.commits second.commits) (is_none first.root)
+
+opened_same : (stem : Stem) (old new : FileName → File) → ((n : FileName) → n.stem ≡ stem → new n ≡ old n) → opened stem new ≡ opened stem old
+opened_same stem old new same = λ i. opened_of (found (side_of stem false) (same (side_of stem false) refl i).seen) (found (side_of stem true) (same (side_of stem true) refl i).seen)
+
+-- once files without bytes are opened, they are the same, and open to the same
+pub opened_still : (stem : Stem) (gate : GateFile) (old new : FileName → File) → AreEmpty stem old → gate ≡ opened stem old → IsOpenPair (name_of gate).stem gate new → gate ≡ opened stem new
+opened_still stem gate old new empty gate_is is_open =
+    let none : IsOfNone stem gate = subst (IsOfNone stem) (sym gate_is) (opened_none stem old empty) in
+    let now : AreEmpty stem new = λ n of_pair. ⊎_elim (λ same. ap new same ∙ is_open.keeps.new none.long) (λ differs. is_open.other n (of_pair ∙ sym none.own) differs) (own_or_other stem (name_of gate) n none.own of_pair) in
+    gate_is ∙ sym (opened_same stem old new (λ n of_pair. now n of_pair ∙ sym (empty n of_pair)))
 
 module _ (stem : Stem) (views : ℕ) (gate : GateFile) (old : FileName → File) (is_open : IsOpenPair stem gate old) where
   others_empty : (n : FileName) → n.stem ≡ stem → n ≢ name_of gate → old n ≡ settled []
@@ -108,7 +156,7 @@ clear_pair stem views gate a b picture result is_open holds moved =
 clear_moved : {E : Type 0} (index : Index) (a b : Disk FileName) (picture : Option Picture) (result : Result (Unit {0}) E) → IsAt index a.now picture → Empties (name_of (file_of index)) result a b
     → Moves (IsFileOf (stem_of index)) (λ image. Stands (stem_of index) (views_of index) image picture ⊎ Stands (stem_of index) (views_of index) image None)
     (λ files. OnOk result (HoldsIndex (stem_of index) (views_of index) files None)) a b
-clear_moved index a b picture result here moved = clear_pair (stem_of index) (views_of index) (file_of index) a b picture result here.is_open here.holds moved
+clear_moved index a b picture result here moved = clear_pair (stem_of index) (views_of index) (file_of index) a b picture result here.is_open.pair here.holds moved
 
 -- ---- as the folder tells it
 
@@ -117,6 +165,11 @@ module _ {E : Type 0} (stem : Stem) (views newest : ℕ) (index : Index) (named 
   is_past files picture at =
       let seq : seq_of index ≡ (or_empty (views_of index) picture).seq = ap (λ (p : Picture). p.seq) at.last in
       up_to_past (views_of index) newest picture (omega (arith, past, seq))
+
+  differs : (files : FileName → File) (picture : Option Picture) → IsAt index files picture → up_to newest picture ≢ picture
+  differs files picture at =
+      let seq : seq_of index ≡ (or_empty (views_of index) picture).seq = ap (λ (p : Picture). p.seq) at.last in
+      never_kept (views_of index) newest picture (omega (arith, past, seq))
 
   -- an index that was opened is cleared, of files that held its picture
   module _ (held : ℕ) (picture : Option Picture) where
@@ -134,7 +187,7 @@ module _ {E : Type 0} (stem : Stem) (views newest : ℕ) (index : Index) (named 
     clearing a b d holds at clears =
         let shaped : length (or_empty held picture).rows ≡ held = rows_held held _ _ picture holds.stands.stands in
         subst (λ (s : Stem). Moves (IsFileOf s) (λ image. Stands s held image picture ⊎ Stands s held image None) (λ files. OnOk result (HoldsIndex s held files None)) b d) named
-        (clear_pair (stem_of index) held (file_of index) b d picture result at.is_open (other_views (views_of index) held (root_of (file_of index)) (own_bytes (file_of index) b.now) picture shaped at.holds) clears)
+        (clear_pair (stem_of index) held (file_of index) b d picture result at.is_open.pair (other_views (views_of index) held (root_of (file_of index)) (own_bytes (file_of index) b.now) picture shaped at.holds) clears)
 
     cleared_then : (a b d : Disk FileName) → Opening a b → Clearing b d → Cleared a d
     cleared_then a b d opens clears =
@@ -152,12 +205,14 @@ module _ {E : Type 0} (stem : Stem) (views newest : ℕ) (index : Index) (named 
         (told_given old mid (λ d. HoldsIndex stem held d.now picture) Opening (λ a b. HoldsIndex stem held a.now picture × Opening a b) (λ a b known opens. (known, opens)) holds first)
         second
 
-  -- it showed a picture past the newest write, and now there is none
+  -- it showed a picture past the newest write, and now there is none, and the files have no bytes
   pub record WasPast (old new : FileName → File) : Type 0 where
     pub picture : Option Picture
     pub shows : Shows stem views old picture
     pub gone : up_to newest picture ≡ None
+    pub differs : up_to newest picture ≢ picture
     pub none : OnOk result (HoldsIndex stem views new None)
+    pub empty : OnOk result (AreEmpty stem new)
 
   pub was_past : (old mid new : Option (Disk FileName)) → Tells old mid (λ a b. IsLoaded stem views a.now b.now index) → Tells mid new (Empties (name_of (file_of index)) result) → Tells old new (λ a b. WasPast a.now b.now)
   was_past old mid new loaded second =
@@ -168,7 +223,9 @@ module _ {E : Type 0} (stem : Stem) (views newest : ℕ) (index : Index) (named 
         picture = opens.picture;
         shows = opens.shows;
         gone = is_past b.now opens.picture opens.at;
+        differs = differs b.now opens.picture opens.at;
         none = subst (λ (s : Stem). OnOk result (HoldsIndex s views d.now None)) named (subst (λ n. OnOk result (HoldsIndex (stem_of index) n d.now None)) number moved.ended);
+        empty = own_empty stem (name_of (file_of index)) named result b.now d.now (λ n of_pair differs. opens.at.is_open.pair.other n (of_pair ∙ sym named) differs) clears.others clears.ended;
       })
       loaded second
 

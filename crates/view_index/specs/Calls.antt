@@ -1,7 +1,7 @@
 -- What the calls on an index promise that reach its files.
 use Rattle.std.specs.Prelude.{◌≡◌, ◌⊎◌, ℕ, map, length, Result, Err, Some, Option, IfErr, OnOk, OnErr}
 use Rattle.raw_collation.specs.Sorting.{sorted_rows}
-use Rattle.view_ports.specs.Causes.{HasCauseIf}
+use Rattle.view_ports.specs.Causes.{CountsFor}
 use Rattle.view_ports.specs.Disk.{IfTold, Moves, Tells}
 use Rattle.view_ports.specs.File.{File}
 use Rattle.view_ports.specs.declared.file_name.FileName.{FileName}
@@ -10,9 +10,10 @@ use Rattle.view_ports.specs.declared.folder.Folder.{Ghosts as Folders}
 use Rattle.gate_file.specs.declared.fault.GateFault.{GateFault}
 use Rattle.gate_file.specs.declared.fault.GateFault.TheVariants.{DiskFault}
 use Rattle.gate_file.specs.Calls.{too_long, used_up}
-use Rattle.gate_file.specs.GateFile.{name_of, root_of}
+use Rattle.gate_file.specs.GateFile.{commits_of, name_of, root_of}
 use Rattle.gate_file.specs.Pair.{IsOpenPair, own_bytes}
 use Rattle.gate_file.specs.Publish.{published, IsFull, IsTooLong, IsUsedUp}
+use Rattle.doc_file.specs.Held.{commits_in}
 use Rattle.index_record.specs.Record.{record_bytes}
 use Rattle.view_model.specs.Picture.{Picture}
 use Rattle.view_index.specs.declared.fault.IndexFault.{IndexFault}
@@ -26,9 +27,11 @@ use Rattle.view_index.specs.Pending.{ArePending}
 abbrev pub stem_of : Index → Stem
 stem_of index = (name_of (file_of index)).stem
 
--- what the object keeps is what the folder holds: its pair of files is open
-abbrev pub IsOpen : Index → (FileName → File) → Type 0
-IsOpen index files = IsOpenPair (stem_of index) (file_of index) files
+-- what the object keeps is what the folder holds: its pair of files is open, as many commits were made as its root says, and none
+-- where it has no root
+pub record IsOpen (index : Index) (files : FileName → File) : Type 0 where
+  pub pair : IsOpenPair (stem_of index) (file_of index) files
+  pub commits : commits_of (file_of index) ≡ commits_in (root_of (file_of index))
 
 -- the object and the folder are at this picture, or at none
 pub record IsAt (index : Index) (files : FileName → File) (picture : Option Picture) : Type 0 where
@@ -56,9 +59,9 @@ pub record IsExactly {T : Type 0} (fault : GateFault) (Cause : Type 0) (result :
   pub always : Cause → (result ≡ Err (Store fault)) ⊎ (result ≡ Err NoMemory)
 
 module _ {F : Type 0} (f : Folders F) where
-  -- a fault of the disk comes only where the folder counted one
+  -- a fault of the disk comes only where the folder counted one, and it counted none for any other answer
   abbrev pub IsCounted : {T : Type 0} → F → F → Result T IndexFault → Type 0
-  IsCounted old new result = HasCauseIf (λ e. e ≡ Store DiskFault) (f.faults old) (f.faults new) result
+  IsCounted old new result = CountsFor (Store DiskFault) (f.faults old) (f.faults new) result
 
   -- the exchanges are made, by one commit
   pub record Commits (index index' : Index) (old new : F) (seq : ℕ) (result : Result (Unit {0}) IndexFault) : Type 0 where

@@ -1,5 +1,5 @@
 -- What opening an index promises.
-use Rattle.std.specs.Prelude.{◌≡◌, ◌⊎◌, ℕ, Result, Err, IfErr, IfOk, Option}
+use Rattle.std.specs.Prelude.{◌≡◌, ◌≢◌, ◌⊎◌, ℕ, Result, Err, IfErr, IfOk, Option}
 use Rattle.std.specs.List.{AllByRecursion}
 use Rattle.view_ports.specs.Causes.{RisesBy}
 use Rattle.view_ports.specs.Disk.{IfTold, Moves, Tells}
@@ -18,7 +18,7 @@ use Rattle.view_index.specs.declared.fault.IndexFault.TheVariants.{NoMemory, Sto
 use Rattle.view_index.specs.declared.index.Index.{Index}
 use Rattle.view_index.specs.Calls.{stem_of, IsAt, IsCounted, IsSettled}
 use Rattle.view_index.specs.Held.{up_to, HoldsIndex, HoldsPicture, IsDamagedAt, IsFileOf, Stands}
-use Rattle.view_index.specs.Index.{picture_of, views_of}
+use Rattle.view_index.specs.Index.{file_of, picture_of, views_of}
 
 -- damage that is found is of this kind
 abbrev pub FindsDamage : {T : Type 0} → (FileName → ℕ → Type 0) → Result T IndexFault → Type 0
@@ -45,12 +45,16 @@ pub record IsLoaded (stem : Stem) (views : ℕ) (old new : FileName → File) (i
   pub picture : Option Picture
   pub shows : Shows stem views old picture
   pub at : IsAt index new picture
+  pub file : file_of index ≡ opened stem old
 
--- the index is at what the files showed, as far as this reaches the newest write
+-- the index is at what the files showed, as far as this reaches the newest write; its file is the one that they open to, and where that
+-- is emptied the one that the emptied files open to
 pub record IsFound (stem : Stem) (views newest : ℕ) (old new : FileName → File) (index : Index) : Type 0 where
   pub picture : Option Picture
   pub shows : Shows stem views old picture
   pub at : IsAt index new (up_to newest picture)
+  pub file : up_to newest picture ≡ picture → file_of index ≡ opened stem old
+  pub emptied : up_to newest picture ≢ picture → file_of index ≡ opened stem new
 
 -- The index is opened: it is at what the files showed, and without a picture they have no bytes. Where nothing of them is pending, a crash
 -- and want of memory leave what they stand for, of whatever number of views.

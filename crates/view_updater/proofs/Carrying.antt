@@ -7,9 +7,10 @@ use Rattle.view_ports.specs.Disk.{IsImageOf}
 use Rattle.view_ports.specs.File.{File}
 use Rattle.view_ports.specs.declared.file_name.FileName.{FileName}
 use Rattle.gate_file.specs.declared.gate.GateFile.{GateFile}
-use Rattle.gate_file.specs.GateFile.{name_of, root_of}
+use Rattle.gate_file.specs.GateFile.{commits_of, name_of, root_of}
 use Rattle.gate_file.specs.Pair.{IsOpenPair, own_bytes}
 use Rattle.gate_file.proofs.Published.{image_now}
+use Rattle.doc_file.specs.Held.{commits_in}
 use Rattle.view_model.specs.Picture.{Picture}
 use Rattle.view_index.specs.declared.index.Index.{Index}
 use Rattle.view_index.specs.Calls.{stem_of, IsAt, IsOpen}
@@ -32,8 +33,10 @@ module _ (old new : Index) (a b : FileName → File) (file : file_of new ≡ fil
   files = λ i name. same name i
 
   pub open_still : IsOpen old a → IsOpen new b
-  open_still is_open =
-      subst (λ (gate : GateFile). IsOpenPair (name_of gate).stem gate b) (sym file) (subst (λ (fs : FileName → File). IsOpenPair (stem_of old) (file_of old) fs) (sym files) is_open)
+  open_still is_open = record {
+    pair = subst (λ (gate : GateFile). IsOpenPair (name_of gate).stem gate b) (sym file) (subst (λ (fs : FileName → File). IsOpenPair (stem_of old) (file_of old) fs) (sym files) is_open.pair);
+    commits = subst (λ (gate : GateFile). commits_of gate ≡ commits_in (root_of gate)) (sym file) is_open.commits;
+  }
 
   pub at_still : (picture : Option Picture) → picture_of new ≡ picture_of old → ArePending new → IsAt old a picture → IsAt new b picture
   at_still picture rows pending at =
@@ -50,4 +53,4 @@ module _ (old new : Index) (a b : FileName → File) (file : file_of new ≡ fil
 -- what a crash leaves of it now
 pub stands_now : (index : Index) (files : FileName → File) (picture : Option Picture) → IsAt index files picture → (image : FileName → List ℕ) → IsImageOf files image → Stands (stem_of index) (views_of index) image picture
 stands_now index files picture at image left =
-    image_now (stem_of index) (file_of index) files at.is_open (HoldsPicture (views_of index)) (picture_of_root (views_of index)) picture at.holds image (λ name of_pair. left name)
+    image_now (stem_of index) (file_of index) files at.is_open.pair (HoldsPicture (views_of index)) (picture_of_root (views_of index)) picture at.holds image (λ name of_pair. left name)

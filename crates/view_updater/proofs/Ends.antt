@@ -1,6 +1,7 @@
 -- How an update ends: what the folder and the index are at, and what was asked.
 use Rattle.std.specs.Prelude.{◌≡◌, ◌≢◌, ◌⊎◌, ◌≤◌, ℕ, List, map, length, Bool, false, Result, Ok, Err, IfOk, OnOk, Option, Some, None}
 use Rattle.std.proofs.Common.{refl, sym, ap, ◌∙◌, subst, inl, inr}
+use Rattle.std.proofs.lemmas.List.{length-map}
 use Rattle.json_terms.specs.Json.{Json}
 use Rattle.raw_collation.specs.Sorting.{sorted_rows}
 use Rattle.view_ports.specs.Calls.{Call}
@@ -16,7 +17,7 @@ use Rattle.view_ports.proofs.Told.{told_after, told_given, told_now, told_pair, 
 use Rattle.design_docs.specs.declared.design.Design.{Design}
 use Rattle.doc_file.specs.declared.docs.Docs.{Docs}
 use Rattle.doc_file.specs.Docs.{seq_of as written, IsAt as AreAt}
-use Rattle.design_docs.specs.History.{AreStored, Write, changes_after}
+use Rattle.design_docs.specs.History.{AreStored, Write, changes_after, mapped_after}
 use Rattle.child_pool.specs.declared.doc_rows.DocRowLists.{DocRowLists}
 use Rattle.child_pool.specs.declared.pool.Pool.{Pool}
 use Rattle.child_pool.specs.declared.pool_fault.PoolFault.{PoolFault}
@@ -26,29 +27,33 @@ use Rattle.child_pool.specs.PoolCalls.{path_for, MapsAll, StaysAsMade}
 use Rattle.child_pool.specs.Pools.{HasItsChildren}
 use Rattle.view_model.specs.Picture.{Picture}
 use Rattle.view_model.specs.Rows.{some_reduce_fails}
+use Rattle.view_model.specs.Update.{IsUpdated}
 use Rattle.gate_file.specs.declared.fault.GateFault.{GateFault}
+use Rattle.gate_file.specs.declared.gate.GateFile.{GateFile}
 use Rattle.gate_file.specs.declared.fault.GateFault.TheVariants.{DiskFault, Full}
 use Rattle.gate_file.specs.Calls.{too_long, used_up}
 use Rattle.gate_file.specs.GateFile.{length_of, name_of}
 use Rattle.gate_file.specs.Publish.{IsTooLong, IsUsedUp}
+use Rattle.index_record.specs.Record.{record_bytes}
 use Rattle.view_index.specs.declared.fault.IndexFault.{IndexFault}
 use Rattle.view_index.specs.declared.fault.IndexFault.TheVariants as fault_of
 use Rattle.view_index.specs.declared.index.Index.{Index}
 use Rattle.view_index.specs.Calls.{next_picture, next_size, stem_of, Commits, IsAt, IsOpen}
 use Rattle.view_index.specs.Changed.{changed_rows}
 use Rattle.view_index.specs.Held.{or_empty, IsFileOf, Stands}
-use Rattle.view_index.specs.Index.{file_of, next_in, picture_of, seq_of, views_of}
+use Rattle.view_index.specs.Index.{both_in, file_of, is_touched, next_in, picture_of, seq_of, views_of}
 use Rattle.view_index.specs.Pending.{ArePending}
 use Rattle.view_index.specs.Replaced.{replaced_views}
+use Rattle.view_index.specs.ViewRows.{next_rows}
 use Rattle.view_index.proofs.Committing.{last_sorted}
 use Rattle.view_updater.specs.declared.fault.UpdateFault.{UpdateFault}
 use Rattle.view_updater.specs.declared.fault.UpdateFault.TheVariants.{Docs as OfDocuments, Index as OfIndex, NoMemory, Pool as OfPool}
 use Rattle.view_updater.specs.Checking.{Checks, FailsThere}
 use Rattle.view_updater.specs.Exchanges.{BreaksOff, Exchanges, HasExchanged, TakesIn}
 use Rattle.view_updater.specs.Faults.{by_index, by_pool}
-use Rattle.view_updater.specs.Updates.{documents_since, side, EndsAt, HasAsked, HasMapped, HasMappedSome, IsFullWith, AsksSince, IsIdle, IsIdleEnd, IsLast, IsLost, IsMade, IsMadeBy, IsMapped, IsMappedTo, IsMetAs, IsMetBy, IsNext, IsReached, IsThenChecked, Side, StandsAround}
+use Rattle.view_updater.specs.Updates.{documents_since, side, EndsAt, HasAsked, HasMapped, HasMappedSome, IsFullWith, AsksSince, IsIdle, IsIdleEnd, IsLast, IsLost, IsMade, IsMadeBy, IsMapped, IsMappedTo, IsMetAs, IsMetBy, IsNext, IsReached, IsThenChecked, IsTried, IsUpdatedFreely, Side, StandsAround}
 use Rattle.view_updater.proofs.Carrying.{at_still, open_still, same_stem, same_views, stands_now, views_by_picture}
-use Rattle.view_updater.proofs.Nexts.{no_documents_since, nothing_updated, rows_updated}
+use Rattle.view_updater.proofs.Nexts.{freely_updated, no_documents_since, nothing_updated, rows_updated}
 
 module _ {F C : Type 0} (f : Folders F) (s : Servers C) (docs : Docs) (design : Design) (old : Side F C) (number : views_of old.index ≡ length design.views) where
   -- ---- nothing was written since
@@ -66,6 +71,11 @@ module _ {F C : Type 0} (f : Folders F) (s : Servers C) (docs : Docs) (design : 
           };
           reduces = λ honest differs. absurd (differs newest);
         })
+
+    pub idle_freely : seq_of old.index ≡ length history → IsUpdatedFreely design.views history (or_empty (views_of old.index) picture) (picture_of old.index)
+    idle_freely newest functions =
+        subst (λ (p : Picture). IsUpdated functions ⊥ design.views history p (picture_of old.index)) at.last
+        (nothing_updated functions ⊥ design.views history (picture_of old.index) shaped newest (last_sorted old.index files picture at))
 
   -- the files and the index are as they were
   pub idle_stands : seq_of old.index ≡ docs.seq → (history : List Write) (picture : Option Picture) → IfTold (f.disk old.folder) (λ d. IsReached docs old.index history picture d.now)
@@ -174,6 +184,11 @@ module _ {F : Type 0} (f : Folders F) (index index' now : Index) (old new : F) (
   is_filled (inr (inr (inl spent))) name (Some limit) is = absurd (let no : ⊥ = cc in no)
   is_filled (inr (inr (inr want))) name size is = absurd (let no : ⊥ = cc in no)
 
+-- what would be full of an index is so of one of the same file
+pub full_with : (index now : Index) → file_of now ≡ file_of index → (next : Picture) (name : FileName) (size : Option ℕ) → IsFullWith now next name size → IsFullWith index next name size
+full_with index now same next name None full = subst (λ (gate : GateFile). (name ≡ name_of gate) × IsUsedUp gate (length (record_bytes next.seq next.rows))) same full
+full_with index now same next name (Some limit) full = subst (λ (gate : GateFile). (name ≡ name_of gate) × (limit ≡ length_of gate) × IsTooLong gate (length (record_bytes next.seq next.rows))) same full
+
 -- ---- the exchange was made, and then the commit
 
 -- the index as of its last commit
@@ -276,6 +291,18 @@ module _ {F C : Type 0} (f : Folders F) (s : Servers C) (docs : Docs) (design : 
       mapped_is path calls follows known children =
           subst (λ (p : Picture). IsMapped s.functions s.honest design path history p (next_picture newest mid.index)) (back.rows ∙ at.last)
           (mapped_by path calls follows known children has.asked.mapped has.asked.met has.asked.maps has.takes)
+
+      -- whatever its path is
+      pub freely_is : IsUpdatedFreely design.views history (or_empty (views_of old.index) picture) (next_picture newest mid.index)
+      freely_is functions =
+          subst (λ (p : Picture). IsUpdated functions ⊥ design.views history p (next_picture newest mid.index)) (back.rows ∙ at.last) (by_lists has.asked.mapped has.asked.met has.takes has.each)
+        where
+          by_lists : (mapped : Result DocRowLists PoolFault) → IsMetAs mapped well → OnOk well (IfOk mapped (TakesIn f s docs design from mid (changes_after (seq_of rolled) history)))
+              → OnOk well (IfOk mapped (λ lists. length lists ≡ length (mapped_after (seq_of rolled) history))) → IsUpdated functions ⊥ design.views history (picture_of rolled) (next_picture newest mid.index)
+          by_lists (Err fault) met takes each = absurd (well_met fault met)
+          by_lists (Ok lists) met takes each =
+              freely_updated functions design.views history (picture_of rolled) (next_picture newest mid.index) lists (views_by_picture rolled ∙ number_back) each newest_is
+              (takes.0 ∙ (λ i. replaced_views (changed_rows (number_back i) (changes_after (seq_of rolled) history) lists) (rows_back i)))
 
       next_is : (new : Side F C) → StaysAsMade old.pool mid.pool → FailsThere s mid.servers servers mid.pool pool design (next_in mid.index) false → IsNext f s docs design old new history picture (next_picture newest mid.index)
       next_is new keeps compile path calls follows known children = record {
@@ -406,6 +433,26 @@ module _ {F C : Type 0} (f : Folders F) (s : Servers C) (docs : Docs) (design : 
               around : (was : FileName → File) → Known was → (image : FileName → List ℕ) → Left image → StandsAround f s docs design old new history picture result image
               around was is image (inl stands) = inl stands
               around was is image (inr stands) = inr (next, known_next new was is, made, stands)
+
+        abbrev OfAll : List Write → (FileName → File) → Type 0
+        OfAll history files = AreAt docs files history → HasExchanged f s docs design from mid history well ⊎ BreaksOff f s docs design from mid history well
+
+        -- it might have been committed
+        pub is_tried : (new : Side F C) → IsTried f s docs design old new (next_picture newest mid.index)
+        is_tried new = record {
+          newest = newest_is;
+          number = length-map (both_in mid.index) (next_rows (is_touched mid.index)) ∙ views_then;
+          made = λ history picture. told_now (f.disk old.folder) (λ d. OfAll history d.now) (λ d. IsReached docs old.index history picture d.now → IsNext f s docs design old new history picture (next_picture newest mid.index))
+              (λ d told here. known_next history picture new d.now (here, chosen history picture (told here.documents))) (asks history);
+        }
+
+        -- and once it is, it is updated whatever its path is
+        pub freely_next : (now : Picture) → now ≡ next_picture newest mid.index → (history : List Write) (picture : Option Picture)
+            → IfTold (f.disk old.folder) (λ d. IsReached docs old.index history picture d.now → IsUpdatedFreely design.views history (or_empty (views_of old.index) picture) now)
+        freely_next now is history picture =
+            told_now (f.disk old.folder) (λ d. OfAll history d.now) (λ d. IsReached docs old.index history picture d.now → IsUpdatedFreely design.views history (or_empty (views_of old.index) picture) now)
+            (λ d told here. subst (λ (p : Picture). IsUpdatedFreely design.views history (or_empty (views_of old.index) picture) p) (sym is)
+            (freely_is history picture d.now here.at here.documents.stored newest (newest_is ∙ here.documents.count) (chosen history picture (told here.documents)))) (asks history)
 
         -- the commit was refused: for want of memory nothing was done
         pub commit_refused : (now : Index) → file_of now ≡ file_of index → picture_of now ≡ picture_of old.index → ArePending now → (fault : IndexFault) → committed ≡ Err fault → (history : List Write) (picture : Option Picture)

@@ -115,6 +115,7 @@ module _ {F C : Type 0} (f : Folders F) (s : Servers C) (docs : Docs) (design : 
             some = λ none. some (front_none (documents_of changes) (documents_of (changes_after after history)) (sym (documents_then history changes after (is here)) ∙ none));
           };
           takes = tt;
+          each = tt;
         })) (goes history)
 
     pub asks_refused : (fault : PoolFault) → documents_of changes ≢ [] → ((left : List (List (List ℕ × Json))) → MapsAll s old.servers new.servers old.pool design (documents_of changes ++ left) new.pool (Err fault)) → Asks (refusal (by_pool fault))
@@ -155,6 +156,7 @@ module _ {F C : Type 0} (f : Folders F) (s : Servers C) (docs : Docs) (design : 
         inl (record {
           asked = maps_these (documents_since (seq_of old.index) history) (ap documents_of whole);
           takes = subst (λ (cs : List (ℕ × Write)). TakesIn f s docs design old new cs lists) (sym whole) (takes here).1;
+          each = subst (λ (cs : List (ℕ × Write)). length lists ≡ length (mapped_of cs)) (sym whole) come.each;
         })) (come.takes history) (last history)
 
     pub asks_all : ((history : List Write) → IfTold (f.disk old.folder) (λ d. AreAt docs d.now history → changes_after progress.after history ≡ [])) → Asks done
@@ -173,7 +175,7 @@ nothing_yet f s docs design old progress first idle settled = record {
   same = record { file = refl; seq = refl };
   picture = refl;
   disk = told_refl (f.disk old.folder) MovesNone (λ a. none_refl a);
-  later = omega arith;
+  still = refl;
 }
 
 -- ---- the end of the pool
@@ -236,7 +238,7 @@ module _ {F C : Type 0} (f : Folders F) (s : Servers C) (docs : Docs) (design : 
     asked = asks.1;
     same = record { file = same.file ∙ come.same.file; seq = same.seq ∙ come.same.seq };
     picture = picture ∙ come.picture;
-    reads = reads_then f docs old.folder now.folder come.disk new.folder (refusal fault) come.later reads;
+    reads = reads_then f docs old.folder now.folder come.disk new.folder (refusal fault) come.still reads;
     later = omega (arith, come.mapped.later, ends.later);
     keeps = record { languages = ends.keeps.languages ∙ come.mapped.keeps.languages; width = ends.keeps.width ∙ come.mapped.keeps.width };
     blames = λ blamed. rose_since (s.faults old.servers) (s.faults now.servers) (s.faults new.servers) come.mapped.later (ends.blames blamed);
@@ -303,8 +305,8 @@ module _ {F C : Type 0} (f : Folders F) (s : Servers C) (docs : Docs) (design : 
             )
 
         pub come_on : (next : Progress) → next.after ≡ last → next.begun ≡ (progress.begun || has_some (documents_of page)) → length others ≡ length (mapped_of page) → IsSame now.index new.index → picture_of new.index ≡ picture_of now.index
-            → Tells (f.disk now.folder) (f.disk new.folder) MovesNone → f.faults now.folder ≤ f.faults new.folder → HasComeTo f s docs design old new next (changes ++ page) (lists ++ others)
-        come_on next after begun each same picture disk later = record {
+            → Tells (f.disk now.folder) (f.disk new.folder) MovesNone → f.faults new.folder ≡ f.faults now.folder → HasComeTo f s docs design old new next (changes ++ page) (lists ++ others)
+        come_on next after begun each same picture disk still = record {
           mapped = mapped_then;
           begun = begun ∙ ap (λ b. b || has_some (documents_of page)) come.begun ∙ some-append (documents_of changes) (documents_of page) ∙ ap has_some (sym (documents-append changes page));
           each = length-append lists others ∙ (λ i. come.each i + each i) ∙ sym (length-append (mapped_of changes) (mapped_of page)) ∙ ap length (sym (mapped-append changes page));
@@ -316,7 +318,7 @@ module _ {F C : Type 0} (f : Folders F) (s : Servers C) (docs : Docs) (design : 
           same = record { file = same.file ∙ come.same.file; seq = same.seq ∙ come.same.seq };
           picture = picture ∙ come.picture;
           disk = told_none_then (f.disk old.folder) (f.disk now.folder) (f.disk new.folder) come.disk disk;
-          later = omega (arith, come.later, later);
+          still = still ∙ come.still;
         }
 
 -- the exchange has come to its end

@@ -71,6 +71,11 @@ module _ (functions : Functions) (honest : Type 0) (views : List View) (history 
     rows = rows ∙ replacements_are_updates history old.seq (length views) lists old.rows shaped;
   }
 
+-- whatever the functions and the lists are
+pub freely_updated : (functions : Functions) (views : List View) (history : List Write) (old next : Picture) (lists : Lists) → length old.rows ≡ length views → length lists ≡ length (mapped_after old.seq history)
+    → next.seq ≡ length history → next.rows ≡ replaced_views (changed_rows (length views) (changes_after old.seq history) lists) old.rows → IsUpdated functions ⊥ views history old next
+freely_updated functions views history old next lists shaped each seq rows = updated_by functions ⊥ views history old next lists shaped each (λ no. absurd no) seq rows
+
 -- where nothing was written since there is no document to be mapped
 pub no_documents_since : (seq : ℕ) (history : List Write) → seq ≡ length history → documents_since seq history ≡ []
 no_documents_since seq history newest = ap documents_of (changes_none seq history (omega (arith, newest)))

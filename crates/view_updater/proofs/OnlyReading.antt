@@ -1,8 +1,8 @@
 -- Calls that only read the folder, and their faults.
-use Rattle.std.specs.Prelude.{◌≡◌, ◌≢◌, ◌≤◌, ℕ, List, Result, Ok, Err, IfErr, IsErr, IsErrAnd}
+use Rattle.std.specs.Prelude.{◌≡◌, ◌≢◌, ℕ, List, Result, Ok, Err, IfErr, IsErr, IsErrAnd}
 use Rattle.std.proofs.Common.{refl, ap, sym, ◌∙◌, subst, inl, inr, arith}
 use Rattle.std.proofs.lemmas.Result.{err_from_is_err_and}
-use Rattle.view_ports.specs.Causes.{HasCauseIf}
+use Rattle.view_ports.specs.Causes.{CountsFor}
 use Rattle.view_ports.specs.Disk.{IfTold, MovesNone, Tells}
 use Rattle.view_ports.specs.declared.file_name.FileName.{FileName}
 use Rattle.view_ports.specs.declared.folder.Folder.{Ghosts as Folders}
@@ -83,7 +83,7 @@ done_as T value = Ok value
 module _ {F : Type 0} (f : Folders F) (docs : Docs) (old new : F) where
   -- the documents couldn't be read
   pub read_failed : {S T : Type 0} (seq : ℕ) (fault : DocFault) (result : Result T UpdateFault) → result ≡ Err (by_documents fault) → Tells (f.disk old) (f.disk new) MovesNone
-      → HasCauseIf (λ e. e ≡ doc.Gate DiskFault) (f.faults old) (f.faults new) (documents_failed S fault)
+      → CountsFor (doc.Gate DiskFault) (f.faults old) (f.faults new) (documents_failed S fault)
       → ((history : List Write) → IfTold (f.disk old) (λ d. AreAt docs d.now history → (name : FileName) (at : ℕ) → documents_failed S fault ≡ Err (doc.Gate (Damaged name at)) → ⊥))
       → IsReadFault fault
       → IfTold (f.disk old) (λ d. AreLoaded docs d.now → FindsDamage (λ name at. (name ≡ name_of (file_of docs)) × IsSpoiledAfter docs (bytes_in docs d.now) seq at) (documents_failed S fault))
@@ -93,6 +93,7 @@ module _ {F : Type 0} (f : Folders F) (docs : Docs) (old new : F) where
     faults = of_no_index fault;
     file = read_file fault reads;
     cause = λ told. cause.failed (of_documents fault DiskFault told);
+    still = λ differs. cause.still (λ told. differs (ap (λ (e : DocFault). failed T (by_documents e)) (let same : fault ≡ doc.Gate DiskFault = cc in same)));
     sound = λ history. told_now (f.disk old) (λ d. AreAt docs d.now history → (name : FileName) (at : ℕ) → documents_failed S fault ≡ Err (doc.Gate (Damaged name at)) → ⊥)
         (λ d. AreAt docs d.now history → (name : FileName) (at : ℕ) → failed T (by_documents fault) ≢ Err (OfDocuments (Damaged name at)))
         (λ d never here name at told. never here name at (ap (documents_failed S) (of_documents fault (Damaged name at) (let same : by_documents fault ≡ OfDocuments (Damaged name at) = cc in same)))) (sound history);
@@ -111,6 +112,7 @@ module _ {F : Type 0} (f : Folders F) (docs : Docs) (old new : F) where
     faults = reads.faults;
     file = reads.file;
     cause = reads.cause;
+    still = λ differs. reads.still (λ told. differs (ap (failed T) (let same : fault ≡ OfDocuments DiskFault = cc in same)));
     sound = λ history. told_now (f.disk old) (λ d. AreAt docs d.now history → (name : FileName) (at : ℕ) → failed S fault ≢ Err (OfDocuments (Damaged name at)))
         (λ d. AreAt docs d.now history → (name : FileName) (at : ℕ) → failed T fault ≢ Err (OfDocuments (Damaged name at)))
         (λ d never here name at told. never here name at (ap (failed S) (let same : fault ≡ OfDocuments (Damaged name at) = cc in same))) (reads.sound history);
@@ -127,6 +129,7 @@ module _ {F : Type 0} (f : Folders F) (docs : Docs) (old new : F) where
     faults = other;
     file = of_no_file fault other never;
     cause = λ told. absurd (never DiskFault told);
+    still = λ differs. reads.still (λ told. cc);
     sound = λ history. told_all (f.disk old) (λ d. AreAt docs d.now history → (name : FileName) (at : ℕ) → failed T fault ≢ Err (OfDocuments (Damaged name at)))
         (λ d here name at told. never (Damaged name at) (let same : fault ≡ OfDocuments (Damaged name at) = cc in same));
     damaged = told_all (f.disk old) (λ d. FindsBodies docs (failed T fault) d.now)
@@ -141,6 +144,7 @@ module _ {F : Type 0} (f : Folders F) (docs : Docs) (old new : F) where
     faults = tt;
     file = tt;
     cause = tt;
+    still = λ differs. reads.still (λ told. cc);
     sound = λ history. told_all (f.disk old) (λ d. AreAt docs d.now history → (name : FileName) (at : ℕ) → done_as T done ≢ Err (OfDocuments (Damaged name at))) (λ d here name at told. cc);
     damaged = told_all (f.disk old) (λ d. FindsBodies docs (done_as T done) d.now) (λ d loaded name at told. cc);
     later = reads.later;
@@ -171,16 +175,17 @@ module _ {F : Type 0} (f : Folders F) (docs : Docs) (old mid : F) (disk : Tells 
       let files : b.now ≡ a.now = λ i name. none_same a b none name i in
       subst (λ (fs : FileName → File). FindsBodies docs result fs) files known) disk found
 
-  pub reads_then : {T : Type 0} (new : F) (result : Result T UpdateFault) → f.faults old ≤ f.faults mid → OnlyReads f docs mid new result → OnlyReads f docs old new result
-  reads_then new result later reads = record {
+  pub reads_then : {T : Type 0} (new : F) (result : Result T UpdateFault) → f.faults mid ≡ f.faults old → OnlyReads f docs mid new result → OnlyReads f docs old new result
+  reads_then new result same reads = record {
     disk = told_none_then (f.disk old) (f.disk mid) (f.disk new) disk reads.disk;
     faults = reads.faults;
     file = reads.file;
     cause = err_wider result (λ fault. fault ≡ OfDocuments DiskFault → Rose (f.faults mid) (f.faults new)) (λ fault. fault ≡ OfDocuments DiskFault → Rose (f.faults old) (f.faults new))
-        (λ fault rose told. let now = rose told in omega (arith, now, later)) reads.cause;
+        (λ fault rose told. subst (λ (n : ℕ). Rose n (f.faults new)) same (rose told)) reads.cause;
+    still = λ differs. reads.still differs ∙ same;
     sound = known_before (λ history. (name : FileName) (at : ℕ) → result ≢ Err (OfDocuments (Damaged name at))) reads.sound;
     damaged = bodies_before result reads.damaged;
-    later = omega (arith, later, reads.later);
+    later = omega (arith, same, reads.later);
   }
 
 -- ---- faults of the pool

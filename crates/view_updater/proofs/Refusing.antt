@@ -4,6 +4,7 @@ use Rattle.std.proofs.Common.{sym, ◌∙◌, subst, inl, inr, arith}
 use Rattle.json_terms.specs.Json.{Json}
 use Rattle.view_ports.specs.Disk.{IfTold}
 use Rattle.view_ports.specs.declared.folder.Folder.{Ghosts as Folders}
+use Rattle.view_ports.proofs.Told.{told_all}
 use Rattle.view_ports.specs.declared.servers.Servers.{Ghosts as Servers}
 use Rattle.gate_file.specs.declared.fault.GateFault.TheVariants.{Damaged, DiskFault, Full}
 use Rattle.design_docs.specs.declared.design.Design.{Design}
@@ -23,7 +24,7 @@ use Rattle.view_index.specs.Calls.{IsOpen, IsSettled}
 use Rattle.view_index.specs.Held.{or_empty}
 use Rattle.view_index.specs.Index.{file_of, picture_of, seq_of, views_of}
 use Rattle.view_updater.specs.declared.fault.UpdateFault.{UpdateFault}
-use Rattle.view_updater.specs.declared.fault.UpdateFault.TheVariants.{Index as OfIndex, Pool as OfPool}
+use Rattle.view_updater.specs.declared.fault.UpdateFault.TheVariants.{Docs as OfDocuments, Index as OfIndex, Pool as OfPool}
 use Rattle.view_updater.specs.Exchanges.{OnlyReads}
 use Rattle.view_updater.specs.Faults.{by_pool}
 use Rattle.view_updater.specs.Updates.{side, AsksSince, ComplainsRightly, HasAsked, IsIdle, IsIdleEnd, IsLast, IsOfIndex, IsReached, Side, Updates}
@@ -62,8 +63,16 @@ module _ {F C : Type 0} (f : Folders F) (s : Servers C) (docs : Docs) (design : 
     others = refused_others f s docs design old number new reads.disk (refused fault) file is_open;
     same = (same_stem old.index last file, same_views old.index last rows);
     settled = (settled, rows);
-    once = record { idle = λ same. absurd (differs same); due = λ since. tt; room = λ since. tt; refused = inr file };
+    fresh = λ since. tt;
+    once = record { due = λ since. tt; refused = inr file };
+    within = record {
+      full = λ name length is. absurd (of_no_index (Store (Full name length)) (let same : fault ≡ OfIndex (Store (Full name length)) = cc in same));
+      room = λ is. absurd (of_no_index (Store DiskFault) (let same : fault ≡ OfIndex (Store DiskFault) = cc in same));
+    };
+    newest = tt;
+    freely = λ history picture. told_all (f.disk old.folder) (λ d. IsReached docs old.index history picture d.now → Unit {0}) (λ d here. tt);
     cause = λ told. elim told [ inl is ↦ reads.cause is | inr is ↦ absurd (of_no_index (Store DiskFault) is) ];
+    still = λ spared. reads.still (λ is. spared (inl (let same : fault ≡ OfDocuments DiskFault = cc in same)));
     sound = reads.sound;
     whole = λ name at is. of_no_index (Store (Damaged name at)) (let same : fault ≡ OfIndex (Store (Damaged name at)) = cc in same);
     file = reads.file;

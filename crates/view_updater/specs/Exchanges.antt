@@ -12,7 +12,7 @@ use Rattle.doc_file.specs.declared.docs.Docs.{Docs}
 use Rattle.doc_file.specs.declared.docs.changes.Changes.{Changes}
 use Rattle.doc_file.specs.Changes.{numbered, HasDocument, HasShortId}
 use Rattle.doc_file.specs.Docs.{IsAt as AreAt, IsLoaded as AreLoaded}
-use Rattle.design_docs.specs.History.{Write, changes_after}
+use Rattle.design_docs.specs.History.{Write, changes_after, mapped_after}
 use Rattle.child_pool.specs.declared.doc_rows.DocRowLists.{DocRowLists}
 use Rattle.child_pool.specs.declared.pool_fault.PoolFault.TheVariants.{ServerFault, UnknownLanguage}
 use Rattle.child_pool.specs.Firsts.{has_some, FirstAreMapped}
@@ -35,6 +35,7 @@ module _ {F : Type 0} (f : Folders F) (docs : Docs) (old new : F) where
     pub faults : IfErr result (λ fault. IsOfIndex fault → ⊥)
     pub file : IfErr result IsFileFault
     pub cause : IfErr result (λ fault. fault ≡ OfDocuments DiskFault → Rose (f.faults old) (f.faults new))
+    pub still : result ≢ Err (OfDocuments DiskFault) → f.faults new ≡ f.faults old
     pub sound : (history : List Write) → IfTold (f.disk old) (λ d. AreAt docs d.now history → (name : FileName) (at : ℕ) → result ≢ Err (OfDocuments (Damaged name at)))
     pub damaged : IfTold (f.disk old) (λ d. AreLoaded docs d.now → (name : FileName) (at : ℕ) → result ≡ Err (OfDocuments (Damaged name at)) → IsBodyDamaged docs d.now name at)
     pub later : f.faults old ≤ f.faults new
@@ -58,10 +59,11 @@ module _ {F C : Type 0} (f : Folders F) (s : Servers C) (docs : Docs) (design : 
   TakesIn changes lists =
       (next_in new.index ≡ replaced_views (changed_rows (views_of old.index) changes lists) (next_in old.index)) × (ArePending old.index → ArePending new.index)
 
-  -- all documents that were written since were mapped, with this end, and their rows are exchanged
+  -- all documents that were written since were mapped, with this end, and their rows are exchanged, a list for each document
   pub record HasExchanged (history : List Write) (result : Result (Unit {0}) UpdateFault) : Type 0 where
     pub asked : HasMapped s old.servers new.servers old.pool new.pool design (documents_since (seq_of old.index) history) result
     pub takes : OnOk result (IfOk asked.mapped (TakesIn (changes_after (seq_of old.index) history)))
+    pub each : OnOk result (IfOk asked.mapped (λ lists. length lists ≡ length (mapped_after (seq_of old.index) history)))
 
   -- the first of them were mapped, maybe none, and then reading more or making room failed
   abbrev pub BreaksOff : List Write → Result (Unit {0}) UpdateFault → Type 0
@@ -93,7 +95,7 @@ module _ {F C : Type 0} (f : Folders F) (s : Servers C) (docs : Docs) (design : 
     pub same : IsSame old.index new.index
     pub picture : picture_of new.index ≡ picture_of old.index
     pub disk : Tells (f.disk old.folder) (f.disk new.folder) MovesNone
-    pub later : f.faults old.folder ≤ f.faults new.folder
+    pub still : f.faults new.folder ≡ f.faults old.folder
 
   -- one page more is exchanged, behind a smaller number; or it was the last one, or this is refused, and so is the whole exchange
   abbrev pub FollowsPage : ℕ → Result (Option Progress) UpdateFault → Type 0

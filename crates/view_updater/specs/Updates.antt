@@ -14,6 +14,7 @@ use Rattle.gate_file.specs.GateFile.{length_of, name_of}
 use Rattle.gate_file.specs.Publish.{published, IsFull, IsTooLong, IsUsedUp}
 use Rattle.index_record.specs.Record.{record_bytes}
 use Rattle.design_docs.specs.declared.design.Design.{Design}
+use Rattle.design_docs.specs.declared.design.View.{View}
 use Rattle.design_docs.specs.Design.{map_sources}
 use Rattle.query_protocol.specs.CommandLines.{document_of}
 use Rattle.doc_file.specs.declared.docs.Docs.{Docs}
@@ -70,6 +71,19 @@ IsMetAs (Err fault) result = result ≡ Err (by_pool fault)
 abbrev pub IsOfIndex : UpdateFault → Type 0
 IsOfIndex (OfIndex fault) = Unit {0}
 IsOfIndex other = ⊥
+
+-- the disk failed, in reading the documents or in committing the index
+abbrev pub IsOfDisk : UpdateFault → Type 0
+IsOfDisk fault = (fault ≡ OfDocuments DiskFault) ⊎ (fault ≡ OfIndex (Store DiskFault))
+
+-- that isn't answered
+abbrev pub IsSpared : {T : Type 0} → Result T UpdateFault → Type 0
+IsSpared (Ok done) = Unit {0}
+IsSpared (Err fault) = IsOfDisk fault → ⊥
+
+-- the new picture is of the whole history, and of the documents that it maps, whatever was emitted for them
+abbrev pub IsUpdatedFreely : List View → List Write → Picture → Picture → Type 0
+IsUpdatedFreely views history old new = (functions : Functions) → IsUpdated functions ⊥ views history old new
 
 -- a fault of the index came
 abbrev pub IsLost : {T : Type 0} → Result T UpdateFault → Type 0
@@ -232,12 +246,22 @@ module _ {F C : Type 0} (f : Folders F) (s : Servers C) (docs : Docs) (design : 
   new_size = length (record_bytes (picture_of new.index).seq (picture_of new.index).rows)
 
   -- Where something was written since, the index is committed once, by the record of its next picture behind what its file has, for
-  -- which there is room. Where nothing was, and after each refusal but for a fault of the disk in it, its file is as it was.
+  -- which there is room. After each refusal but for a fault of the disk in it, its file is as it was.
   pub record CommitsOnce (result : Result (Unit {0}) UpdateFault) : Type 0 where
-    pub idle : seq_of old.index ≡ written docs → index_file new.index ≡ index_file old.index
-    pub due : seq_of old.index ≢ written docs → OnOk result (index_file new.index ≡ published (index_file old.index) new_size 0)
-    pub room : seq_of old.index ≢ written docs → OnOk result (IsFull (index_file old.index) new_size → ⊥)
+    pub due : seq_of old.index ≢ written docs → OnOk result ((index_file new.index ≡ published (index_file old.index) new_size 0) × (IsFull (index_file old.index) new_size → ⊥))
     pub refused : IfErr result (λ fault. (fault ≡ OfIndex (Store DiskFault)) ⊎ (index_file new.index ≡ index_file old.index))
+
+  -- a picture that the update might have committed: it is of the newest write, and over a history it is one that the update makes
+  pub record IsTried (next : Picture) : Type 0 where
+    pub newest : next.seq ≡ written docs
+    pub number : length next.rows ≡ views_of old.index
+    pub made : (history : List Write) (picture : Option Picture) → IfTold (f.disk old.folder) (λ d. IsReached docs old.index history picture d.now → IsNext history picture next)
+
+  -- The file of the index is full only where it would be with such a picture, and a fault of the disk in it comes only where there is room
+  -- for one.
+  pub record StaysWithin (result : Result (Unit {0}) UpdateFault) : Type 0 where
+    pub full : (name : FileName) (length : Option ℕ) → result ≡ Err (OfIndex (Store (Full name length))) → (next : Picture) × IsTried next × IsFullWith old.index next name length
+    pub room : result ≡ Err (OfIndex (Store DiskFault)) → (next : Picture) × IsTried next × (IsFull (index_file old.index) (length (record_bytes next.seq next.rows)) → ⊥)
 
   pub record Updates (result : Result (Unit {0}) UpdateFault) : Type 0 where
     -- a crash leaves the picture or an updated one, and after Ok the index is at that; the documents' files are as they were
@@ -257,9 +281,18 @@ module _ {F C : Type 0} (f : Folders F) (s : Servers C) (docs : Docs) (design : 
     pub others : Tells (f.disk old.folder) (f.disk new.folder) (Moves (IsFileOf (stem_of old.index)) (λ image. Unit {0}) (λ files. IsLost result ⊎ IsOpen new.index files))
     pub same : (stem_of new.index ≡ stem_of old.index) × (views_of new.index ≡ views_of old.index)
     pub settled : OnErr result (IsSettled new.index × (picture_of new.index ≡ picture_of old.index))
+    -- where something was written since, nothing is exchanged in the index after Ok
+    pub fresh : seq_of old.index ≢ written docs → OnOk result (IsSettled new.index)
     pub once : CommitsOnce result
-    -- a fault of the disk comes only where the folder counted one; the index is never damaged, nor are the documents over a history
-    pub cause : IfErr result (λ fault. (fault ≡ OfDocuments DiskFault) ⊎ (fault ≡ OfIndex (Store DiskFault)) → Rose (f.faults old.folder) (f.faults new.folder))
+    pub within : StaysWithin result
+    -- whatever is held, after Ok it is of the newest write, and over a history it is updated whatever its path is
+    pub newest : OnOk result (seq_of new.index ≡ written docs)
+    pub freely : (history : List Write) (picture : Option Picture) → IfTold (f.disk old.folder) (λ d. IsReached docs old.index history picture d.now
+        → OnOk result (IsUpdatedFreely design.views history (or_empty (views_of old.index) picture) (picture_of new.index)))
+    -- a fault of the disk comes only where the folder counted one, and it counted none for any other answer; the index is never damaged,
+    -- nor are the documents over a history
+    pub cause : IfErr result (λ fault. IsOfDisk fault → Rose (f.faults old.folder) (f.faults new.folder))
+    pub still : IsSpared result → f.faults new.folder ≡ f.faults old.folder
     pub sound : (history : List Write) → IfTold (f.disk old.folder) (λ d. AreAt docs d.now history → (name : FileName) (at : ℕ) → result ≢ Err (OfDocuments (Damaged name at)))
     pub whole : (name : FileName) (at : ℕ) → result ≢ Err (OfIndex (Store (Damaged name at)))
     pub later : (f.faults old.folder ≤ f.faults new.folder) × (s.faults old.servers ≤ s.faults new.servers)

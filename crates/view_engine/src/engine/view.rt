@@ -1,6 +1,6 @@
 //! The request `view`.
 
-ghost use Rattle.std.specs.Prelude.{◌≡◌, ◌≢◌, ◌<◌, true, ◌≤◌, bytes_eq, IfErr, IfOk, Ok, IfSome, None, option_map, map, length};
+ghost use Rattle.std.specs.Prelude.{◌≡◌, ◌≢◌, ◌<◌, true, ◌≤◌, bytes_eq, Err, IfErr, IfOk, Ok, IfSome, None, option_map, map, length};
 ghost use Rattle.std.specs.Map.{lookup};
 ghost use Rattle.design_docs.specs.Laws.{entry_of as named};
 ghost use Rattle.json_terms.specs.Seen.{json};
@@ -10,9 +10,10 @@ ghost use Rattle.child_pool.specs.ReduceTalk.{reduce_in};
 ghost use Rattle.view_index.specs.Index.{picture_of, views_of};
 ghost use Rattle.view_engine.specs.Answering.{Shows, ShowsView, fault_of_answer};
 ghost use Rattle.view_engine.specs.Calls.{scene, Performed};
-ghost use Rattle.view_engine.specs.Disks.{LiesOpen, Reads};
+ghost use Rattle.view_engine.specs.Disks.{LiesOpen, Reads, Spares};
 ghost use Rattle.view_engine.specs.View as spec;
-ghost use Rattle.view_engine.specs.Planning.{HasPath, IsOfLive, PlansView, ReadsDesign, RefusesAsKept, RefusesView};
+ghost use Rattle.view_engine.specs.Viewed.{IsTurnedAway, Views};
+ghost use Rattle.view_engine.specs.Planning.{HasPath, IsOfLive, IsReadOf, PlansView, ReadsDesign, RefusesAsKept, RefusesByDesign, RefusesView, StopsLive, TakesByDesign};
 ghost use Rattle.view_engine.specs.ViewQuery as query;
 ghost use Rattle.view_engine.specs.ViewQuery.{parameters_in, query_for, view_query};
 ghost use Rattle.view_engine.specs.ViewPlan.{met_by, met_by_pool, met_by_query, source_at, HasReduce, IsUpdateFault, ShowsRows};
@@ -56,9 +57,13 @@ impl Engine {
         out: &mut Vec<u8>,
     ) -> Result<(), Halt>
         requires open { LiesOpen F.Folder self.old folder.old }
-        ensures { Performed F.Folder C.Servers (scene self.old folder.old servers.old)
+        ensures does { Performed F.Folder C.Servers (scene self.old folder.old servers.old)
             (scene self.new folder.new servers.new)
             (Ok (Request.View name query)) out.old.items out.new.items result }
+        ensures spares { Spares F.Folder folder.old folder.new result }
+        ensures views { Views F.Folder C.Servers (scene self.old folder.old servers.old)
+            (scene self.new folder.new servers.new)
+            (view_query name query) out.old.items out.new.items result }
     {
         let plan = match self.plan(alloc, folder, &name, query) {
             Ok(plan) => plan,
@@ -98,7 +103,10 @@ impl Engine {
     ) -> Result<Plan, Halt>
         ensures plan { PlansView F.Folder self.now folder.old (view_query name.now query) result }
         ensures read { ReadsDesign F.Folder self.now folder.old (view_query name.now query) result }
+        ensures about { IfOk result (λ plan. IsReadOf F.Folder self.now.docs folder.old
+            (view_query name.now query) plan.design) }
         ensures reduce { IfOk result (λ plan. HasReduce plan.design.views name.now.view plan.place) }
+        ensures shown { IfOk result (λ plan. ShowsRows plan.design.views name.now.view plan.place) }
         ensures query { IfOk result (λ plan. plan.query ≡ query_for plan.design.views
             (view_query name.now query)) }
         ensures few { IfOk result (λ plan. length plan.design.views ≤ 32) }
@@ -107,8 +115,13 @@ impl Engine {
         ensures refused { RefusesView F.Folder self.now folder.old (view_query name.now query) result }
         ensures live { IfOk result (IsOfLive self.now (view_query name.now query)) }
         ensures kept { IfErr result (RefusesAsKept self.now (view_query name.now query)) }
+        ensures stopped { IfErr result (StopsLive self.now (view_query name.now query)) }
+        ensures taken { IfOk result (λ plan. TakesByDesign F.Folder self.now folder.old (view_query name.now query)) }
+        ensures own { IfErr result (RefusesByDesign F.Folder self.now folder.old (view_query name.now query)) }
         ensures unblamed { IfErr result (λ halt. halt ≢ Halt.Refused Refusal.ServerFault) }
+        ensures turned { IfErr result (λ halt. IsTurnedAway (Err halt)) }
         ensures reads { Reads F.Folder self.now.docs folder.old folder.new result }
+        ensures spares { Spares F.Folder folder.old folder.new result }
     {
         let parameters = parameters_of(alloc, query);
         let id = design_id(alloc, name.design.as_str())?;

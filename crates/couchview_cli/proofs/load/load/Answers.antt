@@ -1,6 +1,6 @@
 -- A load is what it showed.
 use Rattle.std.proofs.Common.{◌≡◌, ◌∙◌, ℕ, List, [], Err, Result, inl, inr, refl, sym, ap, subst}
-use Rattle.view_ports.specs.Causes.{HasCauseIf}
+use Rattle.view_ports.specs.Causes.{CountsFor}
 use Rattle.view_ports.specs.declared.file_name.FileName.{FileName}
 use Rattle.view_ports.proofs.Told.{told_now, told_pair}
 use Rattle.view_engine.specs.declared.engine.Engine.{Engine}
@@ -23,7 +23,7 @@ returns-in-Err-clause-loads g c = λ left opening holds.
     let disk = g.F.Folder.disk c.args.folder.now in
     let before = beside left g.K.Sink g.F.Folder g.C.Servers c.args.sink.now c.args.folder.now c.args.servers.now in
     inr (inr (unopened g.C.Servers.functions g.C.Servers.honest [] opening before (g.K.Sink.held c.close.new.sink) (g.F.Folder.disk c.open.new.folder) (g.F.Folder.faults c.open.new.folder)
-    (g.C.Servers.may_follow c.args.servers.now) c.requires.follows (c.in-Err.ensures.moments opening holds) c.in-Err.fault c.close.result c.close.ensures.closes (subst (λ (opened : Result Engine StepFault). HasCauseIf (λ fault. fault ≡ DiskFault) (g.F.Folder.faults c.args.folder.now) (g.F.Folder.faults c.open.new.folder) opened) c.in-Err.is c.open.ensures.cause).failed
+    (g.C.Servers.may_follow c.args.servers.now) c.requires.follows (c.in-Err.ensures.moments opening holds) c.in-Err.fault c.close.result c.close.ensures.closes (subst (λ (opened : Result Engine StepFault). CountsFor DiskFault (g.F.Folder.faults c.args.folder.now) (g.F.Folder.faults c.open.new.folder) opened) c.in-Err.is c.open.ensures.cause).failed
     (told_pair disk (λ d. Holds d.now opening) (λ d. Holds d.now opening → (name : FileName) (at : ℕ) → c.open.result ≡ Err (Damaged name at) → ⊥) (λ d. (name : FileName) (at : ℕ) → c.in-Err.fault ≡ Damaged name at → ⊥)
     (λ d held never name at is. never held name at (c.in-Err.is ∙ ap Err is)) holds (c.open.ensures.sound opening))
     (λ name size is. c.open.ensures.room name size (c.in-Err.is ∙ ap Err is))))

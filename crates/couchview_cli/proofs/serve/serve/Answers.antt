@@ -1,7 +1,7 @@
 -- Serving is what its session came to.
 use Rattle.std.specs.Prelude.{map, string_bytes}
-use Rattle.std.proofs.Common.{◌≡◌, ◌∙◌, ℕ, [], Err, Result, inl, inr, refl, sym, ap, subst}
-use Rattle.view_ports.specs.Causes.{HasCauseIf}
+use Rattle.std.proofs.Common.{◌≡◌, ◌≢◌, ◌∙◌, ℕ, List, [], Option, Err, Result, inl, inr, refl, sym, ap, subst}
+use Rattle.view_ports.specs.Causes.{CountsFor}
 use Rattle.view_ports.specs.declared.file_name.FileName.{FileName}
 use Rattle.view_ports.proofs.Counting.{Rose-earlier}
 use Rattle.view_ports.proofs.Told.{told_now, told_pair}
@@ -14,6 +14,7 @@ use Rattle.view_engine.proofs.Worlds.{starts_at}
 use Rattle.view_engine.specs.declared.engine.Engine.{Engine}
 use Rattle.line_loop.specs.declared.loop_end.LoopEnd.{LoopEnd}
 use Rattle.line_loop.specs.declared.loop_end.LoopEnd.TheVariants.{Stopped}
+use Rattle.couchview_cli.specs.Closing.{fault_status, Closes}
 use Rattle.couchview_cli.specs.Ends.{Comes}
 use Rattle.couchview_cli.specs.Reading.{HasReplied}
 use Rattle.couchview_cli.specs.Serving.{outside, AreLeft, Outside, Serves}
@@ -29,7 +30,7 @@ returns-in-Err-clause-serves g c = λ opening holds.
     let disk = g.F.Folder.disk c.args.folder.now in
     let before : Outside = record { left = g.S.Source.left c.args.source.now; held = g.K.Sink.held c.args.sink.now; disk = disk; disk_faults = g.F.Folder.faults c.args.folder.now; faults = g.C.Servers.faults c.args.servers.now } in
     inr (inr (unopened g.C.Servers.functions g.C.Servers.honest (languages_in (map string_bytes c.args.words.now)) opening before (g.K.Sink.held c.close.new.sink) (g.F.Folder.disk c.open.new.folder) (g.F.Folder.faults c.open.new.folder)
-    (g.C.Servers.may_follow c.args.servers.now) c.requires (c.in-Err.ensures.moments opening holds) c.in-Err.fault c.close.result c.close.ensures.closes (subst (λ (opened : Result Engine StepFault). HasCauseIf (λ fault. fault ≡ DiskFault) (g.F.Folder.faults c.args.folder.now) (g.F.Folder.faults c.open.new.folder) opened) c.in-Err.is c.open.ensures.cause).failed
+    (g.C.Servers.may_follow c.args.servers.now) c.requires (c.in-Err.ensures.moments opening holds) c.in-Err.fault c.close.result c.close.ensures.closes (subst (λ (opened : Result Engine StepFault). CountsFor DiskFault (g.F.Folder.faults c.args.folder.now) (g.F.Folder.faults c.open.new.folder) opened) c.in-Err.is c.open.ensures.cause).failed
     (told_pair disk (λ d. Holds d.now opening) (λ d. Holds d.now opening → (name : FileName) (at : ℕ) → c.open.result ≡ Err (Damaged name at) → ⊥) (λ d. (name : FileName) (at : ℕ) → c.in-Err.fault ≡ Damaged name at → ⊥)
     (λ d held never name at is. never held name at (c.in-Err.is ∙ ap Err is)) holds (c.open.ensures.sound opening))
     (λ name size is. c.open.ensures.room name size (c.in-Err.is ∙ ap Err is))))
@@ -121,3 +122,24 @@ returns-clause-lines g c =
     is_cut_off (ports c.args.source.now c.args.sink.now c.args.folder.now c.args.servers.now) (ports ran.source c.close-in-Stopped.new.sink ran.folder c.finish.new.servers) c.close-in-Stopped.result (g.F.Folder.disk c.open.new.folder) c.open.ensures.moved (g.K.Sink.held ran.sink) c.in-Stopped.fault
     (subst (λ (e : LoopEnd StepFault). HasReplied (g.S.Source.left c.args.source.now) (g.S.Source.left ran.source) (g.K.Sink.held c.args.sink.now) (g.K.Sink.held ran.sink) (g.F.Folder.disk c.open.new.folder) (g.F.Folder.disk ran.folder) (g.C.Servers.faults c.args.servers.now) (g.C.Servers.faults c.finish.new.servers) e) c.in-Stopped.is (rw c.finish.ensures.faults c.run-end.ensures.replies))
     c.close-in-Stopped.ensures.closes
+
+-- ---- no fault of the folder was counted, unless the run ended by one
+
+-- a status that is not 3 and not 4 tells of another fault
+spared_by : (before after : Option (List ℕ)) (fault : StepFault) (status : ℕ) → Closes before after [] fault status → status ≢ 3 → status ≢ 4 → fault ≢ DiskFault
+spared_by before after fault status (inl closes) three four is = three (closes.0 ∙ ap fault_status is)
+spared_by before after fault status (inr closes) three four is = four closes.0
+
+pub returns-in-Err-clause-disk_spared : goal.returns-in-Err-clause-disk_spared
+returns-in-Err-clause-disk_spared g c = λ three four.
+    let other = spared_by _ _ c.in-Err.fault c.close.result c.close.ensures.closes three four in
+    c.open.ensures.cause.still (λ is. other (let same : c.in-Err.fault ≡ DiskFault = cc in same))
+
+pub returns-in-Run-clause-disk_spared : goal.returns-in-Run-clause-disk_spared
+returns-in-Run-clause-disk_spared g c = λ three four.
+    c.run-end.ensures.disk_spared (λ is. let no : ⊥ = cc in no) ∙ c.open.ensures.cause.still (λ is. let no : ⊥ = cc in no)
+
+pub returns-clause-disk_spared : goal.returns-clause-disk_spared
+returns-clause-disk_spared g c = λ three four.
+    let other = spared_by _ _ c.in-Stopped.fault c.close-in-Stopped.result c.close-in-Stopped.ensures.closes three four in
+    c.run-end.ensures.disk_spared (λ is. other (let same : c.in-Stopped.fault ≡ DiskFault = cc in same)) ∙ c.open.ensures.cause.still (λ is. let no : ⊥ = cc in no)

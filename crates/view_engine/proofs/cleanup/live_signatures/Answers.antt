@@ -1,5 +1,5 @@
 -- Id by id.
-use Rattle.std.proofs.Common.{take, take_all, ◌≡◌, ◌+◌, List, [], sym, subst}
+use Rattle.std.proofs.Common.{take, take_all, ◌≡◌, ◌∙◌, ◌+◌, List, [], Err, refl, sym, ap, subst}
 use Rattle.view_ports.proofs.Told.{told_all, told_now, told_pair}
 use Rattle.view_updater.proofs.OnlyReading.{failed_as}
 use Rattle.doc_file.specs.Docs.{IsAt}
@@ -7,7 +7,7 @@ use Rattle.view_engine.specs.Cleaning.{IsSignatureOf}
 use Rattle.doc_file.specs.Designs.{AreDesignsOf}
 use Rattle.view_engine.specs.Disks.{Reads}
 use Rattle.view_engine.specs.declared.halt.Halt.TheVariants.{Stopped}
-use Rattle.view_engine.specs.declared.halt.StepFault.TheVariants.{NoMemory}
+use Rattle.view_engine.specs.declared.halt.StepFault.TheVariants.{DiskFault, NoMemory}
 use Rattle.view_engine.proofs.LiveSignatures.{at_history_before, live_signatures, no_signatures, one_signature_more, reads_done, reads_failed, reads_nothing, reads_spent, AreSignaturesOf}
 use Rattle.view_engine.proofs.OnDisk.{reads_then}
 use Rattle.view_engine.proofs.cleanup.live_signatures.Goals as goal
@@ -16,6 +16,7 @@ pub loop-id-init : goal.loop-id-init
 loop-id-init g c = (
   reads_nothing g.F.Folder c.args.docs.now c.args.folder.now,
   λ history. told_all (g.F.Folder.disk c.args.folder.now) _ (λ d at. subst (AreSignaturesOf history []) (sym c.in_ok-signatures.ensures.items) (no_signatures history)),
+  refl,
 )
 
 pub returns-in_err-signature_in-clause-reads : goal.returns-in_err-signature_in-clause-reads
@@ -43,6 +44,7 @@ loop-id-preserved g c =
           (subst (λ id. IsSignatureOf history id c.in_ok-signature_in.field-0) c.as_str.ensures (one at))))
           (c.loop-id.invariant.1 history)
           (at_history_before g.F.Folder docs c.args.folder.now c.loop-id.folder history _ (c.loop-id.invariant.0).disk (c.in_ok-signature_in.ensures.history history)),
+      c.in_ok-signature_in.ensures.spares (λ is. let no : ⊥ = cc in no) ∙ c.loop-id.invariant.2,
     )
 
 pub returns-clause-history : goal.returns-clause-history
@@ -56,3 +58,15 @@ returns-clause-history g c = λ history.
 
 pub returns-clause-reads : goal.returns-clause-reads
 returns-clause-reads g c = reads_done g.F.Folder c.args.docs.now c.args.folder.now c.loop-id.folder _ c.loop-id.signatures c.loop-id.invariant.0
+
+pub returns-in_err-signature_in-clause-spares : goal.returns-in_err-signature_in-clause-spares
+returns-in_err-signature_in-clause-spares g c = λ other.
+    let halt = c.in_err-signature_in.field-0.0 in
+    c.in_err-signature_in.ensures.spares (λ is. other (failed_as c.from_residual-in_err-signature_in.result halt c.from_residual-in_err-signature_in.ensures ∙ ap Err (let same : halt ≡ Stopped DiskFault = cc in same)))
+    ∙ c.loop-id.invariant.2
+
+pub returns-in_err-push-clause-spares : goal.returns-in_err-push-clause-spares
+returns-in_err-push-clause-spares g c = λ other. c.in_ok-signature_in.ensures.spares (λ is. let no : ⊥ = cc in no) ∙ c.loop-id.invariant.2
+
+pub returns-clause-spares : goal.returns-clause-spares
+returns-clause-spares g c = λ other. c.loop-id.invariant.2

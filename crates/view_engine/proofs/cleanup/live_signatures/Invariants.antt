@@ -1,5 +1,5 @@
--- The ids so far were read, and over each history the signatures are those of their designs.
-use Rattle.std.specs.Prelude.{List, take}
+-- The ids so far were read, over each history the signatures are those of their designs, and no fault was counted.
+use Rattle.std.specs.Prelude.{◌≡◌, List, take}
 use Rattle.view_ports.specs.Disk.{IfTold}
 use Rattle.doc_file.specs.Docs.{IsAt}
 use Rattle.design_docs.specs.History.{Write}
@@ -10,3 +10,4 @@ use Rattle.view_engine.proofs.cleanup.live_signatures.Given as goal
 abbrev pub invariant-loop-id : goal.invariant-loop-id
 invariant-loop-id g l = Reads g.F.Folder l.docs l.initial.folder l.folder so_far
     × ((history : List Write) → IfTold (g.F.Folder.disk l.initial.folder) (λ d. IsAt l.docs d.now history → AreSignaturesOf history (take l.id-index l.id-items) l.signatures.items))
+    × (g.F.Folder.faults l.folder ≡ g.F.Folder.faults l.initial.folder)

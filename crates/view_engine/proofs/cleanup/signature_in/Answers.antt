@@ -6,6 +6,7 @@ use Rattle.doc_file.specs.Docs.{IsAt}
 use Rattle.design_docs.specs.History.{live_document}
 use Rattle.view_engine.specs.Cleaning.{IsSignatureOf}
 use Rattle.view_engine.proofs.Reading.{read_of_get}
+use Rattle.view_engine.proofs.Sparing.{documents_spared}
 use Rattle.view_engine.proofs.cleanup.signature_in.Goals as goal
 
 pub returns-in-Err-clause-reads : goal.returns-in-Err-clause-reads
@@ -19,3 +20,6 @@ returns-clause-history g c = λ history.
     let document = json c.in-Ok.document in
     told_now (g.F.Folder.disk c.args.folder.now) (λ d. IsAt docs d.now history → live_document history id ≡ Some document) (λ d. IsAt docs d.now history → IsSignatureOf history id c.in_ok-signature.field-0)
     (λ d live at. (document, live at, sym (c.in_ok-signature.ensures.document document c.in_ok-design.ensures))) (c.in-Ok.ensures.document history)
+
+pub returns-in-Err-clause-spares : goal.returns-in-Err-clause-spares
+returns-in-Err-clause-spares g c = documents_spared g.F.Folder c.args.folder.now c.get.new.folder c.in-Err.fault c.from.result c.in-Err.ensures.cause c.from.ensures

@@ -6,4 +6,4 @@ use Rattle.view_index.proofs.Carried.{picture_of_root}
 use Rattle.view_index.proofs.laws.files_of_open_indexes_hold.Goals as goal
 
 pub returns : goal.returns
-returns c = λ index files picture at. open_holds (stem_of index) (file_of index) files at.is_open (HoldsPicture (views_of index)) (picture_of_root (views_of index)) picture at.holds
+returns c = λ index files picture at. open_holds (stem_of index) (file_of index) files at.is_open.pair (HoldsPicture (views_of index)) (picture_of_root (views_of index)) picture at.holds

@@ -163,9 +163,9 @@ returns-then-count g c = λ old changes lists come.
     ends_well g.F.Folder g.C.Servers docs design old new next (changes ++ page) (lists ++ others)
     (come_on g.F.Folder g.C.Servers docs design old now progress changes lists come page BATCH read.all new others mapped c.as_slice.result.now c.len.result counted
     (c.as_slice.ensures.value ∙ c.in_ok-rows.ensures page c.in_ok-changed.ensures.written) c.in_ok-replace.ensures.replaced c.in_ok-replace.ensures.pending next refl refl long
-    c.replace.ensures.same c.replace.ensures.picture reads.disk reads.later)
+    c.replace.ensures.same c.replace.ensures.picture reads.disk (reads.still (λ is. cc)))
     (none_behind g.F.Folder g.C.Servers docs design old now progress changes lists come page BATCH read.all few)
-    (reads_then g.F.Folder docs old.folder c.args.folder.now come.disk c.replace.new.folder done come.later reads)
+    (reads_then g.F.Folder docs old.folder c.args.folder.now come.disk c.replace.new.folder done come.still reads)
 
 pub returns : goal.returns
 returns g c = λ old changes lists come.
@@ -192,5 +192,5 @@ returns g c = λ old changes lists come.
       lists ++ others,
       come_on g.F.Folder g.C.Servers docs design old now progress changes lists come page BATCH read.all new others mapped c.as_slice.result.now c.len.result counted
           (c.as_slice.ensures.value ∙ c.in_ok-rows.ensures page c.in_ok-changed.ensures.written) c.in_ok-replace.ensures.replaced c.in_ok-replace.ensures.pending next c.last_seq-after.ensures begun long
-          c.replace.ensures.same c.replace.ensures.picture reads.disk reads.later,
+          c.replace.ensures.same c.replace.ensures.picture reads.disk (reads.still (λ is. cc)),
     )

@@ -1,5 +1,5 @@
 -- The exchange, the reduces that are tried, and the commit over both.
-use Rattle.std.specs.Prelude.{◌≡◌, ◌≢◌, ◌⊎◌, ◌≤◌, ℕ, length, Option, Result, Ok, Err, Some}
+use Rattle.std.specs.Prelude.{◌≡◌, ◌≢◌, ◌⊎◌, ◌≤◌, ℕ, length, Option, Result, Ok, Err, None, Some}
 use Rattle.std.proofs.Common.{refl, sym, ap, ◌∙◌, subst, inl, inr, arith}
 use Rattle.std.proofs.lemmas.List.{length-map}
 use Rattle.view_ports.specs.Faults.{Rose}
@@ -16,7 +16,7 @@ use Rattle.doc_file.specs.Docs.{info_of, seq_of as documents_seq, IsAt as AreAt}
 use Rattle.doc_file.specs.declared.docs.Info.{Info}
 use Rattle.view_model.specs.Picture.{Picture}
 use Rattle.view_index.specs.Calls.{next_picture, next_size, stem_of, Commits, IsOpen}
-use Rattle.view_index.specs.Held.{IsFileOf}
+use Rattle.view_index.specs.Held.{or_empty, IsFileOf}
 use Rattle.view_index.specs.declared.fault.IndexFault.{IndexFault}
 use Rattle.view_index.specs.declared.fault.IndexFault.TheVariants.{NoMemory, Store}
 use Rattle.view_index.specs.declared.index.Index.{Index}
@@ -24,16 +24,16 @@ use Rattle.gate_file.specs.declared.gate.GateFile.{GateFile}
 use Rattle.gate_file.specs.GateFile.{name_of}
 use Rattle.gate_file.specs.Publish.{published, IsFull}
 use Rattle.index_record.specs.Record.{record_bytes}
-use Rattle.view_index.specs.Index.{both_in, file_of, is_touched, next_in, seq_of}
+use Rattle.view_index.specs.Index.{both_in, file_of, is_touched, next_in, picture_of, seq_of, views_of}
 use Rattle.view_index.specs.ViewRows.{next_rows}
 use Rattle.view_updater.specs.declared.fault.UpdateFault.{UpdateFault}
 use Rattle.view_updater.specs.declared.fault.UpdateFault.TheVariants.{Docs as OfDocuments, Index as OfIndex, Pool as OfPool}
 use Rattle.view_updater.specs.Faults.{by_index, by_pool}
 use Rattle.view_updater.specs.Checking.{tried_sources}
-use Rattle.view_updater.specs.Updates.{side, EndsAt, IsFileFault, IsLost, IsReached, Updates}
+use Rattle.view_updater.specs.Updates.{side, EndsAt, IsFileFault, IsLost, IsReached, IsUpdatedFreely, Updates}
 use Rattle.view_updater.proofs.Carrying.{same_stem, same_views, views_by_picture}
 use Rattle.view_updater.proofs.Exchanging.{as_made, by_pool_of}
-use Rattle.view_updater.proofs.Ends.{asked_over, asked_some, checked_next, commit_filled, commit_met, commit_refused, committed_stands, idle_stands, index_of_no_documents, index_of_no_pool, index_stored, is_filled, known_next, others_refused, others_then, refused, well, well_met, IsBack, IsOfCommit}
+use Rattle.view_updater.proofs.Ends.{asked_over, asked_some, checked_next, commit_filled, commit_met, commit_refused, committed_stands, freely_next, full_with, idle_freely, idle_stands, index_of_no_documents, index_of_no_pool, index_stored, is_filled, is_tried, known_next, others_refused, others_then, refused, well, well_met, IsBack, IsOfCommit}
 use Rattle.view_updater.proofs.OnlyReading.{pool_of_no_documents, pool_of_no_index, read_then, FindsBodies}
 use Rattle.view_updater.proofs.Refusing.{pool_refused_later, refuses}
 use Rattle.view_updater.proofs.Spoils.{spoils_checking, spoils_mapping}
@@ -93,6 +93,18 @@ has_room f index index' old new seq commits full = elim full [
     never fault (inl is) = cc
     never fault (inr is) = cc
 
+-- one that the disk refused had room
+disk_room : {F : Type 0} (f : Folders F) (index index' : Index) (old new : F) (seq : ℕ) (fault : IndexFault) → Commits f index index' old new seq (failed_index fault) → fault ≡ Store DiskFault
+    → IsFull (file_of index) (next_size seq index) → ⊥
+disk_room f index index' old new seq fault commits disk full = elim full [
+  | inl long ↦ never (name_of (file_of index)) (Some (file_of index).length) (commits.long.always long)
+  | inr spent ↦ never (name_of (file_of index)) None (commits.spent.always spent)
+]
+  where
+    never : (name : FileName) (size : Option ℕ) → (failed_index fault ≡ Err (Store (Full name size))) ⊎ (failed_index fault ≡ Err NoMemory) → ⊥
+    never name size (inl is) = cc
+    never name size (inr is) = cc
+
 -- something was written since, where the index is not of the newest write
 written_since : (seq : ℕ) (info : Info) (last : ℕ) (docs : Docs) → seq ≡ last → info ≡ info_of docs → seq ≢ info.update_seq → last ≢ documents_seq docs
 written_since seq info last docs seq_is kept differs same = differs (seq_is ∙ same ∙ sym (ap (λ (i : Info). i.update_seq) kept))
@@ -114,8 +126,15 @@ returns-then-seq-newest g c =
           (λ d is. moves_none (IsFileOf stem) (λ image. Unit {0}) (λ files. IsLost well ⊎ IsOpen c.args.index.now files) d (λ image left. tt) (inr is)) c.requires.index;
       same = (refl, refl);
       settled = tt;
-      once = record { idle = λ same. refl; due = λ since. absurd (since newest); room = λ since. absurd (since newest); refused = tt };
+      fresh = λ since. absurd (since newest);
+      once = record { due = λ since. absurd (since newest); refused = tt };
+      within = record { full = λ name length is. absurd (let no : ⊥ = cc in no); room = λ is. absurd (let no : ⊥ = cc in no) };
+      newest = newest;
+      freely = λ history picture. told_all disk
+          (λ d. IsReached docs c.args.index.now history picture d.now → IsUpdatedFreely c.args.design.now.views history (or_empty (views_of c.args.index.now) picture) (picture_of c.args.index.now))
+          (λ d here. idle_freely g.F.Folder g.C.Servers docs c.args.design.now old c.requires.number history picture d.now here.at (newest ∙ here.documents.count));
       cause = tt;
+      still = λ any. refl;
       sound = λ history. told_all disk (λ d. AreAt docs d.now history → (name : FileName) (at : ℕ) → well ≢ Err (OfDocuments (Damaged name at))) (λ d here name at is. cc);
       whole = λ name at is. cc;
       file = tt;
@@ -199,6 +218,8 @@ returns-in-Err-commit g c =
     let commits = c.in-Err-commit.ensures in
     let rows = c.roll_back-in-Err-commit.ensures.picture ∙ commits.kept.0 ∙ ex.picture ∙ back.rows in
     let stem = same_stem committed last c.roll_back-in-Err-commit.ensures.same.file ∙ ap (λ (name : FileName). name.stem) commits.name ∙ same_stem index c.exchange.new.index (ex.same.file ∙ back.file) in
+    let tried = is_tried g.F.Folder g.C.Servers docs design old mid servers pool c.requires.number rolled back ex.same.file ex.picture ex.reads.disk
+    committed c.commit.new.folder newest (Err fault) commits newest_is ex.asks ex.keeps checked.compile in
     subst (λ (e : UpdateFault). Updates g.F.Folder g.C.Servers docs design old new (refused e)) (sym c.from-in-Err-commit.ensures) (record {
       stands = commit_refused g.F.Folder g.C.Servers docs design old mid servers pool c.requires.number rolled back ex.same.file ex.picture ex.reads.disk committed c.commit.new.folder newest (Err fault) commits newest_is ex.asks ex.keeps checked.compile
           last c.roll_back-in-Err-commit.ensures.same.file rows c.roll_back-in-Err-commit.ensures.pending fault refl;
@@ -212,15 +233,29 @@ returns-in-Err-commit g c =
           c.roll_back-in-Err-commit.ensures.same.file c.requires.index fault refl;
       same = (stem, same_views index last rows);
       settled = (record { next = c.roll_back-in-Err-commit.ensures.next; pending = c.roll_back-in-Err-commit.ensures.pending }, rows);
+      fresh = λ since. tt;
       once = record {
-        idle = λ same. absurd (written_since c.seq.result c.info-newest.result (seq_of index) docs c.seq.ensures c.info-newest.ensures.kept c.if-seq-newest.false same);
         due = λ since. tt;
-        room = λ since. tt;
         refused = elim (uncommitted g.F.Folder mid.index committed mid.folder c.commit.new.folder newest fault commits) [
           | inl disk ↦ inl disk
           | inr same ↦ inr (c.roll_back-in-Err-commit.ensures.same.file ∙ same ∙ ex.same.file ∙ back.file)
         ];
       };
+      within = record {
+        full = λ name length is. let same : by_index fault ≡ OfIndex (Store (Full name length)) = cc in
+            let filled = is_filled g.F.Folder mid.index committed last mid.folder c.commit.new.folder newest fault commits
+            c.roll_back-in-Err-commit.ensures.same.file commits.faults name length (index_stored fault (Full name length) same) in
+            (next_picture newest mid.index, tried new, full_with index last (filled.file ∙ ex.same.file ∙ back.file) (next_picture newest mid.index) name length filled.full);
+        room = λ is. let same : by_index fault ≡ OfIndex (Store DiskFault) = cc in (
+          next_picture newest mid.index,
+          tried new,
+          λ full. disk_room g.F.Folder mid.index committed mid.folder c.commit.new.folder newest fault commits (index_stored fault DiskFault same)
+              (subst (λ (file : GateFile). IsFull file (next_size newest mid.index)) (sym (ex.same.file ∙ back.file)) full),
+        );
+      };
+      newest = tt;
+      freely = λ history picture. told_all (g.F.Folder.disk c.args.folder.now) (λ d. IsReached docs index history picture d.now → Unit {0}) (λ d here. tt);
+      still = λ spared. commits.cause.still (λ is. spared (inr (ap by_index (let same : fault ≡ Store DiskFault = cc in same)))) ∙ ex.reads.still (λ is. cc);
       cause = λ told. elim told [ inl is ↦ absurd (index_of_no_documents fault DiskFault is) | inr is ↦ rose_later (g.F.Folder.faults c.args.folder.now) (g.F.Folder.faults c.exchange.new.folder) (g.F.Folder.faults c.commit.new.folder) ex.reads.later (commits.cause.failed (index_stored fault DiskFault is)) ];
       sound = λ history. told_all (g.F.Folder.disk c.args.folder.now) (λ d. AreAt docs d.now history → (name : FileName) (at : ℕ) → refused (by_index fault) ≢ Err (OfDocuments (Damaged name at)))
           (λ d here name at is. index_of_no_documents fault (Damaged name at) (let same : by_index fault ≡ OfDocuments (Damaged name at) = cc in same));
@@ -278,16 +313,23 @@ returns g c =
       others = others_then g.F.Folder g.C.Servers docs design old mid servers pool c.requires.number rolled back ex.same.file ex.picture ex.reads.disk committed c.commit.new.folder newest well_index commits committed well (λ files ended. inr ended);
       same = (stem, views);
       settled = tt;
+      fresh = λ since. commits.settled;
       once = record {
-        idle = λ same. absurd (written_since c.seq.result c.info-newest.result (seq_of index) docs c.seq.ensures c.info-newest.ensures.kept c.if-seq-newest.false same);
-        due = λ since. commits.file ∙ ap (λ (file : GateFile). published file (next_size newest c.exchange.new.index) 0) (ex.same.file ∙ back.file)
-            ∙ ap (λ (p : Picture). published (file_of index) (length (record_bytes p.seq p.rows)) 0) (sym commits.picture);
-        room = λ since full. has_room g.F.Folder mid.index committed mid.folder c.commit.new.folder newest commits
-            (subst (λ (file : GateFile). IsFull file (next_size newest mid.index)) (sym (ex.same.file ∙ back.file))
-            (subst (λ (p : Picture). IsFull (file_of index) (length (record_bytes p.seq p.rows))) commits.picture full));
+        due = λ since. (
+          commits.file ∙ ap (λ (file : GateFile). published file (next_size newest c.exchange.new.index) 0) (ex.same.file ∙ back.file)
+              ∙ ap (λ (p : Picture). published (file_of index) (length (record_bytes p.seq p.rows)) 0) (sym commits.picture),
+          λ full. has_room g.F.Folder mid.index committed mid.folder c.commit.new.folder newest commits
+              (subst (λ (file : GateFile). IsFull file (next_size newest mid.index)) (sym (ex.same.file ∙ back.file))
+              (subst (λ (p : Picture). IsFull (file_of index) (length (record_bytes p.seq p.rows))) commits.picture full)),
+        );
         refused = tt;
       };
+      within = record { full = λ name length is. absurd (let no : ⊥ = cc in no); room = λ is. absurd (let no : ⊥ = cc in no) };
+      newest = ap (λ (p : Picture). p.seq) commits.picture ∙ newest_is;
+      freely = freely_next g.F.Folder g.C.Servers docs design old mid servers pool c.requires.number rolled back ex.same.file ex.picture ex.reads.disk committed c.commit.new.folder newest
+          well_index commits newest_is ex.asks ex.keeps checked.compile (picture_of committed) commits.picture;
       cause = tt;
+      still = λ any. commits.cause.still (λ is. cc) ∙ ex.reads.still (λ is. cc);
       sound = λ history. told_all (g.F.Folder.disk c.args.folder.now) (λ d. AreAt docs d.now history → (name : FileName) (at : ℕ) → well ≢ Err (OfDocuments (Damaged name at))) (λ d here name at is. cc);
       whole = λ name at is. cc;
       file = tt;

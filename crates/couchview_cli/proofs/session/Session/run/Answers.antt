@@ -1,5 +1,5 @@
 -- What a session does is what the loop over its lines did.
-use Rattle.couchview_cli.proofs.Coming.{comes, disk_failed, has_replied, keeps, stays_open}
+use Rattle.couchview_cli.proofs.Coming.{comes, disk_failed, disk_spared, has_replied, keeps, stays_open}
 use Rattle.couchview_cli.proofs.session.Session.run.Goals as goal
 
 pub returns-clause-comes : goal.returns-clause-comes
@@ -19,3 +19,6 @@ returns-clause-open g c = stays_open g.F.Folder g.C.Servers _ (λ old new line a
 
 pub returns-clause-disk_failed : goal.returns-clause-disk_failed
 returns-clause-disk_failed g c = disk_failed g.F.Folder g.C.Servers _ (λ old new line answers. answers) (λ old new line fault stops. stops) _ _ _ _ _ _ c.answer_lines.result c.answer_lines.ensures.loops
+
+pub returns-clause-disk_spared : goal.returns-clause-disk_spared
+returns-clause-disk_spared g c = disk_spared g.F.Folder g.C.Servers _ (λ old new line answers. answers) (λ old new line fault stops. stops) _ _ _ _ _ _ c.answer_lines.result c.answer_lines.ensures.loops

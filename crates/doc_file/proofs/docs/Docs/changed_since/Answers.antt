@@ -1,5 +1,5 @@
 -- The calls for the changes change nothing, so what they find stood there from the first.
-use Rattle.std.proofs.Common.{◌≡◌, ◌++◌, ◌∷◌, [], ◌+◌, ℕ, Some, None, Err, false, option_map, subst, sym, arith, rules}
+use Rattle.std.proofs.Common.{◌≡◌, ◌++◌, ◌∷◌, [], ◌+◌, ℕ, Some, None, Err, false, option_map, subst, sym, ◌∙◌, arith, rules}
 use Rattle.json_terms.specs.Seen.{json}
 use Rattle.view_ports.specs.declared.file_name.FileName.{FileName}
 use Rattle.view_ports.proofs.Told.{told_now}
@@ -63,13 +63,14 @@ loop-index-preserved g c =
     so_far_more docs c.args.seq c.args.n c.loop-index.after c.loop-index._index before c.loop-index.items.items c.loop-index.invariant.so_far e next change c.loop-index-test.true
     c.in_ok-load_change-in-Some.ensures.seq c.in_ok-load_change-in-Some.ensures.id c.in_ok-load_change-in-Some.ensures.body
     (bytes_back docs before (g.F.Folder.disk c.loop-index.folder) c.loop-index.invariant.disk (λ bytes. IsStored e.id bytes e.last (option_map json change.doc)) c.in_ok-load_change-in-Some.ensures.held) in
-    let later = c.load_change.ensures.cause.later in
+    let was = c.in_ok-load_change-in-Some.was in
+    let still : g.F.Folder.faults c.load_change.new.folder ≡ g.F.Folder.faults c.loop-index.folder = c.load_change.ensures.cause.still (λ is. (let no : ⊥ = cc in no)) in
     let first = c.loop-index.invariant.reads in
     let second = c.load_change.ensures.reads in
     record {
       so_far = subst (IsSoFar docs c.args.seq c.args.n (e.last).seq (c.loop-index._index + 1) before) (sym c.in_ok-push-in-Some.ensures.items) so_far;
       disk = told_none_then before (g.F.Folder.disk c.loop-index.folder) (g.F.Folder.disk c.load_change.new.folder) c.loop-index.invariant.disk c.load_change.ensures.disk;
-      faults = omega (arith, c.loop-index.invariant.faults, later);
+      faults = still ∙ c.loop-index.invariant.faults;
       reads = record { later = omega (arith, first.later, second.later); within = omega (arith, first.within, second.within) };
     }
 

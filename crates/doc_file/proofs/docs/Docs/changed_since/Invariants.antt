@@ -1,4 +1,4 @@
-use Rattle.std.proofs.Common.{◌≤◌}
+use Rattle.std.proofs.Common.{◌≡◌}
 use Rattle.view_ports.specs.Causes.{RisesBy}
 use Rattle.view_ports.specs.Disk.{Tells, MovesNone}
 use Rattle.doc_file.proofs.Progress.{IsSoFar}
@@ -9,6 +9,6 @@ abbrev pub invariant-loop-index : goal.invariant-loop-index
 invariant-loop-index g l = record {
   so_far : IsSoFar l.self l.seq l.n l.after l._index (g.F.Folder.disk l.initial.folder) l.items.items;
   disk : Tells (g.F.Folder.disk l.initial.folder) (g.F.Folder.disk l.folder) MovesNone;
-  faults : g.F.Folder.faults l.initial.folder ≤ g.F.Folder.faults l.folder;
+  faults : g.F.Folder.faults l.folder ≡ g.F.Folder.faults l.initial.folder;
   reads : RisesBy l._index (g.F.Folder.reads l.initial.folder) (g.F.Folder.reads l.folder);
 }

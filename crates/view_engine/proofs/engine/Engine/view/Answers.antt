@@ -1,6 +1,8 @@
 -- A view is what was planned, over what bringing the index of its design up to date left.
-use Rattle.std.proofs.Common.{◌≡◌, ◌∙◌, ℕ, Bool, false, List, Err, Option, Some, ⊎_elim, arith, sym, ap, subst}
+use Rattle.std.proofs.Common.{◌≡◌, ◌∙◌, ℕ, Bool, true, false, List, inl, inr, refl, Ok, Err, Option, Some, ⊎_elim, arith, sym, ap, subst}
 use Rattle.design_docs.specs.History.{Write}
+use Rattle.gate_file.specs.declared.fault.GateFault.TheVariants.{DiskFault as DiskFaultOfGate}
+use Rattle.view_index.specs.declared.fault.IndexFault.TheVariants.{Store}
 use Rattle.view_index.specs.declared.index.Index.{Index}
 use Rattle.view_index.specs.Index.{views_of}
 use Rattle.view_updater.specs.Faults.{by_index}
@@ -13,12 +15,16 @@ use Rattle.view_ports.proofs.Told.{told_after, told_now}
 use Rattle.child_pool.specs.Pools.{languages_of}
 use Rattle.doc_file.specs.Docs.{IsAt as AreAt}
 use Rattle.view_groups.specs.Groups.{AreOpen as AreIndexesOpen}
+use Rattle.view_engine.specs.declared.halt.Halt.TheVariants.{Stopped}
+use Rattle.view_engine.specs.declared.halt.StepFault.TheVariants.{DiskFault}
 use Rattle.view_engine.specs.ViewPlan.{met_by, IsPlan}
 use Rattle.query_args.specs.declared.query.Query.{Query}
 use Rattle.view_engine.specs.ViewQuery.{view_query}
 use Rattle.view_engine.specs.Worlds.{IsOpen}
 use Rattle.view_engine.proofs.Ending.{refused_first, refused_then, shown_then}
 use Rattle.view_engine.proofs.Plans.{reduced_has}
+use Rattle.view_engine.proofs.Sparing.{disk_met_by, disk_met_by_index}
+use Rattle.view_engine.proofs.Stages.{shown_from}
 use Rattle.view_engine.proofs.Unasked.{told_refused, unasked}
 use Rattle.view_engine.proofs.Whole.{documents_at}
 use Rattle.view_engine.proofs.engine.Engine.view.Goals as goal
@@ -27,11 +33,11 @@ use Rattle.view_engine.proofs.engine.Engine.view.Goals as goal
 number_of : (found index : Index) {at : Option Index} {count : ℕ} → at ≡ Some found → at ≡ Some index → views_of index ≡ count → views_of found ≡ count
 number_of found index {at} {count} is there number = let same : Some found ≡ Some index = sym is ∙ there in let one : found ≡ index = cc in ap views_of one ∙ number
 
-pub returns-in-Err : goal.returns-in-Err
-returns-in-Err g c =
+pub returns-in-Err-clause-does : goal.returns-in-Err-clause-does
+returns-in-Err-clause-does g c =
     let args = c.args.self.now in
     let x = g.F.Folder.disk c.args.folder.now in
-    refused_first g.F.Folder g.C.Servers args.docs args.pool args.groups c.args.folder.now c.plan.new.folder c.args.servers.now (view_query c.args.name c.args.query) c.args.out.now.items c.in-Err.halt c.requires.open c.in-Err.ensures.unblamed c.in-Err.ensures.kept c.in-Err.ensures.reads
+    refused_first g.F.Folder g.C.Servers args.docs args.pool args.groups c.args.folder.now c.plan.new.folder c.args.servers.now (view_query c.args.name c.args.query) c.args.out.now.items c.in-Err.halt c.requires.open c.in-Err.ensures.unblamed c.in-Err.ensures.kept c.in-Err.ensures.stopped c.in-Err.ensures.own c.in-Err.ensures.reads
     (λ before at. unasked g.C.Servers.functions g.C.Servers.honest (languages_of args.pool) before (view_query c.args.name c.args.query) c.in-Err.halt x (g.F.Folder.disk c.plan.new.folder) (g.C.Servers.may_follow c.args.servers.now) (g.C.Servers.faults c.args.servers.now) args at c.in-Err.ensures.reads.disk
     (told_refused x (λ d. AreAt args.docs d.now before.world.history) (languages_of args.pool) before.world.history (view_query c.args.name c.args.query) c.in-Err.halt (documents_at _ _ before.world at.documents) (λ r is. c.in-Err.ensures.refused r is before.world.history)))
 
@@ -40,18 +46,21 @@ update-requires-clause-open g c =
     told_after (g.F.Folder.disk c.args.folder.now) (g.F.Folder.disk c.plan.new.folder) (λ d. IsOpen c.args.self.now d.now) (λ d. AreIndexesOpen c.args.self.now.groups d.now) MovesNone
     (λ a b here none. subst (λ (files : FileName → File). AreIndexesOpen c.args.self.now.groups files) (λ i. λ n. sym (none_same a b none n) i) here.indexes) c.requires.open c.plan.ensures.reads.disk
 
-pub returns-in-Ok-update : goal.returns-in-Ok-update
-returns-in-Ok-update g c =
+pub show-requires-in-Ok-update-clause-reduced : goal.show-requires-in-Ok-update-clause-reduced
+show-requires-in-Ok-update-clause-reduced g c = reduced_has c.in-Ok.plan.design.views (view_query c.args.name c.args.query) c.in-Ok.plan.place c.in-Ok.plan.query c.in-Ok.ensures.query c.in-Ok.ensures.reduce
+
+pub returns-in-Ok-update-clause-does : goal.returns-in-Ok-update-clause-does
+returns-in-Ok-update-clause-does g c =
     let args = c.args.self.now in
     let plan = c.in-Ok.plan in
     let known = c.in-Ok.ensures.known in
     shown_then g.F.Folder g.C.Servers args.docs args.pool args.groups c.args.folder.now c.plan.new.folder c.args.servers.now (view_query c.args.name c.args.query) c.args.out.now.items
     c.update.new.pool c.update.new.self c.update.new.folder c.update.new.servers plan.id plan.design plan.place known.0 c.in-Ok.ensures.within known.1 (sym (ap (λ (q : Query). q.update) c.in-Ok.ensures.query) ∙ c.if-not-plan.false)
-    c.in-Ok.ensures.reads.disk c.in-Ok.ensures.reads.later (λ history. told_now (g.F.Folder.disk c.args.folder.now) _ _ (λ d is there. subst (λ (updating : Bool). IsPlan updating (languages_of args.pool) history (view_query c.args.name c.args.query) plan.id plan.design plan.place known.0) c.if-not-plan.false (is there known.0 known.1)) (c.in-Ok.ensures.plan history)) c.requires.open c.in-Ok.ensures.read c.in-Ok.ensures.live.named c.in-Ok.ensures.live.live
+    c.in-Ok.ensures.reads.disk c.in-Ok.ensures.reads.later (λ history. told_now (g.F.Folder.disk c.args.folder.now) _ _ (λ d is there. subst (λ (updating : Bool). IsPlan updating (languages_of args.pool) history (view_query c.args.name c.args.query) plan.id plan.design plan.place known.0) c.if-not-plan.false (is there known.0 known.1)) (c.in-Ok.ensures.plan history)) c.requires.open c.in-Ok.ensures.read c.in-Ok.ensures.live.named c.in-Ok.ensures.live.live c.in-Ok.ensures.taken
     c.in-Ok-update.slot c.in-Ok-update.ensures c.index-index.result.now c.index-index.ensures plan.query c.in-Ok.ensures.query c.show-in-Ok-update.new.pool c.show-in-Ok-update.new.servers c.show-in-Ok-update.result c.show-in-Ok-update.ensures
 
-pub returns : goal.returns
-returns g c =
+pub returns-clause-does : goal.returns-clause-does
+returns-clause-does g c =
     let args = c.args.self.now in
     let plan = c.in-Ok.plan in
     let known = c.in-Ok.ensures.known in
@@ -59,7 +68,7 @@ returns g c =
     let brings = c.in-Err-update.ensures in
     rw c.halt_of-in-Err-update.ensures (refused_then g.F.Folder g.C.Servers args.docs args.pool args.groups c.args.folder.now c.plan.new.folder c.args.servers.now (view_query c.args.name c.args.query) c.args.out.now.items
     c.update.new.pool c.update.new.self c.update.new.folder c.update.new.servers plan.id plan.design plan.place known.0 c.in-Ok.ensures.within known.1 (sym (ap (λ (q : Query). q.update) c.in-Ok.ensures.query) ∙ c.if-not-plan.false)
-    c.in-Ok.ensures.reads.disk c.in-Ok.ensures.reads.later (λ history. told_now (g.F.Folder.disk c.args.folder.now) _ _ (λ d is there. subst (λ (updating : Bool). IsPlan updating (languages_of args.pool) history (view_query c.args.name c.args.query) plan.id plan.design plan.place known.0) c.if-not-plan.false (is there known.0 known.1)) (c.in-Ok.ensures.plan history)) c.requires.open c.in-Ok.ensures.read c.in-Ok.ensures.live.named c.in-Ok.ensures.live.live
+    c.in-Ok.ensures.reads.disk c.in-Ok.ensures.reads.later (λ history. told_now (g.F.Folder.disk c.args.folder.now) _ _ (λ d is there. subst (λ (updating : Bool). IsPlan updating (languages_of args.pool) history (view_query c.args.name c.args.query) plan.id plan.design plan.place known.0) c.if-not-plan.false (is there known.0 known.1)) (c.in-Ok.ensures.plan history)) c.requires.open c.in-Ok.ensures.read c.in-Ok.ensures.live.named c.in-Ok.ensures.live.live c.in-Ok.ensures.taken
     met (brings.file, λ is. let none = brings.unknown (ap Err is) in let clash : ⊥ = cc in clash) brings)
 
 -- ---- the index is read as it stands
@@ -80,8 +89,8 @@ show-requires-clause-views g c =
 pub show-requires-clause-reduced : goal.show-requires-clause-reduced
 show-requires-clause-reduced g c = reduced_has c.in-Ok.plan.design.views (view_query c.args.name c.args.query) c.in-Ok.plan.place c.in-Ok.plan.query c.in-Ok.ensures.query c.in-Ok.ensures.reduce
 
-pub returns-in-Err-open : goal.returns-in-Err-open
-returns-in-Err-open g c =
+pub returns-in-Err-open-clause-does : goal.returns-in-Err-open-clause-does
+returns-in-Err-open-clause-does g c =
     let args = c.args.self.now in
     let plan = c.in-Ok.plan in
     let known = c.in-Ok.ensures.known in
@@ -92,13 +101,13 @@ returns-in-Err-open g c =
     let is : c.halt_of.result ≡ met_by plan.id (by_index fault) = c.halt_of.ensures ∙ ap (met_by plan.id) c.from.ensures in
     rw is (⊎_elim
     (λ opens. kept_refused g.F.Folder g.C.Servers args.docs args.pool args.groups c.open.new.self c.args.folder.now c.plan.new.folder c.open.new.folder c.args.servers.now name c.args.out.now.items plan.id plan.design plan.place known.0
-    c.in-Ok.ensures.within known.1 (sym (ap (λ (q : Query). q.update) c.in-Ok.ensures.query) ∙ c.if-not-plan.true) c.in-Ok.ensures.reads.disk c.in-Ok.ensures.reads.later plans c.requires.open c.in-Ok.ensures.read c.in-Ok.ensures.live.named c.in-Ok.ensures.live.live fault opens.faults opens)
+    c.in-Ok.ensures.within known.1 (sym (ap (λ (q : Query). q.update) c.in-Ok.ensures.query) ∙ c.if-not-plan.true) c.in-Ok.ensures.reads.disk c.in-Ok.ensures.reads.later plans c.requires.open c.in-Ok.ensures.read c.in-Ok.ensures.live.named c.in-Ok.ensures.live.live c.in-Ok.ensures.taken fault opens.faults opens)
     (λ none. kept_idle g.F.Folder g.C.Servers args.docs args.pool args.groups c.open.new.self c.args.folder.now c.plan.new.folder c.open.new.folder c.args.servers.now name c.args.out.now.items plan.id plan.design plan.place known.0
-    c.in-Ok.ensures.within known.1 (sym (ap (λ (q : Query). q.update) c.in-Ok.ensures.query) ∙ c.if-not-plan.true) c.in-Ok.ensures.reads.disk c.in-Ok.ensures.reads.later plans c.requires.open c.in-Ok.ensures.read c.in-Ok.ensures.live.named c.in-Ok.ensures.live.live fault none.0 none.1 none.2)
+    c.in-Ok.ensures.within known.1 (sym (ap (λ (q : Query). q.update) c.in-Ok.ensures.query) ∙ c.if-not-plan.true) c.in-Ok.ensures.reads.disk c.in-Ok.ensures.reads.later plans c.requires.open c.in-Ok.ensures.read c.in-Ok.ensures.live.named c.in-Ok.ensures.live.live c.in-Ok.ensures.taken fault none.0 none.1 none.2)
     c.in-Err-open.ensures)
 
-pub returns-then-not-plan : goal.returns-then-not-plan
-returns-then-not-plan g c =
+pub returns-then-not-plan-clause-does : goal.returns-then-not-plan-clause-does
+returns-then-not-plan-clause-does g c =
     let args = c.args.self.now in
     let plan = c.in-Ok.plan in
     let known = c.in-Ok.ensures.known in
@@ -107,6 +116,132 @@ returns-then-not-plan g c =
     λ history. told_now (g.F.Folder.disk c.args.folder.now) _ _ (λ d is there. subst (λ (updating : Bool). IsPlan updating (languages_of args.pool) history name plan.id plan.design plan.place known.0) c.if-not-plan.true (is there known.0 known.1)) (c.in-Ok.ensures.plan history) in
     ⊎_elim
     (λ opens. kept_then g.F.Folder g.C.Servers args.docs args.pool args.groups c.open.new.self c.args.folder.now c.plan.new.folder c.open.new.folder c.args.servers.now name c.args.out.now.items plan.id plan.design plan.place known.0
-    c.in-Ok.ensures.within known.1 (sym (ap (λ (q : Query). q.update) c.in-Ok.ensures.query) ∙ c.if-not-plan.true) c.in-Ok.ensures.reads.disk c.in-Ok.ensures.reads.later plans c.requires.open c.in-Ok.ensures.read c.in-Ok.ensures.live.named c.in-Ok.ensures.live.live c.in-Ok-open.slot opens c.index-kept.result.now c.index-kept.ensures
+    c.in-Ok.ensures.within known.1 (sym (ap (λ (q : Query). q.update) c.in-Ok.ensures.query) ∙ c.if-not-plan.true) c.in-Ok.ensures.reads.disk c.in-Ok.ensures.reads.later plans c.requires.open c.in-Ok.ensures.read c.in-Ok.ensures.live.named c.in-Ok.ensures.live.live c.in-Ok.ensures.taken c.in-Ok-open.slot opens c.index-kept.result.now c.index-kept.ensures
     plan.query c.in-Ok.ensures.query c.show.new.pool c.show.new.servers c.show.result c.show.ensures)
+    (λ none. absurd (let clash : ⊥ = cc in clash)) c.in-Ok-open.ensures
+
+-- ---- no fault of the folder was counted, unless it ended the view
+
+pub returns-in-Err-clause-spares : goal.returns-in-Err-clause-spares
+returns-in-Err-clause-spares g c = λ other. c.in-Err.ensures.spares (λ is. other (let same : c.in-Err.halt ≡ Stopped DiskFault = cc in ap Err same))
+
+pub returns-in-Ok-update-clause-spares : goal.returns-in-Ok-update-clause-spares
+returns-in-Ok-update-clause-spares g c = λ other. c.in-Ok-update.ensures.still tt ∙ c.in-Ok.ensures.spares (λ is. let no : ⊥ = cc in no)
+
+pub returns-clause-spares : goal.returns-clause-spares
+returns-clause-spares g c = λ other.
+    c.in-Err-update.ensures.still (λ failed. other (ap Err (c.halt_of-in-Err-update.ensures ∙ disk_met_by c.in-Ok.plan.id c.in-Err-update.fault failed)))
+    ∙ c.in-Ok.ensures.spares (λ is. let no : ⊥ = cc in no)
+
+pub returns-in-Err-open-clause-spares : goal.returns-in-Err-open-clause-spares
+returns-in-Err-open-clause-spares g c = λ other.
+    let plan = c.in-Ok.plan in
+    let met : c.halt_of.result ≡ met_by plan.id (by_index c.in-Err-open.fault) = c.halt_of.ensures ∙ ap (met_by plan.id) c.from.ensures in
+    let first = c.in-Ok.ensures.spares (λ is. let no : ⊥ = cc in no) in
+    ⊎_elim
+    (λ opens. opens.cause.still (λ is. other (ap Err (met ∙ disk_met_by_index plan.id c.in-Err-open.fault (let same : c.in-Err-open.fault ≡ Store DiskFaultOfGate = cc in same)))) ∙ first)
+    (λ none. ap g.F.Folder.faults none.2 ∙ first) c.in-Err-open.ensures
+
+pub returns-then-not-plan-clause-spares : goal.returns-then-not-plan-clause-spares
+returns-then-not-plan-clause-spares g c = λ other.
+    let first = c.in-Ok.ensures.spares (λ is. let no : ⊥ = cc in no) in
+    ⊎_elim (λ opens. opens.cause.still (λ is. let no : ⊥ = cc in no) ∙ first) (λ none. absurd (let clash : ⊥ = cc in clash)) c.in-Ok-open.ensures
+
+-- ---- its stages
+
+pub returns-in-Err-clause-views : goal.returns-in-Err-clause-views
+returns-in-Err-clause-views g c = inr (record {
+  unasked = record { servers = refl; pool = refl; groups = refl; files = c.in-Err.ensures.reads.disk };
+  turned = c.in-Err.ensures.turned;
+  silent = refl;
+  why = c.in-Err.ensures.reads.why;
+})
+
+pub returns-in-Ok-update-clause-views : goal.returns-in-Ok-update-clause-views
+returns-in-Ok-update-clause-views g c =
+    let plan = c.in-Ok.plan in
+    let brings = c.in-Ok-update.ensures in
+    let shown = c.show-in-Ok-update in
+    inl (record {
+      design = plan.design;
+      place = plan.place;
+      query = plan.query;
+      about = record { of_document = c.in-Ok.ensures.about; within = c.in-Ok.ensures.within; named = c.in-Ok.ensures.shown; is_query = c.in-Ok.ensures.query };
+      read = c.plan.new.folder;
+      same = c.in-Ok.ensures.reads.disk;
+      counted = c.in-Ok.ensures.spares (λ is. let no : ⊥ = cc in no);
+      updated = λ updates. record {
+        servers = c.update.new.servers;
+        pool = c.update.new.pool;
+        brought = Ok c.in-Ok-update.slot;
+        brings = brings;
+        ends = shown_from g.C.Servers c.update.new.servers shown.new.servers c.update.new.pool shown.new.pool plan.design plan.place plan.query c.args.out.now.items _ shown.result
+            c.update.new.self c.in-Ok-update.slot _ _ c.index-index.result.now brings.place.0 plan.id _ c.index-index.ensures brings.place.1 c.in-Ok.ensures.live.named shown.ensures;
+      };
+      kept = λ keeps. absurd (let clash : true ≡ false = sym c.if-not-plan.false ∙ keeps in let no : ⊥ = cc in no);
+    })
+
+pub returns-clause-views : goal.returns-clause-views
+returns-clause-views g c =
+    let plan = c.in-Ok.plan in
+    let fault = c.in-Err-update.fault in
+    inl (record {
+      design = plan.design;
+      place = plan.place;
+      query = plan.query;
+      about = record { of_document = c.in-Ok.ensures.about; within = c.in-Ok.ensures.within; named = c.in-Ok.ensures.shown; is_query = c.in-Ok.ensures.query };
+      read = c.plan.new.folder;
+      same = c.in-Ok.ensures.reads.disk;
+      counted = c.in-Ok.ensures.spares (λ is. let no : ⊥ = cc in no);
+      updated = λ updates. record {
+        servers = c.update.new.servers;
+        pool = c.update.new.pool;
+        brought = Err fault;
+        brings = c.in-Err-update.ensures;
+        ends = (ap Err (c.halt_of-in-Err-update.ensures ∙ ap (λ (id : List ℕ). met_by id fault) c.in-Ok.ensures.live.named), refl, refl, refl);
+      };
+      kept = λ keeps. absurd (let clash : true ≡ false = sym c.if-not-plan.false ∙ keeps in let no : ⊥ = cc in no);
+    })
+
+pub returns-in-Err-open-clause-views : goal.returns-in-Err-open-clause-views
+returns-in-Err-open-clause-views g c =
+    let plan = c.in-Ok.plan in
+    let fault = c.in-Err-open.fault in
+    inl (record {
+      design = plan.design;
+      place = plan.place;
+      query = plan.query;
+      about = record { of_document = c.in-Ok.ensures.about; within = c.in-Ok.ensures.within; named = c.in-Ok.ensures.shown; is_query = c.in-Ok.ensures.query };
+      read = c.plan.new.folder;
+      same = c.in-Ok.ensures.reads.disk;
+      counted = c.in-Ok.ensures.spares (λ is. let no : ⊥ = cc in no);
+      updated = λ updates. absurd (let clash : false ≡ true = sym c.if-not-plan.true ∙ updates in let no : ⊥ = cc in no);
+      kept = λ keeps. record {
+        opened = Err fault;
+        opens = c.in-Err-open.ensures;
+        ends = (ap Err (c.halt_of.ensures ∙ ap (met_by plan.id) c.from.ensures ∙ ap (λ (id : List ℕ). met_by id (by_index fault)) c.in-Ok.ensures.live.named), refl, refl, refl);
+      };
+    })
+
+pub returns-then-not-plan-clause-views : goal.returns-then-not-plan-clause-views
+returns-then-not-plan-clause-views g c =
+    let plan = c.in-Ok.plan in
+    let shown = c.show in
+    ⊎_elim
+    (λ opens. inl (record {
+      design = plan.design;
+      place = plan.place;
+      query = plan.query;
+      about = record { of_document = c.in-Ok.ensures.about; within = c.in-Ok.ensures.within; named = c.in-Ok.ensures.shown; is_query = c.in-Ok.ensures.query };
+      read = c.plan.new.folder;
+      same = c.in-Ok.ensures.reads.disk;
+      counted = c.in-Ok.ensures.spares (λ is. let no : ⊥ = cc in no);
+      updated = λ updates. absurd (let clash : false ≡ true = sym c.if-not-plan.true ∙ updates in let no : ⊥ = cc in no);
+      kept = λ keeps. record {
+        opened = Ok c.in-Ok-open.slot;
+        opens = c.in-Ok-open.ensures;
+        ends = shown_from g.C.Servers c.args.servers.now shown.new.servers c.args.self.now.pool shown.new.pool plan.design plan.place plan.query c.args.out.now.items _ shown.result
+            c.open.new.self c.in-Ok-open.slot _ _ c.index-kept.result.now opens.place.0 plan.id _ c.index-kept.ensures opens.place.1 c.in-Ok.ensures.live.named shown.ensures;
+      };
+    }))
     (λ none. absurd (let clash : ⊥ = cc in clash)) c.in-Ok-open.ensures

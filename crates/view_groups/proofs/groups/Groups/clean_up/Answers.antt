@@ -1,7 +1,8 @@
 -- The names are listed, and each index is removed that is not kept.
-use Rattle.std.specs.Prelude.{List}
+use Rattle.std.specs.Prelude.{◌≡◌, List}
 use Rattle.std.proofs.Common.{sym, subst}
 use Rattle.view_ports.specs.declared.file_name.FileName.{FileName}
+use Rattle.view_ports.specs.declared.folder.FolderFault.TheVariants.{Failed}
 use Rattle.view_index.specs.Faults.{folder_fault}
 use Rattle.view_updater.proofs.OnlyReading.{failed_as}
 use Rattle.view_groups.specs.Cleans.{Cleans}
@@ -14,11 +15,12 @@ returns-in_err-names g c =
     let fault = c.in_err-names.field-0.0 in
     let failed = failed_as c.from_residual.result (folder_fault fault) c.from_residual.ensures in
     subst (λ r. Cleans c.args.kept.now g.F.Folder c.args.self.now c.args.self.now c.args.folder.now c.names.new.self r) (sym failed)
-    (cleans_failed g.F.Folder c.args.kept.now c.args.self.now c.args.folder.now c.names.new.self c.in_err-names.ensures.disk c.in_err-names.ensures.cause.later fault c.in_err-names.ensures.cause.failed)
+    (cleans_failed g.F.Folder c.args.kept.now c.args.self.now c.args.folder.now c.names.new.self c.in_err-names.ensures.disk c.in_err-names.ensures.cause.later fault c.in_err-names.ensures.cause.failed
+    (λ other. c.in_err-names.ensures.counted.still (λ is. other (let same : fault ≡ Failed = cc in same))))
 
 pub returns : goal.returns
 returns g c =
     let names = c.in_ok-names.names.items in
-    cleans g.F.Folder c.args.kept.now c.args.self.now c.args.folder.now c.names.new.self c.in_ok-names.ensures.disk c.in_ok-names.ensures.cause.later names c.remove_each.new.self c.remove_each.new.folder c.remove_each.result
-    c.in_ok-names.ensures.names
+    cleans g.F.Folder c.args.kept.now c.args.self.now c.args.folder.now c.names.new.self c.in_ok-names.ensures.disk c.in_ok-names.ensures.cause.later
+    (c.in_ok-names.ensures.counted.still (λ is. let no : ⊥ = cc in no)) names c.remove_each.new.self c.remove_each.new.folder c.remove_each.result c.in_ok-names.ensures.names
     (subst (λ (ns : List FileName). RemovesEach c.args.kept.now (IsNamed ns) g.F.Folder c.args.self.now c.remove_each.new.self c.names.new.self c.remove_each.new.folder c.remove_each.result) c.as_slice.ensures.value c.remove_each.ensures)

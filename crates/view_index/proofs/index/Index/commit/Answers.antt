@@ -112,7 +112,7 @@ returns g c =
           let whole : IsFull (file_of index) (length c.as_slice.result.now) = subst (IsFull (file_of index)) (sym size) is in
           absurd (never_full (file_of index) (length c.as_slice.result.now) c.publish.result c.in_ok-publish.field-0 c.in_ok-publish.was c.publish.ensures.long.0 c.publish.ensures.spent.0 whole);
       others = others_stay_published index c.as_slice.result.now (g.F.Folder.disk c.args.folder.now) (g.F.Folder.disk c.publish.new.folder) c.publish.result _
-          (λ a b is_open others ended. open_published index c.settle.new.self c.as_slice.result.now a b file is_open others (on_ok c.publish.result c.in_ok-publish.field-0 _ c.in_ok-publish.was ended)) c.requires.open c.publish.ensures.disk;
+          (λ a b is_open others ended. open_published index _ c.as_slice.result.now a b file is_open others (on_ok c.publish.result c.in_ok-publish.field-0 _ c.in_ok-publish.was ended)) c.requires.open c.publish.ensures.disk;
       long = record {
         only = search rules;
         always = λ is. absurd (never_full (file_of index) (length c.as_slice.result.now) c.publish.result c.in_ok-publish.field-0 c.in_ok-publish.was c.publish.ensures.long.0 c.publish.ensures.spent.0 (inl (subst (IsTooLong (file_of index)) (sym size) is)));

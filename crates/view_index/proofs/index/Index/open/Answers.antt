@@ -20,7 +20,8 @@ use Rattle.view_index.specs.Calls.{stem_of, IsAt}
 use Rattle.view_index.specs.Held.{or_empty, up_to, HoldsIndex, IsFileOf, Stands}
 use Rattle.view_index.specs.Index.{file_of, seq_of, views_of}
 use Rattle.view_index.specs.Opens.{FindsDamage, IsFound, IsLoaded}
-use Rattle.view_index.proofs.Emptying.{both_ok, others_both, others_cleared, stands_cleared, up_to_kept, was_past, Cleared, WasPast}
+use Rattle.view_index.specs.Removes.{AreEmpty}
+use Rattle.view_index.proofs.Emptying.{both_ok, opened_still, others_both, others_cleared, stands_cleared, up_to_kept, was_past, Cleared, WasPast}
 use Rattle.view_index.proofs.Loaded.{holds_views, length-empty}
 use Rattle.view_index.proofs.Opening.{finds_none}
 use Rattle.view_index.proofs.index.Index.open.Goals as goal
@@ -56,12 +57,14 @@ returns-then-index-newest g c =
     let views = c.args.views in
     let newest = c.args.newest in
     let index : Index = c.in_ok-index.index in
-    let kept : (files : FileName → File) (picture : Option Picture) → IsAt index files picture → IsAt index files (up_to newest picture) = λ files picture at.
+    let whole : (files : FileName → File) (picture : Option Picture) → IsAt index files picture → up_to newest picture ≡ picture = λ files picture at.
     let seq : seq_of index ≡ (or_empty (views_of index) picture).seq = ap (λ (p : Picture). p.seq) at.last in
-    subst (IsAt index files) (sym (up_to_kept (views_of index) newest picture (omega (arith, seq, c.if-index-newest.true)))) at in
+    up_to_kept (views_of index) newest picture (omega (arith, seq, c.if-index-newest.true)) in
+    let kept : (files : FileName → File) (picture : Option Picture) → IsAt index files picture → IsAt index files (up_to newest picture) = λ files picture at. subst (IsAt index files) (sym (whole files picture at)) at in
     record {
       fresh = c.in_ok-index.ensures.fresh;
-      found = told_map old new (λ a b. IsLoaded stem views a.now b.now index) _ (λ a b loaded. record { picture = loaded.picture; shows = loaded.shows; at = kept b.now loaded.picture loaded.at }) c.in_ok-index.ensures.found;
+      found = told_map old new (λ a b. IsLoaded stem views a.now b.now index) _
+          (λ a b loaded. record { picture = loaded.picture; shows = loaded.shows; at = kept b.now loaded.picture loaded.at; file = λ same. loaded.file; emptied = λ differs. absurd (differs (whole b.now loaded.picture loaded.at)) }) c.in_ok-index.ensures.found;
       stands = λ held picture holds. told_map old new (Moves (IsFileOf stem) (λ image. Stands stem held image picture) (λ files. IsAt index files picture)) _
           (λ a b moved. moves_wider (IsFileOf stem) (IsFileOf stem) (λ image. Stands stem held image picture) (λ image. Stands stem held image picture ⊎ Stands stem held image (up_to newest picture))
           (λ files. IsAt index files picture) (λ files. IsAt index files (up_to newest picture)) a b (λ n is. is) (λ image framed. inl framed.inside) (λ others ended. kept b.now picture ended) moved)
@@ -130,7 +133,14 @@ returns g c =
       found = told_then old cut new (λ a b. WasPast stem views newest index named number past c.clear.result a.now b.now)
           (λ a b. IfOk c.load-2.result (IsLoaded stem views a.now b.now) × Moves (IsFileOf stem) (λ image. Stands stem views image None) (λ files. IfOk c.load-2.result (λ index. IsAt index files None)) a b) _
           (λ a b d was opened. both_ok c.load-2.result (IsLoaded stem views b.now d.now) (λ index. IsAt index d.now None) (IsFound stem views newest a.now d.now)
-          (λ index loaded at. record { picture = was.picture; shows = was.shows; at = subst (IsAt index d.now) (sym was.gone) at }) opened.0 opened.1.ended)
+          (λ index loaded at. record {
+            picture = was.picture;
+            shows = was.shows;
+            at = subst (IsAt index d.now) (sym was.gone) at;
+            file = λ same. absurd (was.differs same);
+            emptied = λ differs. opened_still stem (file_of index) b.now d.now (done (AreEmpty stem b.now) was.empty) loaded.file at.is_open.pair;
+          })
+          opened.0 opened.1.ended)
           shown (told_both cut new (λ a b. IfOk c.load-2.result (IsLoaded stem views a.now b.now)) (Moves (IsFileOf stem) (λ image. Stands stem views image None) (λ files. IfOk c.load-2.result (λ index. IsAt index files None))) _ (λ a b one other. (one, other)) c.load-2.ensures.found (opens views));
       stands = λ held picture holds. told_then old cut new (Cleared stem views newest index named number past c.clear.result held picture)
           (Moves (IsFileOf stem) (λ image. Stands stem held image None) (λ files. IfOk c.load-2.result (λ index. IsAt index files None))) _
