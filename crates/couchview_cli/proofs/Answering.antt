@@ -1,30 +1,37 @@
 -- What a step of the engine is to a session.
 use Rattle.std.specs.Prelude.{◌≡◌, ◌≢◌, ◌⊎◌, ◌++◌, ℕ, List, [], true, IfErr, Result, Ok, Err}
-use Rattle.std.proofs.Common.{refl, sym, ap, ◌∙◌, subst, inl, inr}
+use Rattle.std.proofs.Common.{refl, sym, ap, ◌∙◌, subst, inl, inr, ⊎_elim}
 use Rattle.std.proofs.lemmas.Result.{IfErr-weaker}
 use Rattle.view_ports.specs.Calls.{Call}
+use Rattle.view_ports.specs.Disk.{Tells}
 use Rattle.view_ports.specs.Faults.{Rose}
 use Rattle.view_ports.specs.Functions.{Functions}
 use Rattle.view_ports.specs.Lines.{ended}
-use Rattle.view_ports.proofs.Told.{told_all, told_now}
+use Rattle.view_ports.proofs.DiskRuns.{moves_wider, none_wider}
+use Rattle.view_ports.proofs.Told.{told_all, told_map, told_now}
+use Rattle.view_groups.specs.Cleans.{IsIndexFile}
 use Rattle.view_engine.specs.declared.engine.Engine.{Engine}
 use Rattle.view_engine.specs.declared.halt.StepFault.{StepFault}
 use Rattle.view_engine.specs.declared.halt.StepFault.TheVariants as halt
 use Rattle.view_engine.specs.declared.refusal.Refusal.{Refusal}
 use Rattle.view_engine.specs.declared.refusal.Refusal.TheVariants.{NoMemory}
 use Rattle.view_engine.specs.declared.request.Request.{Request}
+use Rattle.view_engine.specs.declared.request.Request.TheVariants.{Cleanup, View}
 use Rattle.view_engine.specs.Engine.{Appends as StepAppends, IsAt, Leaves}
 use Rattle.view_engine.specs.Moments.{Moment}
 use Rattle.view_engine.specs.Refusals.{refusal_text, request_of}
 use Rattle.view_engine.specs.Steps.{Answers, Does, MayHaveCalled}
 use Rattle.view_engine.specs.Worlds.{HasRoomAt}
 use Rattle.view_engine.specs.Calls.{IsStep, Scene}
-use Rattle.view_engine.specs.Disks.{IsReasonOf, LiesOpen, SparesStep}
+use Rattle.view_engine.specs.Disks.{IsOnIndexes, IsReasonOf, LiesOpen, MovesIndexes, MovesIndexOf, SparesStep}
+use Rattle.view_engine.specs.ViewQuery.{view_query}
 use Rattle.view_engine.specs.Worlds.{languages as languages_of}
 use Rattle.view_engine.proofs.Stepping.{step_damaged, step_filled, step_full, step_full_in, step_kept, step_room_left, step_sound, step_on, step_still, step_stopped}
 use Rattle.view_ports.specs.declared.folder.Folder.{Ghosts as Folders}
 use Rattle.view_ports.specs.declared.servers.Servers.{Ghosts as Servers}
+use Rattle.couchview_cli.specs.Reading.{MovesIndexFiles}
 use Rattle.couchview_cli.specs.Session.{Answered, IsAnswered, IsUnanswered}
+use Rattle.couchview_cli.proofs.Counting.{spent_counts, step_counts}
 use Rattle.couchview_cli.proofs.Keeping.{answers_no_memory}
 use Rattle.couchview_cli.proofs.Moving.{Told}
 use Rattle.view_engine.specs.Accepted.{is_ok}
@@ -69,6 +76,16 @@ disk_rose : {F : Type 0} (f : Folders F) (engine : Engine) (old new : F) (reques
 disk_rose f engine old new request (inl why) = why.0
 disk_rose f engine old new request (inr why) = absurd why
 
+-- a view or a cleanup changes files of indexes alone
+index_files : {F : Type 0} (f : Folders F) (engine : Engine) (old new : F) (request : Result Request Refusal) → IsOnIndexes request → MovesIndexes f engine old new request → Tells (f.disk old) (f.disk new) MovesIndexFiles
+index_files f engine old new (Ok (View view query)) is moves =
+    told_map (f.disk old) (f.disk new) (MovesIndexOf engine (view_query view query)) MovesIndexFiles
+    (λ a b moved. ⊎_elim (λ none. none_wider IsIndexFile (λ image. Unit {0}) (λ files. Unit {0}) a b (λ image here. tt) (λ same. tt) none)
+    (λ one. moves_wider _ IsIndexFile (λ image. Unit {0}) (λ image. Unit {0}) (λ files. Unit {0}) (λ files. Unit {0}) a b (λ name own. (_, own)) (λ image framed. tt) (λ others ended. tt) one.2) moved.files)
+    moves
+index_files f engine old new (Ok Cleanup) is moves = moves
+index_files f engine old new other is moves = absurd is
+
 module _ {F C : Type 0} {f : Folders F} {s : Servers C} {old new : Scene F C} {line start out : List ℕ} where
   -- a step of the engine that is done is an answer
   pub answered_by : start ≡ [] → IsStep f s old new line start out (Ok tt) → SparesStep f old.folder new.folder (Ok tt) → IsAnswered f s old new line out
@@ -83,6 +100,7 @@ module _ {F C : Type 0} {f : Folders F} {s : Servers C} {old new : Scene F C} {l
       refused = λ some. IfErr-weaker (request_of line) (λ refusal. out ≡ start ++ ended (refusal_text refusal)) _
           (λ refusal told. inl (told ∙ ap (λ (front : List ℕ). front ++ ended (refusal_text refusal)) empty)) (step.refused some);
     };
+    counts = step_counts line empty step;
     blames = λ is. step.blames (appended_fault line start out empty is);
     still = step_still step;
     own = λ never. (step.disk.documents never).own;
@@ -100,6 +118,7 @@ module _ {F C : Type 0} {f : Folders F} {s : Servers C} {old new : Scene F C} {l
         (step.does before at);
     room = λ before at. told_all (f.disk old.folder) (λ d. is_ok (ended (refusal_text NoMemory)) ≡ true → HasRoomAt d.now before.world (request_of line)) (λ d ok. absurd (constant_no_ok ok));
     prints = record { none = λ none. absurd (step.asked none); some = λ some. (refusal_text NoMemory, refusal_line NoMemory, refl); refused = λ some. spent_refused (request_of line) };
+    counts = spent_counts line (step.asked) step;
     blames = λ is. absurd (constant_no_fault line is);
     still = step_still step;
     own = λ never. (step.disk.documents never).own;
@@ -137,5 +156,6 @@ module _ {F C : Type 0} {f : Folders F} {s : Servers C} {old new : Scene F C} {l
     own = λ never. (step.disk.documents never).own;
     on = step_on step;
     kept = step_kept step;
+    indexed = λ is. index_files f old.engine old.folder new.folder (request_of line) is step.disk.indexes;
     stays = step.stays;
   }

@@ -1,5 +1,5 @@
 -- A session goes on by the lines that it answers, and comes to an end.
-use Rattle.std.specs.Prelude.{◌≡◌, ◌≢◌, ◌*◌, ℕ, List, [], ◌∷◌, true, Option, Result}
+use Rattle.std.specs.Prelude.{◌≡◌, ◌≢◌, ◌+◌, ◌*◌, ℕ, List, [], ◌∷◌, true, cond, Option, Result}
 use Rattle.std.proofs.Common.{refl, sym, ap, ◌∙◌, subst, arith}
 use Rattle.view_ports.specs.declared.folder.Folder.{Ghosts as Folders}
 use Rattle.view_ports.specs.declared.servers.Servers.{Ghosts as Servers}
@@ -32,17 +32,18 @@ use Rattle.view_engine.specs.ServerFaults.{is_server_fault, server_faults}
 use Rattle.view_engine.proofs.ServerFaults.{none_rose, one_more, rose_on}
 use Rattle.view_engine.specs.Fresh.{IsFreshStep}
 use Rattle.view_engine.specs.Steps.{Answers}
-use Rattle.view_engine.specs.Worlds.{at_start, HasRoomAt, StandsEither, StandsFor, languages as languages_of}
+use Rattle.view_engine.specs.Worlds.{at_start, languages as languages_of, update_seq, HasRoomAt, StandsEither, StandsFor}
 use Rattle.view_engine.proofs.AcceptedWrites.{Answers-accepted, each_ok_same}
 use Rattle.view_engine.proofs.Sound.{answers_sound}
 use Rattle.view_engine.proofs.Worlds.{answers_grow, holds_at, images_at, stays_still, stays_still_then}
 use Rattle.view_engine.proofs.Fresh.{steps_are_fresh}
 use Rattle.couchview_cli.specs.declared.session.Session.{Session}
 use Rattle.couchview_cli.specs.Ends.{Comes}
-use Rattle.couchview_cli.specs.Reading.{ComesTo, HasReplied, MovesOwn, NoneChanges, NoneOnIndexes, Replies, Told}
+use Rattle.couchview_cli.specs.Reading.{says_written, writes_in, ComesTo, HasReplied, IsOpenAt, MovesOwn, NoneChanges, NoneOnIndexes, Replies, Told}
 use Rattle.couchview_cli.specs.Replied.{IsReplied}
 use Rattle.couchview_cli.specs.Serving.{width, HadRoom}
 use Rattle.couchview_cli.specs.Session.{HasCome, IsAnswered, IsUnanswered, KeepsPorts, Origin, StepsOf, scene_of}
+use Rattle.couchview_cli.proofs.Counting.{writes_more}
 use Rattle.couchview_cli.proofs.Keeping.{Answered-of}
 use Rattle.couchview_cli.proofs.Moving.{GoesSoundly, moved_line, moved_start, told_first, went_before, went_nowhere, WentOn}
 
@@ -225,10 +226,27 @@ module _ {F C : Type 0} (f : Folders F) (s : Servers C) (r : Responds (Session F
       let blames = subst (λ (text : List ℕ). is_server_fault (record { line = e.line; text = text }) ≡ true → RoseBy 2 (s.faults start.servers.now) (s.faults mid.servers.now)) (sym leads.1.1) answered.blames in
       one_more e es (s.faults start.servers.now) (s.faults mid.servers.now) (s.faults now.servers.now) answered.stays.server_faults blames (twice mid now es leads.2)
 
+  -- the engine lies open behind each line that is answered
+  open_lines : (start now : Session F C) (es : List Exchange) → LeadsTo (Steps r) start es now → LiesOpen f start.engine.now start.folder.now → LiesOpen f now.engine.now now.folder.now
+  open_lines start now es leads is_open =
+      LeadsTo-kept (λ (session : Session F C). LiesOpen f session.engine.now session.folder.now) (λ old new e before step. ((answers old new e.line step.0).1).is_open) start now es is_open leads
+
+  -- and its update sequence has risen by the writes that are accepted
+  counted : (start now : Session F C) (es : List Exchange) → LeadsTo (Steps r) start es now → update_seq now.engine.now ≡ update_seq start.engine.now + writes_in es
+  counted start now [] leads = subst (λ (session : Session F C). update_seq session.engine.now ≡ update_seq start.engine.now + 0) (sym leads) (omega arith)
+  counted start now (e ∷ es) leads =
+      let mid = leads.0 in
+      let answered = (answers start mid e.line leads.1.0).1 in
+      let here = subst (λ (text : List ℕ). update_seq mid.engine.now ≡ update_seq start.engine.now + cond (says_written (request_of e.line) text) 1 0) (sym leads.1.1) answered.counts in
+      writes_more e es (update_seq start.engine.now) (update_seq mid.engine.now) (update_seq now.engine.now) here (counted mid now es leads.2)
+
+  opens_at : (start now : Session F C) (es : List Exchange) → LeadsTo (Steps r) start es now → LiesOpen f start.engine.now start.folder.now → IsOpenAt (f.disk now.folder.now) (update_seq start.engine.now + writes_in es)
+  opens_at start now es leads is_open = (now.engine.now, open_lines start now es leads is_open, counted start now es leads)
+
   -- what the session replied, whatever the folder holds
-  pub has_replied : (start last : Session F C) (left left' held held' : Option (List ℕ)) (end : LoopEnd StepFault) → Loops r start last left left' held held' end
-      → HasReplied left left' held held' (f.disk start.folder.now) (f.disk last.folder.now) (s.faults start.servers.now) (s.faults last.servers.now) end
-  has_replied start last left left' held held' (loop_end.Run end) loops =
+  pub has_replied : (start last : Session F C) (left left' held held' : Option (List ℕ)) (end : LoopEnd StepFault) → Loops r start last left left' held held' end → LiesOpen f start.engine.now start.folder.now
+      → HasReplied left left' held held' (f.disk start.folder.now) (f.disk last.folder.now) (update_seq start.engine.now) (s.faults start.servers.now) (s.faults last.servers.now) end
+  has_replied start last left left' held held' (loop_end.Run end) loops is_open =
       let finishes = loops.ends in
       let run = finishes.run in
       let seen = LeadsTo-seen (λ (session : Session F C) (known : Unit {0}). Unit {0}) replies start last tt run.exchanges tt run.leads in
@@ -248,12 +266,13 @@ module _ {F C : Type 0} (f : Folders F) (s : Servers C) (r : Responds (Session F
             written = run.written;
           };
           wrote = finishes.wrote;
+          opens = opens_at start last run.exchanges run.leads is_open;
           still = still start last run.exchanges run.leads;
           own = own start last run.exchanges run.leads;
           twice = twice start last run.exchanges run.leads;
         };
       }
-  has_replied start last left left' held held' (loop_end.Stopped fault) loops =
+  has_replied start last left left' held held' (loop_end.Stopped fault) loops is_open =
       let cut = loops.ends in
       let seen = LeadsTo-seen (λ (session : Session F C) (known : Unit {0}). Unit {0}) replies start cut.mid tt cut.exchanges tt cut.leads in
       let stopped = (stops cut.mid last cut.line fault cut.stops).1 in
@@ -272,6 +291,7 @@ module _ {F C : Type 0} (f : Folders F) (s : Servers C) (r : Responds (Session F
           leads = seen.1;
           wrote = cut.wrote;
           mid = f.disk cut.mid.folder.now;
+          opens = opens_at start cut.mid cut.exchanges cut.leads is_open;
           until = on_lines start cut.mid cut.exchanges cut.leads;
           since = stopped.on;
           found = stopped.found;
@@ -279,6 +299,8 @@ module _ {F C : Type 0} (f : Folders F) (s : Servers C) (r : Responds (Session F
           kept = stopped.still;
           own = own start cut.mid cut.exchanges cut.leads;
           own_kept = stopped.own;
+          unmoved = stopped.kept;
+          index_kept = stopped.indexed;
           twice = rose_on (2 * server_faults cut.exchanges) (s.faults start.servers.now) (s.faults cut.mid.servers.now) (s.faults last.servers.now) (twice start cut.mid cut.exchanges cut.leads) stopped.stays.server_faults;
         };
       }
@@ -316,9 +338,7 @@ module _ {F C : Type 0} (f : Folders F) (s : Servers C) (r : Responds (Session F
   -- at the end of its input the engine lies open
   pub stays_open : (start last : Session F C) (left left' held held' : Option (List ℕ)) (end : LoopEnd StepFault) → Loops r start last left left' held held' end → LiesOpen f start.engine.now start.folder.now → HasEnded end
       → LiesOpen f last.engine.now last.folder.now
-  stays_open start last left left' held held' (loop_end.Run end) loops is_open ended =
-      let run = loops.ends.run in
-      LeadsTo-kept (λ (session : Session F C). LiesOpen f session.engine.now session.folder.now) (λ old new e before step. ((answers old new e.line step.0).1).is_open) start last run.exchanges is_open run.leads
+  stays_open start last left left' held held' (loop_end.Run end) loops is_open ended = let run = loops.ends.run in open_lines start last run.exchanges run.leads is_open
   stays_open start last left left' held held' (loop_end.Stopped fault) loops is_open ended = absurd cc
 
   spared_line : (start old new : Session F C) (e : Exchange) → f.faults old.folder.now ≡ f.faults start.folder.now → Steps r old e new → f.faults new.folder.now ≡ f.faults start.folder.now
@@ -357,8 +377,8 @@ pub open_behind : {F C : Type 0} (f : Folders F) (ran : Session F C) (engine : E
 open_behind {F} {C} f ran engine folder same_engine same_folder is_open = subst (λ (x : Engine). LiesOpen f x folder) (sym same_engine) (subst (λ (x : F). LiesOpen f ran.engine.now x) (sym same_folder) is_open)
 
 pub replied_behind : {F C : Type 0} (f : Folders F) (s : Servers C) (ran : Session F C) (folder : F) (servers : C) → folder ≡ ran.folder.now → servers ≡ ran.servers.now
-    → {left left' held held' : Option (List ℕ)} {old : Told} {faults : ℕ} {end : LoopEnd StepFault}
-    → HasReplied left left' held held' old (f.disk ran.folder.now) faults (s.faults ran.servers.now) end → HasReplied left left' held held' old (f.disk folder) faults (s.faults servers) end
-replied_behind {F} {C} f s ran folder servers same same_servers {left} {left'} {held} {held'} {old} {faults} {end} replied =
-    subst (λ (x : F). HasReplied left left' held held' old (f.disk x) faults (s.faults servers) end) (sym same)
-    (subst (λ (x : C). HasReplied left left' held held' old (f.disk ran.folder.now) faults (s.faults x) end) (sym same_servers) replied)
+    → {left left' held held' : Option (List ℕ)} {old : Told} {seq faults : ℕ} {end : LoopEnd StepFault}
+    → HasReplied left left' held held' old (f.disk ran.folder.now) seq faults (s.faults ran.servers.now) end → HasReplied left left' held held' old (f.disk folder) seq faults (s.faults servers) end
+replied_behind {F} {C} f s ran folder servers same same_servers {left} {left'} {held} {held'} {old} {seq} {faults} {end} replied =
+    subst (λ (x : F). HasReplied left left' held held' old (f.disk x) seq faults (s.faults servers) end) (sym same)
+    (subst (λ (x : C). HasReplied left left' held held' old (f.disk ran.folder.now) seq faults (s.faults x) end) (sym same_servers) replied)

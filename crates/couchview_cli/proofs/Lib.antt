@@ -1,5 +1,6 @@
 pub mod Moving
 pub mod Keeping
+pub mod Counting
 pub mod Answering
 pub mod Replying
 pub mod Coming

@@ -1,5 +1,5 @@
 -- What a load replied, whatever the folder holds, from what was shown of it.
-use Rattle.std.proofs.Common.{◌≡◌, ◌≤◌, ◌<◌, ◌^◌, ◌∙◌, ℕ, List, [], Option, Some, inl, inr, refl, sym, subst}
+use Rattle.std.proofs.Common.{◌≡◌, ◌≤◌, ◌<◌, ◌^◌, ◌∙◌, ℕ, List, [], Option, inl, inr, refl, sym, subst, ◌≢◌, ap}
 use Rattle.std.specs.List.{flat_map}
 use Rattle.view_ports.specs.Disk.{IfTold, MovesNone, Tells}
 use Rattle.view_ports.specs.Exchanges.{Exchange}
@@ -17,15 +17,15 @@ use Rattle.view_engine.specs.Calls.{Scene, scene}
 use Rattle.view_engine.specs.Disks.{IsReadReasonOf, LiesOpen}
 use Rattle.view_engine.specs.Halts.{IsDamage}
 use Rattle.view_engine.specs.Openings.{IsMovedByOpening}
-use Rattle.view_engine.specs.Worlds.{HasBodyDamage, IsOpen}
+use Rattle.view_engine.specs.Worlds.{update_seq, HasBodyDamage, IsOpen}
 use Rattle.view_ports.proofs.Told.{told_all, told_pair}
 use Rattle.view_engine.proofs.Worlds.{stays_still}
 use Rattle.couchview_cli.specs.Closing.{Closes}
-use Rattle.couchview_cli.specs.Loading.{load_lines, load_text, AnswersLoad, HasRunOver, IsOfReading, IsOpenAt, IsPrinted}
-use Rattle.couchview_cli.specs.Reading.{Replies}
+use Rattle.couchview_cli.specs.Loading.{load_lines, load_text, AnswersLoad, HasRunOver, IsOfReading, IsPrinted}
+use Rattle.couchview_cli.specs.Reading.{IsOpenAt, Replies}
 use Rattle.couchview_cli.specs.Replied.{IsReplied}
 use Rattle.couchview_cli.specs.Serving.{Outside}
-use Rattle.couchview_cli.specs.Showing.{HasComeTo, HasNotRead, HasShown, StopsEarly}
+use Rattle.couchview_cli.specs.Showing.{HasComeTo, HasNotRead, HasShown, RunsOut, StopsEarly}
 use Rattle.couchview_cli.proofs.Loaded.{read_room, shown_text}
 use Rattle.couchview_cli.proofs.LoadRequests.{each_line}
 use Rattle.couchview_cli.proofs.Shown.{run_lines}
@@ -43,15 +43,17 @@ module _ {F C : Type 0} (f : Folders F) (s : Servers C) (docs seed : ℕ) (ports
   abbrev after : Outside
   after = record { left = ports.left; held = held; disk = f.disk last.folder; disk_faults = f.faults last.folder; faults = s.faults stopped.servers }
 
-  module _ (moved : Tells before.disk (f.disk start.folder) IsMovedByOpening) (new : IsOpenAt (f.disk start.folder) 0) where
+  module _ (moved : Tells before.disk (f.disk start.folder) IsMovedByOpening) (is_open : LiesOpen f start.engine start.folder) (zero : update_seq start.engine ≡ 0) where
     abbrev has_replies : (gained : List ℕ) (end : LoopEnd StepFault) (mid : F) → HasComeTo f s start text (scene last.engine mid last.servers) gained end → Tells (f.disk mid) (f.disk last.folder) MovesNone → HasRunOver docs seed before after end
     has_replies gained end mid come read = record {
       opened = f.disk start.folder;
+      seq = update_seq start.engine;
       mid = f.disk mid;
       left = come.left;
-      gained = Some gained;
+      gained = gained;
       moved = moved;
-      new = new;
+      opens = (start.engine, is_open, refl);
+      new = zero;
       faults = s.faults last.servers;
       counted = same;
       replied = come.replied;
@@ -82,19 +84,56 @@ module _ {F C : Type 0} (f : Folders F) (s : Servers C) (docs seed : ℕ) (ports
       room = read_room f last unread.ran.mid fault unread.why;
     }
 
-    pub answers_not : (fault : StepFault) (status : ℕ) → StopsEarly f s start text last fault → Closes before.held held [] fault status → AnswersLoad docs seed before after status
-    answers_not fault status (inl (gained, came, done)) closes =
-        inr (inl (loop_end.Stopped fault, fault, has_replies gained (loop_end.Stopped fault) last.folder came (stays_still (f.disk last.folder)), inl refl, closes))
-    answers_not fault status (inr (inl unread)) closes =
-        inr (inl (loop_end.Run InputEnded, fault, has_replies unread.gained (loop_end.Run InputEnded) unread.ran.mid unread.ran.come unread.ran.read, inr (inr (refl, of_reading fault unread)), closes))
-    answers_not fault status (inr (inr (is, inl still))) closes =
-        inr (inr (inl (record {
-          moved = subst (λ (x : Scene F C). Tells before.disk (f.disk x.folder) IsMovedByOpening) (sym still) moved;
-          seq = 0;
-          opens = subst (λ (x : Scene F C). IsOpenAt (f.disk x.folder) 0) (sym still) new;
-          ends = inr (refl, subst (λ (x : StepFault). Closes before.held held [] x status) is closes);
-        })))
-    answers_not fault status (inr (inr (is, inr (inl (gained, end, ran))))) closes =
-        inr (inl (loop_end.Run end, fault, has_replies gained (loop_end.Run end) ran.mid ran.come ran.read, inr (inl is), closes))
-    answers_not fault status (inr (inr (is, inr (inr (gained, other, came))))) closes =
-        inr (inl (loop_end.Stopped other, fault, has_replies gained (loop_end.Stopped other) last.folder came (stays_still (f.disk last.folder)), inr (inl is), closes))
+    module _ (begun : f.faults start.folder ≡ before.disk_faults) where
+      spared_by : (gained : List ℕ) (end : LoopEnd StepFault) (mid : F) → HasComeTo f s start text (scene last.engine mid last.servers) gained end → f.faults last.folder ≡ f.faults mid → end ≢ loop_end.Stopped DiskFault → f.faults last.folder ≡ before.disk_faults
+      spared_by gained end mid come same_count other = same_count ∙ come.spared other ∙ begun
+
+      -- memory ran out
+      answers_spent : (status : ℕ) → RunsOut f s start text last → Closes before.held held [] NoMemory status → AnswersLoad docs seed before after status
+      answers_spent status (inl still) closes =
+          inr (inr (inl (record {
+            moved = subst (λ (x : Scene F C). Tells before.disk (f.disk x.folder) IsMovedByOpening) (sym still) moved;
+            seq = 0;
+            opens = subst (λ (x : Scene F C). IsOpenAt (f.disk x.folder) 0) (sym still) (start.engine, is_open, zero);
+            spared = ap (λ (x : Scene F C). f.faults x.folder) still ∙ begun;
+            ends = inr (refl, closes);
+          })))
+      answers_spent status (inr (inl (gained, end, ran, counted))) closes =
+          inr (inl (record {
+            end = loop_end.Run end;
+            fault = NoMemory;
+            ran = has_replies gained (loop_end.Run end) ran.mid ran.come ran.read;
+            why = inl refl;
+            spared = λ other named. spared_by gained (loop_end.Run end) ran.mid ran.come counted other;
+            closes = closes;
+          }))
+      answers_spent status (inr (inr (gained, met, came, want))) closes =
+          inr (inl (record {
+            end = loop_end.Stopped met;
+            fault = NoMemory;
+            ran = has_replies gained (loop_end.Stopped met) last.folder came (stays_still (f.disk last.folder));
+            why = inr (refl, want);
+            spared = λ other named. spared_by gained (loop_end.Stopped met) last.folder came refl other;
+            closes = closes;
+          }))
+
+      pub answers_not : (fault : StepFault) (status : ℕ) → StopsEarly f s start text last fault → Closes before.held held [] fault status → AnswersLoad docs seed before after status
+      answers_not fault status (inl (gained, came, done)) closes =
+          inr (inl (record {
+            end = loop_end.Stopped fault;
+            fault = fault;
+            ran = has_replies gained (loop_end.Stopped fault) last.folder came (stays_still (f.disk last.folder));
+            why = inl refl;
+            spared = λ other named. spared_by gained (loop_end.Stopped fault) last.folder came refl other;
+            closes = closes;
+          }))
+      answers_not fault status (inr (inl unread)) closes =
+          inr (inl (record {
+            end = loop_end.Run InputEnded;
+            fault = fault;
+            ran = has_replies unread.gained (loop_end.Run InputEnded) unread.ran.mid unread.ran.come unread.ran.read;
+            why = inr (refl, of_reading fault unread);
+            spared = λ other named. spared_by unread.gained (loop_end.Run InputEnded) unread.ran.mid unread.ran.come (unread.spared named) other;
+            closes = closes;
+          }))
+      answers_not fault status (inr (inr (is, out))) closes = answers_spent status out (subst (λ (x : StepFault). Closes before.held held [] x status) is closes)

@@ -1,5 +1,5 @@
 -- What a load did, from what was shown of it.
-use Rattle.std.proofs.Common.{◌≡◌, ◌≢◌, ◌≤◌, ◌<◌, ◌^◌, ◌∙◌, ◌++◌, ℕ, List, [], Option, Some, None, inl, inr, refl, sym, ap, subst, length, codes, arith}
+use Rattle.std.proofs.Common.{◌≡◌, ◌≢◌, ◌⊎◌, ◌≤◌, ◌<◌, ◌^◌, ◌∙◌, ◌++◌, ℕ, List, [], Option, Some, None, inl, inr, refl, sym, ap, subst, length, codes, arith}
 use Rattle.std.specs.List.{AllByRecursion, flat_map}
 use Rattle.view_ports.specs.Calls.{Call}
 use Rattle.view_ports.specs.Disk.{Disk, IfTold, LeavesOnly, Tells}
@@ -30,11 +30,11 @@ use Rattle.view_engine.specs.Worlds.{at_start, Holds, IsAtWorld, StandsFor, widt
 use Rattle.view_engine.proofs.Worlds.{holds_at}
 use Rattle.load_lines.specs.Lines.{first_lines, second_lines}
 use Rattle.couchview_cli.specs.Closing.{Closes, closing_of, fault_status}
-use Rattle.couchview_cli.specs.Loading.{first_view, fresh_answer, info_place, load_lines, load_text, reply_to, second_view, HasBegun, HasServed, IsIdle, IsPrinted, IsUnread, Loads, NoneWants}
+use Rattle.couchview_cli.specs.Loading.{first_view, fresh_answer, info_place, load_lines, load_text, reply_to, second_view, HasBegun, HasServed, HasWant, IsCut, IsIdle, IsPrinted, IsUnread, Loads, NoneWants}
 use Rattle.couchview_cli.specs.Replied.{IsReplied}
 use Rattle.couchview_cli.specs.Serving.{AreLeft, IsCutShort, Outside, Steps, width}
 use Rattle.couchview_cli.specs.Session.{IsAtOrigin, Origin}
-use Rattle.couchview_cli.specs.Showing.{HasComeTo, HasNotRead, HasRunTo, HasShown, StopsEarly, IsShown, NoneIsWant, reply_at}
+use Rattle.couchview_cli.specs.Showing.{HasComeTo, HasNotRead, HasRunTo, HasShown, RunsOut, StopsEarly, IsShown, NoneIsWant, reply_at}
 use Rattle.couchview_cli.proofs.LoadPuts.{each_put}
 use Rattle.couchview_cli.proofs.LoadRequests.{each_line, each_some}
 use Rattle.couchview_cli.proofs.LoadWhole.{second_is_fresh}
@@ -223,6 +223,14 @@ module _ {F C : Type 0} (f : Folders F) (s : Servers C) (docs seed : ℕ) (openi
       unread_as (Damaged name place) status is closes = inl (none, inr (inr (inl (unread (Damaged name place) status (λ same. let never : ⊥ = cc in never) is closes))))
       unread_as (Full name length) status is closes = inl (none, inr (inr (inl (unread (Full name length) status (λ same. let never : ⊥ = cc in never) is closes))))
 
+      -- memory ran out
+      given_up : RunsOut f s start text last → IsIdle s.functions s.honest docs seed opening before after AtEnd ⊎ (((end : ℕ) × HasBegun s.functions s.honest docs seed opening before after AtEnd end) ⊎ IsCut s.functions s.honest docs seed opening before after AtEnd)
+      given_up (inl still) = inl (idle still)
+      given_up (inr (inl (gained, end, ran, counted))) = inr (inl (status_of end, begun gained end ran))
+      given_up (inr (inr (gained, met, came, want))) =
+          let off = (came.come origin at).ends in
+          inr (inr (record { left = came.left; gained = ended_by (Some gained) met; status = fault_status met; cut = cut_at gained met came; wants = subst HasWant off.wrote want }))
+
       -- something was in the way
       pub loads_not : (fault : StepFault) (status : ℕ) → StopsEarly f s start text last fault → Closes before.held held [] fault status → Does status
       loads_not fault status (inl (gained, came, done)) closes =
@@ -240,15 +248,4 @@ module _ {F C : Type 0} (f : Folders F) (s : Servers C) (docs seed : ℕ) (openi
             })),
           )
       loads_not fault status (inr (inl unread_)) closes = unread_as fault status unread_ closes
-      loads_not fault status (inr (inr (is, inl still))) closes =
-          inl (none, inr (inr (inr (record { closes = subst (λ (x : StepFault). Closes before.held held [] x status) is closes; served = inl (idle still) }))))
-      loads_not fault status (inr (inr (is, inr (inl (gained, end, ran))))) closes =
-          inl (none, inr (inr (inr (record { closes = subst (λ (x : StepFault). Closes before.held held [] x status) is closes; served = inr (inl (status_of end, begun gained end ran)) }))))
-      loads_not fault status (inr (inr (is, inr (inr (gained, other, came))))) closes =
-          inl (
-            none,
-            inr (inr (inr (record {
-              closes = subst (λ (x : StepFault). Closes before.held held [] x status) is closes;
-              served = inr (inr (came.left, ended_by (Some gained) other, fault_status other, cut_at gained other came));
-            }))),
-          )
+      loads_not fault status (inr (inr (is, out))) closes = inl (none, inr (inr (inr (record { closes = subst (λ (x : StepFault). Closes before.held held [] x status) is closes; served = given_up out }))))

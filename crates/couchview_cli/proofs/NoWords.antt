@@ -32,6 +32,7 @@ unread_nothing before = record {
   unread = refl;
   closes = silent before.held;
   moved = unmoved before.disk;
+  spared = λ other. refl;
   damaged = told_all before.disk _ (λ d name at is. let never : ⊥ = cc in absurd never);
   room = λ name length is. let never : ⊥ = cc in never;
 }

@@ -8,12 +8,12 @@ use Rattle.view_ports.specs.Disk.{Tells}
 use Rattle.view_engine.specs.declared.halt.StepFault.{StepFault}
 use Rattle.view_engine.specs.Openings.{IsMovedByOpening}
 use Rattle.couchview_cli.specs.Closing.{Closes}
-use Rattle.couchview_cli.specs.Reading.{AnswersLines, HasReplied, Told}
+use Rattle.couchview_cli.specs.Reading.{AnswersLines, HasReplied, IsOpenAt, Told}
 use Rattle.couchview_cli.specs.Serving.{Outside}
 
-module _ (before after : Outside) (status : ℕ) (opened : Told) (moved : Tells before.disk opened IsMovedByOpening) where
+module _ (before after : Outside) (status : ℕ) (opened : Told) (moved : Tells before.disk opened IsMovedByOpening) (seq : ℕ) (opens : IsOpenAt opened seq) where
   -- the session came to the end of a run
-  pub reads_on : (end : RunEnd) → status ≡ status_of end → HasReplied before.left after.left before.held after.held opened after.disk before.faults after.faults (loop_end.Run end) → AnswersLines before after status
+  pub reads_on : (end : RunEnd) → status ≡ status_of end → HasReplied before.left after.left before.held after.held opened after.disk seq before.faults after.faults (loop_end.Run end) → AnswersLines before after status
   reads_on end is replied =
       inl (record {
         bytes = replied.bytes;
@@ -23,11 +23,13 @@ module _ (before after : Outside) (status : ℕ) (opened : Told) (moved : Tells 
         counts = replied.counts;
         opened = opened;
         moved = moved;
+        seq = seq;
+        opens = opens;
         replies = replied.ends;
       })
 
   -- it was stopped in a line, and then the last line was written
-  pub is_cut_off : (held : Option (List ℕ)) (fault : StepFault) → HasReplied before.left after.left before.held held opened after.disk before.faults after.faults (loop_end.Stopped fault) → Closes held after.held [] fault status
+  pub is_cut_off : (held : Option (List ℕ)) (fault : StepFault) → HasReplied before.left after.left before.held held opened after.disk seq before.faults after.faults (loop_end.Stopped fault) → Closes held after.held [] fault status
       → AnswersLines before after status
   is_cut_off held fault replied closes =
       inr (inl (record {
@@ -38,6 +40,8 @@ module _ (before after : Outside) (status : ℕ) (opened : Told) (moved : Tells 
         counts = replied.counts;
         opened = opened;
         moved = moved;
+        seq = seq;
+        opens = opens;
         replies = replied.ends;
         closes = closes;
       }))

@@ -16,7 +16,7 @@ use Rattle.view_ports.proofs.Cutting.{IsCut-unique, IsLine-nil}
 use Rattle.view_engine.specs.declared.refusal.Refusal.TheVariants.{NoMemory as OutOfMemory}
 use Rattle.view_engine.specs.Refusals.{refusal_text}
 use Rattle.couchview_cli.specs.Replied.{IsReplied}
-use Rattle.couchview_cli.specs.Loading.{reply_to, NoneWants}
+use Rattle.couchview_cli.specs.Loading.{reply_to, HasWant, NoneWants}
 use Rattle.couchview_cli.specs.Showing.{NoLineWants, NoneIsWant, reply_at}
 
 -- each exchange was answered with one of these lines
@@ -163,6 +163,14 @@ none_next written rest line behind yet plain cut other = record {
 pub none_last : (written rest : List ℕ) → NoneYet written rest → IsLine rest → NoneIsWant written
 none_last written rest yet unended = λ replies behind cut.
     subst NoLineWants (sym (IsCut-unique written replies yet.lines behind rest cut (record { joined = yet.joined; whole = yet.plain; unended = unended })).0) yet.none
+
+-- the next line is the refusal
+pub some_next : (written rest line behind : List ℕ) → NoneYet written rest → rest ≡ ended line ++ behind → line ≡ refusal_text OutOfMemory → HasWant written
+some_next written rest line behind yet cut is = record {
+  lines = yet.lines;
+  behind = behind;
+  is = yet.joined ∙ ap (λ (t : List ℕ). flat_map ended yet.lines ++ t) (cut ∙ ap (λ (l : List ℕ). ended l ++ behind) is);
+}
 
 lines_all : (lines : List (List ℕ)) → AllByRecursion IsLine lines → All IsLine lines
 lines_all [] each = All-nil IsLine

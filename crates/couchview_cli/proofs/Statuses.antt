@@ -39,6 +39,14 @@ closed_others before after text fault status (inl (is, wrote)) =
     (λ two. fault_no_usage fault (sym is ∙ two), λ five. others.0 (sym is ∙ five), λ eight. others.1 (sym is ∙ eight), λ ten. others.2 (sym is ∙ ten))
 closed_others before after text fault status (inr (is, wrote)) = (λ two. omega (arith, is, two), λ five. omega (arith, is, five), λ eight. omega (arith, is, eight), λ ten. omega (arith, is, ten))
 
+-- a status that is not that of a fault, and not 4, tells of another one
+pub other_than : (named : StepFault) (before after : Option (List ℕ)) (fault : StepFault) (status : ℕ) → Closes before after [] fault status → status ≢ fault_status named → status ≢ 4 → fault ≢ named
+other_than named before after fault status (inl closes) other four is = other (closes.0 ∙ ap fault_status is)
+other_than named before after fault status (inr closes) other four is = four closes.0
+
+pub spared_by : (before after : Option (List ℕ)) (fault : StepFault) (status : ℕ) → Closes before after [] fault status → status ≢ 3 → status ≢ 4 → fault ≢ DiskFault
+spared_by = other_than DiskFault
+
 pub end_no_load : (end : RunEnd) → status_of end ≢ 10
 end_no_load InputEnded is = omega (arith, is)
 end_no_load SinkFailed is = omega (arith, is)

@@ -6,7 +6,7 @@ use Rattle.json_terms.specs.Json.{member, no_members, number, object}
 use Rattle.design_docs.specs.declared.design.Builtin.TheVariants.{Stats}
 use Rattle.view_ports.specs.Calls.{Call}
 use Rattle.view_ports.specs.Disk.{Disk, IfTold, LeavesOnly, MovesNone, Tells}
-use Rattle.view_ports.specs.Exchanges.{Exchange, IsPrefixOf, lines_of}
+use Rattle.view_ports.specs.Exchanges.{Exchange, IsPrefixOf, lines_of, text_of}
 use Rattle.view_ports.specs.Faults.{Rose}
 use Rattle.view_ports.specs.Functions.{Functions}
 use Rattle.view_ports.specs.Lines.{ended}
@@ -21,12 +21,10 @@ use Rattle.map_server.specs.Pick.{pick}
 use Rattle.query_args.specs.Query.{query_of}
 use Rattle.query_args.specs.declared.query.Query.{Query}
 use Rattle.query_args.specs.declared.query.Target.TheVariants.{View}
-use Rattle.doc_file.specs.Docs.{seq_of}
 use Rattle.design_docs.specs.History.{Write}
 use Rattle.view_model.specs.Answer.{answer}
 use Rattle.view_model.specs.Rows.{view_rows}
 use Rattle.view_model.specs.Values.{builtin_text}
-use Rattle.view_engine.specs.declared.engine.Engine.{Engine}
 use Rattle.view_engine.specs.declared.halt.StepFault.{StepFault}
 use Rattle.view_engine.specs.declared.halt.StepFault.TheVariants.{Damaged, DiskFault, Full, NoMemory}
 use Rattle.view_engine.specs.declared.refusal.Refusal.TheVariants.{NoMemory as OutOfMemory}
@@ -34,11 +32,11 @@ use Rattle.view_engine.specs.Openings.{IsMovedByOpening}
 use Rattle.view_engine.specs.Refusals.{refusal_text}
 use Rattle.view_engine.specs.Updating.{IsSound}
 use Rattle.view_engine.specs.World.{World}
-use Rattle.view_engine.specs.Worlds.{HasBodyDamage, Holds, IsOpen, StandsFor}
+use Rattle.view_engine.specs.Worlds.{HasBodyDamage, Holds, StandsFor}
 use Rattle.load_lines.specs.Documents.{load_map}
 use Rattle.load_lines.specs.Lines.{first_lines, info_line, second_lines, view_line}
 use Rattle.couchview_cli.specs.Closing.{Closes, fault_status, IsOfFile}
-use Rattle.couchview_cli.specs.Reading.{HasReplied, ReadsNothing, Told}
+use Rattle.couchview_cli.specs.Reading.{HasReplied, IsOpenAt, ReadsNothing, Told}
 use Rattle.couchview_cli.specs.Serving.{Finishes, IsCutShort, IsUnopened, Outside}
 
 -- the request lines: puts of the design document and of each document, the view, puts of every third document again, the view, and `info`
@@ -83,6 +81,12 @@ IsPrinted before after text status =
 -- none of these lines was refused for want of memory
 abbrev pub NoneWants : List Exchange → Type 0
 NoneWants exchanges = AllByRecursion (λ e. e.text ≢ ended (refusal_text OutOfMemory)) exchanges
+
+-- one of the lines of this text is the refusal for want of memory
+pub record HasWant (text : List ℕ) : Type 0 where
+  pub lines : List (List ℕ)
+  pub behind : List ℕ
+  pub is : text ≡ flat_map ended lines ++ (ended (refusal_text OutOfMemory) ++ behind)
 
 module _ (functions : List ℕ → Functions) (honest : List ℕ → Type 0) (docs seed : ℕ) (opening : World) (before after : Outside) (AtEnd : List Call → Type 0) where
   -- what the ports tell of which the source has the lines of the load, and the sink nothing
@@ -144,9 +148,13 @@ module _ (functions : List ℕ → Functions) (honest : List ℕ → Type 0) (do
     pub faulted : after.faults ≡ before.faults
     pub at_end : AtEnd []
 
-  -- some lines were served, and then a fault of the folder came in one
-  abbrev pub IsCut : Type 0
-  IsCut = (left gained : Option (List ℕ)) × (status : ℕ) × IsCutShort functions honest [] opening at_first (record after { left = left; held = gained }) AtEnd status
+  -- some lines were served, one of which was refused for want of memory, and then a fault of the folder came in another one
+  pub record IsCut : Type 0 where
+    pub left : Option (List ℕ)
+    pub gained : Option (List ℕ)
+    pub status : ℕ
+    pub cut : IsCutShort functions honest [] opening at_first (record after { left = left; held = gained }) AtEnd status
+    pub wants : HasWant (text_of cut.exchanges)
 
   -- memory ran out, also for one line, and nothing is printed: no line was served, or some were
   pub record IsGivenUp (status : ℕ) : Type 0 where
@@ -176,41 +184,50 @@ pub record IsOfReading (disk : Told) (fault : StepFault) : Type 0 where
   pub damaged : IfTold disk (λ d. (name : FileName) (at : ℕ) → fault ≡ Damaged name at → HasBodyDamage d.now name at)
   pub room : (name : FileName) (length : Option ℕ) → fault ≡ Full name length → ⊥
 
--- a run that came to this end is closed by this fault: it met it in a line, or behind all lines, or memory ran out
-abbrev pub MayClose : Told → LoopEnd StepFault → StepFault → Type 0
-MayClose disk end fault = (end ≡ loop_end.Stopped fault) ⊎ ((fault ≡ NoMemory) ⊎ ((end ≡ loop_end.Run InputEnded) × IsOfReading disk fault))
-
--- an engine was opened over this disk, whose update sequence this is
-abbrev pub IsOpenAt : Told → ℕ → Type 0
-IsOpenAt disk seq = (engine : Engine) × IfTold disk (λ d. IsOpen engine d.now) × (seq_of engine.docs ≡ seq)
+-- A run that wrote this text and came to this end is closed by this fault: by the one that stopped it in a line, or by want of memory, where
+-- a line before it was refused for that; or, where no line stopped it, memory ran out, or the documents could not be read behind all lines.
+abbrev pub MayClose : Told → List ℕ → LoopEnd StepFault → StepFault → Type 0
+MayClose disk gained (loop_end.Stopped met) fault = (fault ≡ met) ⊎ ((fault ≡ NoMemory) × HasWant gained)
+MayClose disk gained (loop_end.Run end) fault = (fault ≡ NoMemory) ⊎ ((end ≡ InputEnded) × IsOfReading disk fault)
 
 module _ (docs seed : ℕ) (before after : Outside) where
   -- Lines of the load were answered, from the folder as it was opened, whose update sequence was 0, and the run came to this end. Then
   -- the documents were only read.
   pub record HasRunOver (end : LoopEnd StepFault) : Type 0 where
     pub opened : Told
+    pub seq : ℕ
     pub mid : Told
     pub left : Option (List ℕ)
-    pub gained : Option (List ℕ)
+    pub gained : List ℕ
     pub moved : Tells before.disk opened IsMovedByOpening
-    pub new : IsOpenAt opened 0
+    pub opens : IsOpenAt opened seq
+    pub new : seq ≡ 0
     pub faults : ℕ
     pub counted : after.faults ≡ faults
-    pub replied : HasReplied (Some (flat_map ended (load_lines docs seed))) left (Some []) gained opened mid before.faults faults end
+    pub replied : HasReplied (Some (flat_map ended (load_lines docs seed))) left (Some []) (Some gained) opened mid seq before.faults faults end
     pub read : Tells mid after.disk MovesNone
 
   -- what it prints is made of replies and another line
   abbrev pub PrintsReplies : ℕ → Type 0
   PrintsReplies status = (ran : HasRunOver (loop_end.Run InputEnded)) × (fresh : List ℕ) × IsPrinted before.held after.held (load_text docs seed ((ran.replied).ends.run).exchanges fresh) status
 
+  -- What it prints is the last line, which names the fault that closes it, or nothing. The folder counted no fault where none stopped it in
+  -- a line and this is none.
+  pub record IsClosed (status : ℕ) : Type 0 where
+    pub end : LoopEnd StepFault
+    pub fault : StepFault
+    pub ran : HasRunOver end
+    pub why : MayClose ran.mid ran.gained end fault
+    pub spared : end ≢ loop_end.Stopped DiskFault → fault ≢ DiskFault → after.disk_faults ≡ before.disk_faults
+    pub closes : Closes before.held after.held [] fault status
+
   -- the folder was opened, and no line was served: its update sequence isn't 0, or it is, and memory ran out
   pub record IsOpened (status : ℕ) : Type 0 where
     pub moved : Tells before.disk after.disk IsMovedByOpening
     pub seq : ℕ
     pub opens : IsOpenAt after.disk seq
+    pub spared : after.disk_faults ≡ before.disk_faults
     pub ends : ((seq ≢ 0) × (status ≡ 10) × (after.held ≡ before.held)) ⊎ ((seq ≡ 0) × Closes before.held after.held [] NoMemory status)
 
   abbrev pub AnswersLoad : ℕ → Type 0
-  AnswersLoad status = PrintsReplies status
-      ⊎ (((end : LoopEnd StepFault) × (fault : StepFault) × (ran : HasRunOver end) × MayClose ran.mid end fault × Closes before.held after.held [] fault status)
-      ⊎ (IsOpened status ⊎ ReadsNothing before after status))
+  AnswersLoad status = PrintsReplies status ⊎ (IsClosed status ⊎ (IsOpened status ⊎ ReadsNothing before after status))

@@ -87,8 +87,11 @@ module _ (functions : List ℕ → Functions) (honest : List ℕ → Type 0) (la
   abbrev pub HaveRoom : World → World → Option (Disk FileName) → Option (Disk FileName) → List Exchange → Type 0
   HaveRoom opening last old new exchanges = IfTold old (λ d. EachOk (HadRoom opening last old new) opening exchanges)
 
-  -- A step of a run: the line is answered with a line. Where the disk is told it is one of the definition, the reply to a view on an honest
-  -- path is from mapping all documents afresh, or names a fault, and the pictures before it stand where those of the opening did.
+  -- A step of a run: the line is answered with a line. Where the disk is told the answer is one of the definition, and the pictures before it
+  -- stand where those of the opening did. The last part is of a line that asks for a view on an honest path, where the pictures stand and
+  -- designs that differ have different signatures. It is answered by what mapping all documents afresh gives, or, for a view that is read as
+  -- it stands, mapping them as they were at its picture; or by `server_fault`, where the servers' count of faults rose by two in the request;
+  -- or by the refusal that it meets before any server is asked; or by `no_memory`.
   abbrev pub Steps : World → Option (Disk FileName) → Moment → Exchange → Moment → Type 0
   Steps opening disk before exchange after = IsReplied exchange.line exchange.text
       × IfTold disk (λ d. Answers functions honest languages before exchange after × (Sound opening → Sound before.world) × IsFreshStep functions honest languages before exchange after)

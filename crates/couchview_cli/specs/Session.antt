@@ -1,5 +1,5 @@
 -- What a session, which is an engine between its ports, does with a line, and how far it has come since the opening.
-use Rattle.std.specs.Prelude.{◌≡◌, ◌≢◌, ◌⊎◌, ℕ, List, true, Option, if◌then◌else◌}
+use Rattle.std.specs.Prelude.{◌≡◌, ◌≢◌, ◌⊎◌, ◌+◌, ℕ, List, true, Option, cond, if◌then◌else◌}
 use Rattle.view_ports.specs.declared.file_name.FileName.{FileName}
 use Rattle.view_ports.specs.declared.folder.Folder.{Ghosts as Folders}
 use Rattle.view_ports.specs.declared.servers.Servers.{Ghosts as Servers}
@@ -22,9 +22,9 @@ use Rattle.view_engine.specs.Steps.{Answers, MayHaveCalled}
 use Rattle.view_engine.specs.Updating.{IsSound}
 use Rattle.view_groups.specs.Cleans.{IsIndexFile}
 use Rattle.view_engine.specs.World.{World}
-use Rattle.view_engine.specs.Worlds.{at_start, GoesOnFrom, HasRoomAt, IsFullAt, StandsAround, StandsEither, languages as languages_of}
+use Rattle.view_engine.specs.Worlds.{at_start, languages as languages_of, update_seq, GoesOnFrom, HasRoomAt, IsFullAt, StandsAround, StandsEither}
 use Rattle.couchview_cli.specs.declared.session.Session.{Session}
-use Rattle.couchview_cli.specs.Reading.{ComesTo, IsFoundOn, MovesOwn}
+use Rattle.couchview_cli.specs.Reading.{says_written, ComesTo, IsFoundOn, MovesIndexFiles, MovesOwn}
 use Rattle.couchview_cli.specs.Replied.{IsReplied}
 use Rattle.couchview_cli.specs.Serving.{StandsSince, Steps, width}
 
@@ -73,6 +73,8 @@ module _ {F C : Type 0} (f : Folders F) (s : Servers C) where
         → Answered s.functions s.honest (languages_of old.engine) (f.disk old.folder) (f.disk new.folder) before line text (StandsAt f s new)
     pub room : (before : Moment) → StandsAt f s old before → IfTold (f.disk old.folder) (λ d. is_ok text ≡ true → HasRoomAt d.now before.world (request_of line))
     pub prints : IsReplied line text
+    -- the update sequence rose by one where it was a write that is accepted, and else not
+    pub counts : update_seq new.engine ≡ update_seq old.engine + cond (says_written (request_of line) text) 1 0
     pub blames : is_server_fault (record { line = line; text = text }) ≡ true → RoseBy 2 (s.faults old.servers) (s.faults new.servers)
     pub still : (ChangesFiles (request_of line) → ⊥) → Tells (f.disk old.folder) (f.disk new.folder) MovesNone
     -- but for a view and a cleanup, only files of the documents changed
@@ -93,6 +95,7 @@ module _ {F C : Type 0} (f : Folders F) (s : Servers C) where
     pub still : (ChangesFiles (request_of line) → ⊥) → Tells (f.disk old.folder) (f.disk new.folder) MovesNone
     pub own : (IsOnIndexes (request_of line) → ⊥) → Tells (f.disk old.folder) (f.disk new.folder) MovesOwn
     pub kept : fault ≢ DiskFault → (IsOnIndexes (request_of line) → ⊥) → Tells (f.disk old.folder) (f.disk new.folder) MovesNone
+    pub indexed : IsOnIndexes (request_of line) → Tells (f.disk old.folder) (f.disk new.folder) MovesIndexFiles
     pub stays : Stays f s old new
 
   -- since the origin a session has come to this moment

@@ -21,9 +21,9 @@ use Rattle.view_engine.specs.Calls.{Scene, scene}
 use Rattle.view_engine.specs.Disks.{IsReadReasonOf, LiesOpen}
 use Rattle.view_engine.specs.Refusals.{refusal_text}
 use Rattle.view_engine.specs.World.{World}
-use Rattle.view_engine.specs.Worlds.{IsAtWorld}
+use Rattle.view_engine.specs.Worlds.{update_seq, IsAtWorld}
 use Rattle.couchview_cli.specs.Ends.{Comes}
-use Rattle.couchview_cli.specs.Loading.{first_view, fresh_answer, second_view}
+use Rattle.couchview_cli.specs.Loading.{first_view, fresh_answer, second_view, HasWant}
 use Rattle.couchview_cli.specs.Reading.{HasReplied}
 use Rattle.couchview_cli.specs.Session.{IsAtOrigin, Origin}
 
@@ -51,10 +51,11 @@ module _ {F C : Type 0} (f : Folders F) (s : Servers C) (before : Scene F C) (te
   pub record HasComeTo (after : Scene F C) (gained : List ℕ) (end : LoopEnd StepFault) : Type 0 where
     pub left : Option (List ℕ)
     pub come : (origin : Origin) → IsAtOrigin f s origin before → Comes f s origin after (Some text) left (Some []) (Some gained) end
-    pub replied : HasReplied (Some text) left (Some []) (Some gained) (f.disk before.folder) (f.disk after.folder) (s.faults before.servers) (s.faults after.servers) end
+    pub replied : HasReplied (Some text) left (Some []) (Some gained) (f.disk before.folder) (f.disk after.folder) (update_seq before.engine) (s.faults before.servers) (s.faults after.servers) end
     pub over : HasEnded end → IsAtEnd left
     pub count : f.faults before.folder ≤ f.faults after.folder
     pub cause : end ≡ Stopped DiskFault → Rose (f.faults before.folder) (f.faults after.folder)
+    pub spared : end ≢ Stopped DiskFault → f.faults after.folder ≡ f.faults before.folder
 
   -- the same, and behind it the folder was only read
   pub record HasRunTo (after : Scene F C) (gained : List ℕ) (end : RunEnd) : Type 0 where
@@ -69,15 +70,20 @@ module _ {F C : Type 0} (f : Folders F) (s : Servers C) (before : Scene F C) (te
     pub done : NoneIsWant gained
     pub is_open : LiesOpen f after.engine ran.mid
     pub why : IsReadReasonOf f after.engine ran.mid after.folder fault
+    pub spared : fault ≢ DiskFault → f.faults after.folder ≡ f.faults ran.mid
+
+  -- memory ran out: before any line; or behind a run that no line stopped, and the folder counted no fault there; or in a line before the one
+  -- that stopped it
+  abbrev pub RunsOut : Scene F C → Type 0
+  RunsOut after = (after ≡ before)
+      ⊎ (((gained : List ℕ) × (end : RunEnd) × (ran : HasRunTo after gained end) × (f.faults after.folder ≡ f.faults ran.mid))
+      ⊎ ((gained : List ℕ) × (met : StepFault) × HasComeTo after gained (Stopped met) × HasWant gained))
 
   -- not all was done: a line was not answered, and none before it was refused for want of memory; or the documents could not be read behind
-  -- all lines; or memory ran out, before any line or behind some
+  -- all lines; or memory ran out
   abbrev pub StopsEarly : Scene F C → StepFault → Type 0
   StopsEarly after fault = ((gained : List ℕ) × HasComeTo after gained (Stopped fault) × NoneIsWant gained)
-      ⊎ (HasNotRead after fault
-      ⊎ ((fault ≡ NoMemory) × ((after ≡ before)
-      ⊎ (((gained : List ℕ) × (end : RunEnd) × HasRunTo after gained end)
-      ⊎ ((gained : List ℕ) × (other : StepFault) × HasComeTo after gained (Stopped other))))))
+      ⊎ (HasNotRead after fault ⊎ ((fault ≡ NoMemory) × RunsOut after))
 
   -- lines were served to the end of the text, or not
   abbrev pub ServesText : Scene F C → Result SinkState StepFault → Type 0

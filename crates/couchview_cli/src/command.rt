@@ -218,7 +218,7 @@ pub fn couchview<S: Source, K: Sink, F: Folder, C: Servers>(
         → (result ≡ 2) ⊎ (result ≡ 6) }
     ensures disk_failed { result ≡ 3 → IsToDo words.now
         × Rose (F.faults folder.old) (F.faults folder.new) }
-    ensures disk_spared { IsServe words.now → result ≢ 3 → result ≢ 4
+    ensures disk_spared { IsServe words.now ⊎ (result ≢ 6) → result ≢ 3 → result ≢ 4
         → F.faults folder.new ≡ F.faults folder.old }
     ensures sink_failed { result ≡ 4 → Rose (K.faults sink.old) (K.faults sink.new) }
     ensures source_failed { result ≡ 5 → IsServe words.now

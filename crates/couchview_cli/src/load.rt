@@ -6,7 +6,7 @@
 ghost use Rattle.std.specs.Prelude.{◌≡◌, ◌≢◌, ◌⊎◌, ◌≤◌, ◌<◌, ◌+◌, ◌^◌, ◌++◌, ◌↔◌, List, [], ℕ, Option, true, false, IfErr, IfOk, IsTrue, OnOk, Err, map};
 ghost use Rattle.std.specs.List.{flat_map};
 ghost use Rattle.view_ports.specs.Disk.{IfTold, MovesNone, Tells};
-ghost use Rattle.view_ports.specs.Faults.{Rose};
+ghost use Rattle.view_ports.specs.Faults.{CountsFor, Rose};
 ghost use Rattle.view_ports.specs.Lines.{ended};
 ghost use Rattle.view_engine.specs.Calls.{scene};
 ghost use Rattle.view_engine.specs.Disks.{IsReadReasonOf, LiesOpen};
@@ -14,7 +14,7 @@ ghost use Rattle.view_engine.specs.Refusals.{refusal_text};
 ghost use Rattle.view_engine.specs.World.{World};
 ghost use Rattle.view_engine.specs.Worlds.{Holds, IsAtWorld, width as width_of};
 ghost use Rattle.couchview_cli.specs.Loading as spec;
-ghost use Rattle.couchview_cli.specs.Loading.{AnswersLoad, IsPrinted, Loads, beside};
+ghost use Rattle.couchview_cli.specs.Loading.{AnswersLoad, HasWant, IsPrinted, Loads, beside};
 ghost use Rattle.couchview_cli.specs.Serving.{AreLeft};
 ghost use Rattle.couchview_cli.specs.Showing.{IsShown, NoneIsWant, ServesText, Shows, reply_at};
 
@@ -70,6 +70,8 @@ pub fn load<K: Sink, F: Folder, C: Servers>(
         (beside left K.Sink F.Folder C.Servers sink.new folder.new servers.new) result }
     ensures others { (result ≢ 2) × (result ≢ 5) × (result ≢ 8) }
     ensures disk_failed { result ≡ 3 → Rose (F.faults folder.old) (F.faults folder.new) }
+    ensures disk_spared { result ≢ 3 → result ≢ 4 → result ≢ 6
+        → F.faults folder.new ≡ F.faults folder.old }
     ensures sink_failed { result ≡ 4 → Rose (K.faults sink.old) (K.faults sink.new) }
     ensures sink_count { K.faults sink.old ≤ K.faults sink.new }
     ensures disk_count { F.faults folder.old ≤ F.faults folder.new }
@@ -119,6 +121,8 @@ fn show<F: Folder, C: Servers>(
     ensures wide { width_of engine.new ≡ width_of engine.old }
     ensures disk_failed { result ≡ Err StepFault.DiskFault
         → Rose (F.faults folder.old) (F.faults folder.new) }
+    ensures disk_spared { result ≢ Err StepFault.DiskFault → result ≢ Err StepFault.NoMemory
+        → F.faults folder.new ≡ F.faults folder.old }
     ensures disk_count { F.faults folder.old ≤ F.faults folder.new }
     ensures server_count { C.faults servers.old ≤ C.faults servers.new }
 {
@@ -184,6 +188,8 @@ fn serve_lines<F: Folder, C: Servers>(
     ensures ready { OnOk result (LiesOpen F.Folder engine.new folder.new) }
     ensures disk_failed { result ≡ Err StepFault.DiskFault
         → Rose (F.faults folder.old) (F.faults folder.new) }
+    ensures disk_spared { result ≢ Err StepFault.DiskFault → result ≢ Err StepFault.NoMemory
+        → F.faults folder.new ≡ F.faults folder.old }
     ensures disk_count { F.faults folder.old ≤ F.faults folder.new }
     ensures server_count { C.faults servers.old ≤ C.faults servers.new }
 {
@@ -212,7 +218,8 @@ fn serve_lines<F: Folder, C: Servers>(
 
 /// Whether one of these reply lines is the refusal for want of memory.
 fn has_want(written: &[u8]) -> bool
-    ensures { result ≡ false → NoneIsWant written.now }
+    ensures none { result ≡ false → NoneIsWant written.now }
+    ensures some { result ≡ true → HasWant written.now }
 {
     let mut rest = written;
     while let Some((reply, behind)) = cut_line(rest) {
@@ -235,7 +242,7 @@ fn fresh_answer<F: Folder>(
         → IfOk result (λ text. text.items ≡ spec.fresh_answer world.history)) }
     ensures disk { Tells (F.disk folder.old) (F.disk folder.new) MovesNone }
     ensures why { IfErr result (IsReadReasonOf F.Folder engine.now folder.old folder.new) }
-    ensures later { F.faults folder.old ≤ F.faults folder.new }
+    ensures counted { CountsFor StepFault.DiskFault (F.faults folder.old) (F.faults folder.new) result }
 {
     let changes = engine.last_writes(alloc, folder)?;
     let query = load_query(alloc)?;

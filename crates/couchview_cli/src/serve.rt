@@ -8,7 +8,7 @@ ghost use Rattle.view_engine.specs.World.{World};
 ghost use Rattle.line_loop.specs.Loops.{HasEnded, HasSinkFailed, HasSourceFailed};
 ghost use Rattle.view_engine.specs.Calls.{scene};
 ghost use Rattle.view_engine.specs.Disks.{LiesOpen};
-ghost use Rattle.view_engine.specs.Worlds.{Holds, IsOpen, width as width_of};
+ghost use Rattle.view_engine.specs.Worlds.{update_seq, width as width_of, Holds, IsOpen};
 ghost use Rattle.couchview_cli.specs.Ends.{Comes};
 ghost use Rattle.couchview_cli.specs.Reading.{AnswersLines, HasReplied};
 ghost use Rattle.couchview_cli.specs.Serving.{AreLeft, Serves, outside};
@@ -93,7 +93,7 @@ pub fn run<S: Source, K: Sink, F: Folder, C: Servers>(
         (S.left source.old) (S.left source.new) (K.held sink.old) (K.held sink.new) result }
     ensures replies { HasReplied (S.left source.old) (S.left source.new)
         (K.held sink.old) (K.held sink.new) (F.disk folder.old) (F.disk folder.new)
-        (C.faults servers.old) (C.faults servers.new) result }
+        (update_seq engine.old) (C.faults servers.old) (C.faults servers.new) result }
     ensures wide { width_of engine.new ≡ width_of engine.old }
     ensures open { HasEnded result → LiesOpen F.Folder engine.new folder.new }
     ensures ended { HasEnded result → IsAtEnd (S.left source.new) }

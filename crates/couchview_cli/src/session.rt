@@ -5,7 +5,7 @@ ghost use Rattle.view_ports.specs.Disk.{IfTold};
 ghost use Rattle.view_ports.specs.Faults.{Rose};
 ghost use Rattle.view_engine.specs.Calls.{Stays};
 ghost use Rattle.line_loop.specs.Loops.{HasEnded, HasSinkFailed, HasSourceFailed};
-ghost use Rattle.view_engine.specs.Worlds.{IsOpen};
+ghost use Rattle.view_engine.specs.Worlds.{update_seq, IsOpen};
 
 use line_loop::{LoopEnd, Responder, answer_lines};
 use std::alloc::Global;
@@ -37,7 +37,7 @@ impl<F: Folder, C: Servers> Session<'_, F, C> {
             (S.left source.new) (K.held sink.old) (K.held sink.new) result }
         ensures replies { HasReplied (S.left source.old) (S.left source.new) (K.held sink.old)
             (K.held sink.new) (F.disk self.old.folder.now) (F.disk self.new.folder.now)
-            (C.faults self.old.servers.now) (C.faults self.new.servers.now) result }
+            (update_seq self.old.engine.now) (C.faults self.old.servers.now) (C.faults self.new.servers.now) result }
         ensures ports { KeepsPorts self.old self.new }
         ensures stays { Stays F.Folder C.Servers (scene_of self.old) (scene_of self.new) }
         ensures open { HasEnded result

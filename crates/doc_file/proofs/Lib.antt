@@ -24,6 +24,7 @@ mod Nexts
 pub mod Pages
 mod Since
 mod Progress
+pub mod Lives
 mod Known
 mod DesignIds
 mod Tallies

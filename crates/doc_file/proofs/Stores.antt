@@ -6,12 +6,12 @@ use Rattle.view_ports.specs.File.{File}
 use Rattle.view_ports.specs.declared.file_name.FileName.{FileName}
 use Rattle.view_ports.specs.declared.file_name.Stem.TheVariants.{Docs as DocsStem}
 use Rattle.gate_file.specs.declared.root.Root.{Root}
-use Rattle.gate_file.specs.GateFile.{commits_of, root_of}
+use Rattle.gate_file.specs.GateFile.{commits_in, commits_of, root_of}
 use Rattle.gate_file.proofs.Published.{image_now as image_of_pair, open_holds}
 use Rattle.doc_file.specs.declared.docs.Docs.{Docs}
 use Rattle.doc_file.specs.declared.entry.Entry.{Entry}
 use Rattle.doc_file.specs.Docs.{bytes_in, entries_of, file_of, seq_of, HoldsHistory, IsAt, IsOpen}
-use Rattle.doc_file.specs.Held.{HoldsRoot, HoldsWrites, KeepsEach, Stands, commits_in}
+use Rattle.doc_file.specs.Held.{HoldsRoot, HoldsWrites, KeepsEach, Stands}
 use Rattle.design_docs.specs.History.{Write}
 use Rattle.doc_file.proofs.Carried.{writes_of_root}
 use Rattle.doc_file.proofs.Entries.{record_bytes-one}

@@ -11,7 +11,7 @@ use Rattle.view_ports.proofs.Told.{told_after, told_given, told_refl, told_still
 use Rattle.view_ports.proofs.DiskRuns.{moves_none, moves_wider, on_ok}
 use Rattle.gate_file.specs.declared.root.Root.{Root}
 use Rattle.gate_file.specs.declared.gate.GateFile.{GateFile}
-use Rattle.gate_file.specs.GateFile.{commits_of, name_of, root_of, start_of}
+use Rattle.gate_file.specs.GateFile.{commits_in, commits_of, name_of, root_of, start_of}
 use Rattle.gate_file.specs.Pair.{IsOpenPair, own_bytes}
 use Rattle.gate_file.specs.Publish.{IsPublished, Publishes, WillHold, published, published_root}
 use Rattle.gate_file.proofs.Published.{publishing_stands, published_holds, published_open}
@@ -22,7 +22,7 @@ use Rattle.doc_file.specs.declared.rev.Rev.{Rev}
 use Rattle.doc_file.specs.Counts.{are_counted, has_room}
 use Rattle.doc_file.specs.Docs.{bytes_in, entries_of, file_of, seq_of, IsAt, IsDocsFile, IsLoaded, IsOpen}
 use Rattle.doc_file.specs.Drafts.{IsDraft}
-use Rattle.doc_file.specs.Held.{HoldsRoot, HoldsWrites, IsBodyOf, SpellsRoot, Stands, commits_in, find_last}
+use Rattle.doc_file.specs.Held.{HoldsRoot, HoldsWrites, IsBodyOf, SpellsRoot, Stands, find_last}
 use Rattle.design_docs.specs.History.{IsStoredAs, Write}
 use Rattle.doc_file.specs.Record.{rise, AreEntries, record_bytes}
 use Rattle.doc_file.specs.Stored.{body_of, entry_of, generation_in, last_of, revised, with_last, write_of, IsStorable}

@@ -23,9 +23,7 @@ module _ {F : Type 0} (f : Folders F) (docs : Docs) (folder : F) (id : List ℕ)
   -- nothing was called
   unstored : (fault : DocFault) → ((g : GateFault) → fault ≡ Gate g → ⊥) → Stores f docs docs folder folder id content (Err fault)
   unstored fault other = record {
-    revision = tt;
-    counted = tt;
-    entered = tt;
+    wrote = tt;
     is_open = told_all (f.disk folder) (λ d. Unit {0}) (λ d. tt);
     stands = λ history at. stays_at docs (f.disk folder) history (write_of history id content) (λ files. Unit {0}) (λ files. tt) at;
     others = others_still (f.disk folder);

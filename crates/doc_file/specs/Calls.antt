@@ -32,13 +32,17 @@ refusal_of docs incoming = write_refusal (state_in (last_of docs incoming.id)) i
 abbrev pub IsUntouched : {F : Type 0} → Docs → Docs → F → F → Type 0
 IsUntouched docs docs' old new = IsSame docs docs' × (new ≡ old)
 
+-- the documents have one write more, the next of this id: its content under this revision
+pub record HasWritten (docs docs' : Docs) (id : List ℕ) (content : Option Json) (rev : Rev) : Type 0 where
+  pub next : rev ≡ next_rev (seq_of docs) (entries_of docs) id
+  pub counted : seq_of docs' ≡ seq_of docs + 1
+  pub entered : entries_of docs' ≡ with_last id (kept_of (start_of (file_of docs)) rev (revised content rev)) (entries_of docs)
+
 module _ {F : Type 0} (f : Folders F) (docs docs' : Docs) (old new : F) where
   -- the next write of an id, stored or not
   pub record Stores (id : List ℕ) (content : Option Json) (result : Result Rev DocFault) : Type 0 where
-    pub revision : IfOk result (λ rev. rev ≡ next_rev (seq_of docs) (entries_of docs) id)
-    -- whatever the files hold, the object has the last writes with this one
-    pub counted : OnOk result (seq_of docs' ≡ seq_of docs + 1)
-    pub entered : IfOk result (λ rev. entries_of docs' ≡ with_last id (kept_of (start_of (file_of docs)) rev (revised content rev)) (entries_of docs))
+    -- whatever the files hold, the object has the write under its revision
+    pub wrote : IfOk result (HasWritten docs docs' id content)
     pub is_open : IfTold (f.disk new) (λ d. OnOk result (IsOpen docs' d.now))
     -- a crash leaves the history before the write or with it, and once the revision is answered the latter
     pub stands : (history : List Write) → IfTold (f.disk old) (λ d. IsAt docs d.now history) → Tells (f.disk old) (f.disk new)

@@ -2,7 +2,7 @@
 use Rattle.std.specs.Prelude.{◌≡◌, ℕ, List, Bool, false, not, count_by, is_none, length, Option, Some, None}
 use Rattle.json_terms.specs.Json.{Json}
 use Rattle.gate_file.specs.declared.gate.GateFile.{GateFile}
-use Rattle.gate_file.specs.GateFile.{commits_of, name_of, root_of}
+use Rattle.gate_file.specs.GateFile.{commits_in, commits_of, name_of, root_of}
 use Rattle.gate_file.specs.Pair.{IsOpenPair, PairHolds, own_bytes}
 use Rattle.gate_file.specs.RootPlace.{IsPairDamage}
 use Rattle.view_ports.specs.declared.file_name.FileName.{FileName}
@@ -12,7 +12,7 @@ use Rattle.doc_file.specs.declared.docs.Docs.{Docs}
 use Rattle.doc_file.specs.declared.docs.Info.{Info}
 use Rattle.doc_file.specs.declared.entry.LastWrite.{LastWrite}
 use Rattle.doc_file.specs.declared.entry.Entry.{Entry}
-use Rattle.doc_file.specs.Held.{HasBody, HoldsIn, HoldsWrites, KeepsEach, SpellsRoot, commits_in, find_last}
+use Rattle.doc_file.specs.Held.{HasBody, HoldsIn, HoldsWrites, KeepsEach, SpellsRoot, find_last}
 use Rattle.design_docs.specs.History.{AreStored, Write, last_writes, live, update_seq}
 
 abbrev pub file_of : Docs → GateFile

@@ -8,7 +8,7 @@ use Rattle.gate_file.specs.declared.root.Root.{Root}
 use Rattle.gate_file.specs.declared.gate.GateFile.{GateFile}
 use Rattle.gate_file.specs.Header.{data_start}
 use Rattle.gate_file.specs.Open.{IsPart}
-use Rattle.gate_file.specs.GateFile.{commits_of, root_of}
+use Rattle.gate_file.specs.GateFile.{commits_in, commits_of, root_of}
 use Rattle.gate_file.specs.Pair.{StandsFor, own_bytes}
 use Rattle.view_ports.specs.File.{File}
 use Rattle.view_ports.specs.declared.file_name.FileName.{FileName}
@@ -82,11 +82,6 @@ KeepsLast history bytes (Some last) (Some write) = IsKept history bytes last wri
 -- what is kept of each id is its last write
 abbrev pub KeepsEach : List Write → List ℕ → List Entry → Type 0
 KeepsEach history bytes entries = (id : List ℕ) → KeepsLast history bytes (find_last id entries) (last_write history id)
-
--- the number of the commit that made this the root
-abbrev pub commits_in : Option Root → ℕ
-commits_in None = 0
-commits_in (Some root) = root.number
 
 -- What the root record spells that a root names: the number of writes, and the last write of each id. Counts that no history has
 -- spell no root.

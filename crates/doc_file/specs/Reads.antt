@@ -1,6 +1,6 @@
 -- Words that the contracts of calls share that read the documents' file.
 use Rattle.std.specs.Prelude.{◌≡◌, ◌⊎◌, ℕ, List, Result, Err, IfOk}
-use Rattle.view_ports.specs.Causes.{CountsFor}
+use Rattle.view_ports.specs.Faults.{CountsFor}
 use Rattle.view_ports.specs.Disk.{Disk, IfTold, Moves}
 use Rattle.view_ports.specs.declared.file_name.FileName.{FileName}
 use Rattle.view_ports.specs.declared.file_name.Stem.TheVariants.{Docs as DocsStem}

@@ -15,3 +15,4 @@ pub mod Beside
 pub mod Opened
 pub mod Published
 pub mod Stretches
+pub mod Numbered

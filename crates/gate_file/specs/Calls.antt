@@ -1,6 +1,7 @@
 -- Words that the contracts of calls on gate files share.
 use Rattle.std.specs.Prelude.{◌≡◌, ◌⊎◌, ℕ, List, length, Result, Err, Some, None, OnOk}
-use Rattle.view_ports.specs.Causes.{CountsFor, RisesBy}
+use Rattle.view_ports.specs.Causes.{RisesBy}
+use Rattle.view_ports.specs.Faults.{CountsFor}
 use Rattle.view_ports.specs.Disk.{Disk, IfTold, MovesFile, Tells}
 use Rattle.view_ports.specs.File.{File}
 use Rattle.view_ports.specs.declared.file_name.FileName.{FileName}

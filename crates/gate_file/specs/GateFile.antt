@@ -27,6 +27,11 @@ commits_of gate = gate.commits
 abbrev pub root_of : GateFile → Option Root
 root_of gate = gate.root
 
+-- the number of the commit that made this the root
+abbrev pub commits_in : Option Root → ℕ
+commits_in None = 0
+commits_in (Some root) = root.number
+
 -- the place and the length of the root record
 abbrev pub root_record : GateFile → Option (ℕ × ℕ)
 root_record gate = option_map (λ root. (root.offset, root.length)) (root_of gate)

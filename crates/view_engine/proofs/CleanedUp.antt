@@ -29,7 +29,7 @@ use Rattle.view_engine.specs.declared.request.Request.TheVariants.{Cleanup}
 use Rattle.view_engine.specs.Calls.{scene, AppendsReplyTo, CrashesAround, DoesBy, KeepsChild, LeavesChild, Performed, Scene, StandsAt}
 use Rattle.view_engine.specs.Cleaning.{CleansUp, EndsCleaned, IsCleanupReason, StandsCleaned}
 use Rattle.view_engine.specs.Cleanup.{done_text, IsCleaned}
-use Rattle.view_engine.specs.Disks.{ClearsIndexes, HasReply, MayWant, IfStopped, IsReasonOf, LiesOpen}
+use Rattle.view_engine.specs.Disks.{ClearsIndexes, ClearsUnheld, HasReply, MayWant, IfStopped, IsReasonOf, LiesOpen}
 use Rattle.view_engine.specs.InMemory.{FollowsDocuments, IsUntouchedBy}
 use Rattle.view_engine.specs.Moments.{Moment, with_world}
 use Rattle.view_engine.specs.Steps.{DoesRequestText, MayHaveCalled}
@@ -184,13 +184,16 @@ module _ {F C : Type 0} (f : Folders F) (s : Servers C) (docs : Docs) (pool : Po
   reason (Stopped (Full name length)) why = absurd why
   reason (Stopped NoMemory) why = inl tt
 
+  held_as : {Done Done' : Type 0} → ClearsUnheld f docs old new Done → (Done' → Done) → ClearsUnheld f docs old new Done'
+  held_as held done = record { alone = held.alone; gone = λ is. held.gone (done is); whole = λ is. held.whole (done is) }
+
   clears_done : (result : Result (Unit {0}) Halt) → CleansUp f docs groups groups' old new out out' result → ClearsIndexes f docs old new (HasReply result) (MayWant result)
-  clears_done (Ok done) cleans = record { spared = cleans.spared; empty = λ is. cleans.empty; unmoved = λ wants. absurd wants }
+  clears_done (Ok done) cleans = record { held = held_as cleans.held (λ is. refl); spared = cleans.spared; empty = λ is. cleans.empty; unmoved = λ wants. absurd wants }
   clears_done (Err (Refused refusal)) cleans = absurd cleans.stopped
-  clears_done (Err (Stopped DiskFault)) cleans = record { spared = cleans.spared; empty = λ is. absurd is; unmoved = λ wants. absurd wants }
-  clears_done (Err (Stopped (Damaged name at))) cleans = record { spared = cleans.spared; empty = λ is. absurd is; unmoved = λ wants. absurd wants }
-  clears_done (Err (Stopped (Full name length))) cleans = record { spared = cleans.spared; empty = λ is. absurd is; unmoved = λ wants. absurd wants }
-  clears_done (Err (Stopped NoMemory)) cleans = record { spared = cleans.spared; empty = λ is. absurd is; unmoved = λ wants. (cleans.unmoved refl).1 }
+  clears_done (Err (Stopped DiskFault)) cleans = record { held = held_as cleans.held (λ is. absurd is); spared = cleans.spared; empty = λ is. absurd is; unmoved = λ wants. absurd wants }
+  clears_done (Err (Stopped (Damaged name at))) cleans = record { held = held_as cleans.held (λ is. absurd is); spared = cleans.spared; empty = λ is. absurd is; unmoved = λ wants. absurd wants }
+  clears_done (Err (Stopped (Full name length))) cleans = record { held = held_as cleans.held (λ is. absurd is); spared = cleans.spared; empty = λ is. absurd is; unmoved = λ wants. absurd wants }
+  clears_done (Err (Stopped NoMemory)) cleans = record { held = held_as cleans.held (λ is. absurd is); spared = cleans.spared; empty = λ is. absurd is; unmoved = λ wants. (cleans.unmoved refl).1 }
 
   groups_left : (result : Result (Unit {0}) Halt) → CleansUp f docs groups groups' old new out out' result → MayWant result → groups' ≡ groups
   groups_left (Ok done) cleans wants = absurd wants

@@ -14,8 +14,9 @@ use Rattle.view_ports.proofs.DiskRuns.{moves_then, moves_wider, none_same, none_
 use Rattle.view_ports.proofs.Told.{told_after, told_back, told_given, told_map, told_now, told_pair, told_then}
 use Rattle.gate_file.specs.declared.fault.GateFault.TheVariants as gate
 use Rattle.gate_file.proofs.Looks.{told_none_then}
+use Rattle.gate_file.proofs.Stretches.{told_end}
 use Rattle.doc_file.specs.declared.docs.Docs.{Docs}
-use Rattle.doc_file.specs.Docs.{IsAt as AreAt}
+use Rattle.doc_file.specs.Docs.{bytes_in, IsAt as AreAt}
 use Rattle.design_docs.specs.History.{Write}
 use Rattle.view_index.specs.declared.fault.IndexFault.{IndexFault}
 use Rattle.view_index.specs.declared.fault.IndexFault.TheVariants as index
@@ -30,7 +31,8 @@ use Rattle.view_engine.specs.declared.halt.Halt.TheVariants.{Refused, Stopped}
 use Rattle.view_engine.specs.declared.halt.StepFault.TheVariants.{DiskFault, Damaged, Full, NoMemory}
 use Rattle.view_engine.specs.Cleaning.{met_by_index, AreLiveSignatures, CleansUp, EndsCleaned, IsCleanFault, IsCleanupReason, IsStopped, StandsCleaned}
 use Rattle.view_engine.specs.Cleanup.{done_text, IsCleaned, IsPartlyCleaned}
-use Rattle.view_engine.specs.Disks.{IfStopped, IsOfNone, IsReadReason, MayGoOn}
+use Rattle.view_engine.specs.Disks.{ClearsUnheld, IfStopped, IsOfNone, IsReadReason, MayGoOn}
+use Rattle.view_engine.specs.HeldDesigns.{AreHeldSignatures, IsUnheld}
 use Rattle.view_engine.specs.World.{World}
 
 -- a signature is among some, or not
@@ -89,6 +91,11 @@ module _ {F : Type 0} (f : Folders F) (docs : Docs) (groups : Groups) (old : F) 
       others = told_map (f.disk old) (f.disk mid) MovesNone (Moves IsIndexFile (λ image. Unit {0}) (λ files. Unit {0})) (λ a b same. none_wider IsIndexFile (λ image. Unit {0}) (λ files. Unit {0}) a b (λ image of_files. tt) (λ kept. tt) same) none;
       spared = λ history at. told_map (f.disk old) (f.disk mid) MovesNone _ (λ a b same. none_wider (IsOfNone history) (λ image. Unit {0}) (λ files. Unit {0}) a b (λ image of_files. tt) (λ kept. tt) same) none;
       empty = tt;
+      held = record {
+        alone = told_map (f.disk old) (f.disk mid) MovesNone _ (λ a b same. none_wider (IsUnheld docs a.now) (λ image. Unit {0}) (λ files. Unit {0}) a b (λ image of_files. tt) (λ kept. tt) same) none;
+        gone = λ done. let no : ⊥ = cc in absurd no;
+        whole = λ done. let no : ⊥ = cc in absurd no;
+      };
       unmoved = λ spent. (refl, none);
       is_open = λ goes are. told_after (f.disk old) (f.disk mid) (λ d. AreIndexesOpen groups d.now) (λ d. AreIndexesOpen groups d.now) MovesNone (λ a b here same. subst (AreIndexesOpen groups) (λ i. λ n. sym (none_same a b same n) i) here) are none;
       prints = tt;
@@ -100,7 +107,7 @@ module _ {F : Type 0} (f : Folders F) (docs : Docs) (groups : Groups) (old : F) 
 
   -- ---- the removals, behind reading
   module _ (groups' : Groups) (mid new : F) (kept : List (List ℕ)) (read : Tells (f.disk old) (f.disk mid) MovesNone) (earlier : f.faults old ≤ f.faults mid)
-      (live : (history : List Write) → IfTold (f.disk old) (λ d. AreAt docs d.now history → AreLiveSignatures history kept))
+      (live : (history : List Write) → IfTold (f.disk old) (λ d. AreAt docs d.now history → AreLiveSignatures history kept)) (held : IfTold (f.disk old) (λ d. AreHeldSignatures docs (bytes_in docs d.now) kept))
       (r : Result (Unit {0}) IndexFault) (cleans : Cleans kept f groups groups' mid new r) where
     abbrev result : Result (Unit {0}) Halt
     result = ended_as r
@@ -163,6 +170,25 @@ module _ {F : Type 0} (f : Folders F) (docs : Docs) (groups : Groups) (old : F) 
         (told_after (f.disk old) (f.disk new) (λ d. AreLiveSignatures history kept) (λ d. AreLiveSignatures history kept) _ (λ a b lives moved. lives) (lives_at history at) unkept_alone) cleared
     empty (Err fault) cleared = tt
 
+    -- what no live design document has isn't kept, and where all is removed none of its files has bytes
+    abbrev IsRid : Disk FileName → Disk FileName → Type 0
+    IsRid a b = (name : FileName) → IsUnheld docs a.now name → (b.now name).seen ≡ []
+
+    rid : (some : Result (Unit {0}) IndexFault) → OnOk some (IfTold (f.disk new) (λ d. AreCleared kept d.now)) → ended_as some ≡ Ok tt → Tells (f.disk old) (f.disk new) IsRid
+    rid (Ok done) cleared is =
+        told_given (f.disk old) (f.disk new) (λ d. AreHeldSignatures docs (bytes_in docs d.now) kept) (λ a b. Moves (IsUnkept kept) (λ image. Unit {0}) (λ files. Unit {0}) a b × AreCleared kept b.now) IsRid
+        (λ a b holds known name none. known.1 name (none.1, none.2, λ there. none.3 ((holds.each none.1).0 there))) held
+        (told_end (f.disk old) (f.disk new) (Moves (IsUnkept kept) (λ image. Unit {0}) (λ files. Unit {0})) (λ d. AreCleared kept d.now) unkept_alone cleared)
+    rid (Err fault) cleared is = let no : ⊥ = cc in absurd no
+
+    clears_unheld : ClearsUnheld f docs old new (result ≡ Ok tt)
+    clears_unheld = record {
+      alone = told_given (f.disk old) (f.disk new) (λ d. AreHeldSignatures docs (bytes_in docs d.now) kept) _ (λ a b. Moves (IsUnheld docs a.now) (λ image. Unit {0}) (λ files. Unit {0}) a b)
+          (λ a b holds moved. wider (IsUnheld docs a.now) a b (λ n is. (holds.whole, is.0, is.1, λ there. is.2 ((holds.each is.0).1 there))) moved) held unkept_alone;
+      gone = rid r cleans.empty;
+      whole = λ done. told_now (f.disk old) (λ d. AreHeldSignatures docs (bytes_in docs d.now) kept) _ (λ d holds. holds.whole) held;
+    }
+
     -- only for want of memory it is met as that
     wanted : (some : Result (Unit {0}) IndexFault) → IfErr some IsCleanFault → ended_as some ≡ Err (Stopped NoMemory) → some ≡ Err index.NoMemory
     wanted (Ok done) kinds is = let no : ⊥ = cc in absurd no
@@ -206,6 +232,7 @@ module _ {F : Type 0} (f : Folders F) (docs : Docs) (groups : Groups) (old : F) 
       is_open = λ goes are. cleans.is_open (told_behind (AreIndexesOpen groups) are) (goes_on r cleans.faults goes);
       spared = spared;
       empty = empty r cleans.empty;
+      held = clears_unheld;
       prints = by_ok r prints;
       silent = by_err r silent;
       stopped = stopped_as r cleans.faults;

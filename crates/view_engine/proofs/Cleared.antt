@@ -9,11 +9,17 @@ use Rattle.view_engine.specs.declared.refusal.Refusal.{Refusal}
 use Rattle.view_engine.specs.declared.request.Request.{Request}
 use Rattle.view_engine.specs.declared.request.Request.TheVariants.{Cleanup}
 use Rattle.view_engine.specs.Disks.{Clears, IsOfNone}
+use Rattle.view_engine.specs.HeldDesigns.{IsUnheld}
 
 module _ {F : Type 0} (f : Folders F) (docs : Docs) (old new : F) where
   -- no file changed, and it wasn't done
   pub clears_none : (request : Result Request Refusal) (Done Wants : Type 0) → Tells (f.disk old) (f.disk new) MovesNone → (Done → ⊥) → Clears f docs old new request Done Wants
   clears_none (Ok Cleanup) Done Wants none never = record {
+    held = record {
+      alone = told_map (f.disk old) (f.disk new) MovesNone _ (λ a b same. none_wider (IsUnheld docs a.now) (λ image. Unit {0}) (λ files. Unit {0}) a b (λ image is. tt) (λ kept. tt) same) none;
+      gone = λ done. absurd (never done);
+      whole = λ done. absurd (never done);
+    };
     spared = λ history at. told_map (f.disk old) (f.disk new) MovesNone _ (λ a b same. none_wider (IsOfNone history) (λ image. Unit {0}) (λ files. Unit {0}) a b (λ image is. tt) (λ kept. tt) same) none;
     empty = λ done. absurd (never done);
     unmoved = λ wants. none;
@@ -27,5 +33,5 @@ module _ {F : Type 0} (f : Folders F) (docs : Docs) (old new : F) where
 
   -- less is asked
   pub clears_ends : (request : Result Request Refusal) {Done Wants Done' Wants' : Type 0} → (Done' → Done) → (Wants' → Wants) → Clears f docs old new request Done Wants → Clears f docs old new request Done' Wants'
-  clears_ends (Ok Cleanup) done wants clears = record { spared = clears.spared; empty = λ is. clears.empty (done is); unmoved = λ is. clears.unmoved (wants is) }
+  clears_ends (Ok Cleanup) done wants clears = record { held = record { alone = clears.held.alone; gone = λ is. clears.held.gone (done is); whole = λ is. clears.held.whole (done is) }; spared = clears.spared; empty = λ is. clears.empty (done is); unmoved = λ is. clears.unmoved (wants is) }
   clears_ends other done wants clears = tt

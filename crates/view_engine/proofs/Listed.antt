@@ -2,7 +2,7 @@
 use Rattle.std.specs.Prelude.{min}
 use Rattle.std.proofs.Common.{◌≡◌, ◌<◌, ◌∙◌, ℕ, List, length, map, take, Result, Err, inr, sym, ap, subst, arith}
 use Rattle.std.proofs.lemmas.List.{length-map, length-take, take_all}
-use Rattle.view_ports.specs.Causes.{CountsFor}
+use Rattle.view_ports.specs.Faults.{CountsFor}
 use Rattle.view_ports.specs.Disk.{IfTold}
 use Rattle.view_ports.specs.File.{File}
 use Rattle.view_ports.specs.declared.file_name.FileName.{FileName}

@@ -13,8 +13,12 @@ use Rattle.design_docs.specs.Laws.{entry_of}
 use Rattle.design_docs.specs.Faults.{HasDesign}
 use Rattle.design_docs.proofs.ViewNames.{has_views_of_names}
 use Rattle.design_docs.proofs.ViewOrder.{views_are_few}
+use Rattle.view_ports.specs.Disk.{IfTold}
+use Rattle.view_ports.specs.declared.folder.Folder.{Ghosts as Folders}
+use Rattle.view_ports.proofs.Told.{told_now}
 use Rattle.child_pool.specs.Languages.{path_in}
 use Rattle.child_pool.specs.ReduceTalk.{reduce_in}
+use Rattle.doc_file.specs.declared.docs.Docs.{Docs}
 use Rattle.doc_file.specs.Accepted.{state_after}
 use Rattle.doc_file.specs.Held.{IsBodyOf}
 use Rattle.design_docs.specs.History.{Write, last_write, live_document}
@@ -23,7 +27,9 @@ use Rattle.view_engine.specs.declared.refusal.Refusal.{Refusal}
 use Rattle.view_engine.specs.declared.refusal.Refusal.TheVariants.{BadQuery, MissingNamedView, UnknownLanguage}
 use Rattle.view_engine.specs.World.{World, of_history}
 use Rattle.view_engine.specs.Get.{get_refusal, not_live}
+use Rattle.view_engine.specs.Disks.{IsAskedFor}
 use Rattle.view_engine.specs.InMemory.{own_refusal}
+use Rattle.view_engine.specs.Planning.{IsReadOf}
 use Rattle.view_engine.specs.Refusals.{first_of}
 use Rattle.query_args.specs.declared.fault.QueryFault.{QueryFault}
 use Rattle.query_args.specs.declared.fault.QueryFault.TheVariants as query
@@ -35,6 +41,11 @@ use Rattle.query_args.specs.Query.{is_updated}
 use Rattle.view_engine.specs.View.{bad_query, design_id, no_language, no_path, no_view, view_refusal}
 use Rattle.view_engine.specs.ViewPlan.{HasReduce, IsPlan, ShowsRows, met_by_query, source_at}
 use Rattle.view_engine.specs.ViewQuery.{ViewQuery, has_reduce, parameters_of, query_for, reduce_named, target_for}
+
+-- where the folder tells, the design is that of the document that is asked for
+pub reads_design : {F : Type 0} (f : Folders F) (docs : Docs) (folder : F) (name : ViewQuery) (design : Design) → IsReadOf f docs folder name design
+    → IfTold (f.disk folder) (λ d. (document : Json) × IsAskedFor docs d.now name document × IsDesignOf document design)
+reads_design f docs folder name design of_document = told_now (f.disk folder) (λ d. IsAskedFor docs d.now name of_document.document) _ (λ d live. (of_document.document, live, of_document.is)) (of_document.read).live
 
 is_design : (name : List ℕ) → is_design_id (design_id name) ≡ true
 is_design name = refl

@@ -2,7 +2,7 @@
 use Rattle.std.specs.Result.{IsErrAnd}
 use Rattle.std.proofs.Common.{◌≡◌, ◌≢◌, ◌≤◌, ◌⊎◌, ◌++◌, ℕ, List, true, false, Option, inl, inr, Result, Ok, Err, refl, sym, ap, ◌∙◌, subst}
 use Rattle.std.proofs.lemmas.Result.{err_from_is_err_and}
-use Rattle.view_ports.specs.Causes.{CountsFor}
+use Rattle.view_ports.specs.Faults.{CountsFor}
 use Rattle.view_ports.specs.Disk.{IfTold, MovesNone, Tells}
 use Rattle.view_ports.specs.declared.file_name.FileName.{FileName}
 use Rattle.gate_file.specs.GateFile.{name_of}

@@ -4,12 +4,12 @@ use Rattle.view_ports.specs.File.{File}
 use Rattle.view_ports.specs.declared.file_name.FileName.{FileName}
 use Rattle.gate_file.specs.declared.gate.GateFile.{GateFile}
 use Rattle.view_ports.specs.declared.file_name.Stem.TheVariants.{Docs as DocsStem}
-use Rattle.gate_file.specs.GateFile.{commits_of, name_of, root_of}
+use Rattle.gate_file.specs.GateFile.{commits_in, commits_of, name_of, root_of}
 use Rattle.gate_file.specs.Pair.{IsOpenPair}
 use Rattle.doc_file.specs.declared.docs.Docs.{Docs}
 use Rattle.doc_file.specs.declared.entry.Entry.{Entry}
 use Rattle.doc_file.specs.Docs.{bytes_in, entries_of, file_of, seq_of, IsAt, IsLoaded, IsOpen, IsSame}
-use Rattle.doc_file.specs.Held.{HoldsRoot, KeepsEach, commits_in}
+use Rattle.doc_file.specs.Held.{HoldsRoot, KeepsEach}
 use Rattle.design_docs.specs.History.{Write}
 
 module _ (old new : Docs) (files : FileName → File) (same : IsSame old new) where

@@ -31,7 +31,7 @@ use Rattle.view_engine.specs.declared.request.Request.{Request}
 use Rattle.view_engine.specs.Calls.{ActsHere, DoesHere, DoesHereBy, IsRefusedHere, IsReplyLine, IsUnlikeFault, LeavesWorld}
 use Rattle.view_engine.specs.Disks.{AreOpen, IfStopped, IsReason, KeepsDocuments, OverWorld}
 use Rattle.view_engine.specs.Halts.{halted_as, Fits, FitsFor, GoesOn, IsFull, IsFullFor, LeavesFiles, Writes as WritesOne}
-use Rattle.view_engine.specs.InMemory.{HasWritten, IsAcceptedBy, IsRefusedBy, IsReplyBy, IsWrittenBy}
+use Rattle.view_engine.specs.InMemory.{IsAcceptedBy, IsRefusedBy, IsReplyBy, IsWritten, IsWrittenBy}
 use Rattle.view_engine.specs.Steps.{IsWrite}
 use Rattle.view_engine.specs.World.{written, World}
 use Rattle.view_engine.proofs.Around.{moves_around}
@@ -83,7 +83,7 @@ module _ {F : Type 0} (f : Folders F) (docs docs' : Docs) (old new : F) (request
   module _ (id : List ℕ) (content : Option Json) (Accepted : Type 0) (IsRefused : DocFault → Type 0) (reply : List ℕ)
       (does : (files : FileName → File) (world : World) → AreAt docs files world.history → Accepted → DoesHere world request reply (written world (write_of world.history id content)))
       (writes : (files : FileName → File) (world : World) → AreAt docs files world.history → Accepted → IsWrite world (Ok request) (write_of world.history id content)) (is_write : WritesOne (Ok request))
-      (accepts : Accepted → IsAcceptedBy docs request) (prints : IsReplyBy f docs old request reply) (has : HasWritten docs docs' id content → IsWrittenBy docs docs' request) where
+      (accepts : Accepted → IsAcceptedBy docs request) (prints : IsReplyBy f docs old request reply) (has : IsWritten docs docs' id content → IsWrittenBy docs docs' request) where
     abbrev Side : Result Rev DocFault → Type 0
     Side = Writes f docs docs' old new id content Accepted IsRefused
 
@@ -117,7 +117,7 @@ module _ {F : Type 0} (f : Folders F) (docs docs' : Docs) (old new : F) (request
       };
       silent = tt;
       unblamed = λ never. cc;
-      follows = record { accepted = accepts stored.accepted; reply = reply; is = prints; appended = appended; kept = λ none. absurd (none is_write); wrote = has (record { rev = rev; next = stored.stored.revision; counted = stored.stored.counted; entered = stored.stored.entered }) };
+      follows = record { accepted = accepts stored.accepted; reply = reply; is = prints; appended = appended; kept = λ none. absurd (none is_write); wrote = has (rev, stored.stored.wrote) };
       fits = fits (record { short = stored.stored.short; few = stored.stored.few });
       disk = disk_moved (Ok rev) stored.accepted (λ never. never) (λ goes. stored.stored.is_open) stored;
       why = tt;
@@ -230,7 +230,7 @@ module _ {F : Type 0} {f : Folders F} {docs docs' : Docs} {old new : F} {request
     (reply : List ℕ)
     (does : (files : FileName → File) (world : World) → AreAt docs files world.history → Accepted → DoesHere world request reply (written world (write_of world.history id content)))
     (writes : (files : FileName → File) (world : World) → AreAt docs files world.history → Accepted → IsWrite world (Ok request) (write_of world.history id content)) (is_write : WritesOne (Ok request))
-    (accepts : Accepted → IsAcceptedBy docs request) (prints : IsReplyBy f docs old request reply) (has : HasWritten docs docs' id content → IsWrittenBy docs docs' request) where
+    (accepts : Accepted → IsAcceptedBy docs request) (prints : IsReplyBy f docs old request reply) (has : IsWritten docs docs' id content → IsWrittenBy docs docs' request) where
   pub wrote_here : {rev : Rev} → (Fits docs id content → FitsFor docs (Ok request)) → IsReplyLine reply → IsUnlikeFault (Ok request) reply → out' ≡ out ++ ended reply → Writes f docs docs' old new id content Accepted IsRefused (Ok rev) → ActsHere f docs docs' old new request out out' (Ok tt)
   wrote_here {rev} = stored_done f docs docs' old new request out out' id content Accepted IsRefused reply does writes is_write accepts prints has rev
 

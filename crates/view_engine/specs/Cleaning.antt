@@ -28,7 +28,7 @@ use Rattle.view_engine.specs.declared.request.Request.{Request}
 use Rattle.view_engine.specs.declared.request.Request.TheVariants.{Cleanup}
 use Rattle.view_engine.specs.declared.halt.StepFault.TheVariants.{Damaged, NoMemory}
 use Rattle.view_engine.specs.Cleanup.{done_text, IsCleaned, IsLiveSignature, IsPartlyCleaned}
-use Rattle.view_engine.specs.Disks.{HasSlotDamage, IfStopped, IsOfNone, IsReadReason, MayGoOn}
+use Rattle.view_engine.specs.Disks.{ClearsUnheld, HasSlotDamage, IfStopped, IsOfNone, IsReadReason, MayGoOn}
 use Rattle.view_engine.specs.Halts.{halted_as}
 use Rattle.view_engine.specs.World.{World}
 
@@ -86,6 +86,7 @@ module _ {F : Type 0} (f : Folders F) (docs : Docs) (groups groups' : Groups) (o
     -- over documents at a history only files of indexes change that no live design has, and in the end none of these has bytes
     pub spared : (history : List Write) → IfTold (f.disk old) (λ d. AreAt docs d.now history) → Tells (f.disk old) (f.disk new) (Moves (IsOfNone history) (λ image. Unit {0}) (λ files. Unit {0}))
     pub empty : OnOk result ((history : List Write) → IfTold (f.disk old) (λ d. AreAt docs d.now history) → IfTold (f.disk new) (λ d. (name : FileName) → IsOfNone history name → (d.now name).seen ≡ []))
+    pub held : ClearsUnheld f docs old new (result ≡ Ok tt)
     pub prints : OnOk result (out' ≡ out ++ ended done_text)
     pub silent : OnErr result (out' ≡ out)
     pub stopped : IfErr result IsStopped

@@ -19,6 +19,7 @@ use Rattle.view_engine.specs.declared.request.Request.{Request}
 use Rattle.view_engine.specs.View.{design_id, view_refusal}
 use Rattle.child_pool.specs.Pools.{languages_of}
 use Rattle.view_engine.specs.Cleanup.{IsLiveSignature}
+use Rattle.view_engine.specs.HeldDesigns.{AreDesignsWhole, IsUnheld}
 use Rattle.design_docs.specs.History.{Write}
 use Rattle.view_engine.specs.declared.request.Request.TheVariants.{Cleanup, Get, View as ViewRequest}
 use Rattle.view_ports.specs.File.{File}
@@ -188,9 +189,17 @@ module _ {F : Type 0} (f : Folders F) where
   MovesIndexes engine old new (Ok Cleanup) = Tells (f.disk old) (f.disk new) (Moves IsIndexFile (λ image. Unit {0}) (λ files. Unit {0}))
   MovesIndexes engine old new other = Unit {0}
 
+  -- Whatever history the documents have: a cleanup changes files only where each live design document can be read, and only those of indexes
+  -- that none of them has. Where it is done each of them can be, and none of these files has bytes.
+  pub record ClearsUnheld (docs : Docs) (old new : F) (Done : Type 0) : Type 0 where
+    pub alone : Tells (f.disk old) (f.disk new) (λ a b. Moves (IsUnheld docs a.now) (λ image. Unit {0}) (λ files. Unit {0}) a b)
+    pub gone : Done → Tells (f.disk old) (f.disk new) (λ a b. (name : FileName) → IsUnheld docs a.now name → (b.now name).seen ≡ [])
+    pub whole : Done → IfTold (f.disk old) (λ d. AreDesignsWhole docs (bytes_in docs d.now))
+
   -- What a cleanup does with files, whatever those of indexes hold. Over documents at a history only those change of indexes that no live
   -- design has, and where it is done none of these has bytes. For want of memory none changes.
   pub record ClearsIndexes (docs : Docs) (old new : F) (Done Wants : Type 0) : Type 0 where
+    pub held : ClearsUnheld docs old new Done
     pub spared : (history : List Write) → IfTold (f.disk old) (λ d. AreAt docs d.now history) → Tells (f.disk old) (f.disk new) (Moves (IsOfNone history) (λ image. Unit {0}) (λ files. Unit {0}))
     pub empty : Done → (history : List Write) → IfTold (f.disk old) (λ d. AreAt docs d.now history) → IfTold (f.disk new) (λ d. (name : FileName) → IsOfNone history name → (d.now name).seen ≡ [])
     pub unmoved : Wants → Tells (f.disk old) (f.disk new) MovesNone

@@ -1,6 +1,6 @@
 -- What the documents that are kept in memory say of a request, whatever the folder tells: whether it is accepted, how it is refused, and
 -- what is printed of it.
-use Rattle.std.specs.Prelude.{◌≡◌, ◌≢◌, ◌⊎◌, ◌+◌, ◌++◌, ℕ, List, [], ◌∷◌, Option, Some, None, Result, Ok, Err}
+use Rattle.std.specs.Prelude.{◌≡◌, ◌≢◌, ◌⊎◌, ◌++◌, ℕ, List, [], ◌∷◌, Option, Some, None, Result, Ok, Err}
 use Rattle.json_terms.specs.Json.{Json, object, members_of}
 use Rattle.json_terms.specs.Text.{text_of}
 use Rattle.view_ports.specs.Disk.{IfTold}
@@ -9,13 +9,12 @@ use Rattle.view_ports.specs.declared.folder.Folder.{Ghosts as Folders}
 use Rattle.design_docs.specs.Design.{source_of}
 use Rattle.design_docs.specs.Documents.{id_of}
 use Rattle.doc_file.specs.declared.docs.Docs.{Docs}
+use Rattle.doc_file.specs.Calls.{HasWritten}
 use Rattle.doc_file.specs.Accepted.{State, state_in}
-use Rattle.doc_file.specs.Docs.{bytes_in, entries_of, file_of, info_of, last_of, seq_of, IsLive, IsSame}
+use Rattle.doc_file.specs.Docs.{bytes_in, info_of, last_of, IsLive, IsSame}
 use Rattle.doc_file.specs.Held.{IsBodyOf}
 use Rattle.doc_file.specs.declared.rev.Rev.{Rev}
-use Rattle.doc_file.specs.Stored.{next_rev, revised, with_last, last_of as kept_of}
 use Rattle.doc_file.specs.Writes.{content_of, IsAcceptedDelete, IsAcceptedPut}
-use Rattle.gate_file.specs.GateFile.{start_of}
 use Rattle.query_args.specs.declared.fault.QueryFault.TheVariants as query
 use Rattle.view_engine.specs.declared.halt.Halt.{Halt}
 use Rattle.view_engine.specs.declared.halt.Halt.TheVariants.{Refused, Stopped}
@@ -28,7 +27,7 @@ use Rattle.view_engine.specs.declared.request.Request.TheVariants.{Put, Delete, 
 use Rattle.view_engine.specs.Answer.{info_text}
 use Rattle.view_engine.specs.Cleanup.{done_text}
 use Rattle.view_engine.specs.Delete.{IsDeleteRefusedIn}
-use Rattle.view_engine.specs.Disks.{IsAskedFor, ReadsDocuments}
+use Rattle.view_engine.specs.Disks.{ReadsDocuments}
 use Rattle.view_engine.specs.Get.{not_live}
 use Rattle.view_engine.specs.Halts.{Writes}
 use Rattle.view_engine.specs.Put.{IsPutRefusedIn}
@@ -78,11 +77,15 @@ abbrev pub own_refusal : List (List ℕ × List ℕ) → ViewQuery → Json → 
 own_refusal languages name document =
     first_of (no_view (source_of name.view document) ∷ bad_query name (Some document) ∷ no_language languages (Some document) ∷ [])
 
--- so says a document that may stand under the id of the view's design document, and that stands there where the folder tells
+-- a document that may stand under the id, and that stands there where the folder tells
+pub record IsReadUnder {F : Type 0} (f : Folders F) (docs : Docs) (folder : F) (id : List ℕ) (document : Json) : Type 0 where
+  pub body : IsBodyOf id document
+  pub live : IfTold (f.disk folder) (λ d. IsLive id (bytes_in docs d.now) (last_of docs id) document)
+
+-- so says the document of the view's design
 pub record IsSaidByDesign {F : Type 0} (f : Folders F) (docs : Docs) (languages : List (List ℕ × List ℕ)) (folder : F) (name : ViewQuery) (said : Option Refusal) : Type 0 where
   pub document : Json
-  pub body : IsBodyOf (design_id name.design) document
-  pub asked : IfTold (f.disk folder) (λ d. IsAskedFor docs d.now name document)
+  pub read : IsReadUnder f docs folder (design_id name.design) document
   pub says : own_refusal languages name document ≡ said
 
 -- why a request is refused
@@ -95,11 +98,10 @@ IsRefusedBy docs Info refusal = ⊥
 IsRefusedBy docs Cleanup refusal = ⊥
 IsRefusedBy docs other refusal = refusal ≡ NotBuiltYet
 
--- the text is that of a document that may stand under the id, and that stands there where the folder tells
+-- the text is that of the document under the id
 pub record IsTextOfLive {F : Type 0} (f : Folders F) (docs : Docs) (folder : F) (id text : List ℕ) : Type 0 where
   pub document : Json
-  pub body : IsBodyOf id document
-  pub live : IfTold (f.disk folder) (λ d. IsLive id (bytes_in docs d.now) (last_of docs id) document)
+  pub read : IsReadUnder f docs folder id document
   pub is : text ≡ text_of document
 
 -- what is printed of a request that is done: the next revision of the id that is written, the document of the id that is read, or the
@@ -112,17 +114,14 @@ IsReplyBy f docs folder Info reply = reply ≡ info_text (info_of docs)
 IsReplyBy f docs folder Cleanup reply = reply ≡ done_text
 IsReplyBy f docs folder other reply = Unit {0}
 
--- the documents have one write more, the next of this id with this content
-pub record HasWritten (docs docs' : Docs) (id : List ℕ) (content : Option Json) : Type 0 where
-  pub rev : Rev
-  pub next : rev ≡ next_rev (seq_of docs) (entries_of docs) id
-  pub counted : seq_of docs' ≡ seq_of docs + 1
-  pub entered : entries_of docs' ≡ with_last id (kept_of (start_of (file_of docs)) rev (revised content rev)) (entries_of docs)
+-- the next write of this id with this content is written, under its revision
+abbrev pub IsWritten : Docs → Docs → List ℕ → Option Json → Type 0
+IsWritten docs docs' id content = (rev : Rev) × HasWritten docs docs' id content rev
 
 -- so it is of a request that writes
 abbrev pub IsWrittenBy : Docs → Docs → Request → Type 0
-IsWrittenBy docs docs' (Put document) = HasWritten docs docs' (id_of (object (members_of document))) (content_of (object (members_of document)))
-IsWrittenBy docs docs' (Delete id given) = HasWritten docs docs' id None
+IsWrittenBy docs docs' (Put document) = IsWritten docs docs' (id_of (object (members_of document))) (content_of (object (members_of document)))
+IsWrittenBy docs docs' (Delete id given) = IsWritten docs docs' id None
 IsWrittenBy docs docs' other = Unit {0}
 
 -- ---- what a request does by them

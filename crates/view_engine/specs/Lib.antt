@@ -19,6 +19,7 @@ pub mod Replies
 pub mod Halts
 pub mod Worlds
 pub mod Engine
+pub mod HeldDesigns
 pub mod Disks
 pub mod InMemory
 pub mod FullIndex

@@ -1,6 +1,6 @@
 -- What opening an engine promises, over a folder that tells its disk.
 use Rattle.std.specs.Prelude.{◌≡◌, ℕ, Option, Result, Err, IfOk}
-use Rattle.view_ports.specs.Causes.{CountsFor}
+use Rattle.view_ports.specs.Faults.{CountsFor}
 use Rattle.view_ports.specs.Disk.{Disk, IfTold, Moves, Tells}
 use Rattle.view_ports.specs.declared.file_name.FileName.{FileName}
 use Rattle.view_ports.specs.declared.file_name.Stem.TheVariants.{Docs as DocsStem}

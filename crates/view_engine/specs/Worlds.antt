@@ -6,7 +6,7 @@ use Rattle.view_ports.specs.Functions.{Functions}
 use Rattle.view_ports.specs.declared.file_name.FileName.{FileName}
 use Rattle.child_pool.specs.Pools.{languages_of, reducer_of, started_of, width_of}
 use Rattle.doc_file.specs.declared.docs.Docs.{Docs}
-use Rattle.doc_file.specs.Docs.{HoldsHistory, IsAt as AreAt, IsDamagedAt, IsOpen as AreOpen}
+use Rattle.doc_file.specs.Docs.{seq_of, HoldsHistory, IsAt as AreAt, IsDamagedAt, IsOpen as AreOpen}
 use Rattle.doc_file.specs.Held.{Stands}
 use Rattle.design_docs.specs.History.{Write}
 use Rattle.view_groups.specs.Groups.{AreAt as AreIndexesAt, AreOpen as AreIndexesOpen}
@@ -102,6 +102,10 @@ languages engine = languages_of engine.pool
 -- an engine knows these languages and no other
 abbrev pub Knows : List (List ℕ × List ℕ) → Engine → Type 0
 Knows known engine = languages engine ≡ known
+
+-- how many writes its documents have
+abbrev pub update_seq : Engine → ℕ
+update_seq engine = seq_of engine.docs
 
 -- how many children map its documents
 abbrev pub width : Engine → ℕ

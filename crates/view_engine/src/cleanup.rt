@@ -3,13 +3,15 @@
 ghost use Rattle.std.specs.Prelude.{◌≡◌, ◌++◌, IfErr, IfOk, OnErr, OnOk, true};
 ghost use Rattle.design_docs.specs.Documents.{is_design_id};
 ghost use Rattle.doc_file.specs.Designs.{IsLiveEntry};
-ghost use Rattle.doc_file.specs.Docs.{last_of};
+ghost use Rattle.doc_file.specs.Docs.{bytes_in, last_of};
 ghost use Rattle.doc_file.specs.Reads.{AtHistory};
+ghost use Rattle.view_ports.specs.Disk.{IfTold};
 ghost use Rattle.view_ports.specs.Lines.{ended};
 ghost use Rattle.view_engine.specs.Calls.{IsReplyLine};
 ghost use Rattle.view_engine.specs.Cleaning.{met_by_index, AreLiveSignatures, CleansUp, IsCleanFault, IsSignatureOf, IsStopped, LiveStayOpen};
 ghost use Rattle.view_engine.specs.Cleanup.{done_text};
 ghost use Rattle.view_engine.specs.Disks.{Reads, Spares};
+ghost use Rattle.view_engine.specs.HeldDesigns.{AreHeldSignatures, IsSignatureIn};
 
 use crate::design::design_of;
 use crate::halt::{Halt, StepFault};
@@ -56,6 +58,8 @@ fn live_signatures<F: Folder>(
 ) -> Result<Vec<[u8; 32]>, Halt>
     ensures history { AtHistory F.Folder docs.now folder.old
         (λ history. IfOk result (λ sigs. AreLiveSignatures history sigs.items)) }
+    ensures held { IfTold (F.disk folder.old) (λ d. IfOk result
+        (λ sigs. AreHeldSignatures docs.now (bytes_in docs.now d.now) sigs.items)) }
     ensures stopped { IfErr result IsStopped }
     ensures reads { Reads F.Folder docs.now folder.old folder.new result }
     ensures spares { Spares F.Folder folder.old folder.new result }
@@ -79,6 +83,8 @@ fn signature_in<F: Folder>(
     requires live { IsLiveEntry (last_of docs.now id.now) }
     ensures history { AtHistory F.Folder docs.now folder.old
         (λ history. IfOk result (IsSignatureOf history id.now)) }
+    ensures held { IfTold (F.disk folder.old) (λ d. IfOk result
+        (IsSignatureIn docs.now (bytes_in docs.now d.now) id.now)) }
     ensures stopped { IfErr result IsStopped }
     ensures reads { Reads F.Folder docs.now folder.old folder.new result }
     ensures spares { Spares F.Folder folder.old folder.new result }

@@ -43,7 +43,8 @@ use Rattle.view_index.specs.Opens.{FindsDamage, IsOpenFault}
 use Rattle.view_updater.specs.declared.fault.UpdateFault.{UpdateFault}
 use Rattle.view_updater.specs.declared.fault.UpdateFault.TheVariants.{Docs as OfDocuments, Index as OfIndex, NoMemory, Pool as OfPool}
 use Rattle.view_updater.specs.Faults.{by_index, by_pool}
-use Rattle.view_updater.specs.Updates.{documents_since, side as side_of_index, Side as IndexSide, AsksSince as AsksOf, ComplainsRightly, EndsAt as EndsIndex, HasAskedFor, IsBodyDamaged, IsFileFault, IsFullWith, IsIdleEnd, IsLast as IsLastOf, IsLost, IsMade, IsMadeBy as IsMadeOf, IsMapped, IsMappedTo as IsMappedOf, IsMetBy, IsOfDisk, IsOfIndex, IsSpared, IsThenChecked, IsUpdatedFreely}
+use Rattle.view_updater.specs.Given.{documents_of}
+use Rattle.view_updater.specs.Updates.{documents_since, side as side_of_index, Side as IndexSide, AsksSince as AsksOf, AsksWritten, ComplainsRightly, EndsAt as EndsIndex, HasAskedBy, HasAskedFor, IsBodyDamaged, IsFileFault, IsFullWith, IsIdleEnd, IsLast as IsLastOf, IsLost, IsMade, IsMadeBy as IsMadeOf, IsMapped, IsMappedTo as IsMappedOf, IsMetBy, IsOfDisk, IsOfIndex, IsSpared, IsThenChecked, IsTried as IsTriedOf, IsUpdatedFreely}
 use Rattle.view_updater.proofs.Ends.{index_of_no_documents, index_of_no_pool, index_stored}
 use Rattle.view_groups.specs.declared.groups.Groups.{Groups}
 use Rattle.view_groups.specs.Brings.{AsksSince, Brings, EndsAt, HasAsked, IsGroupFault, IsIdle, IsLast, IsMadeBy, IsMappedTo, IsNext, MayLeave, OpensThenUpdates, placed}
@@ -125,13 +126,13 @@ met_placed place (Ok done) (Err e) met = λ fault is.
 met_placed place (Err fault) result met = ap (placed place) met
 
 module _ {C : Type 0} (s : Servers C) (servers servers' : C) (pool pool' : Pool) (design : Design) (place : ℕ) (result : Result (Unit {0}) UpdateFault) where
-  module _ (IsNext IsNext' : Picture → Type 0) (wider : (next : Picture) → IsNext next → IsNext' next) where
-    checked_placed : (between : C) (pool_between : Pool) (mapped : Result (Unit {0}) UpdateFault) → IsThenChecked s servers servers' pool pool' design IsNext between pool_between mapped result
+  module _ (IsNext : C → Pool → Picture → Type 0) (IsNext' : Picture → Type 0) (wider : (between : C) (pool_between : Pool) (next : Picture) → IsNext between pool_between next → IsNext' next) where
+    checked_placed : (between : C) (pool_between : Pool) (mapped : Result (Unit {0}) UpdateFault) → IsThenChecked s servers servers' pool pool' design (IsNext between pool_between) between pool_between mapped result
         → IsThenChecked s servers servers' pool pool' design IsNext' between pool_between mapped (placed place result)
     checked_placed between pool_between (Err fault) is = (ap (placed place) is.0, is.1, is.2)
-    checked_placed between pool_between (Ok done) is = (is.0, wider is.0 is.1, is.2, is.3, met_placed place is.2 result is.4)
+    checked_placed between pool_between (Ok done) is = (is.0, wider between pool_between is.0 is.1, is.2, is.3, met_placed place is.2 result is.4)
 
-    asked_placed : (documents : List (List (List ℕ × Json))) → HasAskedFor s servers servers' pool pool' design documents IsNext result → HasAskedFor s servers servers' pool pool' design documents IsNext' (placed place result)
+    asked_placed : (documents : List (List (List ℕ × Json))) → HasAskedBy s servers servers' pool pool' design documents IsNext result → HasAskedFor s servers servers' pool pool' design documents IsNext' (placed place result)
     asked_placed documents asked = record {
       between = asked.between;
       pool_between = asked.pool_between;
@@ -508,22 +509,22 @@ module _ {F C : Type 0} (f : Folders F) (s : Servers C) (docs : Docs) (design : 
           (λ some. inr (
             λ same. some.0 (seq_is ∙ same),
             asked_placed s servers servers' pool pool' design place result
-                (λ next. IsMappedOf f s docs design given_index left_index history (pictures (sig_of design)) next × IsLastOf f s docs design given_index left_index result next)
+                (λ between pool_between next. IsMappedOf f s docs design given_index left_index history (pictures (sig_of design)) next × IsLastOf f s docs design given_index left_index result next)
                 (λ next. IsMappedTo f s docs design given left history pictures next × IsLast f s docs design given left (placed place result) next)
-                (λ next is. (mapped_placed history pictures next is.0, last_placed result next is.1)) (documents_since (picture_for design pictures).seq history)
+                (λ between pool_between next is. (mapped_placed history pictures next is.0, last_placed result next is.1)) (documents_since (picture_for design pictures).seq history)
                 (subst (λ (n : ℕ). HasAskedFor s servers servers' pool pool' design (documents_since n history)
                 (λ next. IsMappedOf f s docs design given_index left_index history (pictures (sig_of design)) next × IsLastOf f s docs design given_index left_index result next) result) seq_is some.1),
           ))
           either
 
-      asked_some : (((servers' ≡ servers) × (pool' ≡ pool)) × IsIdleEnd result)
-          ⊎ ((documents : List (List (List ℕ × Json))) × HasAskedFor s servers servers' pool pool' design documents (IsLastOf f s docs design given_index left_index result) result)
+      asked_some : (((servers' ≡ servers) × (pool' ≡ pool)) × (result ≡ Ok tt) × (seq_of at.before ≡ documents_seq docs)) ⊎ ((seq_of at.before ≢ documents_seq docs) × AsksWritten f s docs design given_index left_index result)
           → (IsIdle f s docs design given left × IsIdleEnd (placed place result))
           ⊎ ((documents : List (List (List ℕ × Json))) × HasAsked f s docs design given left documents (IsLast f s docs design given left (placed place result)) (placed place result))
-      asked_some (inl idle) = inl (idle.0, idle_placed place result idle.1)
+      asked_some (inl idle) = inl (idle.0, idle_placed place result (subst (λ (r : Result (Unit {0}) UpdateFault). IsIdleEnd r) (sym idle.1) tt))
       asked_some (inr some) = inr (
-        some.0,
-        asked_placed s servers servers' pool pool' design place result (IsLastOf f s docs design given_index left_index result) (IsLast f s docs design given left (placed place result)) (last_placed result) some.0 some.1,
+        documents_of some.1.changes,
+        asked_placed s servers servers' pool pool' design place result (λ between pool_between. IsTriedOf f s docs design given_index left_index some.1.changes between pool_between result)
+            (IsLast f s docs design given left (placed place result)) (λ between pool_between next is. last_placed result next is.last) (documents_of some.1.changes) some.1.asked,
       )
 
       -- the others stay open: the opening leaves them, and in their places they are as they were

@@ -12,12 +12,11 @@ use Rattle.view_ports.specs.Disk.{Disk, IfTold, Moves, OthersStay, Tells}
 use Rattle.view_ports.specs.File.{File}
 use Rattle.view_ports.specs.declared.file_name.FileName.{FileName}
 use Rattle.gate_file.specs.declared.gate.GateFile.{GateFile}
-use Rattle.gate_file.specs.GateFile.{commits_of, name_of, root_of, start_of}
+use Rattle.gate_file.specs.GateFile.{commits_in, commits_of, name_of, root_of, start_of}
 use Rattle.gate_file.specs.Open.{IsPart}
 use Rattle.gate_file.specs.Pair.{IsOpenPair, own_bytes}
 use Rattle.gate_file.specs.Publish.{IsPublished, Publishes, WillHold, published}
 use Rattle.gate_file.proofs.Published.{image_now, published_holds, published_open, publishing_stands}
-use Rattle.doc_file.specs.Held.{commits_in}
 use Rattle.index_record.specs.Record.{record_bytes, IsRecordOf}
 use Rattle.index_record.specs.Rows.{PlacesRise}
 use Rattle.view_model.specs.Picture.{Picture}

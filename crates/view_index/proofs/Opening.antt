@@ -1,5 +1,5 @@
 -- What an index stands for while its files are opened, and the object that is opened.
-use Rattle.std.specs.Prelude.{◌≡◌, ℕ, List, [], ◌∷◌, map, length, nat_lt, is_none, Bool, true, false, if◌then◌else◌, Option, Some, None, Result, IfOk, IsErr, refl}
+use Rattle.std.specs.Prelude.{◌≡◌, ℕ, List, [], ◌∷◌, map, length, Bool, false, Option, Some, None, Result, IfOk, IsErr, refl}
 use Rattle.std.specs.List.{AllByRecursion, IsDistinct}
 use Rattle.std.proofs.Common.{ap, sym, ◌∙◌, subst}
 use Rattle.std.proofs.lemmas.List.{length-map}
@@ -11,17 +11,16 @@ use Rattle.view_ports.specs.declared.file_name.FileName.{FileName}
 use Rattle.view_ports.specs.declared.file_name.Stem.{Stem}
 use Rattle.view_ports.proofs.DiskRuns.{moves_wider}
 use Rattle.view_ports.proofs.Told.{told_after, told_map, told_pair, told_then}
+use Rattle.gate_file.proofs.Numbered.{commits_opened}
 use Rattle.gate_file.proofs.Published.{open_holds}
 use Rattle.gate_file.specs.declared.gate.GateFile.{GateFile}
 use Rattle.gate_file.specs.declared.root.Root.{Root}
-use Rattle.gate_file.specs.GateFile.{commits_of, name_of, root_of}
-use Rattle.gate_file.specs.Header.{newer, open_root, slot_at}
-use Rattle.gate_file.specs.Open.{found, found_newest, opened, opened_of, side_of, AreFitSlots, IsOpened, WhileOpening}
+use Rattle.gate_file.specs.GateFile.{commits_in, commits_of, name_of, root_of}
+use Rattle.gate_file.specs.Open.{opened, AreFitSlots, IsOpened, WhileOpening}
 use Rattle.gate_file.specs.Pair.{IsOpenPair, own_bytes}
 use Rattle.gate_file.proofs.Opened.{opened_bytes, opened_holds, opened_open, opening_stands}
 use Rattle.gate_file.proofs.Openings.{failed_open}
 use Rattle.gate_file.proofs.Stretches.{moves_then_none}
-use Rattle.doc_file.specs.Held.{commits_in}
 use Rattle.view_model.specs.Picture.{Picture}
 use Rattle.view_index.specs.declared.index.Index.{Index}
 use Rattle.view_index.specs.Calls.{IsAt, IsOpen, IsSettled}
@@ -48,31 +47,6 @@ pub pending_unexchanged : (these : List ℕ → Bool) (rows : List (List Row)) �
 unfolding IsDistinct
 pending_unexchanged these [] = tt
 pending_unexchanged these (r ∷ rows) = (record { of_these = tt; apart = tt }, pending_unexchanged these rows)
-
--- ---- how many commits were made
-
--- a file without a root is opened with no commit, and any other with the number of its root
-commits_opened : (stem : Stem) (gate : GateFile) (old : FileName → File) → gate ≡ opened stem old → commits_of gate ≡ commits_in (root_of gate)
-commits_opened stem gate old gate_is = subst (λ (g : GateFile). commits_of g ≡ commits_in (root_of g)) (sym gate_is) (by_side (side_of stem false) (side_of stem true) (λ name. (old name).seen))
-  where
-    newest : (name : FileName) (size : ℕ) (low high root : Option Root) → commits_of (found_newest name size low high root) ≡ commits_in (root_of (found_newest name size low high root))
-    newest name size low high None = refl
-    newest name size low high (Some root) = refl
-
-    whole : (name : FileName) (bytes : List ℕ) → commits_of (found name bytes) ≡ commits_in (root_of (found name bytes))
-    whole name bytes = newest name (length bytes) (open_root (slot_at bytes 0)) (open_root (slot_at bytes 4096)) (newer (open_root (slot_at bytes 0)) (open_root (slot_at bytes 4096)))
-
-    one_of : (first second : GateFile) → commits_of first ≡ commits_in (root_of first) → commits_of second ≡ commits_in (root_of second) → (less none : Bool)
-        → (let file : GateFile = if less then second else (if none then record first { length = 0 } else first) in commits_of file ≡ commits_in (root_of file))
-    one_of first second is is' true none = is'
-    one_of first second is is' false true = is
-    one_of first second is is' false false = is
-
-    by_side : (one other : FileName) (image : FileName → List ℕ) → (let file = opened_of (found one (image one)) (found other (image other)) in commits_of file ≡ commits_in (root_of file))
-    by_side one other image =
-        let first = found one (image one) in
-        let second = found other (image other) in
-        one_of first second (whole one (image one)) (whole other (image other)) (nat_lt first.commits second.commits) (is_none first.root)
 
 module _ (stem : Stem) (views : ℕ) where
   -- what is shown once the files are opened was shown before

@@ -1,7 +1,7 @@
 -- What the calls on an index promise that reach its files.
 use Rattle.std.specs.Prelude.{◌≡◌, ◌⊎◌, ℕ, map, length, Result, Err, Some, Option, IfErr, OnOk, OnErr}
 use Rattle.raw_collation.specs.Sorting.{sorted_rows}
-use Rattle.view_ports.specs.Causes.{CountsFor}
+use Rattle.view_ports.specs.Faults.{CountsFor}
 use Rattle.view_ports.specs.Disk.{IfTold, Moves, Tells}
 use Rattle.view_ports.specs.File.{File}
 use Rattle.view_ports.specs.declared.file_name.FileName.{FileName}
@@ -10,10 +10,9 @@ use Rattle.view_ports.specs.declared.folder.Folder.{Ghosts as Folders}
 use Rattle.gate_file.specs.declared.fault.GateFault.{GateFault}
 use Rattle.gate_file.specs.declared.fault.GateFault.TheVariants.{DiskFault}
 use Rattle.gate_file.specs.Calls.{too_long, used_up}
-use Rattle.gate_file.specs.GateFile.{commits_of, name_of, root_of}
+use Rattle.gate_file.specs.GateFile.{commits_in, commits_of, name_of, root_of}
 use Rattle.gate_file.specs.Pair.{IsOpenPair, own_bytes}
 use Rattle.gate_file.specs.Publish.{published, IsFull, IsTooLong, IsUsedUp}
-use Rattle.doc_file.specs.Held.{commits_in}
 use Rattle.index_record.specs.Record.{record_bytes}
 use Rattle.view_model.specs.Picture.{Picture}
 use Rattle.view_index.specs.declared.fault.IndexFault.{IndexFault}

@@ -1,17 +1,11 @@
 -- Causes of the faults of a call that can be refused for other reasons too.
-use Rattle.std.specs.Prelude.{◌≡◌, ◌≢◌, ℕ, ◌+◌, ◌≤◌, max, Result, Err, IfErr}
+use Rattle.std.specs.Prelude.{ℕ, ◌+◌, ◌≤◌, max, Result, IfErr}
 use Rattle.view_ports.specs.Faults.{Rose, next_count}
 
 -- the count of faults never falls, and a refusal that is a fault comes only where it rose
 pub record HasCauseIf {T E : Type 0} (IsFault : E → Type 0) (before now : ℕ) (result : Result T E) : Type 0 where
   pub later : before ≤ now
   pub failed : IfErr result (λ error. IsFault error → Rose before now)
-
--- one refusal is the fault that is counted: it comes only where the count rose, and no other answer lets the count rise
-pub record CountsFor {T E : Type 0} (fault : E) (before now : ℕ) (result : Result T E) : Type 0 where
-  pub later : before ≤ now
-  pub failed : IfErr result (λ error. error ≡ fault → Rose before now)
-  pub still : result ≢ Err fault → now ≡ before
 
 -- a number of calls after one more: it never falls, and no longer rises once it is the largest `u64`
 abbrev pub one_more : ℕ → ℕ

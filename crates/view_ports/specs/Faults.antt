@@ -1,5 +1,5 @@
 -- Counts of faults: the only cause for which a port may answer that it failed.
-use Rattle.std.specs.Prelude.{◌≡◌, ◌≢◌, ℕ, ◌+◌, ◌-◌, ◌^◌, ◌≤◌, min, Result, Err, OnOk, OnErr}
+use Rattle.std.specs.Prelude.{◌≡◌, ◌≢◌, ℕ, ◌+◌, ◌-◌, ◌^◌, ◌≤◌, min, Result, Err, IfErr, OnOk, OnErr}
 
 -- a count after one more: it stands still at the largest `u64`
 abbrev pub next_count : ℕ → ℕ
@@ -22,6 +22,12 @@ RoseBy more before now = min (before + more) (2 ^ 64 - 1) ≤ now
 pub record HasCauseOf {T E : Type 0} (fault : E) (before now : ℕ) (result : Result T E) : Type 0 where
   pub later : before ≤ now
   pub failed : result ≡ Err fault → Rose before now
+
+-- one refusal is the fault that is counted: it comes only where the count rose, and no other answer lets the count rise
+pub record CountsFor {T E : Type 0} (fault : E) (before now : ℕ) (result : Result T E) : Type 0 where
+  pub later : before ≤ now
+  pub failed : IfErr result (λ error. error ≡ fault → Rose before now)
+  pub still : result ≢ Err fault → now ≡ before
 
 -- a call that succeeds counts no fault, and one that fails counts one at most
 pub record CountsOnce {T E : Type 0} (before now : ℕ) (result : Result T E) : Type 0 where

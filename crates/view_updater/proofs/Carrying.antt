@@ -7,10 +7,9 @@ use Rattle.view_ports.specs.Disk.{IsImageOf}
 use Rattle.view_ports.specs.File.{File}
 use Rattle.view_ports.specs.declared.file_name.FileName.{FileName}
 use Rattle.gate_file.specs.declared.gate.GateFile.{GateFile}
-use Rattle.gate_file.specs.GateFile.{commits_of, name_of, root_of}
+use Rattle.gate_file.specs.GateFile.{commits_in, commits_of, name_of, root_of}
 use Rattle.gate_file.specs.Pair.{IsOpenPair, own_bytes}
 use Rattle.gate_file.proofs.Published.{image_now}
-use Rattle.doc_file.specs.Held.{commits_in}
 use Rattle.view_model.specs.Picture.{Picture}
 use Rattle.view_index.specs.declared.index.Index.{Index}
 use Rattle.view_index.specs.Calls.{stem_of, IsAt, IsOpen}

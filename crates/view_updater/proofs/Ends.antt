@@ -3,6 +3,7 @@ use Rattle.std.specs.Prelude.{◌≡◌, ◌≢◌, ◌⊎◌, ◌≤◌, ℕ, L
 use Rattle.std.proofs.Common.{refl, sym, ap, ◌∙◌, subst, inl, inr}
 use Rattle.std.proofs.lemmas.List.{length-map}
 use Rattle.json_terms.specs.Json.{Json}
+use Rattle.json_terms.specs.declared.term.Row.{Row}
 use Rattle.raw_collation.specs.Sorting.{sorted_rows}
 use Rattle.view_ports.specs.Calls.{Call}
 use Rattle.view_ports.specs.Disk.{IfTold, Moves, MovesNone, Tells}
@@ -33,7 +34,7 @@ use Rattle.gate_file.specs.declared.gate.GateFile.{GateFile}
 use Rattle.gate_file.specs.declared.fault.GateFault.TheVariants.{DiskFault, Full}
 use Rattle.gate_file.specs.Calls.{too_long, used_up}
 use Rattle.gate_file.specs.GateFile.{length_of, name_of}
-use Rattle.gate_file.specs.Publish.{IsTooLong, IsUsedUp}
+use Rattle.gate_file.specs.Publish.{IsFull, IsTooLong, IsUsedUp}
 use Rattle.index_record.specs.Record.{record_bytes}
 use Rattle.view_index.specs.declared.fault.IndexFault.{IndexFault}
 use Rattle.view_index.specs.declared.fault.IndexFault.TheVariants as fault_of
@@ -51,7 +52,8 @@ use Rattle.view_updater.specs.declared.fault.UpdateFault.TheVariants.{Docs as Of
 use Rattle.view_updater.specs.Checking.{Checks, FailsThere}
 use Rattle.view_updater.specs.Exchanges.{BreaksOff, Exchanges, HasExchanged, TakesIn}
 use Rattle.view_updater.specs.Faults.{by_index, by_pool}
-use Rattle.view_updater.specs.Updates.{documents_since, side, EndsAt, HasAsked, HasMapped, HasMappedSome, IsFullWith, AsksSince, IsIdle, IsIdleEnd, IsLast, IsLost, IsMade, IsMadeBy, IsMapped, IsMappedTo, IsMetAs, IsMetBy, IsNext, IsReached, IsThenChecked, IsTried, IsUpdatedFreely, Side, StandsAround}
+use Rattle.view_updater.specs.Given.{documents_of, AreGiven, AreLastWrites, CoverAll}
+use Rattle.view_updater.specs.Updates.{documents_since, side, AsksWritten, EndsAt, HasAskedBy, HasMapped, HasMappedSome, IsFullWith, AsksSince, IsIdle, IsLast, IsLost, IsMade, IsMadeBy, IsMapped, IsMappedTo, IsMetAs, IsMetBy, IsNext, IsReached, IsThenChecked, IsTried, IsUpdatedFreely, Side, StandsAround}
 use Rattle.view_updater.proofs.Carrying.{at_still, open_still, same_stem, same_views, stands_now, views_by_picture}
 use Rattle.view_updater.proofs.Nexts.{freely_updated, no_documents_since, nothing_updated, rows_updated}
 
@@ -215,8 +217,8 @@ module _ {F C : Type 0} (f : Folders F) (s : Servers C) (docs : Docs) (design : 
       abbrev Then : (Picture → Type 0) → Type 0
       Then IsNext = IsThenChecked s old.servers servers old.pool pool design IsNext mid.servers mid.pool before result
 
-      asked_as : (IsNext : Picture → Type 0) → Then IsNext → (documents : List (List (List ℕ × Json))) → HasMappedSome s old.servers mid.servers old.pool mid.pool design documents before
-          → HasAsked f s docs design old left documents IsNext result
+      abbrev asked_as : (IsNext : C → Pool → Picture → Type 0) → Then (IsNext mid.servers mid.pool) → (documents : List (List (List ℕ × Json))) → HasMappedSome s old.servers mid.servers old.pool mid.pool design documents before
+          → HasAskedBy s old.servers servers old.pool pool design documents IsNext result
       asked_as IsNext checks documents maps = record {
         between = mid.servers;
         pool_between = mid.pool;
@@ -240,13 +242,22 @@ module _ {F C : Type 0} (f : Folders F) (s : Servers C) (docs : Docs) (design : 
           let has = asks here.documents in
           inr (
             λ same. differs (same ∙ sym here.documents.count),
-            asked_as (λ next. IsMappedTo f s docs design old left history picture next × IsLast f s docs design old left result next) (checks d.now here has) (documents_since (seq_of old.index) history)
+            asked_as (λ between pool_between next. IsMappedTo f s docs design old left history picture next × IsLast f s docs design old left result next) (checks d.now here has) (documents_since (seq_of old.index) history)
                 (subst (λ (n : ℕ). HasMappedSome s old.servers mid.servers old.pool mid.pool design (documents_since n history) before) seq_back (elim has [ inl all ↦ inl all.asked | inr first ↦ inr first ])),
           )) (ex.asks history)
 
-      pub asked_some : Then (IsLast f s docs design old left result)
-          → (IsIdle f s docs design old left × IsIdleEnd result) ⊎ ((documents : List (List (List ℕ × Json))) × HasAsked f s docs design old left documents (IsLast f s docs design old left result) result)
-      asked_some checks = inr (ex.asked.0, asked_as (IsLast f s docs design old left result) checks ex.asked.0 ex.asked.1)
+      -- whatever is told they are those of last writes
+      pub asked_some : seq_of old.index ≢ written docs → Then (IsTried f s docs design old left ex.asked.changes mid.servers mid.pool result)
+          → (IsIdle f s docs design old left × (result ≡ Ok tt) × (seq_of old.index ≡ written docs)) ⊎ ((seq_of old.index ≢ written docs) × AsksWritten f s docs design old left result)
+      asked_some differs checks = inr (
+        differs,
+        record {
+          changes = ex.asked.changes;
+          written = subst (λ (n : ℕ). AreLastWrites f docs old.folder n ex.asked.changes) seq_back ex.asked.written;
+          asked = asked_as (λ between pool_between. IsTried f s docs design old left ex.asked.changes between pool_between result) checks (documents_of ex.asked.changes) ex.asked.mapped;
+          early = ex.reads.faults;
+        },
+      )
 
   -- what is found of reduces after the mapping was so before it
   pub fails_by : (fails : Bool) → StaysAsMade old.pool mid.pool → FailsThere s mid.servers servers mid.pool pool design (next_in mid.index) fails
@@ -318,6 +329,44 @@ module _ {F C : Type 0} (f : Folders F) (s : Servers C) (docs : Docs) (design : 
   checked_next folder index result checked checks met newest newest_is last history picture files here (inl has) =
       (next_picture newest mid.index, (mapped_is history picture files here.at here.documents.stored newest (newest_is ∙ here.documents.count) has, last), checked, checks, met)
   checked_next folder index result checked checks met newest newest_is last history picture files here (inr broken) = absurd broken.cause
+
+  -- ---- what becomes of the next picture
+
+  module _ (ex : Exchanges f s docs design from mid well) (newest : ℕ) (newest_is : newest ≡ written docs) (folder : F) (index : Index) (result : Result (Unit {0}) UpdateFault) where
+    abbrev tried : Picture
+    tried = next_picture newest mid.index
+
+    abbrev all_mapped : (history : List Write) → HasExchanged f s docs design from mid history well ⊎ BreaksOff f s docs design from mid history well → HasExchanged f s docs design from mid history well
+    all_mapped history (inl has) = has
+    all_mapped history (inr broken) = absurd broken.cause
+
+    over : (IsOver : List Write → Option Picture → Type 0) → ((history : List Write) (picture : Option Picture) (files : FileName → File) → IsReached docs old.index history picture files → HasExchanged f s docs design from mid history well
+        → IsOver history picture) → (history : List Write) (picture : Option Picture) → IfTold (f.disk old.folder) (λ d. IsReached docs old.index history picture d.now → IsOver history picture)
+    over IsOver then history picture =
+        told_now (f.disk old.folder) (λ d. AreAt docs d.now history → HasExchanged f s docs design from mid history well ⊎ BreaksOff f s docs design from mid history well)
+        (λ d. IsReached docs old.index history picture d.now → IsOver history picture) (λ d told here. then history picture d.now here (all_mapped history (told here.documents))) (ex.asks history)
+
+    given : AreGiven f s docs design old.folder old.servers mid.servers old.pool mid.pool (views_of old.index) ex.asked.changes (map sorted_rows (picture_of old.index).rows) (next_in mid.index)
+    given =
+        subst (λ (rows : List (List Row)). AreGiven f s docs design old.folder old.servers mid.servers old.pool mid.pool (views_of old.index) ex.asked.changes rows (next_in mid.index)) (back.next ∙ ap (λ (p : Picture). map sorted_rows p.rows) back.rows)
+        (subst (λ (n : ℕ). AreGiven f s docs design old.folder old.servers mid.servers old.pool mid.pool n ex.asked.changes (next_in rolled) (next_in mid.index)) (same_views old.index rolled back.rows) ex.asked.given)
+
+    pub is_tried : (IsMadeBy f s docs design old (left folder index) result tried → FailsThere s mid.servers servers mid.pool pool design (next_in mid.index) false) → IsLast f s docs design old (left folder index) result tried
+        → ((name : FileName) (size : Option ℕ) → result ≡ Err (OfIndex (fault_of.Store (Full name size))) → IsFullWith old.index tried name size)
+        → (result ≡ Err (OfIndex (fault_of.Store DiskFault)) → IsFull (file_of old.index) (next_size newest mid.index) → ⊥) → IsTried f s docs design old (left folder index) ex.asked.changes mid.servers mid.pool result tried
+    is_tried compile last full room = record {
+      newest = newest_is;
+      number = length-map (both_in mid.index) (next_rows (is_touched mid.index)) ∙ same_views old.index mid.index (ex.picture ∙ back.rows);
+      all = subst (λ (n : ℕ). CoverAll docs n ex.asked.changes) seq_back ex.asked.all;
+      given = given;
+      mapped = over (λ history picture. IsMappedTo f s docs design old (left folder index) history picture tried)
+          (λ history picture files here has. mapped_is history picture files here.at here.documents.stored newest (newest_is ∙ here.documents.count) has);
+      made = λ by. over (λ history picture. IsNext f s docs design old (left folder index) history picture tried)
+          (λ history picture files here has. next_is history picture files here.at here.documents.stored newest (newest_is ∙ here.documents.count) has (left folder index) ex.keeps (compile by));
+      last = last;
+      full = full;
+      room = room;
+    }
 
   pending_now : (history : List Write) → HasExchanged f s docs design from mid history well → ArePending mid.index
   pending_now history has = by_mapped has.asked.mapped has.asked.met has.takes
@@ -436,15 +485,6 @@ module _ {F C : Type 0} (f : Folders F) (s : Servers C) (docs : Docs) (design : 
 
         abbrev OfAll : List Write → (FileName → File) → Type 0
         OfAll history files = AreAt docs files history → HasExchanged f s docs design from mid history well ⊎ BreaksOff f s docs design from mid history well
-
-        -- it might have been committed
-        pub is_tried : (new : Side F C) → IsTried f s docs design old new (next_picture newest mid.index)
-        is_tried new = record {
-          newest = newest_is;
-          number = length-map (both_in mid.index) (next_rows (is_touched mid.index)) ∙ views_then;
-          made = λ history picture. told_now (f.disk old.folder) (λ d. OfAll history d.now) (λ d. IsReached docs old.index history picture d.now → IsNext f s docs design old new history picture (next_picture newest mid.index))
-              (λ d told here. known_next history picture new d.now (here, chosen history picture (told here.documents))) (asks history);
-        }
 
         -- and once it is, it is updated whatever its path is
         pub freely_next : (now : Picture) → now ≡ next_picture newest mid.index → (history : List Write) (picture : Option Picture)

@@ -1,6 +1,8 @@
 pub mod ChangedSoFar
 pub mod RowsSoFar
 pub mod OnlyReading
+pub mod GivenSoFar
+pub mod ReadSoFar
 pub mod Fitting
 pub mod Pages
 pub mod Exchanging

@@ -25,7 +25,7 @@ use Rattle.view_model.proofs.Firsts.{changes_none}
 use Rattle.view_index.specs.Changed.{changed_rows}
 use Rattle.view_index.specs.Replaced.{replaced_views}
 use Rattle.view_index.proofs.Updating.{replacements_are_updates, replacements_of_nothing}
-use Rattle.view_updater.specs.Exchanges.{documents_of}
+use Rattle.view_updater.specs.Given.{documents_of}
 use Rattle.view_updater.specs.Updates.{documents_since}
 
 abbrev Lists : Type 0

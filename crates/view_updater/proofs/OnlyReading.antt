@@ -1,12 +1,11 @@
 -- Calls that only read the folder, and their faults.
-use Rattle.std.specs.Prelude.{◌≡◌, ◌≢◌, ℕ, List, Result, Ok, Err, IfErr, IsErr, IsErrAnd}
-use Rattle.std.proofs.Common.{refl, ap, sym, ◌∙◌, subst, inl, inr, arith}
+use Rattle.std.specs.Prelude.{◌≡◌, ◌≢◌, ℕ, List, Result, Ok, Err, IsErr, IsErrAnd}
+use Rattle.std.proofs.Common.{refl, ap, sym, ◌∙◌, subst, inl, inr}
 use Rattle.std.proofs.lemmas.Result.{err_from_is_err_and}
-use Rattle.view_ports.specs.Causes.{CountsFor}
 use Rattle.view_ports.specs.Disk.{IfTold, MovesNone, Tells}
 use Rattle.view_ports.specs.declared.file_name.FileName.{FileName}
 use Rattle.view_ports.specs.declared.folder.Folder.{Ghosts as Folders}
-use Rattle.view_ports.specs.Faults.{Rose}
+use Rattle.view_ports.specs.Faults.{CountsFor}
 use Rattle.view_ports.specs.File.{File}
 use Rattle.view_ports.proofs.DiskRuns.{none_same}
 use Rattle.view_ports.proofs.Told.{told_all, told_back, told_now}
@@ -92,8 +91,11 @@ module _ {F : Type 0} (f : Folders F) (docs : Docs) (old new : F) where
     disk = disk;
     faults = of_no_index fault;
     file = read_file fault reads;
-    cause = λ told. cause.failed (of_documents fault DiskFault told);
-    still = λ differs. cause.still (λ told. differs (ap (λ (e : DocFault). failed T (by_documents e)) (let same : fault ≡ doc.Gate DiskFault = cc in same)));
+    counted = record {
+      later = cause.later;
+      failed = λ told. cause.failed (of_documents fault DiskFault told);
+      still = λ differs. cause.still (λ told. differs (ap (λ (e : DocFault). failed T (by_documents e)) (let same : fault ≡ doc.Gate DiskFault = cc in same)));
+    };
     sound = λ history. told_now (f.disk old) (λ d. AreAt docs d.now history → (name : FileName) (at : ℕ) → documents_failed S fault ≡ Err (doc.Gate (Damaged name at)) → ⊥)
         (λ d. AreAt docs d.now history → (name : FileName) (at : ℕ) → failed T (by_documents fault) ≢ Err (OfDocuments (Damaged name at)))
         (λ d never here name at told. never here name at (ap (documents_failed S) (of_documents fault (Damaged name at) (let same : by_documents fault ≡ OfDocuments (Damaged name at) = cc in same)))) (sound history);
@@ -102,7 +104,6 @@ module _ {F : Type 0} (f : Folders F) (docs : Docs) (old new : F) where
         (λ d spoiled loaded name at told.
         let found = spoiled loaded name at (ap (documents_failed S) (of_documents fault (Damaged name at) (let same : by_documents fault ≡ OfDocuments (Damaged name at) = cc in same))) in
         (found.0, seq, found.1)) damaged;
-    later = cause.later;
   })
 
   -- the same of another call's result
@@ -111,14 +112,16 @@ module _ {F : Type 0} (f : Folders F) (docs : Docs) (old new : F) where
     disk = reads.disk;
     faults = reads.faults;
     file = reads.file;
-    cause = reads.cause;
-    still = λ differs. reads.still (λ told. differs (ap (failed T) (let same : fault ≡ OfDocuments DiskFault = cc in same)));
+    counted = record {
+      later = reads.counted.later;
+      failed = reads.counted.failed;
+      still = λ differs. reads.counted.still (λ told. differs (ap (failed T) (let same : fault ≡ OfDocuments DiskFault = cc in same)));
+    };
     sound = λ history. told_now (f.disk old) (λ d. AreAt docs d.now history → (name : FileName) (at : ℕ) → failed S fault ≢ Err (OfDocuments (Damaged name at)))
         (λ d. AreAt docs d.now history → (name : FileName) (at : ℕ) → failed T fault ≢ Err (OfDocuments (Damaged name at)))
         (λ d never here name at told. never here name at (ap (failed S) (let same : fault ≡ OfDocuments (Damaged name at) = cc in same))) (reads.sound history);
     damaged = told_now (f.disk old) (λ d. FindsBodies docs (failed S fault) d.now) (λ d. FindsBodies docs (failed T fault) d.now)
         (λ d found loaded name at told. found loaded name at (ap (failed S) (let same : fault ≡ OfDocuments (Damaged name at) = cc in same))) reads.damaged;
-    later = reads.later;
   })
 
   -- they were read, and then something else failed
@@ -128,13 +131,11 @@ module _ {F : Type 0} (f : Folders F) (docs : Docs) (old new : F) where
     disk = reads.disk;
     faults = other;
     file = of_no_file fault other never;
-    cause = λ told. absurd (never DiskFault told);
-    still = λ differs. reads.still (λ told. cc);
+    counted = record { later = reads.counted.later; failed = λ told. absurd (never DiskFault told); still = λ differs. reads.counted.still (λ told. cc) };
     sound = λ history. told_all (f.disk old) (λ d. AreAt docs d.now history → (name : FileName) (at : ℕ) → failed T fault ≢ Err (OfDocuments (Damaged name at)))
         (λ d here name at told. never (Damaged name at) (let same : fault ≡ OfDocuments (Damaged name at) = cc in same));
     damaged = told_all (f.disk old) (λ d. FindsBodies docs (failed T fault) d.now)
         (λ d loaded name at told. absurd (never (Damaged name at) (let same : fault ≡ OfDocuments (Damaged name at) = cc in same)));
-    later = reads.later;
   })
 
   -- or nothing did
@@ -143,19 +144,12 @@ module _ {F : Type 0} (f : Folders F) (docs : Docs) (old new : F) where
     disk = reads.disk;
     faults = tt;
     file = tt;
-    cause = tt;
-    still = λ differs. reads.still (λ told. cc);
+    counted = record { later = reads.counted.later; failed = tt; still = λ differs. reads.counted.still (λ told. cc) };
     sound = λ history. told_all (f.disk old) (λ d. AreAt docs d.now history → (name : FileName) (at : ℕ) → done_as T done ≢ Err (OfDocuments (Damaged name at))) (λ d here name at told. cc);
     damaged = told_all (f.disk old) (λ d. FindsBodies docs (done_as T done) d.now) (λ d loaded name at told. cc);
-    later = reads.later;
   }
 
 -- ---- one call that only reads behind others
-
--- what a result that is an error promises is wider
-err_wider : {T E : Type 0} (result : Result T E) (P Q : E → Type 0) → ((e : E) → P e → Q e) → IfErr result P → IfErr result Q
-err_wider (Ok value) P Q then is = tt
-err_wider (Err fault) P Q then is = then fault is
 
 module _ {F : Type 0} (f : Folders F) (docs : Docs) (old mid : F) (disk : Tells (f.disk old) (f.disk mid) MovesNone) where
   -- what is known over a history now was known before
@@ -166,6 +160,14 @@ module _ {F : Type 0} (f : Folders F) (docs : Docs) (old mid : F) (disk : Tells 
       (λ a b none known here.
       let files : b.now ≡ a.now = λ i name. none_same a b none name i in
       known (subst (λ (fs : FileName → File). AreAt docs fs history) (sym files) here)) disk (told history)
+
+  -- and so was what is known of loaded documents
+  pub loaded_before : (X : List ℕ → Type 0) → IfTold (f.disk mid) (λ d. AreLoaded docs d.now → X (bytes_in docs d.now)) → IfTold (f.disk old) (λ d. AreLoaded docs d.now → X (bytes_in docs d.now))
+  loaded_before X told =
+      told_back (f.disk old) (f.disk mid) (λ d. AreLoaded docs d.now → X (bytes_in docs d.now)) (λ d. AreLoaded docs d.now → X (bytes_in docs d.now)) MovesNone
+      (λ a b none known.
+      let files : b.now ≡ a.now = λ i name. none_same a b none name i in
+      subst (λ (fs : FileName → File). AreLoaded docs fs → X (bytes_in docs fs)) files known) disk told
 
   -- what is found damaged now was so before
   bodies_before : {T : Type 0} (result : Result T UpdateFault) → IfTold (f.disk mid) (λ d. FindsBodies docs result d.now) → IfTold (f.disk old) (λ d. FindsBodies docs result d.now)
@@ -180,12 +182,9 @@ module _ {F : Type 0} (f : Folders F) (docs : Docs) (old mid : F) (disk : Tells 
     disk = told_none_then (f.disk old) (f.disk mid) (f.disk new) disk reads.disk;
     faults = reads.faults;
     file = reads.file;
-    cause = err_wider result (λ fault. fault ≡ OfDocuments DiskFault → Rose (f.faults mid) (f.faults new)) (λ fault. fault ≡ OfDocuments DiskFault → Rose (f.faults old) (f.faults new))
-        (λ fault rose told. subst (λ (n : ℕ). Rose n (f.faults new)) same (rose told)) reads.cause;
-    still = λ differs. reads.still differs ∙ same;
+    counted = subst (λ (n : ℕ). CountsFor (OfDocuments DiskFault) n (f.faults new) result) same reads.counted;
     sound = known_before (λ history. (name : FileName) (at : ℕ) → result ≢ Err (OfDocuments (Damaged name at))) reads.sound;
     damaged = bodies_before result reads.damaged;
-    later = omega (arith, same, reads.later);
   }
 
 -- ---- faults of the pool

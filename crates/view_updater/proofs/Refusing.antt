@@ -1,7 +1,6 @@
 -- An update that is refused before its commit: the folder was only read, and the index is as of its last commit.
-use Rattle.std.specs.Prelude.{◌≡◌, ◌≢◌, ◌⊎◌, ◌≤◌, ℕ, List, length, Option, Err}
+use Rattle.std.specs.Prelude.{◌≡◌, ◌≢◌, ◌⊎◌, ◌≤◌, ℕ, List, length, Option, Ok, Err}
 use Rattle.std.proofs.Common.{sym, ◌∙◌, subst, inl, inr, arith}
-use Rattle.json_terms.specs.Json.{Json}
 use Rattle.view_ports.specs.Disk.{IfTold}
 use Rattle.view_ports.specs.declared.folder.Folder.{Ghosts as Folders}
 use Rattle.view_ports.proofs.Told.{told_all}
@@ -9,7 +8,7 @@ use Rattle.view_ports.specs.declared.servers.Servers.{Ghosts as Servers}
 use Rattle.gate_file.specs.declared.fault.GateFault.TheVariants.{Damaged, DiskFault, Full}
 use Rattle.design_docs.specs.declared.design.Design.{Design}
 use Rattle.doc_file.specs.declared.docs.Docs.{Docs}
-use Rattle.doc_file.specs.Docs.{seq_of as written}
+use Rattle.doc_file.specs.Docs.{seq_of as written, IsLoaded as AreLoaded}
 use Rattle.design_docs.specs.History.{Write}
 use Rattle.child_pool.specs.declared.pool.Pool.{Pool}
 use Rattle.child_pool.specs.declared.pool_fault.PoolFault.{PoolFault}
@@ -27,7 +26,7 @@ use Rattle.view_updater.specs.declared.fault.UpdateFault.{UpdateFault}
 use Rattle.view_updater.specs.declared.fault.UpdateFault.TheVariants.{Docs as OfDocuments, Index as OfIndex, Pool as OfPool}
 use Rattle.view_updater.specs.Exchanges.{OnlyReads}
 use Rattle.view_updater.specs.Faults.{by_pool}
-use Rattle.view_updater.specs.Updates.{side, AsksSince, ComplainsRightly, HasAsked, IsIdle, IsIdleEnd, IsLast, IsOfIndex, IsReached, Side, Updates}
+use Rattle.view_updater.specs.Updates.{side, AsksSince, AsksWritten, ComplainsRightly, IsIdle, IsOfIndex, IsReached, Side, Updates}
 use Rattle.view_updater.proofs.Carrying.{same_stem, same_views}
 use Rattle.view_updater.proofs.Ends.{refused, refused_others, refused_stands, IsBack}
 use Rattle.view_updater.proofs.Exchanging.{by_pool_of, path_before, rose_since, EndsPool}
@@ -49,7 +48,8 @@ module _ {F C : Type 0} (f : Folders F) (s : Servers C) (docs : Docs) (design : 
 
   pub refuses : IfTold (f.disk old.folder) (λ d. IsOpen old.index d.now) → seq_of old.index ≢ written docs
       → ((history : List Write) (picture : Option Picture) → IfTold (f.disk old.folder) (λ d. IsReached docs old.index history picture d.now → AsksSince f s docs design old new history picture (refused fault)))
-      → (IsIdle f s docs design old new × IsIdleEnd (refused fault)) ⊎ ((documents : List (List (List ℕ × Json))) × HasAsked f s docs design old new documents (IsLast f s docs design old new (refused fault)) (refused fault)) → OnlyReads f docs old.folder mid.folder (refused fault) → EndsPool s design old.servers servers old.pool pool fault
+      → (IsIdle f s docs design old new × (refused fault ≡ Ok tt) × (seq_of old.index ≡ written docs)) ⊎ ((seq_of old.index ≢ written docs) × AsksWritten f s docs design old new (refused fault))
+      → OnlyReads f docs old.folder mid.folder (refused fault) → EndsPool s design old.servers servers old.pool pool fault
       → file_of last ≡ file_of old.index → picture_of last ≡ picture_of old.index → IsSettled last
       → ((history : List Write) (picture : Option Picture) → IfTold (f.disk old.folder) (λ d. IsReached docs old.index history picture d.now) → refused fault ≡ Err (OfPool Compile)
       → IfTold (f.disk old.folder) (λ d. ComplainsRightly s design old.servers old.pool history (or_empty (views_of old.index) picture)))
@@ -65,21 +65,18 @@ module _ {F C : Type 0} (f : Folders F) (s : Servers C) (docs : Docs) (design : 
     settled = (settled, rows);
     fresh = λ since. tt;
     once = record { due = λ since. tt; refused = inr file };
-    within = record {
-      full = λ name length is. absurd (of_no_index (Store (Full name length)) (let same : fault ≡ OfIndex (Store (Full name length)) = cc in same));
-      room = λ is. absurd (of_no_index (Store DiskFault) (let same : fault ≡ OfIndex (Store DiskFault) = cc in same));
-    };
     newest = tt;
     freely = λ history picture. told_all (f.disk old.folder) (λ d. IsReached docs old.index history picture d.now → Unit {0}) (λ d here. tt);
-    cause = λ told. elim told [ inl is ↦ reads.cause is | inr is ↦ absurd (of_no_index (Store DiskFault) is) ];
-    still = λ spared. reads.still (λ is. spared (inl (let same : fault ≡ OfDocuments DiskFault = cc in same)));
+    cause = λ told. elim told [ inl is ↦ reads.counted.failed is | inr is ↦ absurd (of_no_index (Store DiskFault) is) ];
+    still = λ spared. reads.counted.still (λ is. spared (inl (let same : fault ≡ OfDocuments DiskFault = cc in same)));
     sound = reads.sound;
     whole = λ name at is. of_no_index (Store (Damaged name at)) (let same : fault ≡ OfIndex (Store (Damaged name at)) = cc in same);
     file = reads.file;
     full = λ name length is. absurd (of_no_index (Store (Full name length)) (let same : fault ≡ OfIndex (Store (Full name length)) = cc in same));
     filled = λ history picture reached name length is. absurd (of_no_index (Store (Full name length)) (let same : fault ≡ OfIndex (Store (Full name length)) = cc in same));
     damaged = reads.damaged;
-    later = (reads.later, ends.later);
+    undamaged = told_all (f.disk old.folder) (λ d. AreLoaded docs d.now → Unit {0}) (λ d loaded. tt);
+    later = (reads.counted.later, ends.later);
     keeps = ends.keeps;
     blames = ends.blames;
     unknown = ends.unknown;

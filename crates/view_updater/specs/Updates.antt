@@ -1,6 +1,7 @@
 -- Bringing an index up to date.
 use Rattle.std.specs.Prelude.{◌≡◌, ◌≢◌, ◌⊎◌, ◌≤◌, ◌++◌, ℕ, List, [], map, length, true, false, Result, Ok, Err, IfErr, IfOk, OnErr, OnOk, Option, Some, None}
 use Rattle.json_terms.specs.Json.{Json}
+use Rattle.raw_collation.specs.Sorting.{sorted_rows}
 use Rattle.view_ports.specs.Calls.{Call}
 use Rattle.view_ports.specs.Disk.{IfTold, Moves, Tells}
 use Rattle.view_ports.specs.Faults.{Rose, RoseBy}
@@ -18,8 +19,9 @@ use Rattle.design_docs.specs.declared.design.View.{View}
 use Rattle.design_docs.specs.Design.{map_sources}
 use Rattle.query_protocol.specs.CommandLines.{document_of}
 use Rattle.doc_file.specs.declared.docs.Docs.{Docs}
-use Rattle.doc_file.specs.Changes.{IsSpoiledAfter}
-use Rattle.doc_file.specs.Docs.{bytes_in, file_of, seq_of as written, IsAt as AreAt, IsLoaded as AreLoaded}
+use Rattle.doc_file.specs.declared.entry.LastWrite.{LastWrite}
+use Rattle.doc_file.specs.Changes.{IsSpoiledAfter, IsStored}
+use Rattle.doc_file.specs.Docs.{bytes_in, file_of, last_of, seq_of as written, IsAt as AreAt, IsLoaded as AreLoaded}
 use Rattle.design_docs.specs.History.{Write, mapped_after}
 use Rattle.child_pool.specs.declared.doc_rows.DocRowLists.{DocRowLists}
 use Rattle.child_pool.specs.declared.pool.Pool.{Pool}
@@ -42,6 +44,7 @@ use Rattle.view_updater.specs.declared.fault.UpdateFault.{UpdateFault}
 use Rattle.view_updater.specs.declared.fault.UpdateFault.TheVariants.{Docs as OfDocuments, Index as OfIndex, NoMemory, Pool as OfPool}
 use Rattle.view_updater.specs.Checking.{Checks}
 use Rattle.view_updater.specs.Faults.{by_pool}
+use Rattle.view_updater.specs.Given.{documents_of, AreGiven, AreLastWrites, CoverAll}
 
 -- what an update is given and leaves
 pub record Side (F C : Type 0) : Type 0 where
@@ -105,6 +108,20 @@ IsFileFault other = Unit {0}
 abbrev pub IsBodyDamaged : Docs → (FileName → File) → FileName → ℕ → Type 0
 IsBodyDamaged docs files name at = (name ≡ name_of (file_of docs)) × (seq : ℕ) × IsSpoiledAfter docs (bytes_in docs files) seq at
 
+-- the last write of another id has this number too, and what is stored of it can be read
+pub record IsShared (docs : Docs) (bytes id : List ℕ) (number : ℕ) : Type 0 where
+  pub other : List ℕ
+  pub apart : other ≢ id
+  pub last : LastWrite
+  pub found : last_of docs other ≡ Some last
+  pub same : last.seq ≡ number
+  pub document : Option Json
+  pub stored : IsStored other bytes last document
+
+-- no body is damaged of a last write with a number after `seq`, unless it shares its number
+abbrev pub AreUndamaged : Docs → List ℕ → ℕ → Type 0
+AreUndamaged docs bytes seq = (at : ℕ) (spoiled : IsSpoiledAfter docs bytes seq at) → IsShared docs bytes spoiled.id (spoiled.last).seq
+
 -- reading the documents failed, or memory ran out
 abbrev pub IsBreak : {T : Type 0} → Result T UpdateFault → Type 0
 IsBreak (Ok done) = ⊥
@@ -160,8 +177,9 @@ module _ {C : Type 0} (s : Servers C) (servers servers' : C) (pool pool' : Pool)
   IsThenChecked IsNext between pool_between (Ok done) result =
       (next : Picture) × IsNext next × (checked : Result (Unit {0}) PoolFault) × Checks s between servers' pool_between pool' design next.rows checked × IsMetBy checked result
 
-  -- the documents were asked for, all or the first ones, and then, where all were mapped, the reduces of the next picture
-  pub record HasAskedFor {T : Type 0} (documents : List (List (List ℕ × Json))) (IsNext : Picture → Type 0) (result : Result T UpdateFault) : Type 0 where
+  -- the documents were asked for, all or the first ones, and then, where all were mapped, the reduces of the next picture, which may be
+  -- told of by what was between
+  pub record HasAskedBy {T : Type 0} (documents : List (List (List ℕ × Json))) (IsNext : C → Pool → Picture → Type 0) (result : Result T UpdateFault) : Type 0 where
     pub between : C
     pub pool_between : Pool
     pub mapped : Result (Unit {0}) UpdateFault
@@ -169,7 +187,11 @@ module _ {C : Type 0} (s : Servers C) (servers servers' : C) (pool pool' : Pool)
     pub keeps : StaysAsMade pool pool_between
     pub later : s.faults servers ≤ s.faults between
     pub twice : mapped ≡ Err (OfPool ServerFault) → RoseBy 2 (s.faults servers) (s.faults between)
-    pub checks : IsThenChecked IsNext between pool_between mapped result
+    pub checks : IsThenChecked (IsNext between pool_between) between pool_between mapped result
+
+  -- the same of any next picture
+  abbrev pub HasAskedFor : {T : Type 0} → List (List (List ℕ × Json)) → (Picture → Type 0) → Result T UpdateFault → Type 0
+  HasAskedFor documents IsNext result = HasAskedBy documents (λ between pool_between. IsNext) result
 
 module _ (functions : List ℕ → Functions) (honest : List ℕ → Type 0) (design : Design) where
   -- a picture that the servers of a path made of another one: its rows are those of an honest path where there are no more views than a
@@ -251,17 +273,29 @@ module _ {F C : Type 0} (f : Folders F) (s : Servers C) (docs : Docs) (design : 
     pub due : seq_of old.index ≢ written docs → OnOk result ((index_file new.index ≡ published (index_file old.index) new_size 0) × (IsFull (index_file old.index) new_size → ⊥))
     pub refused : IfErr result (λ fault. (fault ≡ OfIndex (Store DiskFault)) ⊎ (index_file new.index ≡ index_file old.index))
 
-  -- a picture that the update might have committed: it is of the newest write, and over a history it is one that the update makes
-  pub record IsTried (next : Picture) : Type 0 where
+  -- The next picture, by the documents of these writes: it is of the newest write, and its rows are those that the query servers gave for
+  -- them. Over a history it is one that the documents make, and the update makes it, where it committed it, or tried to.
+  pub record IsTried (changes : List (ℕ × Write)) (between : C) (pool_between : Pool) (result : Result (Unit {0}) UpdateFault) (next : Picture) : Type 0 where
     pub newest : next.seq ≡ written docs
     pub number : length next.rows ≡ views_of old.index
-    pub made : (history : List Write) (picture : Option Picture) → IfTold (f.disk old.folder) (λ d. IsReached docs old.index history picture d.now → IsNext history picture next)
+    pub all : CoverAll docs (seq_of old.index) changes
+    pub given : AreGiven f s docs design old.folder old.servers between old.pool pool_between (views_of old.index) changes (map sorted_rows (picture_of old.index).rows) next.rows
+    pub mapped : (history : List Write) (picture : Option Picture) → IfTold (f.disk old.folder) (λ d. IsReached docs old.index history picture d.now → IsMappedTo history picture next)
+    pub made : IsMadeBy result next → (history : List Write) (picture : Option Picture)
+        → IfTold (f.disk old.folder) (λ d. IsReached docs old.index history picture d.now → IsNext history picture next)
+    -- after Ok it is that of the index; the file of the index is full only where it would be with it, and a fault of the disk in it comes
+    -- only where there is room for it
+    pub last : IsLast result next
+    pub full : (name : FileName) (length : Option ℕ) → result ≡ Err (OfIndex (Store (Full name length))) → IsFullWith old.index next name length
+    pub room : result ≡ Err (OfIndex (Store DiskFault)) → IsFull (index_file old.index) (length (record_bytes next.seq next.rows)) → ⊥
 
-  -- The file of the index is full only where it would be with such a picture, and a fault of the disk in it comes only where there is room
-  -- for one.
-  pub record StaysWithin (result : Result (Unit {0}) UpdateFault) : Type 0 where
-    pub full : (name : FileName) (length : Option ℕ) → result ≡ Err (OfIndex (Store (Full name length))) → (next : Picture) × IsTried next × IsFullWith old.index next name length
-    pub room : result ≡ Err (OfIndex (Store DiskFault)) → (next : Picture) × IsTried next × (IsFull (index_file old.index) (length (record_bytes next.seq next.rows)) → ⊥)
+  -- the documents of some last writes were asked for, all or the first ones, and then the reduces of the picture that they make; no fault
+  -- of the index comes before
+  pub record AsksWritten (result : Result (Unit {0}) UpdateFault) : Type 0 where
+    pub changes : List (ℕ × Write)
+    pub written : AreLastWrites f docs old.folder (seq_of old.index) changes
+    pub asked : HasAskedBy s old.servers new.servers old.pool new.pool design (documents_of changes) (λ between pool_between. IsTried changes between pool_between result) result
+    pub early : IfErr asked.mapped (λ fault. IsOfIndex fault → ⊥)
 
   pub record Updates (result : Result (Unit {0}) UpdateFault) : Type 0 where
     -- a crash leaves the picture or an updated one, and after Ok the index is at that; the documents' files are as they were
@@ -272,8 +306,9 @@ module _ {F C : Type 0} (f : Folders F) (s : Servers C) (docs : Docs) (design : 
     -- it is refused for a source that doesn't compile only where one is wanted that doesn't
     pub spoils : (history : List Write) (picture : Option Picture) → IfTold (f.disk old.folder) (λ d. IsReached docs old.index history picture d.now)
         → result ≡ Err (OfPool Compile) → IfTold (f.disk old.folder) (λ d. ComplainsRightly s design old.servers old.pool history (or_empty (views_of old.index) picture))
-    -- whatever is told, some documents were asked for, all or the first ones, or nothing was
-    pub asked : (IsIdle × IsIdleEnd result) ⊎ ((documents : List (List (List ℕ × Json))) × HasAsked documents (IsLast result) result)
+    -- whatever is told, documents of last writes were asked for, all or the first ones, and the next picture is what was given for them;
+    -- or nothing was written since
+    pub asked : (IsIdle × (result ≡ Ok tt) × (seq_of old.index ≡ written docs)) ⊎ ((seq_of old.index ≢ written docs) × AsksWritten result)
     -- where nothing was written since, nothing is done
     pub idle : seq_of old.index ≡ written docs → (result ≡ Ok tt) × (new ≡ old)
     -- whatever is told: files of other names are as they were, the index is open still where nothing of it failed, and a refusal leaves
@@ -284,7 +319,6 @@ module _ {F C : Type 0} (f : Folders F) (s : Servers C) (docs : Docs) (design : 
     -- where something was written since, nothing is exchanged in the index after Ok
     pub fresh : seq_of old.index ≢ written docs → OnOk result (IsSettled new.index)
     pub once : CommitsOnce result
-    pub within : StaysWithin result
     -- whatever is held, after Ok it is of the newest write, and over a history it is updated whatever its path is
     pub newest : OnOk result (seq_of new.index ≡ written docs)
     pub freely : (history : List Write) (picture : Option Picture) → IfTold (f.disk old.folder) (λ d. IsReached docs old.index history picture d.now
@@ -301,6 +335,8 @@ module _ {F C : Type 0} (f : Folders F) (s : Servers C) (docs : Docs) (design : 
     pub file : IfErr result IsFileFault
     pub full : (name : FileName) (length : Option ℕ) → result ≡ Err (OfIndex (Store (Full name length))) → name.stem ≡ stem_of old.index
     pub damaged : IfTold (f.disk old.folder) (λ d. AreLoaded docs d.now → (name : FileName) (at : ℕ) → result ≡ Err (OfDocuments (Damaged name at)) → IsBodyDamaged docs d.now name at)
+    -- and after Ok none is damaged of those that were written since, but where two last writes have one number, which no history has
+    pub undamaged : IfTold (f.disk old.folder) (λ d. AreLoaded docs d.now → OnOk result (AreUndamaged docs (bytes_in docs d.now) (seq_of old.index)))
     -- the file of the index is full only where it would be with a picture that the update makes, and then the index is at its own still
     pub filled : (history : List Write) (picture : Option Picture) → IfTold (f.disk old.folder) (λ d. IsReached docs old.index history picture d.now)
         → (name : FileName) (length : Option ℕ) → result ≡ Err (OfIndex (Store (Full name length)))

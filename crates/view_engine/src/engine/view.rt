@@ -13,9 +13,9 @@ ghost use Rattle.view_engine.specs.Calls.{scene, Performed};
 ghost use Rattle.view_engine.specs.Disks.{LiesOpen, Reads, Spares};
 ghost use Rattle.view_engine.specs.View as spec;
 ghost use Rattle.view_engine.specs.Viewed.{IsTurnedAway, Views};
-ghost use Rattle.view_engine.specs.Planning.{HasPath, IsOfLive, IsReadOf, PlansView, ReadsDesign, RefusesAsKept, RefusesByDesign, RefusesView, StopsLive, TakesByDesign};
+ghost use Rattle.view_engine.specs.Planning.{IsPlanned, PlansView, RefusesAsKept, RefusesByDesign, RefusesView, StopsLive};
 ghost use Rattle.view_engine.specs.ViewQuery as query;
-ghost use Rattle.view_engine.specs.ViewQuery.{parameters_in, query_for, view_query};
+ghost use Rattle.view_engine.specs.ViewQuery.{parameters_in, view_query};
 ghost use Rattle.view_engine.specs.ViewPlan.{met_by, met_by_pool, met_by_query, source_at, HasReduce, IsUpdateFault, ShowsRows};
 
 use crate::design::design_of;
@@ -102,23 +102,11 @@ impl Engine {
         query: Option<Members>,
     ) -> Result<Plan, Halt>
         ensures plan { PlansView F.Folder self.now folder.old (view_query name.now query) result }
-        ensures read { ReadsDesign F.Folder self.now folder.old (view_query name.now query) result }
-        ensures about { IfOk result (λ plan. IsReadOf F.Folder self.now.docs folder.old
-            (view_query name.now query) plan.design) }
-        ensures reduce { IfOk result (λ plan. HasReduce plan.design.views name.now.view plan.place) }
-        ensures shown { IfOk result (λ plan. ShowsRows plan.design.views name.now.view plan.place) }
-        ensures query { IfOk result (λ plan. plan.query ≡ query_for plan.design.views
-            (view_query name.now query)) }
-        ensures few { IfOk result (λ plan. length plan.design.views ≤ 32) }
-        ensures within { IfOk result (λ plan. plan.place < length plan.design.views) }
-        ensures known { IfOk result (HasPath self.now) }
+        ensures planned { IfOk result (IsPlanned F.Folder self.now folder.old (view_query name.now query)) }
         ensures refused { RefusesView F.Folder self.now folder.old (view_query name.now query) result }
-        ensures live { IfOk result (IsOfLive self.now (view_query name.now query)) }
         ensures kept { IfErr result (RefusesAsKept self.now (view_query name.now query)) }
         ensures stopped { IfErr result (StopsLive self.now (view_query name.now query)) }
-        ensures taken { IfOk result (λ plan. TakesByDesign F.Folder self.now folder.old (view_query name.now query)) }
         ensures own { IfErr result (RefusesByDesign F.Folder self.now folder.old (view_query name.now query)) }
-        ensures unblamed { IfErr result (λ halt. halt ≢ Halt.Refused Refusal.ServerFault) }
         ensures turned { IfErr result (λ halt. IsTurnedAway (Err halt)) }
         ensures reads { Reads F.Folder self.now.docs folder.old folder.new result }
         ensures spares { Spares F.Folder folder.old folder.new result }

@@ -1,7 +1,8 @@
 //! What was written to an engine's documents, for who maps them without an index.
 
-ghost use Rattle.std.specs.Prelude.{◌≡◌, ◌≤◌, IfErr, IfOk, length, map};
+ghost use Rattle.std.specs.Prelude.{◌≡◌, IfErr, IfOk, length, map};
 ghost use Rattle.view_ports.specs.Disk.{IfTold, MovesNone, Tells};
+ghost use Rattle.view_ports.specs.Faults.{CountsFor};
 ghost use Rattle.view_ports.specs.File.{File};
 ghost use Rattle.view_ports.specs.declared.file_name.FileName.{FileName};
 ghost use Rattle.doc_file.specs.Changes.{numbered};
@@ -42,7 +43,7 @@ impl Engine {
             → IfOk result (λ changes. map numbered changes ≡ changes_after 0 world.history)) }
         ensures disk { Tells (F.disk folder.old) (F.disk folder.new) MovesNone }
         ensures why { IfErr result (IsReadReasonOf F.Folder self.now folder.old folder.new) }
-        ensures later { F.faults folder.old ≤ F.faults folder.new }
+        ensures counted { CountsFor StepFault.DiskFault (F.faults folder.old) (F.faults folder.new) result }
     {
         match self.docs.changed_since(alloc, folder, 0, u32::MAX) {
             Ok(changes) => {

@@ -77,6 +77,11 @@ returns-in-Serve-clause-loads g c = λ docs number asks opening holds.
     let own = found_as c.args.words.now c.in-Ok-Some.field-0 c.in-Ok-Some.command (Serve c.in-Serve.width c.in-Serve.words) c.in-Ok-Some.field-0-is c.in-Serve.is c.in-Ok-Some.ensures.some in
     absurd (not_both c.args.words.now docs number c.in-Serve.width c.in-Serve.words asks own)
 
+pub returns-in-Serve-clause-whole : goal.returns-in-Serve-clause-whole
+returns-in-Serve-clause-whole g c = λ docs number asks opening holds sink_stays disk_stays roomy.
+    let own = found_as c.args.words.now c.in-Ok-Some.field-0 c.in-Ok-Some.command (Serve c.in-Serve.width c.in-Serve.words) c.in-Ok-Some.field-0-is c.in-Serve.is c.in-Ok-Some.ensures.some in
+    absurd (not_both c.args.words.now docs number c.in-Serve.width c.in-Serve.words asks own)
+
 pub returns-in-Serve-clause-unread : goal.returns-in-Serve-clause-unread
 returns-in-Serve-clause-unread g c = λ none.
     let own = found_as c.args.words.now c.in-Ok-Some.field-0 c.in-Ok-Some.command (Serve c.in-Serve.width c.in-Serve.words) c.in-Ok-Some.field-0-is c.in-Serve.is c.in-Ok-Some.ensures.some in

@@ -1,6 +1,6 @@
 -- The next line isn't the refusal, and in the end there are no more.
 use Rattle.std.proofs.Common.{◌≡◌, ◌∙◌, true, sym, true≢false}
-use Rattle.couchview_cli.proofs.Shown.{cut_shorter, none_first, none_last, none_next}
+use Rattle.couchview_cli.proofs.Shown.{cut_shorter, none_first, none_last, none_next, some_next}
 use Rattle.couchview_cli.proofs.load.has_want.Goals as goal
 
 pub loop-reply-init : goal.loop-reply-init
@@ -14,5 +14,9 @@ loop-reply-preserved c =
     none_next c.args.written.now c.loop-reply.rest.now c.in-Some.reply.now c.in-Some.behind.now c.loop-reply.invariant c.in-Some.ensures.0 c.in-Some.ensures.1
     (λ is. let yes : c.is_no_memory.result ≡ true = c.is_no_memory.ensures.1 is in true≢false (sym yes ∙ c.if-is_no_memory.false))
 
-pub returns : goal.returns
-returns c = λ is. none_last c.args.written.now c.loop-reply.rest.now c.loop-reply.invariant c.in_default.ensures
+pub returns-then-is_no_memory-clause-some : goal.returns-then-is_no_memory-clause-some
+returns-then-is_no_memory-clause-some c = λ is.
+    some_next c.args.written.now c.loop-reply.rest.now c.in-Some.reply.now c.in-Some.behind.now c.loop-reply.invariant c.in-Some.ensures.1 (c.is_no_memory.ensures.0 c.if-is_no_memory.true)
+
+pub returns-clause-none : goal.returns-clause-none
+returns-clause-none c = λ is. none_last c.args.written.now c.loop-reply.rest.now c.loop-reply.invariant c.in_default.ensures

@@ -1,7 +1,7 @@
 -- Serving is what its session came to.
 use Rattle.std.specs.Prelude.{map, string_bytes}
-use Rattle.std.proofs.Common.{◌≡◌, ◌≢◌, ◌∙◌, ℕ, List, [], Option, Err, Result, inl, inr, refl, sym, ap, subst}
-use Rattle.view_ports.specs.Causes.{CountsFor}
+use Rattle.std.proofs.Common.{◌≡◌, ◌∙◌, ℕ, [], Err, Result, inl, inr, refl, sym, ap, subst}
+use Rattle.view_ports.specs.Faults.{CountsFor}
 use Rattle.view_ports.specs.declared.file_name.FileName.{FileName}
 use Rattle.view_ports.proofs.Counting.{Rose-earlier}
 use Rattle.view_ports.proofs.Told.{told_now, told_pair}
@@ -9,12 +9,11 @@ use Rattle.child_pool.specs.Languages.{languages_in}
 use Rattle.view_engine.specs.declared.halt.StepFault.{StepFault}
 use Rattle.view_engine.specs.declared.halt.StepFault.TheVariants.{Damaged, DiskFault}
 use Rattle.view_engine.specs.Calls.{scene}
-use Rattle.view_engine.specs.Worlds.{HasDamage, Holds}
+use Rattle.view_engine.specs.Worlds.{update_seq, HasDamage, Holds}
 use Rattle.view_engine.proofs.Worlds.{starts_at}
 use Rattle.view_engine.specs.declared.engine.Engine.{Engine}
 use Rattle.line_loop.specs.declared.loop_end.LoopEnd.{LoopEnd}
 use Rattle.line_loop.specs.declared.loop_end.LoopEnd.TheVariants.{Stopped}
-use Rattle.couchview_cli.specs.Closing.{fault_status, Closes}
 use Rattle.couchview_cli.specs.Ends.{Comes}
 use Rattle.couchview_cli.specs.Reading.{HasReplied}
 use Rattle.couchview_cli.specs.Serving.{outside, AreLeft, Outside, Serves}
@@ -22,7 +21,7 @@ use Rattle.couchview_cli.specs.Session.{IsAtOrigin, Origin}
 use Rattle.couchview_cli.proofs.Coming.{come_opened}
 use Rattle.couchview_cli.proofs.Replying.{is_cut_off, reads_on}
 use Rattle.couchview_cli.proofs.Served.{cut_short, finishes, origin_of, unopened}
-use Rattle.couchview_cli.proofs.Statuses.{closed_others, end_no_load, end_no_usage}
+use Rattle.couchview_cli.proofs.Statuses.{closed_others, end_no_load, end_no_usage, spared_by}
 use Rattle.couchview_cli.proofs.serve.serve.Goals as goal
 
 pub returns-in-Err-clause-serves : goal.returns-in-Err-clause-serves
@@ -102,6 +101,7 @@ returns-in-Err-clause-lines g c =
       unread = refl;
       closes = c.close.ensures.closes;
       moved = c.open.ensures.moved;
+      spared = λ other. c.open.ensures.cause.still (λ is. other (let same : c.in-Err.fault ≡ DiskFault = cc in same));
       damaged =
           told_now (g.F.Folder.disk c.args.folder.now) (λ d. (name : FileName) (at : ℕ) → c.open.result ≡ Err (Damaged name at) → HasDamage d.now name at)
           (λ d. (name : FileName) (at : ℕ) → c.in-Err.fault ≡ Damaged name at → HasDamage d.now name at) (λ d told name at is. told name at (c.in-Err.is ∙ ap Err is)) c.open.ensures.damaged;
@@ -112,23 +112,18 @@ pub returns-in-Run-clause-lines : goal.returns-in-Run-clause-lines
 returns-in-Run-clause-lines g c =
     let ran = c.run-end.new in
     let ports = outside g.S.Source g.K.Sink g.F.Folder g.C.Servers in
-    reads_on (ports c.args.source.now c.args.sink.now c.args.folder.now c.args.servers.now) (ports ran.source ran.sink ran.folder c.finish.new.servers) c.status.result (g.F.Folder.disk c.open.new.folder) c.open.ensures.moved c.in-Run.end c.status.ensures
-    (subst (λ (e : LoopEnd StepFault). HasReplied (g.S.Source.left c.args.source.now) (g.S.Source.left ran.source) (g.K.Sink.held c.args.sink.now) (g.K.Sink.held ran.sink) (g.F.Folder.disk c.open.new.folder) (g.F.Folder.disk ran.folder) (g.C.Servers.faults c.args.servers.now) (g.C.Servers.faults c.finish.new.servers) e) c.in-Run.is (rw c.finish.ensures.faults c.run-end.ensures.replies))
+    reads_on (ports c.args.source.now c.args.sink.now c.args.folder.now c.args.servers.now) (ports ran.source ran.sink ran.folder c.finish.new.servers) c.status.result (g.F.Folder.disk c.open.new.folder) c.open.ensures.moved (update_seq c.in-Ok.engine) (c.in-Ok.engine, c.in-Ok.ensures.open, refl) c.in-Run.end c.status.ensures
+    (subst (λ (e : LoopEnd StepFault). HasReplied (g.S.Source.left c.args.source.now) (g.S.Source.left ran.source) (g.K.Sink.held c.args.sink.now) (g.K.Sink.held ran.sink) (g.F.Folder.disk c.open.new.folder) (g.F.Folder.disk ran.folder) (update_seq c.in-Ok.engine) (g.C.Servers.faults c.args.servers.now) (g.C.Servers.faults c.finish.new.servers) e) c.in-Run.is (rw c.finish.ensures.faults c.run-end.ensures.replies))
 
 pub returns-clause-lines : goal.returns-clause-lines
 returns-clause-lines g c =
     let ran = c.run-end.new in
     let ports = outside g.S.Source g.K.Sink g.F.Folder g.C.Servers in
-    is_cut_off (ports c.args.source.now c.args.sink.now c.args.folder.now c.args.servers.now) (ports ran.source c.close-in-Stopped.new.sink ran.folder c.finish.new.servers) c.close-in-Stopped.result (g.F.Folder.disk c.open.new.folder) c.open.ensures.moved (g.K.Sink.held ran.sink) c.in-Stopped.fault
-    (subst (λ (e : LoopEnd StepFault). HasReplied (g.S.Source.left c.args.source.now) (g.S.Source.left ran.source) (g.K.Sink.held c.args.sink.now) (g.K.Sink.held ran.sink) (g.F.Folder.disk c.open.new.folder) (g.F.Folder.disk ran.folder) (g.C.Servers.faults c.args.servers.now) (g.C.Servers.faults c.finish.new.servers) e) c.in-Stopped.is (rw c.finish.ensures.faults c.run-end.ensures.replies))
+    is_cut_off (ports c.args.source.now c.args.sink.now c.args.folder.now c.args.servers.now) (ports ran.source c.close-in-Stopped.new.sink ran.folder c.finish.new.servers) c.close-in-Stopped.result (g.F.Folder.disk c.open.new.folder) c.open.ensures.moved (update_seq c.in-Ok.engine) (c.in-Ok.engine, c.in-Ok.ensures.open, refl) (g.K.Sink.held ran.sink) c.in-Stopped.fault
+    (subst (λ (e : LoopEnd StepFault). HasReplied (g.S.Source.left c.args.source.now) (g.S.Source.left ran.source) (g.K.Sink.held c.args.sink.now) (g.K.Sink.held ran.sink) (g.F.Folder.disk c.open.new.folder) (g.F.Folder.disk ran.folder) (update_seq c.in-Ok.engine) (g.C.Servers.faults c.args.servers.now) (g.C.Servers.faults c.finish.new.servers) e) c.in-Stopped.is (rw c.finish.ensures.faults c.run-end.ensures.replies))
     c.close-in-Stopped.ensures.closes
 
 -- ---- no fault of the folder was counted, unless the run ended by one
-
--- a status that is not 3 and not 4 tells of another fault
-spared_by : (before after : Option (List ℕ)) (fault : StepFault) (status : ℕ) → Closes before after [] fault status → status ≢ 3 → status ≢ 4 → fault ≢ DiskFault
-spared_by before after fault status (inl closes) three four is = three (closes.0 ∙ ap fault_status is)
-spared_by before after fault status (inr closes) three four is = four closes.0
 
 pub returns-in-Err-clause-disk_spared : goal.returns-in-Err-clause-disk_spared
 returns-in-Err-clause-disk_spared g c = λ three four.

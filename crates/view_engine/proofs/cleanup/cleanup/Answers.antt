@@ -3,8 +3,9 @@ use Rattle.std.proofs.Common.{◌≡◌, ◌∙◌, ℕ, List, Ok, Err, sym, ap,
 use Rattle.std.proofs.lemmas.Grind.{common_steps}
 use Rattle.view_ports.proofs.Told.{told_now}
 use Rattle.view_updater.proofs.OnlyReading.{failed_as}
-use Rattle.doc_file.specs.Docs.{IsAt}
+use Rattle.doc_file.specs.Docs.{bytes_in, IsAt}
 use Rattle.view_engine.specs.Cleaning.{AreLiveSignatures, CleansUp}
+use Rattle.view_engine.specs.HeldDesigns.{AreHeldSignatures}
 use Rattle.view_engine.specs.declared.halt.Halt.TheVariants.{Stopped}
 use Rattle.view_engine.specs.declared.halt.StepFault.TheVariants.{DiskFault, NoMemory}
 use Rattle.view_engine.proofs.CleansThen.{cleans_none, cleans_then}
@@ -34,6 +35,7 @@ returns-in-Ok-clause-does g c =
     let reads = c.in_ok-kept.ensures.reads in
     cleans_then g.F.Folder docs c.args.groups.now c.args.folder.now c.clean_up.new.self c.live_signatures.new.folder c.clean_up.new.folder c.as_slice.result.now reads.disk reads.later
     (λ history. told_now (g.F.Folder.disk c.args.folder.now) _ (λ d. IsAt docs d.now history → AreLiveSignatures history c.as_slice.result.now) (λ d live at. subst (AreLiveSignatures history) (sym c.as_slice.ensures.value) (live at)) (c.in_ok-kept.ensures.history history))
+    (told_now (g.F.Folder.disk c.args.folder.now) _ (λ d. AreHeldSignatures docs (bytes_in docs d.now) c.as_slice.result.now) (λ d are. subst (AreHeldSignatures docs (bytes_in docs d.now)) (sym c.as_slice.ensures.value) are) c.in_ok-kept.ensures.held)
     (Ok tt) c.in-Ok.ensures c.in_ok-append_done.ensures.ok tt
 
 pub returns-clause-does : goal.returns-clause-does
@@ -43,6 +45,7 @@ returns-clause-does g c =
     let silent : c.truncate.new.self.items ≡ c.args.out.now.items = grind (arith, common_steps) in
     rw c.halt_of.ensures (cleans_then g.F.Folder docs c.args.groups.now c.args.folder.now c.clean_up.new.self c.live_signatures.new.folder c.clean_up.new.folder c.as_slice.result.now reads.disk reads.later
     (λ history. told_now (g.F.Folder.disk c.args.folder.now) _ (λ d. IsAt docs d.now history → AreLiveSignatures history c.as_slice.result.now) (λ d live at. subst (AreLiveSignatures history) (sym c.as_slice.ensures.value) (live at)) (c.in_ok-kept.ensures.history history))
+    (told_now (g.F.Folder.disk c.args.folder.now) _ (λ d. AreHeldSignatures docs (bytes_in docs d.now) c.as_slice.result.now) (λ d are. subst (AreHeldSignatures docs (bytes_in docs d.now)) (sym c.as_slice.ensures.value) are) c.in_ok-kept.ensures.held)
     (Err c.in-Err.fault) c.in-Err.ensures tt silent)
 
 -- ---- no fault of the folder was counted, unless it ended the cleanup

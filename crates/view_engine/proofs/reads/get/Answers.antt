@@ -29,7 +29,7 @@ returns-in_ok-end-in-Ok-clause-does g c =
     let docs = c.args.docs.now in
     let appended : c.end.new.out.items ≡ c.args.out.now.items ++ ended (text_of document) = search rules in
     read_done c.requires.open c.in-Ok.ensures.disk c.in-Ok.ensures.cause.later tt (text_of document) (document_line document c.in-Ok.ensures.body.document_is) (λ other. cc)
-    (got_live docs c.args.id.now c.in-Ok.document c.in-Ok.ensures.missing.1 c.in-Ok.ensures.deleted.1) (record { document = document; body = c.in-Ok.ensures.body; live = c.in-Ok.ensures.live; is = refl }) tt (record { documents = same_docs docs; folder = λ none. absurd (none tt) }) appended (λ world.
+    (got_live docs c.args.id.now c.in-Ok.document c.in-Ok.ensures.missing.1 c.in-Ok.ensures.deleted.1) (record { document = document; read = record { body = c.in-Ok.ensures.body; live = c.in-Ok.ensures.live }; is = refl }) tt (record { documents = same_docs docs; folder = λ none. absurd (none tt) }) appended (λ world.
     told_now (g.F.Folder.disk c.args.folder.now) (λ d. IsAt docs d.now world.history → live_document world.history c.args.id.now ≡ Some document) _ (λ d live at. ((document, live at, refl), refl))
     (c.in-Ok.ensures.document world.history))
 

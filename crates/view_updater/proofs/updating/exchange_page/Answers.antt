@@ -14,17 +14,19 @@ use Rattle.doc_file.specs.Changes.{last_number, numbered}
 use Rattle.doc_file.proofs.Pages.{last_after}
 use Rattle.view_model.specs.Since.{mapped_of}
 use Rattle.view_index.specs.Changed.{changed_rows}
-use Rattle.view_index.specs.Index.{views_of}
+use Rattle.view_index.specs.Index.{seq_of, views_of}
 use Rattle.view_index.specs.Replaced.{is_change}
 use Rattle.view_updater.specs.declared.fault.UpdateFault.TheVariants.{NoMemory}
 use Rattle.view_updater.specs.declared.updating.Progress.{Progress}
 use Rattle.view_updater.specs.declared.updating.TheConstants.{BATCH}
-use Rattle.view_updater.specs.Exchanges.{documents_of, OnlyReads}
+use Rattle.view_updater.specs.Exchanges.{OnlyReads}
 use Rattle.view_updater.specs.Faults.{by_index, by_pool}
+use Rattle.view_updater.specs.Given.{documents_of}
 use Rattle.view_updater.specs.Updates.{side, IsBreak}
 use Rattle.view_updater.proofs.Carrying.{same_views}
-use Rattle.view_updater.proofs.Exchanging.{as_made, asks_first, asks_refused, come_on, done, ends_early, ends_well, goes_on, goes_so_far, mapped_then, none_behind, pool_left, pool_refused, refusal}
+use Rattle.view_updater.proofs.Exchanging.{as_made, asks_first, asks_refused, come_on, done, ends_early, ends_well, goes_on, mapped_then, none_behind, page_read, pool_left, pool_refused, refusal, written_on}
 use Rattle.view_updater.proofs.Fitting.{bounded_fit}
+use Rattle.view_updater.proofs.ReadSoFar.{covers_all, covers_on}
 use Rattle.view_updater.proofs.Pages.{back_none, documents-append}
 use Rattle.view_updater.proofs.OnlyReading.{break_of, failed_as, pool_of_no_documents, pool_of_no_index, read_then, read_well, reads_then, same_failed}
 use Rattle.view_updater.proofs.updating.exchange_page.Goals as goal
@@ -39,7 +41,7 @@ returns-in_err-page g c = λ old changes lists come.
     let result = c.from_residual.result in
     let broken : IsBreak (refusal fault) = break_of Changes (Unit {0}) fault c.in_err-page.ensures.breaks in
     ends_early g.F.Folder g.C.Servers docs design old now c.args.progress changes lists come new fault result (failed_as result fault c.from_residual.ensures)
-    (asks_first g.F.Folder g.C.Servers docs design old new changes c.args.progress.after (goes_so_far g.F.Folder g.C.Servers docs design old now c.args.progress changes lists come) fault lists broken come.mapped)
+    (asks_first g.F.Folder g.C.Servers docs design old new changes c.args.progress.after come.goes come.written fault lists broken come.mapped)
     (record { file = refl; seq = refl }) refl
     (same_failed g.F.Folder docs c.args.folder.now c.read_page.new.folder fault (refusal fault) refl c.in_err-page.ensures.reads)
     (pool_left g.C.Servers design now.servers now.servers now.pool now.pool fault broken (as_made now.pool) (omega arith))
@@ -52,7 +54,7 @@ returns-in_err-changed g c = λ old changes lists come.
     let design = c.args.design.now in
     let result = c.from_residual-in_err-changed.result in
     ends_early g.F.Folder g.C.Servers docs design old now c.args.progress changes lists come new NoMemory result (failed_as result NoMemory c.from_residual-in_err-changed.ensures)
-    (asks_first g.F.Folder g.C.Servers docs design old new changes c.args.progress.after (goes_so_far g.F.Folder g.C.Servers docs design old now c.args.progress changes lists come) NoMemory lists tt come.mapped)
+    (asks_first g.F.Folder g.C.Servers docs design old new changes c.args.progress.after come.goes come.written NoMemory lists tt come.mapped)
     (record { file = refl; seq = refl }) refl
     (read_then g.F.Folder docs c.args.folder.now c.read_page.new.folder c.in_ok-page.page NoMemory (refusal NoMemory) refl (λ is. is) (λ gate is. cc) c.in_ok-page.ensures.reads)
     (pool_left g.C.Servers design now.servers now.servers now.pool now.pool NoMemory tt (as_made now.pool) (omega arith))
@@ -65,6 +67,7 @@ returns-in_err-lists g c = λ old changes lists come.
     let design = c.args.design.now in
     let progress = c.args.progress in
     let page = map numbered c.in_ok-page.page in
+    let read = page_read g.F.Folder docs c.args.folder.now c.read_page.new.folder progress.after BATCH c.in_ok-page.page c.in_ok-page.ensures in
     let fault = c.in_err-lists.field-0.0 in
     let result = c.from_residual-in_err-lists.result in
     let documents = c.as_slice-documents.ensures.value ∙ c.in_ok-changed.ensures.documents in
@@ -72,7 +75,7 @@ returns-in_err-lists g c = λ old changes lists come.
     let refuses = c.in_err-lists.ensures.went old.servers old.pool (documents_of changes) lists come.begun come.mapped in
     ends_early g.F.Folder g.C.Servers docs design old now progress changes lists come new (by_pool fault) result (failed_as result (by_pool fault) c.from_residual-in_err-lists.ensures)
     (asks_refused g.F.Folder g.C.Servers docs design old new (changes ++ page) (last_number progress.after page)
-    (goes_on g.F.Folder g.C.Servers docs design old now progress changes lists come page BATCH c.in_ok-page.ensures.all) fault
+    (goes_on g.F.Folder g.C.Servers docs design old now progress changes lists come page BATCH read) (written_on g.F.Folder g.C.Servers docs design old now progress changes lists come page BATCH read) fault
     (λ none. let idle = c.in_err-lists.ensures.idle (documents ∙ back_none (documents_of changes) (documents_of page) (sym (documents-append changes page) ∙ none)) in let refused = idle.0 in let clash : ⊥ = cc in clash)
     (λ left. subst (λ (ds : List (List (List ℕ × Json))). MapsAll g.C.Servers old.servers c.map_next.new.servers old.pool design (ds ++ left) c.map_next.new.self (Err fault)) whole (refuses left)))
     (record { file = refl; seq = refl }) refl
@@ -87,6 +90,7 @@ returns-in_err-rows g c = λ old changes lists come.
     let design = c.args.design.now in
     let progress = c.args.progress in
     let page = map numbered c.in_ok-page.page in
+    let read = page_read g.F.Folder docs c.args.folder.now c.read_page.new.folder progress.after BATCH c.in_ok-page.page c.in_ok-page.ensures in
     let others = c.in_ok-lists.lists in
     let result = c.from_residual-in_err-rows.result in
     let documents = c.as_slice-documents.ensures.value ∙ c.in_ok-changed.ensures.documents in
@@ -94,8 +98,8 @@ returns-in_err-rows g c = λ old changes lists come.
     (c.in_ok-lists.ensures.went old.servers old.pool (documents_of changes) lists come.begun come.mapped) in
     ends_early g.F.Folder g.C.Servers docs design old now progress changes lists come new NoMemory result (failed_as result NoMemory c.from_residual-in_err-rows.ensures)
     (asks_first g.F.Folder g.C.Servers docs design old new (changes ++ page) (last_number progress.after page)
-    (goes_on g.F.Folder g.C.Servers docs design old now progress changes lists come page BATCH c.in_ok-page.ensures.all) NoMemory (lists ++ others) tt
-    (mapped_then g.F.Folder g.C.Servers docs design old now progress changes lists come page BATCH c.in_ok-page.ensures.all new others mapped))
+    (goes_on g.F.Folder g.C.Servers docs design old now progress changes lists come page BATCH read) (written_on g.F.Folder g.C.Servers docs design old now progress changes lists come page BATCH read) NoMemory (lists ++ others) tt
+    (mapped_then g.F.Folder g.C.Servers docs design old now progress changes lists come page BATCH read new others mapped))
     (record { file = refl; seq = refl }) refl
     (read_then g.F.Folder docs c.args.folder.now c.read_page.new.folder c.in_ok-page.page NoMemory (refusal NoMemory) refl (λ is. is) (λ gate is. cc) c.in_ok-page.ensures.reads)
     (pool_left g.C.Servers design now.servers new.servers now.pool new.pool NoMemory tt c.map_next.ensures.ends.keeps c.map_next.ensures.ends.later)
@@ -120,6 +124,7 @@ returns-in_err-replace g c = λ old changes lists come.
     let design = c.args.design.now in
     let progress = c.args.progress in
     let page = map numbered c.in_ok-page.page in
+    let read = page_read g.F.Folder docs c.args.folder.now c.read_page.new.folder progress.after BATCH c.in_ok-page.page c.in_ok-page.ensures in
     let others = c.in_ok-lists.lists in
     let result = c.from_residual-in_err-replace.result in
     let failed : result ≡ Err NoMemory = failed_as result (by_index c.in_err-replace.field-0.0) c.from_residual-in_err-replace.ensures ∙ ap (λ fault. Err (by_index fault)) c.in_err-replace.ensures.faults in
@@ -128,8 +133,8 @@ returns-in_err-replace g c = λ old changes lists come.
     (c.in_ok-lists.ensures.went old.servers old.pool (documents_of changes) lists come.begun come.mapped) in
     ends_early g.F.Folder g.C.Servers docs design old now progress changes lists come new NoMemory result failed
     (asks_first g.F.Folder g.C.Servers docs design old new (changes ++ page) (last_number progress.after page)
-    (goes_on g.F.Folder g.C.Servers docs design old now progress changes lists come page BATCH c.in_ok-page.ensures.all) NoMemory (lists ++ others) tt
-    (mapped_then g.F.Folder g.C.Servers docs design old now progress changes lists come page BATCH c.in_ok-page.ensures.all new others mapped))
+    (goes_on g.F.Folder g.C.Servers docs design old now progress changes lists come page BATCH read) (written_on g.F.Folder g.C.Servers docs design old now progress changes lists come page BATCH read) NoMemory (lists ++ others) tt
+    (mapped_then g.F.Folder g.C.Servers docs design old now progress changes lists come page BATCH read new others mapped))
     c.replace.ensures.same c.replace.ensures.picture
     (subst (λ folder. OnlyReads g.F.Folder docs c.args.folder.now folder (refusal NoMemory)) (sym c.replace.ensures.folder)
     (read_then g.F.Folder docs c.args.folder.now c.read_page.new.folder c.in_ok-page.page NoMemory (refusal NoMemory) refl (λ is. is) (λ gate is. cc) c.in_ok-page.ensures.reads))
@@ -148,8 +153,8 @@ returns-then-count g c = λ old changes lists come.
     let docs = c.args.docs.now in
     let design = c.args.design.now in
     let progress = c.args.progress in
-    let read = c.in_ok-page.ensures in
     let page = map numbered c.in_ok-page.page in
+    let read = page_read g.F.Folder docs c.args.folder.now c.read_page.new.folder progress.after BATCH c.in_ok-page.page c.in_ok-page.ensures in
     let others = c.in_ok-lists.lists in
     let documents = c.as_slice-documents.ensures.value ∙ c.in_ok-changed.ensures.documents in
     let mapped = subst (λ (ds : List (List (List ℕ × Json))). FirstAreMapped g.C.Servers old.servers c.map_next.new.servers old.pool c.map_next.new.self design (documents_of changes ++ ds) (lists ++ others)) documents
@@ -159,12 +164,14 @@ returns-then-count g c = λ old changes lists come.
     let counted : c.len.result ≡ views_of old.index = c.len.ensures ∙ sym c.requires.number ∙ same_views old.index c.args.index.now come.picture in
     let long : length others ≡ length (mapped_of page) = c.in_ok-lists.ensures.bounded.each ∙ ap length documents ∙ length-map (mapped_of page) (λ (entry : List ℕ × Json). document_of entry.1) in
     let reads = subst (λ folder. OnlyReads g.F.Folder docs c.args.folder.now folder done) (sym c.replace.ensures.folder)
-    (read_well g.F.Folder docs c.args.folder.now c.read_page.new.folder c.in_ok-page.page tt read.reads) in
+    (read_well g.F.Folder docs c.args.folder.now c.read_page.new.folder c.in_ok-page.page tt c.in_ok-page.ensures.reads) in
     ends_well g.F.Folder g.C.Servers docs design old new next (changes ++ page) (lists ++ others)
-    (come_on g.F.Folder g.C.Servers docs design old now progress changes lists come page BATCH read.all new others mapped c.as_slice.result.now c.len.result counted
+    (come_on g.F.Folder g.C.Servers docs design old now progress changes lists come page BATCH read new others mapped c.as_slice.result.now c.len.result counted
     (c.as_slice.ensures.value ∙ c.in_ok-rows.ensures page c.in_ok-changed.ensures.written) c.in_ok-replace.ensures.replaced c.in_ok-replace.ensures.pending next refl refl long
-    c.replace.ensures.same c.replace.ensures.picture reads.disk (reads.still (λ is. cc)))
-    (none_behind g.F.Folder g.C.Servers docs design old now progress changes lists come page BATCH read.all few)
+    c.replace.ensures.same c.replace.ensures.picture reads.disk (reads.counted.still (λ is. cc))
+    (covers_on docs (seq_of old.index) progress.after BATCH changes c.in_ok-page.page come.covers c.in_ok-page.ensures.whole))
+    (none_behind g.F.Folder g.C.Servers docs design old now progress changes lists come page BATCH read few)
+    (covers_all docs (seq_of old.index) progress.after BATCH changes c.in_ok-page.page come.covers c.in_ok-page.ensures.whole (omega (arith, few, length-map c.in_ok-page.page numbered)))
     (reads_then g.F.Folder docs old.folder c.args.folder.now come.disk c.replace.new.folder done come.still reads)
 
 pub returns : goal.returns
@@ -174,8 +181,8 @@ returns g c = λ old changes lists come.
     let docs = c.args.docs.now in
     let design = c.args.design.now in
     let progress = c.args.progress in
-    let read = c.in_ok-page.ensures in
     let page = map numbered c.in_ok-page.page in
+    let read = page_read g.F.Folder docs c.args.folder.now c.read_page.new.folder progress.after BATCH c.in_ok-page.page c.in_ok-page.ensures in
     let others = c.in_ok-lists.lists in
     let documents = c.as_slice-documents.ensures.value ∙ c.in_ok-changed.ensures.documents in
     let mapped = subst (λ (ds : List (List (List ℕ × Json))). FirstAreMapped g.C.Servers old.servers c.map_next.new.servers old.pool c.map_next.new.self design (documents_of changes ++ ds) (lists ++ others)) documents
@@ -186,11 +193,12 @@ returns g c = λ old changes lists come.
     let long : length others ≡ length (mapped_of page) = c.in_ok-lists.ensures.bounded.each ∙ ap length documents ∙ length-map (mapped_of page) (λ (entry : List ℕ × Json). document_of entry.1) in
     let begun = ap (λ b. progress.begun || not b) c.is_empty.ensures ∙ ap (λ b. progress.begun || b) (is_some_list c.as_slice-documents.result.now ∙ ap has_some documents) in
     let reads = subst (λ folder. OnlyReads g.F.Folder docs c.args.folder.now folder done) (sym c.replace.ensures.folder)
-    (read_well g.F.Folder docs c.args.folder.now c.read_page.new.folder c.in_ok-page.page tt read.reads) in (
-      subst (λ (n : ℕ). progress.after < n) (sym c.last_seq-after.ensures) (last_after progress.after progress.after c.in_ok-page.page some read.after),
+    (read_well g.F.Folder docs c.args.folder.now c.read_page.new.folder c.in_ok-page.page tt c.in_ok-page.ensures.reads) in (
+      subst (λ (n : ℕ). progress.after < n) (sym c.last_seq-after.ensures) (last_after progress.after progress.after c.in_ok-page.page some c.in_ok-page.ensures.order.after),
       changes ++ page,
       lists ++ others,
-      come_on g.F.Folder g.C.Servers docs design old now progress changes lists come page BATCH read.all new others mapped c.as_slice.result.now c.len.result counted
+      come_on g.F.Folder g.C.Servers docs design old now progress changes lists come page BATCH read new others mapped c.as_slice.result.now c.len.result counted
           (c.as_slice.ensures.value ∙ c.in_ok-rows.ensures page c.in_ok-changed.ensures.written) c.in_ok-replace.ensures.replaced c.in_ok-replace.ensures.pending next c.last_seq-after.ensures begun long
-          c.replace.ensures.same c.replace.ensures.picture reads.disk (reads.still (λ is. cc)),
+          c.replace.ensures.same c.replace.ensures.picture reads.disk (reads.counted.still (λ is. cc))
+          (covers_on docs (seq_of old.index) progress.after BATCH changes c.in_ok-page.page come.covers c.in_ok-page.ensures.whole),
     )

@@ -14,9 +14,11 @@ returns-in_err-changed_since g c =
     let failed = failed_as result (by_documents fault) c.from_residual.ensures in
     record {
       all = search rules;
-      after = search rules;
+      order = search rules;
       bodies = search rules;
       short = search rules;
+      whole = search rules;
+      each = search rules;
       breaks = subst (λ r. OnErr r (IsBreak r)) (sym failed) (documents_break Changes fault);
       reads = read_failed g.F.Folder c.args.docs.now c.args.folder.now c.changed_since.new.folder c.args.seq fault result failed c.changed_since.ensures.disk c.in_err-changed_since.ensures.cause c.in_err-changed_since.ensures.sound
           c.in_err-changed_since.ensures.faults c.in_err-changed_since.ensures.damaged;

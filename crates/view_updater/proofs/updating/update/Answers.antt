@@ -1,18 +1,19 @@
 -- The exchange, the reduces that are tried, and the commit over both.
-use Rattle.std.specs.Prelude.{◌≡◌, ◌≢◌, ◌⊎◌, ◌≤◌, ℕ, length, Option, Result, Ok, Err, None, Some}
+use Rattle.std.specs.Prelude.{◌≡◌, ◌≢◌, ◌⊎◌, ◌≤◌, ℕ, length, Option, Result, Ok, Err, None, Some, All}
 use Rattle.std.proofs.Common.{refl, sym, ap, ◌∙◌, subst, inl, inr, arith}
 use Rattle.std.proofs.lemmas.List.{length-map}
 use Rattle.view_ports.specs.Faults.{Rose}
 use Rattle.view_ports.proofs.DiskRuns.{moves_none}
-use Rattle.view_ports.proofs.Told.{told_all, told_still}
+use Rattle.view_ports.proofs.Told.{told_all, told_now, told_still}
 use Rattle.view_ports.specs.declared.file_name.FileName.{FileName}
 use Rattle.view_ports.specs.declared.folder.Folder.{Ghosts as Folders}
 use Rattle.gate_file.specs.declared.fault.GateFault.{GateFault}
 use Rattle.gate_file.specs.declared.fault.GateFault.TheVariants.{DiskFault, Damaged, Full}
 use Rattle.gate_file.specs.Calls.{too_long, used_up}
+use Rattle.child_pool.specs.declared.pool_fault.PoolFault.{PoolFault}
 use Rattle.child_pool.specs.declared.pool_fault.PoolFault.TheVariants.{Compile, ServerFault, UnknownLanguage}
 use Rattle.doc_file.specs.declared.docs.Docs.{Docs}
-use Rattle.doc_file.specs.Docs.{info_of, seq_of as documents_seq, IsAt as AreAt}
+use Rattle.doc_file.specs.Docs.{bytes_in, info_of, seq_of as documents_seq, IsAt as AreAt, IsLoaded as AreLoaded}
 use Rattle.doc_file.specs.declared.docs.Info.{Info}
 use Rattle.view_model.specs.Picture.{Picture}
 use Rattle.view_index.specs.Calls.{next_picture, next_size, stem_of, Commits, IsOpen}
@@ -30,11 +31,13 @@ use Rattle.view_updater.specs.declared.fault.UpdateFault.{UpdateFault}
 use Rattle.view_updater.specs.declared.fault.UpdateFault.TheVariants.{Docs as OfDocuments, Index as OfIndex, Pool as OfPool}
 use Rattle.view_updater.specs.Faults.{by_index, by_pool}
 use Rattle.view_updater.specs.Checking.{tried_sources}
-use Rattle.view_updater.specs.Updates.{side, EndsAt, IsFileFault, IsLost, IsReached, IsUpdatedFreely, Updates}
+use Rattle.view_updater.specs.Given.{CoverAll, IsLastWrite}
+use Rattle.view_updater.specs.Updates.{side, AreUndamaged, EndsAt, IsFileFault, IsLost, IsOfIndex, IsReached, IsUpdatedFreely, Updates}
 use Rattle.view_updater.proofs.Carrying.{same_stem, same_views, views_by_picture}
 use Rattle.view_updater.proofs.Exchanging.{as_made, by_pool_of}
 use Rattle.view_updater.proofs.Ends.{asked_over, asked_some, checked_next, commit_filled, commit_met, commit_refused, committed_stands, freely_next, full_with, idle_freely, idle_stands, index_of_no_documents, index_of_no_pool, index_stored, is_filled, is_tried, known_next, others_refused, others_then, refused, well, well_met, IsBack, IsOfCommit}
 use Rattle.view_updater.proofs.OnlyReading.{pool_of_no_documents, pool_of_no_index, read_then, FindsBodies}
+use Rattle.view_updater.proofs.ReadSoFar.{undamaged_all, undamaged_idle}
 use Rattle.view_updater.proofs.Refusing.{pool_refused_later, refuses}
 use Rattle.view_updater.proofs.Spoils.{spoils_checking, spoils_mapping}
 use Rattle.view_updater.proofs.updating.update.Goals as goal
@@ -109,6 +112,12 @@ disk_room f index index' old new seq fault commits disk full = elim full [
 written_since : (seq : ℕ) (info : Info) (last : ℕ) (docs : Docs) → seq ≡ last → info ≡ info_of docs → seq ≢ info.update_seq → last ≢ documents_seq docs
 written_since seq info last docs seq_is kept differs same = differs (seq_is ∙ same ∙ sym (ap (λ (i : Info). i.update_seq) kept))
 
+-- a fault of the pool is none of the index
+pool_no_index : (fault : PoolFault) (index : IndexFault) → refused (by_pool fault) ≡ Err (OfIndex index) → ⊥
+pool_no_index fault index is =
+    let same : by_pool fault ≡ OfIndex index = cc in
+    pool_of_no_index fault (subst IsOfIndex (sym same) tt)
+
 pub returns-then-seq-newest : goal.returns-then-seq-newest
 returns-then-seq-newest g c =
     let old = side c.args.folder.now c.args.servers.now c.args.pool.now c.args.index.now in
@@ -120,7 +129,7 @@ returns-then-seq-newest g c =
       stands = idle_stands g.F.Folder g.C.Servers docs c.args.design.now old c.requires.number newest;
       asks = λ history picture. told_all disk (λ d. IsReached docs c.args.index.now history picture d.now → _) (λ d here. inl ((refl, refl), tt, newest ∙ here.documents.count));
       spoils = λ history picture reached is. cc;
-      asked = inl ((refl, refl), tt);
+      asked = inl ((refl, refl), refl, newest);
       idle = λ same. (refl, refl);
       others = told_still disk (λ d. IsOpen c.args.index.now d.now) _
           (λ d is. moves_none (IsFileOf stem) (λ image. Unit {0}) (λ files. IsLost well ⊎ IsOpen c.args.index.now files) d (λ image left. tt) (inr is)) c.requires.index;
@@ -128,7 +137,6 @@ returns-then-seq-newest g c =
       settled = tt;
       fresh = λ since. absurd (since newest);
       once = record { due = λ since. absurd (since newest); refused = tt };
-      within = record { full = λ name length is. absurd (let no : ⊥ = cc in no); room = λ is. absurd (let no : ⊥ = cc in no) };
       newest = newest;
       freely = λ history picture. told_all disk
           (λ d. IsReached docs c.args.index.now history picture d.now → IsUpdatedFreely c.args.design.now.views history (or_empty (views_of c.args.index.now) picture) (picture_of c.args.index.now))
@@ -141,6 +149,7 @@ returns-then-seq-newest g c =
       full = λ name length is. cc;
       filled = λ history picture reached name length is. cc;
       damaged = told_all disk (λ d. FindsBodies docs well d.now) (λ d loaded name at is. cc);
+      undamaged = told_all disk (λ d. AreLoaded docs d.now → AreUndamaged docs (bytes_in docs d.now) (seq_of c.args.index.now)) (λ d. undamaged_idle docs d.now (seq_of c.args.index.now) newest);
       later = (omega arith, omega arith);
       keeps = as_made c.args.pool.now;
       blames = λ is. cc;
@@ -162,7 +171,7 @@ returns-in-Err g c =
     let differs : seq_of index ≢ documents_seq docs = λ same. written_since c.seq.result c.info-newest.result (seq_of index) docs c.seq.ensures c.info-newest.ensures.kept c.if-seq-newest.false same in
     refuses g.F.Folder g.C.Servers docs design old mid mid.servers mid.pool c.requires.number rolled back fault last c.requires.index differs
     (λ history picture. asked_over g.F.Folder g.C.Servers docs design old mid mid.servers mid.pool c.requires.number rolled back mid.folder last (refused fault) (refused fault) ex differs history picture (λ files here has. (refl, refl, refl)))
-    (asked_some g.F.Folder g.C.Servers docs design old mid mid.servers mid.pool c.requires.number rolled back mid.folder last (refused fault) (refused fault) ex (refl, refl, refl)) ex.reads (record { keeps = ex.keeps; later = ex.later; blames = ex.blames; unknown = ex.unknown })
+    (asked_some g.F.Folder g.C.Servers docs design old mid mid.servers mid.pool c.requires.number rolled back mid.folder last (refused fault) (refused fault) ex differs (refl, refl, refl)) ex.reads (record { keeps = ex.keeps; later = ex.later; blames = ex.blames; unknown = ex.unknown })
     (c.roll_back-in-Err.ensures.same.file ∙ ex.same.file ∙ back.file) (c.roll_back-in-Err.ensures.picture ∙ ex.picture ∙ back.rows)
     (record { next = c.roll_back-in-Err.ensures.next; pending = c.roll_back-in-Err.ensures.pending })
     (λ history picture reached is. spoils_mapping g.F.Folder g.C.Servers docs design old mid mid.servers mid.pool c.requires.number rolled back history picture reached fault ex is)
@@ -189,7 +198,14 @@ returns-in-Err-check_reduces g c =
     refuses g.F.Folder g.C.Servers docs design old mid servers pool c.requires.number rolled back (by_pool fault) last c.requires.index differs
     (λ history picture. asked_over g.F.Folder g.C.Servers docs design old mid servers pool c.requires.number rolled back mid.folder last well (refused (by_pool fault)) ex differs history picture
     (checked_next g.F.Folder g.C.Servers docs design old mid servers pool c.requires.number rolled back mid.folder last (refused (by_pool fault)) (Err fault) fails refl newest newest_is tt history picture))
-    (asked_some g.F.Folder g.C.Servers docs design old mid servers pool c.requires.number rolled back mid.folder last well (refused (by_pool fault)) ex (next_picture newest mid.index, tt, Err fault, fails, refl))
+    (asked_some g.F.Folder g.C.Servers docs design old mid servers pool c.requires.number rolled back mid.folder last well (refused (by_pool fault)) ex differs (
+      next_picture newest mid.index,
+      is_tried g.F.Folder g.C.Servers docs design old mid servers pool c.requires.number rolled back ex newest newest_is mid.folder last (refused (by_pool fault)) (λ by. absurd (pool_of_no_index fault by)) tt
+          (λ name size is. absurd (pool_no_index fault (Store (Full name size)) is)) (λ is full. pool_no_index fault (Store DiskFault) is),
+      Err fault,
+      fails,
+      refl,
+    ))
     (read_then g.F.Folder docs old.folder mid.folder tt (by_pool fault) (refused (by_pool fault)) refl (pool_of_no_index fault) (pool_of_no_documents fault) ex.reads)
     (pool_refused_later g.C.Servers design old.servers mid.servers servers old.pool mid.pool pool fault (tried_sources design.views (next_in mid.index)) ex.keeps ex.later fails.fails)
     (c.roll_back-in-Err-check_reduces.ensures.same.file ∙ ex.same.file ∙ back.file) (c.roll_back-in-Err-check_reduces.ensures.picture ∙ ex.picture ∙ back.rows)
@@ -218,8 +234,17 @@ returns-in-Err-commit g c =
     let commits = c.in-Err-commit.ensures in
     let rows = c.roll_back-in-Err-commit.ensures.picture ∙ commits.kept.0 ∙ ex.picture ∙ back.rows in
     let stem = same_stem committed last c.roll_back-in-Err-commit.ensures.same.file ∙ ap (λ (name : FileName). name.stem) commits.name ∙ same_stem index c.exchange.new.index (ex.same.file ∙ back.file) in
-    let tried = is_tried g.F.Folder g.C.Servers docs design old mid servers pool c.requires.number rolled back ex.same.file ex.picture ex.reads.disk
-    committed c.commit.new.folder newest (Err fault) commits newest_is ex.asks ex.keeps checked.compile in
+    let differs : seq_of index ≢ documents_seq docs = λ same. written_since c.seq.result c.info-newest.result (seq_of index) docs c.seq.ensures c.info-newest.ensures.kept c.if-seq-newest.false same in
+    let filled_by = is_filled g.F.Folder mid.index committed last mid.folder c.commit.new.folder newest fault commits c.roll_back-in-Err-commit.ensures.same.file commits.faults in
+    let tried = is_tried g.F.Folder g.C.Servers docs design old mid servers pool c.requires.number rolled back ex newest newest_is c.commit.new.folder last (refused (by_index fault)) (λ by. checked.compile) tt
+    (λ name size is.
+    let same : by_index fault ≡ OfIndex (Store (Full name size)) = cc in
+    let filled = filled_by name size (index_stored fault (Full name size) same) in
+    full_with index last (filled.file ∙ ex.same.file ∙ back.file) (next_picture newest mid.index) name size filled.full)
+    (λ is full.
+    let same : by_index fault ≡ OfIndex (Store DiskFault) = cc in
+    disk_room g.F.Folder mid.index committed mid.folder c.commit.new.folder newest fault commits (index_stored fault DiskFault same)
+    (subst (λ (file : GateFile). IsFull file (next_size newest mid.index)) (sym (ex.same.file ∙ back.file)) full)) in
     subst (λ (e : UpdateFault). Updates g.F.Folder g.C.Servers docs design old new (refused e)) (sym c.from-in-Err-commit.ensures) (record {
       stands = commit_refused g.F.Folder g.C.Servers docs design old mid servers pool c.requires.number rolled back ex.same.file ex.picture ex.reads.disk committed c.commit.new.folder newest (Err fault) commits newest_is ex.asks ex.keeps checked.compile
           last c.roll_back-in-Err-commit.ensures.same.file rows c.roll_back-in-Err-commit.ensures.pending fault refl;
@@ -227,7 +252,8 @@ returns-in-Err-commit g c =
           (λ same. written_since c.seq.result c.info-newest.result (seq_of index) docs c.seq.ensures c.info-newest.ensures.kept c.if-seq-newest.false same) history picture
           (checked_next g.F.Folder g.C.Servers docs design old mid servers pool c.requires.number rolled back c.commit.new.folder last (refused (by_index fault)) (Ok tt) checked (commit_met fault) newest newest_is tt history picture);
       spoils = λ history picture reached is. absurd (index_of_no_pool fault Compile (let same : by_index fault ≡ OfPool Compile = cc in same));
-      asked = asked_some g.F.Folder g.C.Servers docs design old mid servers pool c.requires.number rolled back c.commit.new.folder last well (refused (by_index fault)) ex (next_picture newest mid.index, tt, Ok tt, checked, commit_met fault);
+      asked = asked_some g.F.Folder g.C.Servers docs design old mid servers pool c.requires.number rolled back c.commit.new.folder last well (refused (by_index fault)) ex differs
+          (next_picture newest mid.index, tried, Ok tt, checked, commit_met fault);
       idle = λ same. absurd (written_since c.seq.result c.info-newest.result (seq_of index) docs c.seq.ensures c.info-newest.ensures.kept c.if-seq-newest.false same);
       others = others_refused g.F.Folder g.C.Servers docs design old mid servers pool c.requires.number rolled back ex.same.file ex.picture ex.reads.disk committed c.commit.new.folder newest (Err fault) commits last
           c.roll_back-in-Err-commit.ensures.same.file c.requires.index fault refl;
@@ -241,22 +267,10 @@ returns-in-Err-commit g c =
           | inr same ↦ inr (c.roll_back-in-Err-commit.ensures.same.file ∙ same ∙ ex.same.file ∙ back.file)
         ];
       };
-      within = record {
-        full = λ name length is. let same : by_index fault ≡ OfIndex (Store (Full name length)) = cc in
-            let filled = is_filled g.F.Folder mid.index committed last mid.folder c.commit.new.folder newest fault commits
-            c.roll_back-in-Err-commit.ensures.same.file commits.faults name length (index_stored fault (Full name length) same) in
-            (next_picture newest mid.index, tried new, full_with index last (filled.file ∙ ex.same.file ∙ back.file) (next_picture newest mid.index) name length filled.full);
-        room = λ is. let same : by_index fault ≡ OfIndex (Store DiskFault) = cc in (
-          next_picture newest mid.index,
-          tried new,
-          λ full. disk_room g.F.Folder mid.index committed mid.folder c.commit.new.folder newest fault commits (index_stored fault DiskFault same)
-              (subst (λ (file : GateFile). IsFull file (next_size newest mid.index)) (sym (ex.same.file ∙ back.file)) full),
-        );
-      };
       newest = tt;
       freely = λ history picture. told_all (g.F.Folder.disk c.args.folder.now) (λ d. IsReached docs index history picture d.now → Unit {0}) (λ d here. tt);
-      still = λ spared. commits.cause.still (λ is. spared (inr (ap by_index (let same : fault ≡ Store DiskFault = cc in same)))) ∙ ex.reads.still (λ is. cc);
-      cause = λ told. elim told [ inl is ↦ absurd (index_of_no_documents fault DiskFault is) | inr is ↦ rose_later (g.F.Folder.faults c.args.folder.now) (g.F.Folder.faults c.exchange.new.folder) (g.F.Folder.faults c.commit.new.folder) ex.reads.later (commits.cause.failed (index_stored fault DiskFault is)) ];
+      still = λ spared. commits.cause.still (λ is. spared (inr (ap by_index (let same : fault ≡ Store DiskFault = cc in same)))) ∙ ex.reads.counted.still (λ is. cc);
+      cause = λ told. elim told [ inl is ↦ absurd (index_of_no_documents fault DiskFault is) | inr is ↦ rose_later (g.F.Folder.faults c.args.folder.now) (g.F.Folder.faults c.exchange.new.folder) (g.F.Folder.faults c.commit.new.folder) ex.reads.counted.later (commits.cause.failed (index_stored fault DiskFault is)) ];
       sound = λ history. told_all (g.F.Folder.disk c.args.folder.now) (λ d. AreAt docs d.now history → (name : FileName) (at : ℕ) → refused (by_index fault) ≢ Err (OfDocuments (Damaged name at)))
           (λ d here name at is. index_of_no_documents fault (Damaged name at) (let same : by_index fault ≡ OfDocuments (Damaged name at) = cc in same));
       whole = λ name at is. let same : by_index fault ≡ OfIndex (Store (Damaged name at)) = cc in commit_whole c.exchange.new.index fault commits.faults name at (index_stored fault (Damaged name at) same);
@@ -270,7 +284,8 @@ returns-in-Err-commit g c =
           reached;
       damaged = told_all (g.F.Folder.disk c.args.folder.now) (λ d. FindsBodies docs (refused (by_index fault)) d.now)
           (λ d loaded name at is. absurd (index_of_no_documents fault (Damaged name at) (let same : by_index fault ≡ OfDocuments (Damaged name at) = cc in same)));
-      later = (omega (arith, ex.reads.later, commits.cause.later), omega (arith, ex.later, checked.reduces.later));
+      undamaged = told_all (g.F.Folder.disk c.args.folder.now) (λ d. AreLoaded docs d.now → Unit {0}) (λ d loaded. tt);
+      later = (omega (arith, ex.reads.counted.later, commits.cause.later), omega (arith, ex.later, checked.reduces.later));
       keeps = record { languages = checked.reduces.keeps.languages ∙ ex.keeps.languages; width = checked.reduces.keeps.width ∙ ex.keeps.width };
       blames = λ is. absurd (index_of_no_pool fault ServerFault (let same : by_index fault ≡ OfPool ServerFault = cc in same));
       unknown = λ is. absurd (index_of_no_pool fault UnknownLanguage (let same : by_index fault ≡ OfPool UnknownLanguage = cc in same));
@@ -294,6 +309,7 @@ returns g c =
     let ex = c.in_default.ensures in
     let checked = c.in_default-check_reduces.ensures in
     let commits = c.in_default-commit.ensures in
+    let differs : seq_of index ≢ documents_seq docs = λ same. written_since c.seq.result c.info-newest.result (seq_of index) docs c.seq.ensures c.info-newest.ensures.kept c.if-seq-newest.false same in
     let stem = ap (λ (name : FileName). name.stem) commits.name ∙ same_stem index c.exchange.new.index (ex.same.file ∙ back.file) in
     let views = sym (views_by_picture committed) ∙ ap (λ (p : Picture). length p.rows) commits.picture ∙ length-map (both_in c.exchange.new.index) (next_rows (is_touched c.exchange.new.index)) ∙ same_views index c.exchange.new.index (ex.picture ∙ back.rows) in
     record {
@@ -308,7 +324,14 @@ returns g c =
           (λ same. written_since c.seq.result c.info-newest.result (seq_of index) docs c.seq.ensures c.info-newest.ensures.kept c.if-seq-newest.false same) history picture
           (checked_next g.F.Folder g.C.Servers docs design old mid servers pool c.requires.number rolled back c.commit.new.folder committed well (Ok tt) checked (λ fault is. absurd (well_met fault is)) newest newest_is (sym commits.picture) history picture);
       spoils = λ history picture reached is. cc;
-      asked = asked_some g.F.Folder g.C.Servers docs design old mid servers pool c.requires.number rolled back c.commit.new.folder committed well well ex (next_picture newest mid.index, sym commits.picture, Ok tt, checked, λ fault is. absurd (well_met fault is));
+      asked = asked_some g.F.Folder g.C.Servers docs design old mid servers pool c.requires.number rolled back c.commit.new.folder committed well well ex differs (
+        next_picture newest mid.index,
+        is_tried g.F.Folder g.C.Servers docs design old mid servers pool c.requires.number rolled back ex newest newest_is c.commit.new.folder committed well (λ by. checked.compile) (sym commits.picture)
+            (λ name size is. absurd (let no : ⊥ = cc in no)) (λ is full. cc),
+        Ok tt,
+        checked,
+        λ fault is. absurd (well_met fault is),
+      );
       idle = λ same. absurd (written_since c.seq.result c.info-newest.result (seq_of index) docs c.seq.ensures c.info-newest.ensures.kept c.if-seq-newest.false same);
       others = others_then g.F.Folder g.C.Servers docs design old mid servers pool c.requires.number rolled back ex.same.file ex.picture ex.reads.disk committed c.commit.new.folder newest well_index commits committed well (λ files ended. inr ended);
       same = (stem, views);
@@ -324,19 +347,22 @@ returns g c =
         );
         refused = tt;
       };
-      within = record { full = λ name length is. absurd (let no : ⊥ = cc in no); room = λ is. absurd (let no : ⊥ = cc in no) };
       newest = ap (λ (p : Picture). p.seq) commits.picture ∙ newest_is;
       freely = freely_next g.F.Folder g.C.Servers docs design old mid servers pool c.requires.number rolled back ex.same.file ex.picture ex.reads.disk committed c.commit.new.folder newest
           well_index commits newest_is ex.asks ex.keeps checked.compile (picture_of committed) commits.picture;
       cause = tt;
-      still = λ any. commits.cause.still (λ is. cc) ∙ ex.reads.still (λ is. cc);
+      still = λ any. commits.cause.still (λ is. cc) ∙ ex.reads.counted.still (λ is. cc);
       sound = λ history. told_all (g.F.Folder.disk c.args.folder.now) (λ d. AreAt docs d.now history → (name : FileName) (at : ℕ) → well ≢ Err (OfDocuments (Damaged name at))) (λ d here name at is. cc);
       whole = λ name at is. cc;
       file = tt;
       full = λ name length is. cc;
       filled = λ history picture reached name length is. cc;
       damaged = told_all (g.F.Folder.disk c.args.folder.now) (λ d. FindsBodies docs well d.now) (λ d loaded name at is. cc);
-      later = (omega (arith, ex.reads.later, commits.cause.later), omega (arith, ex.later, checked.reduces.later));
+      undamaged = told_now (g.F.Folder.disk c.args.folder.now) (λ d. AreLoaded docs d.now → All (IsLastWrite docs (bytes_in docs d.now)) ex.asked.changes)
+          (λ d. AreLoaded docs d.now → AreUndamaged docs (bytes_in docs d.now) (seq_of index))
+          (λ d each loaded. undamaged_all docs (bytes_in docs d.now) (seq_of index) ex.asked.changes
+          (subst (λ (n : ℕ). CoverAll docs n ex.asked.changes) (ap (λ (p : Picture). p.seq) back.rows) ex.asked.all) (each loaded)) ex.asked.written.each;
+      later = (omega (arith, ex.reads.counted.later, commits.cause.later), omega (arith, ex.later, checked.reduces.later));
       keeps = record { languages = checked.reduces.keeps.languages ∙ ex.keeps.languages; width = checked.reduces.keeps.width ∙ ex.keeps.width };
       blames = λ is. cc;
       unknown = λ is. cc;

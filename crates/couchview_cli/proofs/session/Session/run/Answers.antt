@@ -6,7 +6,7 @@ pub returns-clause-comes : goal.returns-clause-comes
 returns-clause-comes g c = λ origin come. comes g.F.Folder g.C.Servers _ (λ old new line answers. answers) (λ old new line fault stops. stops) origin _ _ _ _ _ _ c.answer_lines.result come c.answer_lines.ensures.loops
 
 pub returns-clause-replies : goal.returns-clause-replies
-returns-clause-replies g c = has_replied g.F.Folder g.C.Servers _ (λ old new line answers. answers) (λ old new line fault stops. stops) _ _ _ _ _ _ c.answer_lines.result c.answer_lines.ensures.loops
+returns-clause-replies g c = has_replied g.F.Folder g.C.Servers _ (λ old new line answers. answers) (λ old new line fault stops. stops) _ _ _ _ _ _ c.answer_lines.result c.answer_lines.ensures.loops c.requires
 
 pub returns-clause-ports : goal.returns-clause-ports
 returns-clause-ports g c = (keeps g.F.Folder g.C.Servers _ (λ old new line answers. answers) (λ old new line fault stops. stops) _ _ _ _ _ _ c.answer_lines.result c.answer_lines.ensures.loops).0

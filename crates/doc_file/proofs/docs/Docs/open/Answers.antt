@@ -1,5 +1,5 @@
 -- The root record is read once the pair is opened, and a read changes nothing.
-use Rattle.std.proofs.Common.{◌≡◌, ℕ, List, length, Bool, true, false, Option, Some, None, if◌then◌else◌, is_none, nat_lt, inl, inr, refl, sym, Err, IfOk, subst, rules}
+use Rattle.std.proofs.Common.{◌≡◌, ℕ, List, length, Option, inl, inr, sym, Err, IfOk, subst, rules}
 use Rattle.view_ports.specs.Disk.{Disk, IfTold, Moves, MovesNone, Tells}
 use Rattle.view_ports.specs.File.{File}
 use Rattle.gate_file.specs.declared.gate.GateFile.{GateFile}
@@ -9,10 +9,9 @@ use Rattle.view_ports.specs.declared.file_name.Stem.TheVariants.{Docs as DocsSte
 use Rattle.view_ports.proofs.Told.{told_after, told_back, told_given, told_now, told_pair, told_then}
 use Rattle.view_ports.proofs.DiskRuns.{none_same}
 use Rattle.gate_file.specs.declared.fault.GateFault.TheVariants.{Damaged}
-use Rattle.gate_file.specs.declared.root.Root.{Root}
-use Rattle.gate_file.specs.Header.{newer, open_root, slot_at}
-use Rattle.gate_file.specs.Open.{found, found_newest, opened, opened_of, side_of, AreFitSlots, IsOpened, WhileOpening}
+use Rattle.gate_file.specs.Open.{found, opened, AreFitSlots, IsOpened, WhileOpening}
 use Rattle.gate_file.specs.Pair.{own_bytes}
+use Rattle.gate_file.proofs.Numbered.{commits_opened}
 use Rattle.gate_file.proofs.Opened.{opened_damaged, opened_holds, opened_open, opening_stands, undamaged}
 use Rattle.gate_file.proofs.Openings.{failed_open}
 use Rattle.gate_file.proofs.Stretches.{moves_then_none, told_end, IsOpened-same}
@@ -20,7 +19,7 @@ use Rattle.doc_file.specs.declared.fault.DocFault.TheVariants.{Gate}
 use Rattle.doc_file.specs.declared.record.RootRecord.{RootRecord}
 use Rattle.doc_file.specs.declared.docs.Docs.{Docs}
 use Rattle.doc_file.specs.Docs.{file_of, HoldsHistory, IsAt, IsDamagedAt, IsDocsFile, IsLoaded, IsOpen}
-use Rattle.doc_file.specs.Held.{HoldsRoot, HoldsWrites, SpellsRoot, commits_in}
+use Rattle.doc_file.specs.Held.{HoldsRoot, HoldsWrites, SpellsRoot}
 use Rattle.design_docs.specs.History.{Write}
 use Rattle.doc_file.proofs.Carried.{writes_of_root}
 use Rattle.doc_file.proofs.Stores.{at_writes, counted_kept}
@@ -114,33 +113,10 @@ returns-in_err-root-clause-sound g c = λ history.
     damaged n at was (length history) held.entries (counted_kept (own_bytes file b.now) (length history) held.entries (root_of file) (commits_of file) is.keeps.counted held.holds))
     c.open.ensures.disk c.load_root.ensures.damaged)
 
--- a file without a root is opened with no commit, and any other with the number of its root
-commits_opened : (file : GateFile) (old : FileName → File) → Opens file old → commits_of file ≡ commits_in (root_of file)
-commits_opened file old file_is = subst (λ (g : GateFile). commits_of g ≡ commits_in (root_of g)) (sym file_is) (by_side (side_of DocsStem false) (side_of DocsStem true) (λ name. (old name).seen))
-  where
-    newest : (name : FileName) (size : ℕ) (low high root : Option Root) → commits_of (found_newest name size low high root) ≡ commits_in (root_of (found_newest name size low high root))
-    newest name size low high None = refl
-    newest name size low high (Some root) = refl
-
-    whole : (name : FileName) (bytes : List ℕ) → commits_of (found name bytes) ≡ commits_in (root_of (found name bytes))
-    whole name bytes = newest name (length bytes) (open_root (slot_at bytes 0)) (open_root (slot_at bytes 4096)) (newer (open_root (slot_at bytes 0)) (open_root (slot_at bytes 4096)))
-
-    one_of : (first second : GateFile) → commits_of first ≡ commits_in (root_of first) → commits_of second ≡ commits_in (root_of second) → (less none : Bool)
-        → (let file : GateFile = if less then second else (if none then record first { length = 0 } else first) in commits_of file ≡ commits_in (root_of file))
-    one_of first second is is' true none = is'
-    one_of first second is is' false true = is
-    one_of first second is is' false false = is
-
-    by_side : (one other : FileName) (image : FileName → List ℕ) → (let file = opened_of (found one (image one)) (found other (image other)) in commits_of file ≡ commits_in (root_of file))
-    by_side one other image =
-        let first = found one (image one) in
-        let second = found other (image other) in
-        one_of first second (whole one (image one)) (whole other (image other)) (nat_lt first.commits second.commits) (is_none first.root)
-
 -- the object that is opened, whose root record is loaded
 module _ (docs : Docs) (old new : FileName → File) (file_is : file_of docs ≡ opened DocsStem old) (is : IsOpened (file_of docs) old new) (loaded : IsLoaded docs new) where
   opens : IsOpen docs new
-  opens = record { pair = opened_open DocsStem (file_of docs) old new file_is is; commits = commits_opened (file_of docs) old file_is; loaded = loaded }
+  opens = record { pair = opened_open DocsStem (file_of docs) old new file_is is; commits = commits_opened DocsStem (file_of docs) old file_is; loaded = loaded }
 
   opens_at : (history : List Write) → HoldsHistory old history → IsAt docs new history
   opens_at history holds = at_writes docs new opens history (opened_holds DocsStem (file_of docs) old new file_is is HoldsWrites writes_of_root history holds)

@@ -37,9 +37,7 @@ make_draft-requires-clause-counted g c =
 
 pub returns-in_err-rev-clause-stored : goal.returns-in_err-rev-clause-stored
 returns-in_err-rev-clause-stored g c = record {
-  revision = search rules;
-  counted = search rules;
-  entered = search rules;
+  wrote = search rules;
   is_open = search rules;
   stands = λ history at.
       let write = write_of history c.args.id (option_map json c.args.content) in
@@ -68,9 +66,7 @@ kept_whole {T = T} gate gate' size old new result fault is faults long spent sam
 
 pub returns-in_err-publish-clause-stored : goal.returns-in_err-publish-clause-stored
 returns-in_err-publish-clause-stored g c = record {
-  revision = search rules;
-  counted = search rules;
-  entered = search rules;
+  wrote = search rules;
   is_open = search rules;
   stands = λ history at.
       publishes c.args.self.now c.args.id (option_map json c.args.content) c.in_ok-rev.field-0 c.start-start.result c.start-start.ensures c.as_slice.result.now c.as_slice.ensures.value c.in_ok-rev.ensures
@@ -108,9 +104,7 @@ invariant_of-self-2-clause-order g c =
 
 pub returns-clause-stored : goal.returns-clause-stored
 returns-clause-stored g c = record {
-  revision = search rules;
-  counted = search rules;
-  entered = search rules;
+  wrote = record { next = search rules; counted = search rules; entered = search rules };
   is_open =
       told_open c.args.self.now c.args.id (option_map json c.args.content) c.in_ok-rev.field-0 c.start-start.result c.start-start.ensures c.as_slice.result.now c.as_slice.ensures.value c.in_ok-rev.ensures
       c.requires.room c.requires.storable c.as_slice-2.result.now c.as_slice-2.ensures.value c.in_ok-rev.field-0.body refl

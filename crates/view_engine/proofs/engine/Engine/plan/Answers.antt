@@ -1,5 +1,5 @@
 -- The design that is read is that of the live document.
-use Rattle.std.proofs.Common.{◌≡◌, ◌⊎◌, ◌∙◌, ◌≤◌, ℕ, List, length, map, bytes_eq, Option, Some, None, inl, inr, sym, ap, subst}
+use Rattle.std.proofs.Common.{◌≡◌, ◌⊎◌, ◌∙◌, ◌≤◌, ℕ, List, length, map, bytes_eq, Option, Some, None, inl, inr, sym, ap, subst, rules}
 use Rattle.std.specs.Map.{lookup}
 use Rattle.json_terms.specs.Json.{Json}
 use Rattle.json_terms.specs.Seen.{json}
@@ -28,7 +28,7 @@ use Rattle.query_args.specs.Faults.{query_fault}
 use Rattle.query_args.specs.Query.{is_updated, query_of}
 use Rattle.view_engine.specs.ViewQuery.{has_reduce, parameters_of, reduce_named, target_for, view_query, ViewQuery}
 use Rattle.view_engine.specs.Get.{not_live}
-use Rattle.view_engine.specs.InMemory.{state_at, IsLiveIn, IsOfView}
+use Rattle.view_engine.specs.InMemory.{state_at, IsLiveIn, IsOfView, IsReadUnder}
 use Rattle.view_engine.proofs.Following.{got_live, got_refused, got_stopped, query_of_view}
 use Rattle.view_engine.proofs.Reading.{read_of_get}
 use Rattle.view_engine.proofs.Plans.{has_there, met_query, own_language, own_query, own_taken, own_view, stored_design, planned, refused_language, reduced_there, refused_query, refused_same, refused_view}
@@ -88,39 +88,52 @@ returns-in-Some-path_of-clause-plan g c = λ history.
     (planned languages history name id document design is (live at) (stored_design name id document is c.in-Ok.ensures.body) c.in_ok-design.ensures place there updates fits shown reduced path known))
     (c.in-Ok.ensures.document history)
 
-pub returns-in-Some-path_of-clause-query : goal.returns-in-Some-path_of-clause-query
-returns-in-Some-path_of-clause-query g c =
-    let name = view_query c.args.name.now c.args.query in
-    let design = c.in_ok-design.design in
-    let some : has_reduce (reduce_named name.view design.views) ≡ c.has_reduce.result =
-    reduced_there design.views c.as_slice.result.now c.as_slice-2.result.now name.view c.as_str-3.result.now c.in-Some.place c.index-as_slice-place.result c.has_reduce.result c.as_slice.ensures c.as_slice-2.ensures c.as_str-3.ensures c.in-Some.ensures.within c.has_reduce.ensures c.in-Some.ensures.reduced in
-    c.in-Ok-read_query.ensures.query ∙ (λ i. query_of (target.View (sym some i)) (c.parameters_of-parameters.ensures i))
+-- what stands under an id stands under the same id
+asked_by : {F : Type 0} (f : Folders F) (docs : Docs) (folder : F) (name : ViewQuery) (id : List ℕ) (document : Json) → id ≡ design_id name.design → IfTold (f.disk folder) (λ d. IsLive id (bytes_in docs d.now) (last_of docs id) document)
+    → IfTold (f.disk folder) (λ d. IsAskedFor docs d.now name document)
+asked_by f docs folder name id document is live = told_now (f.disk folder) (λ d. IsLive id (bytes_in docs d.now) (last_of docs id) document) (λ d. IsAskedFor docs d.now name document)
+    (λ d here. subst (λ (i : List ℕ). IsLive i (bytes_in docs d.now) (last_of docs i) document) is here) live
 
-pub returns-in-Some-path_of-clause-read : goal.returns-in-Some-path_of-clause-read
-returns-in-Some-path_of-clause-read g c =
+pub returns-in-Some-path_of-clause-planned : goal.returns-in-Some-path_of-clause-planned
+returns-in-Some-path_of-clause-planned g c =
     let docs = c.args.self.now.docs in
+    let languages = languages_of c.args.self.now.pool in
+    let name = view_query c.args.name.now c.args.query in
     let id = c.as_str-2.result.now in
     let document = json c.in-Ok.document in
-    let is : id ≡ design_id (view_query c.args.name.now c.args.query).design = c.as_str-2.ensures ∙ c.in_ok-id.ensures ∙ ap design_id c.as_str.ensures in
-    told_now (g.F.Folder.disk c.args.folder.now) (λ d. IsLive id (bytes_in docs d.now) (last_of docs id) document) _
-    (λ d live. (document, subst (λ (i : List ℕ). IsLive i (bytes_in docs d.now) (last_of docs i) document) is live, c.in_ok-design.ensures)) c.in-Ok.ensures.live
-
-pub returns-in-Some-path_of-clause-few : goal.returns-in-Some-path_of-clause-few
-returns-in-Some-path_of-clause-few g c =
-    let id = c.as_str-2.result.now in
-    let document = json c.in-Ok.document in
-    let views = c.in_ok-design.design.views in
-    let is : id ≡ design_id (view_query c.args.name.now c.args.query).design = c.as_str-2.ensures ∙ c.in_ok-id.ensures ∙ ap design_id c.as_str.ensures in
-    let has = stored_design (view_query c.args.name.now c.args.query) id document is c.in-Ok.ensures.body in
-    let few : length views ≤ 32 = subst (λ (vs : List View). length vs ≤ 32) (sym c.in_ok-design.ensures.1) (views_are_few document has) in
-    few
-
-pub returns-in-Some-path_of-clause-reduce : goal.returns-in-Some-path_of-clause-reduce
-returns-in-Some-path_of-clause-reduce g c =
-    has_there c.in_ok-design.design.views c.as_slice.result.now c.args.name.now.view c.as_str-3.result.now c.in-Some.place c.as_slice.ensures c.as_str-3.ensures c.in-Some.ensures.reduced
-
-pub returns-in-Some-path_of-clause-known : goal.returns-in-Some-path_of-clause-known
-returns-in-Some-path_of-clause-known g c = (c.in-Some-path_of._path.now, ap (path_in (languages_of c.args.self.now.pool)) (sym c.as_str-4.ensures) ∙ sym c.in-Some-path_of.ensures)
+    let design = c.in_ok-design.design in
+    let place = c.in-Some.place in
+    let some : has_reduce (reduce_named name.view design.views) ≡ c.has_reduce.result =
+    reduced_there design.views c.as_slice.result.now c.as_slice-2.result.now name.view c.as_str-3.result.now place c.index-as_slice-place.result c.has_reduce.result c.as_slice.ensures c.as_slice-2.ensures c.as_str-3.ensures c.in-Some.ensures.within c.has_reduce.ensures c.in-Some.ensures.reduced in
+    let fits : query_fault (target_for design.views name) (parameters_of name) ≡ None = (λ i. query_fault (target.View (some i)) (sym c.parameters_of-parameters.ensures i)) ∙ c.in-Ok-read_query.ensures.fault in
+    let is : id ≡ design_id name.design = c.as_str-2.ensures ∙ c.in_ok-id.ensures ∙ ap design_id c.as_str.ensures in
+    let there : Some (source_at design.views place) ≡ lookup (λ key. bytes_eq key name.view) (map named design.views) =
+    ap (λ (views : List View). Some (source_at views place)) (sym c.as_slice.ensures)
+    ∙ c.in-Some.ensures.named
+    ∙ (λ i. lookup (λ key. bytes_eq key (c.as_str-3.ensures i)) (map named (c.as_slice.ensures i))) in
+    let has = stored_design name id document is c.in-Ok.ensures.body in
+    let few : length design.views ≤ 32 = subst (λ (vs : List View). length vs ≤ 32) (sym c.in_ok-design.ensures.1) (views_are_few document has) in
+    let read : IsReadUnder g.F.Folder docs c.args.folder.now (design_id name.design) document = record {
+      body = subst (λ (i : List ℕ). IsBodyOf i document) is c.in-Ok.ensures.body;
+      live = asked_by g.F.Folder docs c.args.folder.now name id document is c.in-Ok.ensures.live;
+    } in
+    let live : IsLiveIn docs (design_id name.design) = subst (IsLiveIn docs) is (got_live docs id c.in-Ok.document c.in-Ok.ensures.missing.1 c.in-Ok.ensures.deleted.1) in
+    record {
+      about = record { document = document; read = read; is = c.in_ok-design.ensures };
+      few = few;
+      within = search rules;
+      shown = search rules;
+      reduce = has_there design.views c.as_slice.result.now c.args.name.now.view c.as_str-3.result.now place c.as_slice.ensures c.as_str-3.ensures c.in-Some.ensures.reduced;
+      query = c.in-Ok-read_query.ensures.query ∙ (λ i. query_of (target.View (sym some i)) (c.parameters_of-parameters.ensures i));
+      known = (c.in-Some-path_of._path.now, ap (path_in languages) (sym c.as_str-4.ensures) ∙ sym c.in-Some-path_of.ensures);
+      live = record { named = sym c.as_str-2.ensures ∙ is; live = live };
+      taken = record {
+        document = document;
+        read = read;
+        says = own_taken languages name document design has c.in_ok-design.ensures place there fits c.in-Some-path_of._path.now
+            (ap (path_in languages) (sym c.as_str-4.ensures) ∙ sym c.in-Some-path_of.ensures);
+      };
+    }
 
 pub returns-clause-refused : goal.returns-clause-refused
 returns-clause-refused g c = λ refusal is_refusal history.
@@ -223,12 +236,6 @@ returns-in-Err-clause-stopped g c = λ fault is_fault other.
 
 -- ---- and as the design document says
 
--- what stands under an id stands under the same id
-asked_by : {F : Type 0} (f : Folders F) (docs : Docs) (folder : F) (name : ViewQuery) (id : List ℕ) (document : Json) → id ≡ design_id name.design → IfTold (f.disk folder) (λ d. IsLive id (bytes_in docs d.now) (last_of docs id) document)
-    → IfTold (f.disk folder) (λ d. IsAskedFor docs d.now name document)
-asked_by f docs folder name id document is live = told_now (f.disk folder) (λ d. IsLive id (bytes_in docs d.now) (last_of docs id) document) (λ d. IsAskedFor docs d.now name document)
-    (λ d here. subst (λ (i : List ℕ). IsLive i (bytes_in docs d.now) (last_of docs i) document) is here) live
-
 pub returns-in-Err-clause-own : goal.returns-in-Err-clause-own
 returns-in-Err-clause-own g c = λ refusal is_refusal live.
     let docs = c.args.self.now.docs in
@@ -253,8 +260,7 @@ returns-in_default-clause-own g c = λ refusal is_refusal live.
     c.in_default.ensures.named ∙ (λ i. lookup (λ key. bytes_eq key (c.as_str-3.ensures i)) (map named (c.as_slice.ensures i))) in
     record {
       document = document;
-      body = subst (λ (i : List ℕ). IsBodyOf i document) is c.in-Ok.ensures.body;
-      asked = asked_by g.F.Folder docs c.args.folder.now name id document is c.in-Ok.ensures.live;
+      read = record { body = subst (λ (i : List ℕ). IsBodyOf i document) is c.in-Ok.ensures.body; live = asked_by g.F.Folder docs c.args.folder.now name id document is c.in-Ok.ensures.live };
       says = own_view languages name document design (stored_design name id document is c.in-Ok.ensures.body) c.in_ok-design.ensures none ∙ ap (λ (r : Refusal). Some r) same;
     }
 
@@ -280,8 +286,7 @@ returns-in-Err-read_query-clause-own g c = λ refusal is_refusal live.
     ∙ (λ i. lookup (λ key. bytes_eq key (c.as_str-3.ensures i)) (map named (c.as_slice.ensures i))) in
     record {
       document = document;
-      body = subst (λ (i : List ℕ). IsBodyOf i document) is c.in-Ok.ensures.body;
-      asked = asked_by g.F.Folder docs c.args.folder.now name id document is c.in-Ok.ensures.live;
+      read = record { body = subst (λ (i : List ℕ). IsBodyOf i document) is c.in-Ok.ensures.body; live = asked_by g.F.Folder docs c.args.folder.now name id document is c.in-Ok.ensures.live };
       says = own_query languages name document design (stored_design name id document is c.in-Ok.ensures.body) c.in_ok-design.ensures place there refusal bad;
     }
 
@@ -306,44 +311,9 @@ returns-clause-own g c = λ refusal is_refusal live.
     let none : None ≡ path_in languages design.language = c.in-None.ensures ∙ ap (path_in languages) c.as_str-4.ensures in
     record {
       document = document;
-      body = subst (λ (i : List ℕ). IsBodyOf i document) is c.in-Ok.ensures.body;
-      asked = asked_by g.F.Folder docs c.args.folder.now name id document is c.in-Ok.ensures.live;
+      read = record { body = subst (λ (i : List ℕ). IsBodyOf i document) is c.in-Ok.ensures.body; live = asked_by g.F.Folder docs c.args.folder.now name id document is c.in-Ok.ensures.live };
       says = own_language languages name document design (stored_design name id document is c.in-Ok.ensures.body) c.in_ok-design.ensures place there fits none ∙ ap (λ (r : Refusal). Some r) same;
     }
-
-pub returns-in-Some-path_of-clause-taken : goal.returns-in-Some-path_of-clause-taken
-returns-in-Some-path_of-clause-taken g c =
-    let docs = c.args.self.now.docs in
-    let languages = languages_of c.args.self.now.pool in
-    let name = view_query c.args.name.now c.args.query in
-    let id = c.as_str-2.result.now in
-    let document = json c.in-Ok.document in
-    let design = c.in_ok-design.design in
-    let place = c.in-Some.place in
-    let some : has_reduce (reduce_named name.view design.views) ≡ c.has_reduce.result =
-    reduced_there design.views c.as_slice.result.now c.as_slice-2.result.now name.view c.as_str-3.result.now place c.index-as_slice-place.result c.has_reduce.result c.as_slice.ensures c.as_slice-2.ensures c.as_str-3.ensures c.in-Some.ensures.within c.has_reduce.ensures c.in-Some.ensures.reduced in
-    let fits : query_fault (target_for design.views name) (parameters_of name) ≡ None = (λ i. query_fault (target.View (some i)) (sym c.parameters_of-parameters.ensures i)) ∙ c.in-Ok-read_query.ensures.fault in
-    let is : id ≡ design_id name.design = c.as_str-2.ensures ∙ c.in_ok-id.ensures ∙ ap design_id c.as_str.ensures in
-    let there : Some (source_at design.views place) ≡ lookup (λ key. bytes_eq key name.view) (map named design.views) =
-    ap (λ (views : List View). Some (source_at views place)) (sym c.as_slice.ensures)
-    ∙ c.in-Some.ensures.named
-    ∙ (λ i. lookup (λ key. bytes_eq key (c.as_str-3.ensures i)) (map named (c.as_slice.ensures i))) in
-    record {
-      document = document;
-      body = subst (λ (i : List ℕ). IsBodyOf i document) is c.in-Ok.ensures.body;
-      asked = asked_by g.F.Folder docs c.args.folder.now name id document is c.in-Ok.ensures.live;
-      says = own_taken languages name document design (stored_design name id document is c.in-Ok.ensures.body) c.in_ok-design.ensures place there fits c.in-Some-path_of._path.now
-          (ap (path_in languages) (sym c.as_str-4.ensures) ∙ sym c.in-Some-path_of.ensures);
-    }
-
-pub returns-in-Some-path_of-clause-live : goal.returns-in-Some-path_of-clause-live
-returns-in-Some-path_of-clause-live g c =
-    let docs = c.args.self.now.docs in
-    let name = view_query c.args.name.now c.args.query in
-    let id = c.as_str-2.result.now in
-    let is : id ≡ design_id name.design = c.as_str-2.ensures ∙ c.in_ok-id.ensures ∙ ap design_id c.as_str.ensures in
-    let live : IsLiveIn docs (design_id name.design) = subst (IsLiveIn docs) is (got_live docs id c.in-Ok.document c.in-Ok.ensures.missing.1 c.in-Ok.ensures.deleted.1) in
-    record { named = sym c.as_str-2.ensures ∙ is; live = live }
 
 -- ---- no fault of the folder was counted, unless it ended the planning
 
@@ -352,17 +322,3 @@ returns-in-Err-clause-spares g c = documents_spared g.F.Folder c.args.folder.now
 
 pub returns-in-Err-clause-turned : goal.returns-in-Err-clause-turned
 returns-in-Err-clause-turned g c = rw c.from.ensures (halted_turned c.in-Err.fault)
-
-pub returns-in-Some-path_of-clause-about : goal.returns-in-Some-path_of-clause-about
-returns-in-Some-path_of-clause-about g c =
-    let docs = c.args.self.now.docs in
-    let name = view_query c.args.name.now c.args.query in
-    let id = c.as_str-2.result.now in
-    let document = json c.in-Ok.document in
-    let is : id ≡ design_id name.design = c.as_str-2.ensures ∙ c.in_ok-id.ensures ∙ ap design_id c.as_str.ensures in
-    record {
-      document = document;
-      body = subst (λ (i : List ℕ). IsBodyOf i document) is c.in-Ok.ensures.body;
-      asked = asked_by g.F.Folder docs c.args.folder.now name id document is c.in-Ok.ensures.live;
-      is = c.in_ok-design.ensures;
-    }

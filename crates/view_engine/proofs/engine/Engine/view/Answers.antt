@@ -18,11 +18,12 @@ use Rattle.view_groups.specs.Groups.{AreOpen as AreIndexesOpen}
 use Rattle.view_engine.specs.declared.halt.Halt.TheVariants.{Stopped}
 use Rattle.view_engine.specs.declared.halt.StepFault.TheVariants.{DiskFault}
 use Rattle.view_engine.specs.ViewPlan.{met_by, IsPlan}
+use Rattle.view_engine.specs.Viewed.{IsTurnedAway}
 use Rattle.query_args.specs.declared.query.Query.{Query}
 use Rattle.view_engine.specs.ViewQuery.{view_query}
 use Rattle.view_engine.specs.Worlds.{IsOpen}
 use Rattle.view_engine.proofs.Ending.{refused_first, refused_then, shown_then}
-use Rattle.view_engine.proofs.Plans.{reduced_has}
+use Rattle.view_engine.proofs.Plans.{reads_design, reduced_has}
 use Rattle.view_engine.proofs.Sparing.{disk_met_by, disk_met_by_index}
 use Rattle.view_engine.proofs.Stages.{shown_from}
 use Rattle.view_engine.proofs.Unasked.{told_refused, unasked}
@@ -37,7 +38,7 @@ pub returns-in-Err-clause-does : goal.returns-in-Err-clause-does
 returns-in-Err-clause-does g c =
     let args = c.args.self.now in
     let x = g.F.Folder.disk c.args.folder.now in
-    refused_first g.F.Folder g.C.Servers args.docs args.pool args.groups c.args.folder.now c.plan.new.folder c.args.servers.now (view_query c.args.name c.args.query) c.args.out.now.items c.in-Err.halt c.requires.open c.in-Err.ensures.unblamed c.in-Err.ensures.kept c.in-Err.ensures.stopped c.in-Err.ensures.own c.in-Err.ensures.reads
+    refused_first g.F.Folder g.C.Servers args.docs args.pool args.groups c.args.folder.now c.plan.new.folder c.args.servers.now (view_query c.args.name c.args.query) c.args.out.now.items c.in-Err.halt c.requires.open (λ is. subst (λ h. IsTurnedAway (Err h)) is c.in-Err.ensures.turned) c.in-Err.ensures.kept c.in-Err.ensures.stopped c.in-Err.ensures.own c.in-Err.ensures.reads
     (λ before at. unasked g.C.Servers.functions g.C.Servers.honest (languages_of args.pool) before (view_query c.args.name c.args.query) c.in-Err.halt x (g.F.Folder.disk c.plan.new.folder) (g.C.Servers.may_follow c.args.servers.now) (g.C.Servers.faults c.args.servers.now) args at c.in-Err.ensures.reads.disk
     (told_refused x (λ d. AreAt args.docs d.now before.world.history) (languages_of args.pool) before.world.history (view_query c.args.name c.args.query) c.in-Err.halt (documents_at _ _ before.world at.documents) (λ r is. c.in-Err.ensures.refused r is before.world.history)))
 
@@ -47,28 +48,28 @@ update-requires-clause-open g c =
     (λ a b here none. subst (λ (files : FileName → File). AreIndexesOpen c.args.self.now.groups files) (λ i. λ n. sym (none_same a b none n) i) here.indexes) c.requires.open c.plan.ensures.reads.disk
 
 pub show-requires-in-Ok-update-clause-reduced : goal.show-requires-in-Ok-update-clause-reduced
-show-requires-in-Ok-update-clause-reduced g c = reduced_has c.in-Ok.plan.design.views (view_query c.args.name c.args.query) c.in-Ok.plan.place c.in-Ok.plan.query c.in-Ok.ensures.query c.in-Ok.ensures.reduce
+show-requires-in-Ok-update-clause-reduced g c = reduced_has c.in-Ok.plan.design.views (view_query c.args.name c.args.query) c.in-Ok.plan.place c.in-Ok.plan.query c.in-Ok.ensures.planned.query c.in-Ok.ensures.planned.reduce
 
 pub returns-in-Ok-update-clause-does : goal.returns-in-Ok-update-clause-does
 returns-in-Ok-update-clause-does g c =
     let args = c.args.self.now in
     let plan = c.in-Ok.plan in
-    let known = c.in-Ok.ensures.known in
+    let known = c.in-Ok.ensures.planned.known in
     shown_then g.F.Folder g.C.Servers args.docs args.pool args.groups c.args.folder.now c.plan.new.folder c.args.servers.now (view_query c.args.name c.args.query) c.args.out.now.items
-    c.update.new.pool c.update.new.self c.update.new.folder c.update.new.servers plan.id plan.design plan.place known.0 c.in-Ok.ensures.within known.1 (sym (ap (λ (q : Query). q.update) c.in-Ok.ensures.query) ∙ c.if-not-plan.false)
-    c.in-Ok.ensures.reads.disk c.in-Ok.ensures.reads.later (λ history. told_now (g.F.Folder.disk c.args.folder.now) _ _ (λ d is there. subst (λ (updating : Bool). IsPlan updating (languages_of args.pool) history (view_query c.args.name c.args.query) plan.id plan.design plan.place known.0) c.if-not-plan.false (is there known.0 known.1)) (c.in-Ok.ensures.plan history)) c.requires.open c.in-Ok.ensures.read c.in-Ok.ensures.live.named c.in-Ok.ensures.live.live c.in-Ok.ensures.taken
-    c.in-Ok-update.slot c.in-Ok-update.ensures c.index-index.result.now c.index-index.ensures plan.query c.in-Ok.ensures.query c.show-in-Ok-update.new.pool c.show-in-Ok-update.new.servers c.show-in-Ok-update.result c.show-in-Ok-update.ensures
+    c.update.new.pool c.update.new.self c.update.new.folder c.update.new.servers plan.id plan.design plan.place known.0 c.in-Ok.ensures.planned.within known.1 (sym (ap (λ (q : Query). q.update) c.in-Ok.ensures.planned.query) ∙ c.if-not-plan.false)
+    c.in-Ok.ensures.reads.disk c.in-Ok.ensures.reads.later (λ history. told_now (g.F.Folder.disk c.args.folder.now) _ _ (λ d is there. subst (λ (updating : Bool). IsPlan updating (languages_of args.pool) history (view_query c.args.name c.args.query) plan.id plan.design plan.place known.0) c.if-not-plan.false (is there known.0 known.1)) (c.in-Ok.ensures.plan history)) c.requires.open (reads_design g.F.Folder args.docs c.args.folder.now (view_query c.args.name c.args.query) c.in-Ok.plan.design c.in-Ok.ensures.planned.about) c.in-Ok.ensures.planned.live.named c.in-Ok.ensures.planned.live.live c.in-Ok.ensures.planned.taken
+    c.in-Ok-update.slot c.in-Ok-update.ensures c.index-index.result.now c.index-index.ensures plan.query c.in-Ok.ensures.planned.query c.show-in-Ok-update.new.pool c.show-in-Ok-update.new.servers c.show-in-Ok-update.result c.show-in-Ok-update.ensures
 
 pub returns-clause-does : goal.returns-clause-does
 returns-clause-does g c =
     let args = c.args.self.now in
     let plan = c.in-Ok.plan in
-    let known = c.in-Ok.ensures.known in
+    let known = c.in-Ok.ensures.planned.known in
     let met = c.in-Err-update.fault in
     let brings = c.in-Err-update.ensures in
     rw c.halt_of-in-Err-update.ensures (refused_then g.F.Folder g.C.Servers args.docs args.pool args.groups c.args.folder.now c.plan.new.folder c.args.servers.now (view_query c.args.name c.args.query) c.args.out.now.items
-    c.update.new.pool c.update.new.self c.update.new.folder c.update.new.servers plan.id plan.design plan.place known.0 c.in-Ok.ensures.within known.1 (sym (ap (λ (q : Query). q.update) c.in-Ok.ensures.query) ∙ c.if-not-plan.false)
-    c.in-Ok.ensures.reads.disk c.in-Ok.ensures.reads.later (λ history. told_now (g.F.Folder.disk c.args.folder.now) _ _ (λ d is there. subst (λ (updating : Bool). IsPlan updating (languages_of args.pool) history (view_query c.args.name c.args.query) plan.id plan.design plan.place known.0) c.if-not-plan.false (is there known.0 known.1)) (c.in-Ok.ensures.plan history)) c.requires.open c.in-Ok.ensures.read c.in-Ok.ensures.live.named c.in-Ok.ensures.live.live c.in-Ok.ensures.taken
+    c.update.new.pool c.update.new.self c.update.new.folder c.update.new.servers plan.id plan.design plan.place known.0 c.in-Ok.ensures.planned.within known.1 (sym (ap (λ (q : Query). q.update) c.in-Ok.ensures.planned.query) ∙ c.if-not-plan.false)
+    c.in-Ok.ensures.reads.disk c.in-Ok.ensures.reads.later (λ history. told_now (g.F.Folder.disk c.args.folder.now) _ _ (λ d is there. subst (λ (updating : Bool). IsPlan updating (languages_of args.pool) history (view_query c.args.name c.args.query) plan.id plan.design plan.place known.0) c.if-not-plan.false (is there known.0 known.1)) (c.in-Ok.ensures.plan history)) c.requires.open (reads_design g.F.Folder args.docs c.args.folder.now (view_query c.args.name c.args.query) c.in-Ok.plan.design c.in-Ok.ensures.planned.about) c.in-Ok.ensures.planned.live.named c.in-Ok.ensures.planned.live.live c.in-Ok.ensures.planned.taken
     met (brings.file, λ is. let none = brings.unknown (ap Err is) in let clash : ⊥ = cc in clash) brings)
 
 -- ---- the index is read as it stands
@@ -78,22 +79,22 @@ index-kept-requires g c = ⊎_elim (λ opens. (opens.place.0, opens.place.1.ther
 
 pub show-requires-clause-within : goal.show-requires-clause-within
 show-requires-clause-within g c =
-    ⊎_elim (λ opens. let number = number_of c.index-kept.result.now opens.place.0 c.index-kept.ensures opens.place.1.there opens.place.1.number in let below = c.in-Ok.ensures.within in omega (arith, number, below))
+    ⊎_elim (λ opens. let number = number_of c.index-kept.result.now opens.place.0 c.index-kept.ensures opens.place.1.there opens.place.1.number in let below = c.in-Ok.ensures.planned.within in omega (arith, number, below))
     (λ none. absurd (let clash : ⊥ = cc in clash)) c.in-Ok-open.ensures
 
 pub show-requires-clause-views : goal.show-requires-clause-views
 show-requires-clause-views g c =
-    ⊎_elim (λ opens. let number = number_of c.index-kept.result.now opens.place.0 c.index-kept.ensures opens.place.1.there opens.place.1.number in let few = c.in-Ok.ensures.few in omega (arith, number, few))
+    ⊎_elim (λ opens. let number = number_of c.index-kept.result.now opens.place.0 c.index-kept.ensures opens.place.1.there opens.place.1.number in let few = c.in-Ok.ensures.planned.few in omega (arith, number, few))
     (λ none. absurd (let clash : ⊥ = cc in clash)) c.in-Ok-open.ensures
 
 pub show-requires-clause-reduced : goal.show-requires-clause-reduced
-show-requires-clause-reduced g c = reduced_has c.in-Ok.plan.design.views (view_query c.args.name c.args.query) c.in-Ok.plan.place c.in-Ok.plan.query c.in-Ok.ensures.query c.in-Ok.ensures.reduce
+show-requires-clause-reduced g c = reduced_has c.in-Ok.plan.design.views (view_query c.args.name c.args.query) c.in-Ok.plan.place c.in-Ok.plan.query c.in-Ok.ensures.planned.query c.in-Ok.ensures.planned.reduce
 
 pub returns-in-Err-open-clause-does : goal.returns-in-Err-open-clause-does
 returns-in-Err-open-clause-does g c =
     let args = c.args.self.now in
     let plan = c.in-Ok.plan in
-    let known = c.in-Ok.ensures.known in
+    let known = c.in-Ok.ensures.planned.known in
     let name = view_query c.args.name c.args.query in
     let plans : (history : List Write) → IfTold (g.F.Folder.disk c.args.folder.now) (λ d. AreAt args.docs d.now history → IsPlan false (languages_of args.pool) history name plan.id plan.design plan.place known.0) =
     λ history. told_now (g.F.Folder.disk c.args.folder.now) _ _ (λ d is there. subst (λ (updating : Bool). IsPlan updating (languages_of args.pool) history name plan.id plan.design plan.place known.0) c.if-not-plan.true (is there known.0 known.1)) (c.in-Ok.ensures.plan history) in
@@ -101,23 +102,23 @@ returns-in-Err-open-clause-does g c =
     let is : c.halt_of.result ≡ met_by plan.id (by_index fault) = c.halt_of.ensures ∙ ap (met_by plan.id) c.from.ensures in
     rw is (⊎_elim
     (λ opens. kept_refused g.F.Folder g.C.Servers args.docs args.pool args.groups c.open.new.self c.args.folder.now c.plan.new.folder c.open.new.folder c.args.servers.now name c.args.out.now.items plan.id plan.design plan.place known.0
-    c.in-Ok.ensures.within known.1 (sym (ap (λ (q : Query). q.update) c.in-Ok.ensures.query) ∙ c.if-not-plan.true) c.in-Ok.ensures.reads.disk c.in-Ok.ensures.reads.later plans c.requires.open c.in-Ok.ensures.read c.in-Ok.ensures.live.named c.in-Ok.ensures.live.live c.in-Ok.ensures.taken fault opens.faults opens)
+    c.in-Ok.ensures.planned.within known.1 (sym (ap (λ (q : Query). q.update) c.in-Ok.ensures.planned.query) ∙ c.if-not-plan.true) c.in-Ok.ensures.reads.disk c.in-Ok.ensures.reads.later plans c.requires.open (reads_design g.F.Folder args.docs c.args.folder.now (view_query c.args.name c.args.query) c.in-Ok.plan.design c.in-Ok.ensures.planned.about) c.in-Ok.ensures.planned.live.named c.in-Ok.ensures.planned.live.live c.in-Ok.ensures.planned.taken fault opens.faults opens)
     (λ none. kept_idle g.F.Folder g.C.Servers args.docs args.pool args.groups c.open.new.self c.args.folder.now c.plan.new.folder c.open.new.folder c.args.servers.now name c.args.out.now.items plan.id plan.design plan.place known.0
-    c.in-Ok.ensures.within known.1 (sym (ap (λ (q : Query). q.update) c.in-Ok.ensures.query) ∙ c.if-not-plan.true) c.in-Ok.ensures.reads.disk c.in-Ok.ensures.reads.later plans c.requires.open c.in-Ok.ensures.read c.in-Ok.ensures.live.named c.in-Ok.ensures.live.live c.in-Ok.ensures.taken fault none.0 none.1 none.2)
+    c.in-Ok.ensures.planned.within known.1 (sym (ap (λ (q : Query). q.update) c.in-Ok.ensures.planned.query) ∙ c.if-not-plan.true) c.in-Ok.ensures.reads.disk c.in-Ok.ensures.reads.later plans c.requires.open (reads_design g.F.Folder args.docs c.args.folder.now (view_query c.args.name c.args.query) c.in-Ok.plan.design c.in-Ok.ensures.planned.about) c.in-Ok.ensures.planned.live.named c.in-Ok.ensures.planned.live.live c.in-Ok.ensures.planned.taken fault none.0 none.1 none.2)
     c.in-Err-open.ensures)
 
 pub returns-then-not-plan-clause-does : goal.returns-then-not-plan-clause-does
 returns-then-not-plan-clause-does g c =
     let args = c.args.self.now in
     let plan = c.in-Ok.plan in
-    let known = c.in-Ok.ensures.known in
+    let known = c.in-Ok.ensures.planned.known in
     let name = view_query c.args.name c.args.query in
     let plans : (history : List Write) → IfTold (g.F.Folder.disk c.args.folder.now) (λ d. AreAt args.docs d.now history → IsPlan false (languages_of args.pool) history name plan.id plan.design plan.place known.0) =
     λ history. told_now (g.F.Folder.disk c.args.folder.now) _ _ (λ d is there. subst (λ (updating : Bool). IsPlan updating (languages_of args.pool) history name plan.id plan.design plan.place known.0) c.if-not-plan.true (is there known.0 known.1)) (c.in-Ok.ensures.plan history) in
     ⊎_elim
     (λ opens. kept_then g.F.Folder g.C.Servers args.docs args.pool args.groups c.open.new.self c.args.folder.now c.plan.new.folder c.open.new.folder c.args.servers.now name c.args.out.now.items plan.id plan.design plan.place known.0
-    c.in-Ok.ensures.within known.1 (sym (ap (λ (q : Query). q.update) c.in-Ok.ensures.query) ∙ c.if-not-plan.true) c.in-Ok.ensures.reads.disk c.in-Ok.ensures.reads.later plans c.requires.open c.in-Ok.ensures.read c.in-Ok.ensures.live.named c.in-Ok.ensures.live.live c.in-Ok.ensures.taken c.in-Ok-open.slot opens c.index-kept.result.now c.index-kept.ensures
-    plan.query c.in-Ok.ensures.query c.show.new.pool c.show.new.servers c.show.result c.show.ensures)
+    c.in-Ok.ensures.planned.within known.1 (sym (ap (λ (q : Query). q.update) c.in-Ok.ensures.planned.query) ∙ c.if-not-plan.true) c.in-Ok.ensures.reads.disk c.in-Ok.ensures.reads.later plans c.requires.open (reads_design g.F.Folder args.docs c.args.folder.now (view_query c.args.name c.args.query) c.in-Ok.plan.design c.in-Ok.ensures.planned.about) c.in-Ok.ensures.planned.live.named c.in-Ok.ensures.planned.live.live c.in-Ok.ensures.planned.taken c.in-Ok-open.slot opens c.index-kept.result.now c.index-kept.ensures
+    plan.query c.in-Ok.ensures.planned.query c.show.new.pool c.show.new.servers c.show.result c.show.ensures)
     (λ none. absurd (let clash : ⊥ = cc in clash)) c.in-Ok-open.ensures
 
 -- ---- no fault of the folder was counted, unless it ended the view
@@ -166,7 +167,7 @@ returns-in-Ok-update-clause-views g c =
       design = plan.design;
       place = plan.place;
       query = plan.query;
-      about = record { of_document = c.in-Ok.ensures.about; within = c.in-Ok.ensures.within; named = c.in-Ok.ensures.shown; is_query = c.in-Ok.ensures.query };
+      about = record { of_document = c.in-Ok.ensures.planned.about; within = c.in-Ok.ensures.planned.within; named = c.in-Ok.ensures.planned.shown; is_query = c.in-Ok.ensures.planned.query };
       read = c.plan.new.folder;
       same = c.in-Ok.ensures.reads.disk;
       counted = c.in-Ok.ensures.spares (λ is. let no : ⊥ = cc in no);
@@ -176,7 +177,7 @@ returns-in-Ok-update-clause-views g c =
         brought = Ok c.in-Ok-update.slot;
         brings = brings;
         ends = shown_from g.C.Servers c.update.new.servers shown.new.servers c.update.new.pool shown.new.pool plan.design plan.place plan.query c.args.out.now.items _ shown.result
-            c.update.new.self c.in-Ok-update.slot _ _ c.index-index.result.now brings.place.0 plan.id _ c.index-index.ensures brings.place.1 c.in-Ok.ensures.live.named shown.ensures;
+            c.update.new.self c.in-Ok-update.slot _ _ c.index-index.result.now brings.place.0 plan.id _ c.index-index.ensures brings.place.1 c.in-Ok.ensures.planned.live.named shown.ensures;
       };
       kept = λ keeps. absurd (let clash : true ≡ false = sym c.if-not-plan.false ∙ keeps in let no : ⊥ = cc in no);
     })
@@ -189,7 +190,7 @@ returns-clause-views g c =
       design = plan.design;
       place = plan.place;
       query = plan.query;
-      about = record { of_document = c.in-Ok.ensures.about; within = c.in-Ok.ensures.within; named = c.in-Ok.ensures.shown; is_query = c.in-Ok.ensures.query };
+      about = record { of_document = c.in-Ok.ensures.planned.about; within = c.in-Ok.ensures.planned.within; named = c.in-Ok.ensures.planned.shown; is_query = c.in-Ok.ensures.planned.query };
       read = c.plan.new.folder;
       same = c.in-Ok.ensures.reads.disk;
       counted = c.in-Ok.ensures.spares (λ is. let no : ⊥ = cc in no);
@@ -198,7 +199,7 @@ returns-clause-views g c =
         pool = c.update.new.pool;
         brought = Err fault;
         brings = c.in-Err-update.ensures;
-        ends = (ap Err (c.halt_of-in-Err-update.ensures ∙ ap (λ (id : List ℕ). met_by id fault) c.in-Ok.ensures.live.named), refl, refl, refl);
+        ends = (ap Err (c.halt_of-in-Err-update.ensures ∙ ap (λ (id : List ℕ). met_by id fault) c.in-Ok.ensures.planned.live.named), refl, refl, refl);
       };
       kept = λ keeps. absurd (let clash : true ≡ false = sym c.if-not-plan.false ∙ keeps in let no : ⊥ = cc in no);
     })
@@ -211,7 +212,7 @@ returns-in-Err-open-clause-views g c =
       design = plan.design;
       place = plan.place;
       query = plan.query;
-      about = record { of_document = c.in-Ok.ensures.about; within = c.in-Ok.ensures.within; named = c.in-Ok.ensures.shown; is_query = c.in-Ok.ensures.query };
+      about = record { of_document = c.in-Ok.ensures.planned.about; within = c.in-Ok.ensures.planned.within; named = c.in-Ok.ensures.planned.shown; is_query = c.in-Ok.ensures.planned.query };
       read = c.plan.new.folder;
       same = c.in-Ok.ensures.reads.disk;
       counted = c.in-Ok.ensures.spares (λ is. let no : ⊥ = cc in no);
@@ -219,7 +220,7 @@ returns-in-Err-open-clause-views g c =
       kept = λ keeps. record {
         opened = Err fault;
         opens = c.in-Err-open.ensures;
-        ends = (ap Err (c.halt_of.ensures ∙ ap (met_by plan.id) c.from.ensures ∙ ap (λ (id : List ℕ). met_by id (by_index fault)) c.in-Ok.ensures.live.named), refl, refl, refl);
+        ends = (ap Err (c.halt_of.ensures ∙ ap (met_by plan.id) c.from.ensures ∙ ap (λ (id : List ℕ). met_by id (by_index fault)) c.in-Ok.ensures.planned.live.named), refl, refl, refl);
       };
     })
 
@@ -232,7 +233,7 @@ returns-then-not-plan-clause-views g c =
       design = plan.design;
       place = plan.place;
       query = plan.query;
-      about = record { of_document = c.in-Ok.ensures.about; within = c.in-Ok.ensures.within; named = c.in-Ok.ensures.shown; is_query = c.in-Ok.ensures.query };
+      about = record { of_document = c.in-Ok.ensures.planned.about; within = c.in-Ok.ensures.planned.within; named = c.in-Ok.ensures.planned.shown; is_query = c.in-Ok.ensures.planned.query };
       read = c.plan.new.folder;
       same = c.in-Ok.ensures.reads.disk;
       counted = c.in-Ok.ensures.spares (λ is. let no : ⊥ = cc in no);
@@ -241,7 +242,7 @@ returns-then-not-plan-clause-views g c =
         opened = Ok c.in-Ok-open.slot;
         opens = c.in-Ok-open.ensures;
         ends = shown_from g.C.Servers c.args.servers.now shown.new.servers c.args.self.now.pool shown.new.pool plan.design plan.place plan.query c.args.out.now.items _ shown.result
-            c.open.new.self c.in-Ok-open.slot _ _ c.index-kept.result.now opens.place.0 plan.id _ c.index-kept.ensures opens.place.1 c.in-Ok.ensures.live.named shown.ensures;
+            c.open.new.self c.in-Ok-open.slot _ _ c.index-kept.result.now opens.place.0 plan.id _ c.index-kept.ensures opens.place.1 c.in-Ok.ensures.planned.live.named shown.ensures;
       };
     }))
     (λ none. absurd (let clash : ⊥ = cc in clash)) c.in-Ok-open.ensures
