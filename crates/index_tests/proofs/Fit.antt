@@ -4,9 +4,9 @@ use Rattle.std.specs.List.{list_all, IsDistinct}
 use Rattle.std.proofs.Common.{ap, sym, subst, ◌∙◌}
 use Rattle.std.proofs.lemmas.List.Folds.{list_all-append}
 use Rattle.json_terms.specs.Json.{Json}
-use Rattle.view_index.specs.Replaced.{ids_of, is_emission, is_list}
-use Rattle.view_index.specs.declared.doc_rows.DocRows.{DocRows}
-use Rattle.view_index.specs.Rows.{is_id}
+use Rattle.row_exchange.specs.Replaced.{ids_of, is_emission, is_list}
+use Rattle.row_exchange.specs.declared.doc_rows.DocRows.{DocRows}
+use Rattle.row_exchange.specs.Rows.{is_id}
 
 abbrev both_true : (a b : Bool) → a ≡ true → b ≡ true → (a && b) ≡ true
 both_true a b is also = ap (λ x. x && b) is ∙ also

@@ -6,7 +6,7 @@ ghost use Rattle.view_ports.specs.Disk.{Disk};
 ghost use Rattle.view_ports.specs.declared.file_name.FileName.{FileName as NameSeen};
 ghost use Rattle.crash_disk.specs.State.{calls_told, told};
 ghost use Rattle.view_index.specs.Index.{views_of};
-ghost use Rattle.view_index.specs.Replaced.{ids_of, is_change, is_emission};
+ghost use Rattle.row_exchange.specs.Replaced.{ids_of, is_change, is_emission};
 ghost use Rattle.index_tests.specs.Indexes.{IsHeld};
 
 use crash_disk::MemoryFolder;

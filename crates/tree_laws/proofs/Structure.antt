@@ -6,7 +6,7 @@ use Rattle.tree_laws.specs.declared.node.Node.{Node}
 use Rattle.tree_laws.specs.declared.node.Node.TheVariants.{Leaf, Inner}
 use Rattle.tree_laws.specs.declared.tree.Fill.{Fill}
 use Rattle.tree_laws.specs.declared.tree.Tree.{Tree}
-use Rattle.tree_laws.specs.Meaning.{Meaning, Values}
+use Rattle.tree_laws.specs.Meaning.{Values}
 use Rattle.tree_laws.specs.Stores.{Extends, Places}
 use Rattle.tree_laws.specs.Trees.{AreChildren, Has, HasRoot, IsAt, IsChild, IsSummary, IsTree, Stands, StandsAs}
 use Rattle.tree_laws.specs.Values.{PassFor, no_values}
@@ -24,8 +24,8 @@ pub other_sums : {T S : Type 0} (v w : Values T S) → PassFor v w → SumsPass 
 other_sums {T} {S} v w p items bytes h = record {
   sum = h.sum;
   fits = p.fits h.sum h.fits;
-  bytes_are = h.bytes_are ∙ ap (λ (m : Meaning T S). m.spelled h.sum) (sym p.meaning);
-  value = λ lawful. h.value (p.lawful lawful) ∙ ap (λ (m : Meaning T S). m.value items) (sym p.meaning);
+  bytes_are = h.bytes_are ∙ sym (p.spelled h.sum);
+  value = λ lawful. h.value (p.lawful lawful) ∙ sym (p.value lawful items);
 }
 
 pub no_sums : {T S : Type 0} (v : Values T S) → SumsPass v no_values

@@ -11,8 +11,10 @@ values_of m state = record { meaning = m.meaning state; fits = m.fits state; law
 abbrev pub no_values : {T : Type 0} → Values T (List ℕ)
 no_values = record { meaning = record { value = λ items. []; spelled = λ bytes. bytes }; fits = λ bytes. Unit {0}; lawful = ⊥ }
 
--- the others mean the same, have each value that fits here, and are lawful only where these are
+-- The others spell each value that fits here as these do, and it fits there too; and they are lawful only where these are, and then
+-- each list of items has the same value.
 pub record PassFor {T S : Type 0} (these others : Values T S) : Type 0 where
-  pub meaning : others.meaning ≡ these.meaning
+  pub spelled : (sum : S) → others.meaning.spelled sum ≡ these.meaning.spelled sum
   pub fits : (sum : S) → these.fits sum → others.fits sum
   pub lawful : others.lawful → these.lawful
+  pub value : others.lawful → (items : List T) → others.meaning.value items ≡ these.meaning.value items

@@ -37,8 +37,8 @@ pub fn trees_stay<M: Summer>()
         → IsTree M.Unit.Item (values_of M.Summer first) new tree items }
 {}
 
-/// A tree of a summer is one of another too, or of the same in another state, for which its values pass: one that means the
-/// same by them, has each that fits, and is lawful only where the first is.
+/// A tree of a summer is one of another too, or of the same in another state, for which its values pass: one that spells each
+/// value that fits in the same way, has it too, and is lawful only where the first is, with the same values of items.
 pub fn trees_pass<M: Summer, N: Summer<Unit = M::Unit, Sum = M::Sum>>()
     ensures { (first : M) (other : N) (there : Places) (tree : Tree) (items : List M.Unit)
         → PassFor (values_of M.Summer first) (values_of N.Summer other)

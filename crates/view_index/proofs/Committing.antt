@@ -25,10 +25,11 @@ use Rattle.view_index.specs.Calls.{next_picture, stem_of, IsAt, IsOpen}
 use Rattle.view_index.specs.Held.{or_empty, HoldsPicture, IsFileOf, IsPictureOf, Stands}
 use Rattle.view_index.specs.Index.{both_in, file_of, is_touched, next_in, picture_of, views_of}
 use Rattle.view_index.specs.Pending.{ArePending}
-use Rattle.view_index.specs.Rows.{is_row}
+use Rattle.row_exchange.specs.Rows.{is_row}
 use Rattle.view_index.specs.ViewRows.{are_fit, next_rows}
 use Rattle.view_index.proofs.Carried.{picture_of_root}
-use Rattle.view_index.proofs.Fits.{both_so, fit_next}
+use Rattle.row_exchange.proofs.NewRows.{both_so}
+use Rattle.view_index.proofs.Fits.{fit_next}
 use Rattle.view_index.proofs.Rising.{empty_rise, next_rise_all, rise_of, rising_stay}
 
 -- ---- the next rows

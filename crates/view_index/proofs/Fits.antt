@@ -1,20 +1,18 @@
 -- Rows that an index may hold, after a step.
-use Rattle.std.specs.Prelude.{◌≡◌, ℕ, suc, List, [], ◌∷◌, ◌++◌, map, filter, Bool, true, false, not, ◌&&◌, if◌then◌else◌, refl}
+use Rattle.std.specs.Prelude.{◌≡◌, ℕ, suc, List, [], ◌∷◌, ◌++◌, map, filter, Bool, true, false, not, if◌then◌else◌, refl}
 use Rattle.std.specs.List.{list_all}
-use Rattle.std.proofs.Common.{ap, ◌∙◌}
+use Rattle.std.proofs.Common.{◌∙◌}
 use Rattle.std.proofs.lemmas.List.Folds.{list_all-append}
 use Rattle.std.specs.Cmp.{first_so, second_so}
 use Rattle.json_terms.specs.declared.term.Row.{Row}
 use Rattle.std.specs.Ordering.{is_lt}
 use Rattle.raw_collation.specs.Collation.{rows_cmp}
 use Rattle.raw_collation.specs.Sorting.{insert_row, sorted_rows}
-use Rattle.view_index.specs.Rows.{is_row}
-use Rattle.view_index.specs.ViewRows.{are_fit, next_rows, of_others}
+use Rattle.row_exchange.specs.Rows.{is_row}
+use Rattle.row_exchange.specs.Replaced.{of_others, each_from}
+use Rattle.row_exchange.proofs.NewRows.{both_so}
+use Rattle.view_index.specs.ViewRows.{are_fit, next_rows}
 use Rattle.view_index.specs.Index.{rolled_back, settled, unexchanged, without}
-use Rattle.view_index.specs.Replaced.{each_from}
-
-pub both_so : (a b : Bool) → a ≡ true → b ≡ true → (a && b) ≡ true
-both_so a b one other = ap (λ c. c && b) one ∙ other
 
 -- a part of what passes passes
 pub list_all-filter : {X : Type 0} (p q : X → Bool) (xs : List X) → list_all p xs ≡ true → list_all p (filter q xs) ≡ true

@@ -1,6 +1,4 @@
 pub mod Lent
-pub mod Each
-pub mod Emitted
 pub mod Written
 pub mod Fits
 pub mod Exchanged
@@ -15,4 +13,3 @@ pub mod Loaded
 pub mod Opening
 pub mod Emptying
 pub mod Removing
-pub mod Updating

@@ -12,7 +12,7 @@ use Rattle.index_record.specs.Record.{IsContent, IsOneRecord, IsRecordOf}
 use Rattle.view_model.specs.Picture.{Picture}
 use Rattle.view_index.specs.Held.{empty_views, or_empty, HoldsIndex, HoldsPicture}
 use Rattle.view_index.specs.Loads.{HasLoaded}
-use Rattle.view_index.specs.Rows.{is_row}
+use Rattle.row_exchange.specs.Rows.{is_row}
 use Rattle.view_index.proofs.Numbers.{same_number}
 use Rattle.view_index.proofs.Pendings.{shown}
 

@@ -12,7 +12,7 @@ use Rattle.query_protocol.specs.Replies.{is_within_bounds}
 use Rattle.view_ports.specs.Functions.{part_depth, part_limit}
 use Rattle.child_pool.specs.Mapping.{IsPart}
 use Rattle.view_index.specs.Parts.{HasParts}
-use Rattle.view_index.specs.Rows.{is_id, is_row}
+use Rattle.row_exchange.specs.Rows.{is_id, is_row}
 use Rattle.view_index.specs.ViewRows.{are_fit}
 
 part_of : (t : Json) → is_within_bounds t ≡ true → IsPart t

@@ -10,12 +10,11 @@ use Rattle.view_model.specs.Picture.{Picture}
 use Rattle.view_model.specs.Rows.{emitted_at, same_place}
 use Rattle.view_model.proofs.Strict.{all_append, all_each, all_passed, distinct_append, distinct_part, emitted_apart, emitted_ids}
 use Rattle.view_model.proofs.Distinct.{all_filter}
-use Rattle.view_index.specs.declared.doc_rows.DocRows.{DocRows}
-use Rattle.view_index.specs.Ids.{is_among}
+use Rattle.row_exchange.specs.declared.doc_rows.DocRows.{DocRows}
+use Rattle.row_exchange.specs.Replaced.{is_among, each_from, ids_of, new_rows, of_others}
 use Rattle.view_index.specs.Index.{rolled_back, settled, with_new, without}
 use Rattle.view_index.specs.Pending.{IsPending}
-use Rattle.view_index.specs.Replaced.{each_from, ids_of, new_rows}
-use Rattle.view_index.specs.ViewRows.{next_rows, of_others}
+use Rattle.view_index.specs.ViewRows.{next_rows}
 
 -- the picture with these rows
 abbrev pub shown : ℕ → List (List Row) → Picture

@@ -24,7 +24,8 @@ use Rattle.view_model.proofs.Strict.{all_each, all_passed, distinct_append, dist
 use Rattle.index_record.specs.Rows.{AreRows, ComesFirst, PlacesRise, place_cmp}
 use Rattle.view_index.specs.Held.{empty_views}
 use Rattle.view_index.specs.Pending.{IsPending}
-use Rattle.view_index.specs.ViewRows.{next_rows, of_others}
+use Rattle.row_exchange.specs.Replaced.{of_others}
+use Rattle.view_index.specs.ViewRows.{next_rows}
 
 -- ---- the order of places is that of rows without their values
 

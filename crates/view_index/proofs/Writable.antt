@@ -12,7 +12,7 @@ use Rattle.query_protocol.specs.Replies.{is_within_bounds}
 use Rattle.view_ports.specs.Functions.{part_depth, part_limit}
 use Rattle.doc_file.proofs.Sizes.{CountsFit-short}
 use Rattle.index_record.specs.Rows.{IsPart, IsRow}
-use Rattle.view_index.specs.Rows.{is_id, is_row}
+use Rattle.row_exchange.specs.Rows.{is_id, is_row}
 use Rattle.view_index.specs.ViewRows.{are_fit, next_rows}
 use Rattle.view_index.proofs.Fits.{fit_next}
 

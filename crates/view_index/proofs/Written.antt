@@ -4,9 +4,9 @@ use Rattle.std.proofs.Common.{ap, sym, ◌∙◌, arith, get_or, set, add-one}
 use Rattle.std.proofs.lemmas.List.{get_or-map, length-map, map-set}
 use Rattle.json_terms.specs.declared.term.Row.{Row}
 use Rattle.view_index.specs.declared.view_rows.ViewRows.{ViewRows}
-use Rattle.view_index.specs.Replaced.{each_from, so_far}
+use Rattle.row_exchange.specs.Replaced.{each_from, so_far}
 use Rattle.view_index.specs.ViewRows.{both_of}
-use Rattle.view_index.proofs.Each.{all_so_far, length-so_far, next_so_far}
+use Rattle.row_exchange.proofs.Each.{all_so_far, length-so_far, next_so_far}
 
 module _ (f : ℕ → List Row × List Row → List Row × List Row) (initial items : List ViewRows) (i : ℕ) (done : map both_of items ≡ so_far f 0 (map both_of initial) i) where
   -- one more of them

@@ -11,7 +11,7 @@ use Rattle.gate_file.specs.Pair.{PairHolds, StandsFor}
 use Rattle.gate_file.specs.RootPlace.{IsPairDamage}
 use Rattle.index_record.specs.Record.{record_bytes, IsContent}
 use Rattle.view_model.specs.Picture.{Picture}
-use Rattle.view_index.specs.Rows.{is_row}
+use Rattle.row_exchange.specs.Rows.{is_row}
 
 -- A picture that an index of so many views may hold: the rows of each view are such as a view may have, and their places rise.
 pub record IsPictureOf (views : ℕ) (picture : Picture) : Type 0 where

@@ -3,11 +3,11 @@ use Rattle.std.specs.Prelude.{◌≡◌, ℕ, List, [], ◌++◌, map, length, B
 use Rattle.json_terms.specs.declared.term.Row.{Row}
 use Rattle.gate_file.specs.declared.gate.GateFile.{GateFile}
 use Rattle.view_model.specs.Picture.{Picture}
-use Rattle.view_index.specs.declared.doc_rows.DocRows.{DocRows}
+use Rattle.row_exchange.specs.declared.doc_rows.DocRows.{DocRows}
 use Rattle.view_index.specs.declared.index.Index.{Index}
 use Rattle.view_index.specs.Ids.{has}
-use Rattle.view_index.specs.Replaced.{new_rows}
-use Rattle.view_index.specs.ViewRows.{both_of, next_rows, of_others}
+use Rattle.row_exchange.specs.Replaced.{new_rows, of_others}
+use Rattle.view_index.specs.ViewRows.{both_of, next_rows}
 
 abbrev pub file_of : Index → GateFile
 file_of index = index.file

@@ -1,11 +1,8 @@
 pub mod Held
 pub mod Faults
 pub mod Ids
-pub mod Rows
 pub mod Parts
 pub mod ViewRows
-pub mod Replaced
-pub mod Changed
 pub mod Index
 pub mod Pending
 pub mod Calls

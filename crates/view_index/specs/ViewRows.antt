@@ -1,14 +1,11 @@
 -- The rows of one view, and those that the next commit makes of them.
-use Rattle.std.specs.Prelude.{ℕ, List, ◌++◌, filter, Bool, not, ◌&&◌}
+use Rattle.std.specs.Prelude.{ℕ, List, ◌++◌, Bool, ◌&&◌}
 use Rattle.std.specs.List.{list_all}
 use Rattle.json_terms.specs.declared.term.Row.{Row}
 use Rattle.raw_collation.specs.Sorting.{sorted_rows}
+use Rattle.row_exchange.specs.Replaced.{of_others}
 use Rattle.view_index.specs.declared.view_rows.ViewRows.{ViewRows}
-use Rattle.view_index.specs.Rows.{is_row}
-
--- the rows of the ids that aren't these
-abbrev pub of_others : (List ℕ → Bool) → List Row → List Row
-of_others these rows = filter (λ row. not (these row.id)) rows
+use Rattle.row_exchange.specs.Rows.{is_row}
 
 -- the rows as of the last commit
 abbrev pub rows_of : ViewRows → List Row

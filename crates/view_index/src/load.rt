@@ -15,7 +15,7 @@ ghost use Rattle.view_index.specs.Calls.{IsCounted};
 ghost use Rattle.view_index.specs.Held.{empty_views, SpellsPicture};
 ghost use Rattle.view_index.specs.Loads.{HasLoaded};
 ghost use Rattle.view_index.specs.Opens.{FindsDamage, IsOpenFault};
-ghost use Rattle.view_index.specs.Rows.{is_row};
+ghost use Rattle.row_exchange.specs.Rows.{is_row};
 
 use crate::fault::IndexFault;
 use gate_file::{GateFault, GateFile};

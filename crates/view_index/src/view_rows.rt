@@ -23,7 +23,8 @@ pub(crate) struct ViewRows {
 impl ViewRows {
     ghost use Rattle.std.specs.Prelude.{◌≡◌, ◌++◌, [], map, IfOk, OnOk, OnErr};
     ghost use Rattle.view_index.specs.Ids.{has};
-    ghost use Rattle.view_index.specs.ViewRows.{added_of, next_of, of_others, rows_of};
+    ghost use Rattle.row_exchange.specs.Replaced.{of_others};
+    ghost use Rattle.view_index.specs.ViewRows.{added_of, next_of, rows_of};
 
     /// A view with these rows, which are in order.
     pub(crate) fn new(alloc: Global, rows: Vec<Row>) -> ViewRows

@@ -40,11 +40,11 @@ use Rattle.view_index.specs.declared.fault.IndexFault.{IndexFault}
 use Rattle.view_index.specs.declared.fault.IndexFault.TheVariants as fault_of
 use Rattle.view_index.specs.declared.index.Index.{Index}
 use Rattle.view_index.specs.Calls.{next_picture, next_size, stem_of, Commits, IsAt, IsOpen}
-use Rattle.view_index.specs.Changed.{changed_rows}
+use Rattle.row_exchange.specs.Changed.{changed_rows}
 use Rattle.view_index.specs.Held.{or_empty, IsFileOf, Stands}
 use Rattle.view_index.specs.Index.{both_in, file_of, is_touched, next_in, picture_of, seq_of, views_of}
 use Rattle.view_index.specs.Pending.{ArePending}
-use Rattle.view_index.specs.Replaced.{replaced_views}
+use Rattle.row_exchange.specs.Replaced.{replaced_views}
 use Rattle.view_index.specs.ViewRows.{next_rows}
 use Rattle.view_index.proofs.Committing.{last_sorted}
 use Rattle.view_updater.specs.declared.fault.UpdateFault.{UpdateFault}

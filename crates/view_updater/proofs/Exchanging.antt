@@ -28,12 +28,12 @@ use Rattle.child_pool.specs.Firsts.{has_some, FirstAreMapped}
 use Rattle.child_pool.specs.PoolCalls.{path_for, Ends, MapsAll, StaysAsMade}
 use Rattle.child_pool.proofs.Nexts.{first_whole, nothing_first}
 use Rattle.view_model.specs.Since.{mapped_of}
-use Rattle.view_index.specs.declared.doc_rows.DocRows.{DocRows}
+use Rattle.row_exchange.specs.declared.doc_rows.DocRows.{DocRows}
 use Rattle.view_index.specs.Calls.{IsSettled}
-use Rattle.view_index.specs.Changed.{changed_rows}
+use Rattle.row_exchange.specs.Changed.{changed_rows}
 use Rattle.view_index.specs.Index.{next_in, picture_of, seq_of, views_of, IsSame}
 use Rattle.view_index.specs.Pending.{ArePending}
-use Rattle.view_index.specs.Replaced.{ids_of, replaced_views}
+use Rattle.row_exchange.specs.Replaced.{ids_of, replaced_views}
 use Rattle.view_updater.specs.declared.fault.UpdateFault.{UpdateFault}
 use Rattle.view_updater.specs.declared.fault.UpdateFault.TheVariants.{Docs as OfDocuments, Index as OfIndex, NoMemory, Pool as OfPool}
 use Rattle.view_updater.specs.declared.updating.Progress.{Progress}

@@ -13,10 +13,10 @@ use Rattle.doc_file.specs.Changes.{numbered, HasShortId}
 use Rattle.design_docs.specs.History.{Write, mapped_by}
 use Rattle.child_pool.specs.Mapping.{AreBounded, AreParts, IsPart}
 use Rattle.view_model.specs.Since.{mapped_of}
-use Rattle.view_index.specs.Changed.{changed_rows}
-use Rattle.view_index.specs.Replaced.{is_change, is_emission, is_list}
-use Rattle.view_index.specs.Rows.{is_id}
-use Rattle.view_index.proofs.Fits.{both_so}
+use Rattle.row_exchange.specs.Changed.{changed_rows}
+use Rattle.row_exchange.specs.Replaced.{is_change, is_emission, is_list}
+use Rattle.row_exchange.specs.Rows.{is_id}
+use Rattle.row_exchange.proofs.NewRows.{both_so}
 
 abbrev Lists : Type 0
 Lists = List (List (List (Json × Json)))

@@ -14,9 +14,9 @@ use Rattle.doc_file.specs.Docs.{last_of}
 use Rattle.child_pool.specs.declared.doc_rows.DocRowLists.{DocRowLists}
 use Rattle.view_model.specs.Since.{is_among, mapped_of}
 use Rattle.view_model.proofs.Distinct.{change_ids}
-use Rattle.view_index.specs.Changed.{changed_rows}
-use Rattle.view_index.specs.Replaced.{ids_of, replaced_views}
-use Rattle.view_index.proofs.Updating.{changed_after, ids_written}
+use Rattle.row_exchange.specs.Changed.{changed_rows}
+use Rattle.row_exchange.specs.Replaced.{ids_of, replaced_views}
+use Rattle.row_exchange.proofs.Updating.{changed_after, ids_written}
 use Rattle.view_updater.specs.Given.{rows_after, AreRising, AreTaken, IsLastWrite, Page}
 
 -- ---- rising numbers

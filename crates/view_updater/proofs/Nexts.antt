@@ -22,9 +22,9 @@ use Rattle.view_model.specs.Since.{mapped_of}
 use Rattle.view_model.specs.Update.{by_view, IsUpdated}
 use Rattle.view_model.proofs.Columns.{are_emitted_by_view, are_taken_by_view}
 use Rattle.view_model.proofs.Firsts.{changes_none}
-use Rattle.view_index.specs.Changed.{changed_rows}
-use Rattle.view_index.specs.Replaced.{replaced_views}
-use Rattle.view_index.proofs.Updating.{replacements_are_updates, replacements_of_nothing}
+use Rattle.row_exchange.specs.Changed.{changed_rows}
+use Rattle.row_exchange.specs.Replaced.{replaced_views}
+use Rattle.row_exchange.proofs.Updating.{replacements_are_updates, replacements_of_nothing}
 use Rattle.view_updater.specs.Given.{documents_of}
 use Rattle.view_updater.specs.Updates.{documents_since}
 

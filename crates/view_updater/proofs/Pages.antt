@@ -11,8 +11,8 @@ use Rattle.design_docs.specs.History.{Write, mapped_by}
 use Rattle.child_pool.specs.Firsts.{has_some}
 use Rattle.view_model.specs.Since.{mapped_of}
 use Rattle.view_model.proofs.SortedRows.{sorted_rows-sorted_front}
-use Rattle.view_index.specs.Replaced.{replaced_views}
-use Rattle.view_index.proofs.Updating.{replacements_of_nothing}
+use Rattle.row_exchange.specs.Replaced.{replaced_views}
+use Rattle.row_exchange.proofs.Updating.{replacements_of_nothing}
 use Rattle.view_updater.specs.Given.{documents_of}
 
 -- ---- documents of two pages

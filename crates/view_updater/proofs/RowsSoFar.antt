@@ -4,8 +4,8 @@ use Rattle.std.specs.Option.{option_to_list, unwrap_or}
 use Rattle.std.proofs.Common.{refl, sym, ap, ◌∙◌, arith}
 use Rattle.json_terms.specs.Json.{Json}
 use Rattle.design_docs.specs.History.{Write, mapped_by}
-use Rattle.view_index.specs.declared.doc_rows.DocRows.{DocRows}
-use Rattle.view_index.specs.Changed.{changed_rows}
+use Rattle.row_exchange.specs.declared.doc_rows.DocRows.{DocRows}
+use Rattle.row_exchange.specs.Changed.{changed_rows}
 use Rattle.view_updater.specs.declared.changed.Written.{Written}
 use Rattle.view_updater.specs.Changed.{written_by}
 

@@ -17,10 +17,10 @@ use Rattle.child_pool.specs.declared.pool_fault.PoolFault.TheVariants.{ServerFau
 use Rattle.child_pool.specs.Firsts.{has_some, FirstAreMapped}
 use Rattle.child_pool.specs.PoolCalls.{path_for, StaysAsMade}
 use Rattle.view_model.specs.Since.{mapped_of}
-use Rattle.view_index.specs.Changed.{changed_rows}
+use Rattle.row_exchange.specs.Changed.{changed_rows}
 use Rattle.view_index.specs.Index.{next_in, picture_of, seq_of, views_of, IsSame}
 use Rattle.view_index.specs.Pending.{ArePending}
-use Rattle.view_index.specs.Replaced.{replaced_views}
+use Rattle.row_exchange.specs.Replaced.{replaced_views}
 use Rattle.view_updater.specs.declared.fault.UpdateFault.{UpdateFault}
 use Rattle.view_updater.specs.declared.fault.UpdateFault.TheVariants.{Docs as OfDocuments, Pool as OfPool}
 use Rattle.view_updater.specs.declared.updating.Progress.{Progress}

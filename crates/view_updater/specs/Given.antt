@@ -16,8 +16,8 @@ use Rattle.child_pool.specs.declared.doc_rows.DocRowLists.{DocRowLists}
 use Rattle.child_pool.specs.declared.pool.Pool.{Pool}
 use Rattle.child_pool.specs.Firsts.{FirstAreMapped}
 use Rattle.view_model.specs.Since.{mapped_of}
-use Rattle.view_index.specs.Changed.{changed_rows}
-use Rattle.view_index.specs.Replaced.{replaced_views}
+use Rattle.row_exchange.specs.Changed.{changed_rows}
+use Rattle.row_exchange.specs.Replaced.{replaced_views}
 
 -- ---- the writes that are read, each with its number
 

@@ -3,7 +3,7 @@
 ghost use Rattle.std.specs.Prelude.{◌≡◌, ℕ, List, [], All, IfOk, map, replicate};
 ghost use Rattle.doc_file.specs.Changes.{numbered, HasDocument};
 ghost use Rattle.design_docs.specs.History.{Write};
-ghost use Rattle.view_index.specs.Changed.{changed_rows};
+ghost use Rattle.row_exchange.specs.Changed.{changed_rows};
 ghost use Rattle.view_updater.specs.Changed.{written_by, AreChangedOf};
 
 use child_pool::{DocRowLists, Document};

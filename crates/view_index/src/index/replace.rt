@@ -2,19 +2,18 @@
 
 ghost use Rattle.std.specs.Prelude.{◌≡◌, ◌||◌, ℕ, List, bytes_eq, map, IfErr, IfOk, IsTrue, OnErr, OnOk};
 ghost use Rattle.std.specs.List.{list_all, IsDistinct};
-ghost use Rattle.view_index.specs.Ids.{has, is_among};
+ghost use Rattle.row_exchange.specs.Replaced.{is_among, ids_of, is_change, each_from, replaced_views, so_far};
+ghost use Rattle.view_index.specs.Ids.{has};
 ghost use Rattle.view_index.specs.Index.{both_in, is_touched, next_in, picture_of, views_of, with_new, without, IsSame};
 ghost use Rattle.view_index.specs.Pending.{ArePending};
 ghost use Rattle.view_index.specs.ViewRows.{both_of};
-ghost use Rattle.view_index.specs.Replaced.{ids_of, is_change, each_from, replaced_views, so_far};
 
 use super::Index;
-use crate::doc_rows::DocRows;
 use crate::fault::IndexFault;
 use crate::ids::Ids;
-use crate::new_rows::new_rows;
 use crate::view_rows::ViewRows;
 use json_terms::NoMemory;
+use row_exchange::{DocRows, new_rows};
 use std::alloc::Global;
 use view_ports::Folder;
 

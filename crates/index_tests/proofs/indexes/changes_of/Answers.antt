@@ -1,6 +1,6 @@
 use Rattle.std.specs.Prelude.{◌≡◌, ◌∷◌, [], ◌++◌, List, bytes_eq, false}
 use Rattle.std.proofs.Common.{ap, ◌∙◌, rules}
-use Rattle.view_index.specs.declared.doc_rows.DocRows.{DocRows}
+use Rattle.row_exchange.specs.declared.doc_rows.DocRows.{DocRows}
 use Rattle.index_tests.proofs.Fit.{apart_two}
 use Rattle.index_tests.proofs.indexes.changes_of.Goals as goal
 

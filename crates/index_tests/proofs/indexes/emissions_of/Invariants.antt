@@ -1,6 +1,6 @@
 use Rattle.std.specs.Prelude.{◌≡◌, true}
 use Rattle.std.specs.List.{list_all}
-use Rattle.view_index.specs.Replaced.{is_emission}
+use Rattle.row_exchange.specs.Replaced.{is_emission}
 use Rattle.index_tests.proofs.indexes.emissions_of.Given as goal
 
 abbrev pub invariant-loop-key : goal.invariant-loop-key

@@ -1,8 +1,8 @@
 use Rattle.std.specs.Prelude.{List, bytes_eq}
 use Rattle.std.specs.List.{IsDistinct}
 use Rattle.std.proofs.Common.{ap, subst, sym}
-use Rattle.view_index.specs.Replaced.{ids_of}
-use Rattle.view_index.specs.declared.doc_rows.DocRows.{DocRows}
+use Rattle.row_exchange.specs.Replaced.{ids_of}
+use Rattle.row_exchange.specs.declared.doc_rows.DocRows.{DocRows}
 use Rattle.crash_disk.specs.State.{told}
 use Rattle.index_tests.proofs.Held.{held_exchanged}
 use Rattle.index_tests.proofs.indexes.exchange.Goals as goal

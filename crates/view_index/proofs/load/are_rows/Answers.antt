@@ -8,7 +8,7 @@ use Rattle.std.proofs.lemmas.List.{get_or-map, length-map}
 use Rattle.std.proofs.lemmas.List.Folds.{list_all_at}
 use Rattle.json_terms.specs.declared.term.Row.{Row}
 use Rattle.index_record.specs.Rows.{own_views}
-use Rattle.view_index.specs.Rows.{is_row}
+use Rattle.row_exchange.specs.Rows.{is_row}
 use Rattle.view_index.proofs.load.are_rows.Goals as goal
 
 abbrev items_of : Vec Row Global → List Row

@@ -1,7 +1,7 @@
 use Rattle.std.specs.Prelude.{◌≡◌, true, take}
 use Rattle.std.specs.List.{list_all}
 use Rattle.index_record.specs.Rows.{own_views}
-use Rattle.view_index.specs.Rows.{is_row}
+use Rattle.row_exchange.specs.Rows.{is_row}
 use Rattle.view_index.proofs.load.are_rows.Given as goal
 
 abbrev pub invariant-loop-rows : goal.invariant-loop-rows

@@ -1,6 +1,6 @@
 use Rattle.std.specs.Prelude.{◌≡◌, true, take}
 use Rattle.std.specs.List.{list_all}
-use Rattle.view_index.specs.Rows.{is_row}
+use Rattle.row_exchange.specs.Rows.{is_row}
 use Rattle.view_index.proofs.load.are_rows_of_view.Given as goal
 
 abbrev pub invariant-loop-row : goal.invariant-loop-row

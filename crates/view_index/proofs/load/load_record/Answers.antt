@@ -13,7 +13,7 @@ use Rattle.gate_file.specs.Open.{IsPart}
 use Rattle.gate_file.specs.Pair.{own_bytes}
 use Rattle.index_record.specs.Record.{IsOneRecord, IsRecordOf}
 use Rattle.index_record.specs.Rows.{own_views, PlacesRise}
-use Rattle.view_index.specs.Rows.{is_row}
+use Rattle.row_exchange.specs.Rows.{is_row}
 use Rattle.view_index.proofs.Loaded.{fit_empty, length-empty, loaded_some}
 use Rattle.view_index.proofs.Rising.{empty_rise, rise_of}
 use Rattle.view_index.proofs.load.load_record.Goals as goal

@@ -13,9 +13,9 @@ use Rattle.doc_file.specs.declared.docs.changes.Changes.{Changes}
 use Rattle.doc_file.specs.Changes.{last_number, numbered}
 use Rattle.doc_file.proofs.Pages.{last_after}
 use Rattle.view_model.specs.Since.{mapped_of}
-use Rattle.view_index.specs.Changed.{changed_rows}
+use Rattle.row_exchange.specs.Changed.{changed_rows}
 use Rattle.view_index.specs.Index.{seq_of, views_of}
-use Rattle.view_index.specs.Replaced.{is_change}
+use Rattle.row_exchange.specs.Replaced.{is_change}
 use Rattle.view_updater.specs.declared.fault.UpdateFault.TheVariants.{NoMemory}
 use Rattle.view_updater.specs.declared.updating.Progress.{Progress}
 use Rattle.view_updater.specs.declared.updating.TheConstants.{BATCH}

@@ -4,9 +4,9 @@ use Rattle.std.proofs.Common.{ap, sym, ◌∙◌}
 use Rattle.std.proofs.lemmas.List.{length-map, with_items_is}
 use Rattle.json_terms.specs.declared.term.Row.{Row}
 use Rattle.view_index.specs.Index.{both_in, views_of, with_new}
-use Rattle.view_index.specs.Replaced.{so_far}
+use Rattle.row_exchange.specs.Replaced.{so_far}
 use Rattle.view_index.specs.ViewRows.{both_of}
-use Rattle.view_index.proofs.Each.{length-so_far}
+use Rattle.row_exchange.proofs.Each.{length-so_far}
 use Rattle.view_index.proofs.Exchanged.{few_now, fit_now, rows_now}
 use Rattle.view_index.proofs.index.Index.add_all.Goals as goal
 

@@ -1,5 +1,5 @@
 use Rattle.std.proofs.Common.{◌≡◌, map}
-use Rattle.view_index.specs.Replaced.{so_far}
+use Rattle.row_exchange.specs.Replaced.{so_far}
 use Rattle.view_index.specs.Ids.{has}
 use Rattle.view_index.specs.Index.{without}
 use Rattle.view_index.specs.ViewRows.{both_of}

@@ -2,10 +2,10 @@
 use Rattle.std.specs.Prelude.{◌≡◌, ◌||◌, List, ℕ, map}
 use Rattle.std.specs.List.{AllByRecursion}
 use Rattle.std.proofs.Common.{ap, sym, subst, ◌∙◌}
-use Rattle.view_index.specs.Ids.{has, is_among}
+use Rattle.row_exchange.specs.Replaced.{is_among, each_from, ids_of}
+use Rattle.view_index.specs.Ids.{has}
 use Rattle.view_index.specs.Index.{both_in, is_touched, with_new, without}
 use Rattle.view_index.specs.Pending.{IsPending}
-use Rattle.view_index.specs.Replaced.{each_from, ids_of}
 use Rattle.view_index.specs.ViewRows.{next_rows}
 use Rattle.view_index.proofs.Exchanged.{exchanged, rows_without, without_agree}
 use Rattle.view_index.proofs.Pendings.{pending_new, shown}

@@ -11,7 +11,7 @@ use Rattle.view_index.specs.Ids.{has}
 use Rattle.view_index.specs.Pending.{IsPending}
 use Rattle.view_index.specs.ViewRows.{are_fit, both_of, next_rows}
 use Rattle.view_index.proofs.Pendings.{next_rolled_back, pending_rolled_back, rows_rolled_back, shown}
-use Rattle.view_index.proofs.Each.{each_from-map}
+use Rattle.row_exchange.proofs.Each.{each_from-map}
 use Rattle.view_index.proofs.Fits.{fit_rolled_back, list_all-each}
 use Rattle.view_index.proofs.Written.{as_many, write_all, write_next}
 use Rattle.view_index.proofs.index.Index.roll_back.Goals as goal

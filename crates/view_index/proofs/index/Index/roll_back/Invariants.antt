@@ -1,6 +1,6 @@
 use Rattle.std.specs.Prelude.{◌≡◌, map}
 use Rattle.view_index.specs.Index.{rolled_back}
-use Rattle.view_index.specs.Replaced.{so_far}
+use Rattle.row_exchange.specs.Replaced.{so_far}
 use Rattle.view_index.specs.ViewRows.{both_of}
 use Rattle.view_index.proofs.index.Index.roll_back.Given as goal
 

@@ -6,7 +6,7 @@ use Rattle.std.proofs.lemmas.List.{get_or-map, length-map}
 use Rattle.json_terms.specs.declared.term.Row.{Row}
 use Rattle.view_index.specs.declared.view_rows.ViewRows.{ViewRows}
 use Rattle.view_index.specs.Index.{both_in}
-use Rattle.view_index.specs.Rows.{is_row}
+use Rattle.row_exchange.specs.Rows.{is_row}
 use Rattle.view_index.specs.ViewRows.{both_of, rows_of}
 use Rattle.view_index.proofs.Parts.{parts_of_all, rows_fit}
 use Rattle.view_index.proofs.index.Index.rows.Goals as goal

@@ -6,7 +6,7 @@ use Rattle.std.proofs.lemmas.List.{with_items_is}
 use Rattle.view_index.specs.Ids.{has}
 use Rattle.view_index.specs.Index.{settled}
 use Rattle.view_index.specs.ViewRows.{are_fit, both_of}
-use Rattle.view_index.proofs.Each.{each_from-map}
+use Rattle.row_exchange.proofs.Each.{each_from-map}
 use Rattle.view_index.proofs.Fits.{fit_settled, list_all-each}
 use Rattle.view_index.proofs.Written.{as_many, write_all, write_next}
 use Rattle.view_index.proofs.index.Index.settle.Goals as goal

@@ -1,7 +1,7 @@
 use Rattle.std.specs.Prelude.{◌≡◌, map}
 use Rattle.view_index.specs.Ids.{has}
 use Rattle.view_index.specs.Index.{settled}
-use Rattle.view_index.specs.Replaced.{so_far}
+use Rattle.row_exchange.specs.Replaced.{so_far}
 use Rattle.view_index.specs.ViewRows.{both_of}
 use Rattle.view_index.proofs.index.Index.settle.Given as goal
 

@@ -5,7 +5,7 @@ use Rattle.std.proofs.Math.Seq.{map-set_same}
 use Rattle.json_terms.specs.declared.term.Row.{Row}
 use Rattle.view_index.specs.declared.view_rows.ViewRows.{ViewRows}
 use Rattle.view_index.specs.Index.{with_new}
-use Rattle.view_index.specs.Replaced.{new_rows}
+use Rattle.row_exchange.specs.Replaced.{new_rows}
 use Rattle.view_index.specs.ViewRows.{added_of, both_of}
 use Rattle.view_index.proofs.Written.{write_next}
 use Rattle.view_index.proofs.index.replace.add_each.Goals as goal

@@ -1,5 +1,5 @@
 use Rattle.std.specs.Prelude.{◌≡◌, map}
-use Rattle.view_index.specs.Replaced.{so_far}
+use Rattle.row_exchange.specs.Replaced.{so_far}
 use Rattle.view_index.specs.Index.{with_new}
 use Rattle.view_index.specs.ViewRows.{both_of}
 use Rattle.view_index.proofs.index.replace.add_each.Given as goal

@@ -1,11 +1,11 @@
 -- The set has one id more.
 use Rattle.std.specs.Prelude.{◌||◌, List, ℕ, true, if◌then◌else◌, bytes_eq, take}
 use Rattle.std.proofs.Common.{ap, sym, ◌∙◌}
-use Rattle.view_index.specs.declared.doc_rows.DocRows.{DocRows}
-use Rattle.view_index.specs.Ids.{has, is_among}
-use Rattle.view_index.specs.Replaced.{ids_of}
-use Rattle.view_index.proofs.Each.{take_next}
-use Rattle.view_index.proofs.Exchanged.{among_push, ids_push}
+use Rattle.row_exchange.specs.declared.doc_rows.DocRows.{DocRows}
+use Rattle.row_exchange.specs.Replaced.{is_among, ids_of}
+use Rattle.view_index.specs.Ids.{has}
+use Rattle.row_exchange.proofs.Each.{take_next}
+use Rattle.row_exchange.proofs.NewRows.{among_push, ids_push}
 use Rattle.view_index.proofs.index.replace.add_ids.Goals as goal
 
 pub loop-change-preserved : goal.loop-change-preserved

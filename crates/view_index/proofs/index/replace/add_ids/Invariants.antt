@@ -1,6 +1,6 @@
 use Rattle.std.specs.Prelude.{◌≡◌, ◌||◌, ℕ, List, take}
-use Rattle.view_index.specs.Ids.{has, is_among}
-use Rattle.view_index.specs.Replaced.{ids_of}
+use Rattle.row_exchange.specs.Replaced.{is_among, ids_of}
+use Rattle.view_index.specs.Ids.{has}
 use Rattle.view_index.proofs.index.replace.add_ids.Given as goal
 
 abbrev pub invariant-loop-change : goal.invariant-loop-change

@@ -9,7 +9,8 @@ use Rattle.raw_collation.specs.Collation.{rows_cmp}
 use Rattle.raw_collation.specs.Sorting.{sorted_rows}
 use Rattle.raw_collation.proofs.Totals.{rows_cmp_total}
 use Rattle.view_index.specs.Ids.{has}
-use Rattle.view_index.specs.ViewRows.{added_of, of_others, rows_of}
+use Rattle.row_exchange.specs.Replaced.{of_others}
+use Rattle.view_index.specs.ViewRows.{added_of, rows_of}
 use Rattle.view_index.proofs.Lent.{now_of, sorted_lent}
 use Rattle.view_index.proofs.view_rows.ViewRows.next.Goals as goal
 

@@ -1,6 +1,7 @@
 use Rattle.std.proofs.Common.{◌≡◌, ◌++◌, map, take}
 use Rattle.view_index.specs.Ids.{has}
-use Rattle.view_index.specs.ViewRows.{added_of, of_others, rows_of}
+use Rattle.row_exchange.specs.Replaced.{of_others}
+use Rattle.view_index.specs.ViewRows.{added_of, rows_of}
 use Rattle.view_index.proofs.Lent.{now_of}
 use Rattle.view_index.proofs.view_rows.ViewRows.next.Given as goal
 

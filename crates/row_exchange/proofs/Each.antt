@@ -2,7 +2,7 @@
 use Rattle.std.specs.Prelude.{◌≡◌, ◌+◌, ◌<◌, ◌≤◌, ℕ, zero, suc, List, [], ◌∷◌, ◌++◌, map, length, take, refl}
 use Rattle.std.proofs.Common.{ap, sym, ◌∙◌, arith, get_or, set, add-one}
 use Rattle.std.proofs.Math.Seq.{take-suc}
-use Rattle.view_index.specs.Replaced.{each_from, so_far}
+use Rattle.row_exchange.specs.Replaced.{each_from, so_far}
 
 module _ {X : Type 0} (f : ℕ → X → X) where
   pub next_so_far : (number : ℕ) (xs : List X) (i : ℕ) (d : X) → i < length xs → set (so_far f number xs i) i (f (number + i) (get_or (so_far f number xs i) i d)) ≡ so_far f number xs (suc i)

@@ -18,13 +18,11 @@ use Rattle.view_model.proofs.Distinct.{change_ids, changes_distinct, IsApart}
 use Rattle.view_model.proofs.Histories.{left}
 use Rattle.view_model.proofs.Lists.{filter_all}
 use Rattle.view_model.proofs.SortedRows.{rows_from_pass}
-use Rattle.view_index.specs.declared.doc_rows.DocRows.{DocRows}
-use Rattle.view_index.specs.Changed.{changed_rows}
-use Rattle.view_index.specs.Ids.{is_among}
-use Rattle.view_index.specs.Replaced.{each_from, ids_of, new_rows, replaced, replaced_views}
-use Rattle.view_index.specs.ViewRows.{of_others}
-use Rattle.view_index.proofs.Exchanged.{exchanged_view}
-use Rattle.view_index.specs.Laws.{ReplacementsAreUpdates, ReplacementsGoInBatches, ReplacementsGoInPages, ReplacementsOfNothing}
+use Rattle.row_exchange.specs.declared.doc_rows.DocRows.{DocRows}
+use Rattle.row_exchange.specs.Changed.{changed_rows}
+use Rattle.row_exchange.specs.Replaced.{each_from, ids_of, is_among, new_rows, of_others, replaced, replaced_views}
+use Rattle.row_exchange.proofs.NewRows.{exchanged_rows}
+use Rattle.row_exchange.specs.Laws.{ReplacementsAreUpdates, ReplacementsGoInBatches, ReplacementsGoInPages, ReplacementsOfNothing}
 
 abbrev Lists : Type 0
 Lists = List (List (List (Json × Json)))
@@ -130,7 +128,7 @@ module _ (changes more : List DocRows) (apart : AllByRecursion (λ id. is_among 
   one_view : (view : ℕ) (rows : List Row) → replaced more view (replaced changes view rows) ≡ replaced (changes ++ more) view rows
   one_view view rows =
       let now : List ℕ → Bool = is_among (ids_of (changes ++ more)) in
-      sym (exchanged_view more (is_among (ids_of changes)) now (among-append changes more) view (rows, new_rows changes view))
+      sym (exchanged_rows more (is_among (ids_of changes)) now (among-append changes more) view rows (new_rows changes view))
       ∙ ap (λ l. sorted_rows (of_others now rows ++ l)) (ap (λ l. l ++ new_rows more view) (new_pass (ids_of more) view changes apart) ∙ sym (new_rows-append changes more view))
 
   views_twice : (from : ℕ) (views : List (List Row)) → each_from (replaced more) from (each_from (replaced changes) from views) ≡ each_from (replaced (changes ++ more)) from views

@@ -4,19 +4,15 @@ ghost use Rattle.std.specs.Prelude.{◌≡◌, ◌<◌, ◌++◌, [], map, IfOk,
 ghost use Rattle.std.specs.List.{list_all};
 ghost use Rattle.json_terms.specs.Emitted.{key_value};
 ghost use Rattle.view_model.specs.Rows.{rows_from};
-ghost use Rattle.view_index.specs.Replaced.{is_change, new_rows};
-ghost use Rattle.view_index.specs.Rows.{is_row};
+ghost use Rattle.row_exchange.specs.Replaced.{is_change, new_rows};
+ghost use Rattle.row_exchange.specs.Rows.{is_row};
 
 use crate::doc_rows::DocRows;
 use json_terms::{Chars, Emission, NoMemory, Row, RowLists, copy_term};
 use std::alloc::Global;
 
-/// The new rows of one view.
-pub(crate) fn new_rows(
-    alloc: Global,
-    changes: &[DocRows],
-    view: usize,
-) -> Result<Vec<Row>, NoMemory>
+/// The new rows of one view, document by document in the order of the changes. The one error is want of memory.
+pub fn new_rows(alloc: Global, changes: &[DocRows], view: usize) -> Result<Vec<Row>, NoMemory>
     ensures { IfOk result (λ rows. rows.items ≡ new_rows changes.now view) }
 {
     let mut rows = Vec::new(alloc);
@@ -43,8 +39,8 @@ fn add_document(
     }
 }
 
-/// Adds the rows of a document, numbered by place. There are fewer than 2^32.
-fn add_rows(
+/// Adds the rows of a document, numbered by place, of which there are fewer than 2^32. The one error is want of memory.
+pub fn add_rows(
     alloc: Global,
     id: &str,
     emissions: &[Emission],

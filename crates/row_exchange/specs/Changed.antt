@@ -2,7 +2,7 @@
 use Rattle.std.specs.Prelude.{ℕ, List, [], ◌∷◌, drop, is_some, replicate, slice_index_or, if◌then◌else◌}
 use Rattle.json_terms.specs.Json.{Json}
 use Rattle.design_docs.specs.History.{Write, mapped_by}
-use Rattle.view_index.specs.declared.doc_rows.DocRows.{DocRows}
+use Rattle.row_exchange.specs.declared.doc_rows.DocRows.{DocRows}
 
 -- for each of these writes the rows of its document: a mapped one has the next of these lists, and a deletion or a design document
 -- has an empty list for each of so many views

@@ -1,7 +1,7 @@
 use Rattle.std.proofs.Common.{◌≡◌, ◌++◌, map, drop}
 use Rattle.json_terms.specs.Emitted.{key_value}
 use Rattle.view_model.specs.Rows.{rows_from}
-use Rattle.view_index.proofs.new_rows.add_rows.Given as goal
+use Rattle.row_exchange.proofs.document_rows.add_rows.Given as goal
 
 -- the rows so far and those of the emissions that are left are all
 abbrev pub invariant-loop-place : goal.invariant-loop-place

@@ -1,15 +1,21 @@
 -- What a replacement makes of rows: those of the named documents go, and the new ones come.
-use Rattle.std.specs.Prelude.{ℕ, suc, List, [], ◌∷◌, ◌++◌, map, length, take, drop, Bool, true, ◌&&◌, nat_eq}
-use Rattle.std.specs.List.{list_all}
+use Rattle.std.specs.Prelude.{ℕ, suc, List, [], ◌∷◌, ◌++◌, map, filter, length, take, drop, Bool, true, not, ◌&&◌, bytes_eq, nat_eq}
+use Rattle.std.specs.List.{list_all, list_any}
 use Rattle.json_terms.specs.Json.{Json}
 use Rattle.json_terms.specs.declared.term.Row.{Row}
 use Rattle.query_protocol.specs.Replies.{is_within_bounds}
 use Rattle.raw_collation.specs.Sorting.{sorted_rows}
 use Rattle.view_model.specs.Rows.{emitted_at, emitted_rows}
-use Rattle.view_index.specs.declared.doc_rows.DocRows.{DocRows}
-use Rattle.view_index.specs.Ids.{is_among}
-use Rattle.view_index.specs.Rows.{is_id}
-use Rattle.view_index.specs.ViewRows.{of_others}
+use Rattle.row_exchange.specs.declared.doc_rows.DocRows.{DocRows}
+use Rattle.row_exchange.specs.Rows.{is_id}
+
+-- the id is one of these
+abbrev pub is_among : List (List ℕ) → List ℕ → Bool
+is_among ids id = list_any (bytes_eq id) ids
+
+-- the rows of the ids that aren't these
+abbrev pub of_others : (List ℕ → Bool) → List Row → List Row
+of_others these rows = filter (λ row. not (these row.id)) rows
 
 -- the ids of the documents
 abbrev pub ids_of : List DocRows → List (List ℕ)

@@ -3,8 +3,8 @@ use Rattle.std.proofs.Common.{◌≡◌, ◌∙◌, ◌<◌, ◌++◌, ℕ, suc,
 use Rattle.json_terms.specs.Emitted.{key_value}
 use Rattle.json_terms.specs.declared.term.Row.{Row}
 use Rattle.view_model.specs.Rows.{rows_from}
-use Rattle.view_index.proofs.Emitted.{row_of, rows_step}
-use Rattle.view_index.proofs.new_rows.add_rows.Goals as goal
+use Rattle.row_exchange.proofs.Emitted.{row_of, rows_step}
+use Rattle.row_exchange.proofs.document_rows.add_rows.Goals as goal
 
 pub loop-place-preserved : goal.loop-place-preserved
 loop-place-preserved c =

@@ -3,11 +3,11 @@ use Rattle.std.specs.Prelude.{◌++◌, [], List, ℕ, take, slice_index_or}
 use Rattle.std.proofs.Common.{ap, sym, ◌∙◌}
 use Rattle.json_terms.specs.declared.term.Row.{Row}
 use Rattle.view_model.specs.Rows.{rows_from}
-use Rattle.view_index.specs.declared.doc_rows.DocRows.{DocRows}
-use Rattle.view_index.specs.Replaced.{new_rows}
-use Rattle.view_index.proofs.Each.{take_next}
-use Rattle.view_index.proofs.Exchanged.{new_rows_push}
-use Rattle.view_index.proofs.new_rows.new_rows.Goals as goal
+use Rattle.row_exchange.specs.declared.doc_rows.DocRows.{DocRows}
+use Rattle.row_exchange.specs.Replaced.{new_rows}
+use Rattle.row_exchange.proofs.Each.{take_next}
+use Rattle.row_exchange.proofs.NewRows.{new_rows_push}
+use Rattle.row_exchange.proofs.document_rows.new_rows.Goals as goal
 
 pub loop-change-preserved : goal.loop-change-preserved
 loop-change-preserved c =

@@ -3,7 +3,7 @@ use Rattle.std.specs.Prelude.{OnOk, slice_index_or}
 use Rattle.std.proofs.Common.{◌≡◌, ◌∙◌, ◌++◌, [], map, ap, subst}
 use Rattle.json_terms.specs.Emitted.{key_value}
 use Rattle.view_model.specs.Rows.{rows_from}
-use Rattle.view_index.proofs.new_rows.add_document.Goals as goal
+use Rattle.row_exchange.proofs.document_rows.add_document.Goals as goal
 
 pub returns-in-Some : goal.returns-in-Some
 returns-in-Some c =

@@ -1,0 +1,4 @@
+pub mod Emitted
+pub mod Each
+pub mod NewRows
+pub mod Updating

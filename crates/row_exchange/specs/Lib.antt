@@ -1,0 +1,4 @@
+pub mod Rows
+pub mod Replaced
+pub mod Changed
+pub mod Laws
