@@ -1,11 +1,14 @@
 //! Tests of the public calls of the crates `json_terms`, `raw_collation`, `term_codec`, `index_record`, `view_ports` (query
-//! servers), `design_docs`, `tree_laws`, `view_signature`, `builtin_reduces`, `query_protocol` and `view_model`; nothing else.
+//! servers), `design_docs`, `tree_laws`, `view_signature`, `builtin_reduces`, `query_protocol`, `view_model` and `index_items`;
+//! nothing else.
 #![tactic(auto)]
 
 #[cfg(test)]
 mod builtin_reduces_tests;
 #[cfg(test)]
 mod design_docs_tests;
+#[cfg(test)]
+mod index_items_tests;
 #[cfg(test)]
 mod index_record_tests;
 #[cfg(test)]

@@ -1,0 +1,4 @@
+pub mod Taking
+pub mod Roots
+pub mod Rising
+pub mod Places

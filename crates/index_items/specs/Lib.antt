@@ -1,0 +1,11 @@
+pub mod BackRows
+pub mod BackItem
+pub mod Taken
+pub mod NoSummary
+pub mod Counts
+pub mod BackLaws
+pub mod BeforeIdLaws
+pub mod BackIndex
+pub mod BackIndexLaws
+pub mod NoSummaryLaws
+pub mod RootRecord
