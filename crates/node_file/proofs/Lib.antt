@@ -1,4 +1,5 @@
 pub mod Committing
 pub mod Found
+pub mod Getting
 pub mod Putting
 pub mod Storing

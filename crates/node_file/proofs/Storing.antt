@@ -1,7 +1,7 @@
 -- What the calls of a file as a store of nodes do.
-use Rattle.std.proofs.Common.{◌≡◌, ◌≢◌, inl, inr, ℕ, ◌+◌, ◌≤◌, List, [], ◌∷◌, length, Option, Some, None, Result, Ok, Err, refl, sym, ap, ◌∙◌, subst, arith}
+use Rattle.std.proofs.Common.{◌≡◌, ◌≢◌, inl, inr, ℕ, ◌+◌, ◌≤◌, List, [], ◌∷◌, length, None, Result, Ok, Err, refl, sym, ap, ◌∙◌, subst, arith}
 use Rattle.std.proofs.lemmas.List.Sums.{sum_by-cons}
-use Rattle.std.specs.Prelude.{IfErr, OnErr, OnOk, option_map}
+use Rattle.std.specs.Prelude.{IfErr, OnErr, OnOk}
 use Rattle.view_ports.specs.Disk.{Disk, MovesFile, MovesNone, Tells}
 use Rattle.view_ports.specs.File.{File}
 use Rattle.view_ports.specs.declared.file_name.FileName.{FileName}
@@ -10,7 +10,7 @@ use Rattle.view_ports.proofs.DiskRuns.{file_weaker, none_same}
 use Rattle.view_ports.proofs.Told.{told_after, told_map}
 use Rattle.gate_file.specs.declared.gate.GateFile.{GateFile}
 use Rattle.gate_file.specs.declared.fault.GateFault.{GateFault}
-use Rattle.gate_file.specs.declared.fault.GateFault.TheVariants.{DiskFault, Damaged, NoMemory}
+use Rattle.gate_file.specs.declared.fault.GateFault.TheVariants.{DiskFault, Damaged, Full, NoMemory}
 use Rattle.gate_file.specs.Calls.{too_long, Appends, IsCounted, IsReadFault, KeepsIn, Moved, Told}
 use Rattle.gate_file.specs.GateFile.{appended, name_of, root_of, start_of, IsAppended, Keeps}
 use Rattle.gate_file.specs.Publish.{IsTooLong}
@@ -22,19 +22,10 @@ use Rattle.node_file.specs.declared.file_nodes.FileNodes.{FileNodes}
 use Rattle.node_file.specs.FileNodes.{Adds, AddsNoMore, AddsSome, FileFails, FileGoes, Grows, HasSame, IsKept, MovesOn, Stays, WasAsked, record_size}
 use Rattle.node_file.specs.FileNodeLaws.{adds_none, adds_ready, adds_same, longer_itself}
 use Rattle.node_file.specs.Puts.{IsPutFault}
+use Rattle.node_file.specs.Reads.{GetsNone, WasGot}
 use Rattle.node_file.specs.RecordLaws.{appended_stays, sized_long}
 use Rattle.node_file.specs.Records.{node_at}
-
-pub on_always : {T E : Type 0} (result : Result T E) (P : Type 0) → P → OnOk result P
-on_always (Ok value) P holds = holds
-on_always (Err fault) P holds = tt
-
--- where no file changed the same nodes stand in each
-pub same_nodes : (name : FileName) (old new : Option (Disk FileName)) → Tells old new MovesNone → option_map (λ d. node_at (d.now name).seen) new ≡ option_map (λ d. node_at (d.now name).seen) old
-same_nodes name None None told = refl
-same_nodes name None (Some b) told = absurd told
-same_nodes name (Some a) None told = absurd told
-same_nodes name (Some a) (Some b) told = ap (λ (file : File). Some (node_at file.seen)) (none_same a b told name)
+use Rattle.node_file.proofs.Getting.{gets_none, got_last}
 
 -- ---- how long the file gets
 
@@ -70,18 +61,18 @@ module _ {F : Type 0} (f : Folders F) where
           (λ image left. left) (λ ended. tt) moved
 
   -- why a node isn't got
-  get_cause : (gate : GateFile) (name : FileName) (at : ℕ) (old new : F) (fault : GateFault) → name ≡ name_of gate → IsReadFault name at fault
-      → (fault ≡ DiskFault → AddsNoMore f gate gate old new DiskFault)
-      → (fault ≡ Damaged name at → Told f new (λ d. node_at (d.now name).seen at ≡ None)) → Adds f gate gate old new → AddsNoMore f gate gate old new fault
-  get_cause gate name at old new fault own (inl disk) rose damaged adds = subst (AddsNoMore f gate gate old new) (sym disk) (rose disk)
-  get_cause gate name at old new fault own (inr (inl memory)) rose damaged adds = subst (AddsNoMore f gate gate old new) (sym memory) adds
-  get_cause gate name at old new fault own (inr (inr there)) rose damaged adds = subst (AddsNoMore f gate gate old new) (sym there) (adds, own, damaged there)
+  get_cause : (gate : GateFile) (old new : F) (fault : GateFault) → GetsNone f (name_of gate) old new fault → Adds f gate gate old new → AddsNoMore f gate gate old new fault
+  get_cause gate old new DiskFault rose adds = rose
+  get_cause gate old new (Full name length) never adds = absurd never
+  get_cause gate old new (Damaged name at) damaged adds = (adds, damaged.0, damaged.1)
+  get_cause gate old new NoMemory memory adds = adds
 
   -- what was asked for where a node isn't got
-  get_asked : (a b : FileNodes F) (name : FileName) (at : ℕ) (fault : GateFault) → NotesGet at a.cache.now b.cache.now → IsReadFault name at fault → WasAsked a b fault
-  get_asked a b name at fault notes (inl disk) = subst (WasAsked a b) (sym disk) tt
-  get_asked a b name at fault notes (inr (inl memory)) = subst (WasAsked a b) (sym memory) tt
-  get_asked a b name at fault notes (inr (inr there)) = subst (WasAsked a b) (sym there) ([], notes.gets)
+  get_asked : (a b : FileNodes F) (fault : GateFault) → WasGot a.cache.now b.cache.now fault → WasAsked a b fault
+  get_asked a b DiskFault got = tt
+  get_asked a b (Full name length) got = absurd got
+  get_asked a b (Damaged name at) got = got
+  get_asked a b NoMemory got = tt
 
   pub get_fails : {T : Type 0} (a b : FileNodes F) (name : FileName) (at : ℕ) (result : Result T GateFault) → HasSame a b → NotesGet at a.cache.now b.cache.now → b.file.now ≡ a.file.now → name ≡ name_of a.file.now
       → IfErr result (IsReadFault name at) → IsCounted f a.folder.now b.folder.now result
@@ -91,15 +82,13 @@ module _ {F : Type 0} (f : Folders F) where
   get_fails a b name at (Err fault) lent notes same own faults counted damaged none =
       let gate = a.file.now in
       let adds = adds_same f gate a.folder.now b.folder.now none counted.later in
+      let why : GetsNone f (name_of gate) a.folder.now b.folder.now fault =
+      subst (λ n. GetsNone f n a.folder.now b.folder.now fault) own (gets_none f name at a.folder.now b.folder.now fault faults counted damaged none) in
       record {
         lent = lent;
         adds = subst (λ (g : GateFile). AddsSome f gate g a.folder.now b.folder.now) (sym same) (some_of gate gate a.folder.now b.folder.now adds);
-        cause = subst (λ (g : GateFile). AddsNoMore f gate g a.folder.now b.folder.now fault) (sym same)
-            (get_cause gate name at a.folder.now b.folder.now fault own faults (λ disk. counted.failed disk)
-            (λ there. told_after (f.disk a.folder.now) (f.disk b.folder.now) (λ d. Err fault ≡ Err (Damaged name at) → node_at (d.now name).seen at ≡ None) (λ d. node_at (d.now name).seen at ≡ None) MovesNone
-            (λ d e is still. subst (λ (file : File). node_at file.seen at ≡ None) (sym (none_same d e still name)) (is (ap Err there))) damaged none)
-            adds);
-        asked = get_asked a b name at fault notes faults;
+        cause = subst (λ (g : GateFile). AddsNoMore f gate g a.folder.now b.folder.now fault) (sym same) (get_cause gate a.folder.now b.folder.now fault why adds);
+        asked = get_asked a b fault (got_last a.cache.now b.cache.now name at fault notes faults);
         grows = grows_none a b notes.puts same;
       }
 

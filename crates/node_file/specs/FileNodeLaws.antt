@@ -1,14 +1,12 @@
 -- The laws of a file as a store of nodes.
-use Rattle.std.proofs.Common.{◌≡◌, inl, inr, ℕ, ◌≤◌, List, [], ◌∷◌, ◌++◌, length, Option, Some, None, refl, sym, ap, ◌∙◌, subst, arith}
-use Rattle.std.specs.Prelude.{option_map}
+use Rattle.std.proofs.Common.{◌≡◌, inl, inr, ℕ, ◌≤◌, [], length, refl, sym, ap, ◌∙◌, subst, arith}
 use Rattle.std.proofs.lemmas.Bool.{cases_eq}
-use Rattle.std.proofs.lemmas.List.{append_assoc}
 use Rattle.view_ports.specs.Disk.{Disk, IfTold, MovesNone, Tells}
 use Rattle.view_ports.specs.File.{File}
 use Rattle.view_ports.specs.declared.file_name.FileName.{FileName}
 use Rattle.view_ports.specs.declared.folder.Folder.{Ghosts as Folders}
 use Rattle.view_ports.proofs.Counting.{Rose-earlier}
-use Rattle.view_ports.proofs.DiskRuns.{file_then, none_refl, none_same, none_wider}
+use Rattle.view_ports.proofs.DiskRuns.{file_then, none_refl, none_wider}
 use Rattle.view_ports.proofs.Told.{told_after, told_map, told_refl, told_then}
 use Rattle.gate_file.specs.declared.gate.GateFile.{GateFile}
 use Rattle.gate_file.specs.declared.fault.GateFault.{GateFault}
@@ -16,24 +14,14 @@ use Rattle.gate_file.specs.declared.fault.GateFault.TheVariants.{DiskFault, Dama
 use Rattle.gate_file.specs.Append.{IsZeros}
 use Rattle.gate_file.specs.Calls.{KeepsIn}
 use Rattle.gate_file.specs.GateFile.{length_of, name_of, root_of, Keeps}
-use Rattle.gate_file.specs.Shown.{HasAll, Shows}
+use Rattle.gate_file.specs.Shown.{Shows}
 use Rattle.gate_file.proofs.Appends.{has_all_then, made_already, shows_then, still_shows, zeros_shows}
 use Rattle.tree_laws.specs.Meaning.{AreSteps, StaysCaused}
-use Rattle.tree_laws.specs.Stores.{Extends, KeepsPlaces}
+use Rattle.tree_laws.specs.Stores.{KeepsPlaces}
 use Rattle.node_file.specs.declared.file_nodes.FileNodes.{FileNodes}
 use Rattle.node_file.specs.Cache.{gets_of, puts_of}
-use Rattle.node_file.specs.FileNodes.{Adds, AddsNoMore, AddsSome, FileFails, FileGoes, GoesOn, Grows, HasSame, IsKept, IsLonger, IsReady, MovesOn, Stays, WasAsked, nodes_of}
-use Rattle.node_file.specs.RecordLaws.{carried, has_itself}
-use Rattle.node_file.specs.Records.{node_at}
-
--- ---- lists that go on
-
-goes_on_both : {X : Type 0} (a b c : List X) → GoesOn a b → GoesOn b c → GoesOn a c
-goes_on_both {X} a b c on later = (later.0 ++ on.0, later.1 ∙ ap (λ list. later.0 ++ list) on.1 ∙ sym (append_assoc later.0 on.0 a))
-
-newest_both : {X : Type 0} (a b c : List X) (x : X) → GoesOn a b → ((more : List X) × (c ≡ x ∷ (more ++ b))) → (more : List X) × (c ≡ x ∷ (more ++ a))
-newest_both {X} a b c x on newest =
-    (newest.0 ++ on.0, newest.1 ∙ ap (λ list. x ∷ list) (ap (λ list. newest.0 ++ list) on.1 ∙ sym (append_assoc newest.0 on.0 a)))
+use Rattle.node_file.specs.FileNodes.{Adds, AddsNoMore, AddsSome, FileFails, FileGoes, Grows, HasSame, IsKept, IsLonger, IsReady, MovesOn, Stays, WasAsked, nodes_of}
+use Rattle.node_file.specs.ReadLaws.{goes_on_both, has_still, newest_both, places_kept}
 
 -- ---- one file
 
@@ -90,7 +78,7 @@ module _ {F : Type 0} (f : Folders F) where
   adds_same gate old new none later = record {
     file = longer_itself gate;
     stays = told_map (f.disk old) (f.disk new) MovesNone (Stays gate)
-        (λ a b still. subst (λ (file : File). HasAll (a.now (name_of gate)).seen file.seen) (sym (none_same a b still (name_of gate))) (has_itself (a.now (name_of gate)).seen)) none;
+        (has_still (name_of gate)) none;
     disk = told_map (f.disk old) (f.disk new) MovesNone (MovesOn gate (IsKept gate gate)) (λ a b still. moves_still gate a b still) none;
     faults = later;
   }
@@ -180,13 +168,6 @@ module _ {F : Type 0} (f : Folders F) where
     asked = asked_both a b c fault goes fails.asked;
     grows = omega (arith, goes.grows, fails.grows);
   }
-
-  places_kept : (name name' : FileName) → name' ≡ name → (old new : Option (Disk FileName)) → Tells old new (λ a b. HasAll (a.now name).seen (b.now name).seen)
-      → KeepsPlaces (option_map (λ disk. node_at (disk.now name).seen) old) (option_map (λ disk. node_at (disk.now name').seen) new)
-  places_kept name name' same None None told = refl
-  places_kept name name' same None (Some b) told = absurd told
-  places_kept name name' same (Some a) None told = absurd told
-  places_kept name name' same (Some a) (Some b) told = subst (λ n. Extends (node_at (a.now name).seen) (node_at (b.now n).seen)) (sym same) (carried (a.now name).seen (b.now name).seen told)
 
   same_name : (x y : GateFile) → IsLonger x y → name_of y ≡ name_of x
   same_name x y longer = ap name_of longer.same

@@ -1,5 +1,5 @@
 -- A file as a store of nodes: what stands in it, and what its calls do.
-use Rattle.std.specs.Prelude.{◌≡◌, ◌≤◌, ◌+◌, ℕ, List, ◌∷◌, ◌++◌, length, Option, None, option_map}
+use Rattle.std.specs.Prelude.{◌≡◌, ◌≤◌, ◌+◌, ℕ, List, ◌∷◌, ◌++◌, length, Option, None}
 use Rattle.std.specs.Borrow.{MutBor}
 use Rattle.view_ports.specs.Disk.{Disk, MovesFile}
 use Rattle.view_ports.specs.Faults.{Rose}
@@ -17,6 +17,7 @@ use Rattle.tree_laws.specs.Stores.{Growing, Places}
 use Rattle.node_file.specs.declared.cache.NodeCache.{NodeCache}
 use Rattle.node_file.specs.Cache.{gets_of, puts_of}
 use Rattle.node_file.specs.declared.file_nodes.FileNodes.{FileNodes}
+use Rattle.node_file.specs.Reads.{GoesOn, nodes_in}
 use Rattle.node_file.specs.Records.{node_at}
 
 -- ---- what is added to a file
@@ -86,10 +87,6 @@ pub record IsOver {F : Type 0} (cache : MutBor NodeCache) (folder : MutBor F) (f
   pub lent_file : nodes.file.ghost_name ≡ file.ghost_name
   pub same_file : nodes.file.now ≡ file.now
 
--- the one list is the other with more before it
-abbrev pub GoesOn : {X : Type 0} → List X → List X → Type 0
-GoesOn {X} old new = (more : List X) × (new ≡ more ++ old)
-
 -- what was asked for last where a call failed that way: the node that is damaged was got, or a piece was put that the file has no room
 -- for
 abbrev pub WasAsked : {F : Type 0} → FileNodes F → FileNodes F → GateFault → Type 0
@@ -102,7 +99,7 @@ WasAsked old new NoMemory = Unit {0}
 module _ {F : Type 0} (f : Folders F) where
   -- the nodes of the file, where the folder tells its disk
   abbrev pub nodes_of : FileNodes F → Option Places
-  nodes_of nodes = option_map (λ disk. node_at (disk.now (name_of nodes.file.now)).seen) (f.disk nodes.folder.now)
+  nodes_of nodes = nodes_in f (name_of nodes.file.now) nodes.folder.now
 
   -- what the object keeps is what the folder holds
   abbrev pub IsReady : FileNodes F → Type 0

@@ -3,5 +3,9 @@ pub mod Records
 pub mod RecordLaws
 pub mod Puts
 pub mod Laws
+pub mod Reads
+pub mod ReadLaws
 pub mod FileNodes
 pub mod FileNodeLaws
+pub mod PastNodes
+pub mod PastNodeLaws

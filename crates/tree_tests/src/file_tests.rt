@@ -6,17 +6,18 @@ ghost use Rattle.gate_file.specs.Calls.{KeepsIn, Told};
 
 use crate::items::{items_in, pair_of};
 use crate::pairs::edits_of;
-use builtin_reduces::BuiltinSummer;
+use builtin_reduces::{BuiltinSummer, RowItem};
 use crash_disk::MemoryFolder;
 use design_docs::Builtin;
 use gate_file::{GateFault, GateFile};
-use node_file::{FileNodes, NodeCache, get_node};
+use node_file::{FileNodes, NodeCache, PastNodes, get_node, past_nodes_are_the_files};
 use std::alloc::Global;
 use std::collections::BTreeMap;
 use std::marker::Brand;
 use std::sync::ledger::{Blank, Ledger};
 use std::test::Fail;
 use tree_laws::{NodeStore, Steps, Tree};
+use tree_query::Walk;
 use tree_tools::{SizedTree, edited};
 use view_ports::{FileName, Folder, Stem};
 
@@ -258,4 +259,92 @@ fn a_stop_leaves_a_committed_tree(rt: HostRuntime) -> Result<(), Fail> {
     let seen = stop_at_each_call::<Brand>(rt.alloc(), Blank::new(1))?;
     assert!(rt; seen == [true; 4]);
     Ok(())
+}
+
+/// Ranges of a tree of the keys 0 to 299, or of the one of 200 of these that took its place in the file, and the keys that a walk over
+/// the range has, upward or downward.
+const WALKS: &[(bool, u64, u64, bool, &str)] = &[
+    (false, 0, 4, false, "0 1 2 3"),
+    (false, 31, 33, false, "31 32"),
+    (false, 296, 300, true, "299 298 297 296"),
+    (false, 300, 300, true, ""),
+    (true, 0, 4, false, "1 2 4 5"),
+    (true, 197, 200, true, "299 298 296"),
+];
+
+/// The keys of a walk over a tree in the file, which is read by its name.
+fn keys_walked<F: Folder, L: Ledger>(
+    alloc: Global,
+    folder: &mut F,
+    tree: &SizedTree,
+    from: u64,
+    to: u64,
+    descending: bool,
+    steps: &mut Steps<L>,
+) -> Result<String, Fail> {
+    let tree = tree.tree();
+    if from > to || to > tree.count {
+        return Err(Fail::from("no range"));
+    }
+    let mut cache = NodeCache::new(alloc, 1)?;
+    let mut nodes = PastNodes::over(&mut cache, folder, DOCS);
+    let mut walk: Walk<RowItem> = match Walk::start(
+        alloc, &mut nodes, tree, from, to, descending, steps,
+    ) {
+        Ok(walk) => walk,
+        Err(_) => return Err(Fail::from("no walk")),
+    };
+    let mut keys = String::new(alloc);
+    for number in from..to {
+        let item = match walk.next(alloc, &mut nodes, steps) {
+            Ok(item) => item,
+            Err(_) => return Err(Fail::from("a walk that ends early")),
+        };
+        let Some((key, _)) = item.as_ref().and_then(pair_of) else {
+            return Err(Fail::from("no row of two numbers"));
+        };
+        let gap = if number == from { "" } else { " " };
+        keys = format!(in alloc; "{keys}{gap}{key}")?;
+    }
+    match walk.next(alloc, &mut nodes, steps) {
+        Ok(None) => Ok(keys),
+        _ => Err(Fail::from("a walk without an end")),
+    }
+}
+
+/// Walks over a tree whose file has got another one, and over that.
+fn walk_past_trees<F: Folder, L: Ledger>(
+    alloc: Global,
+    folder: &mut F,
+    steps: &mut Steps<L>,
+) -> Result<(), Fail> {
+    let mut file = GateFile::open(folder, Stem::Docs)?;
+    let all = keys_in_steps(alloc, 1, true)?;
+    let first = changed(alloc, folder, &mut file, &SizedTree::empty(), &all, steps)?;
+    let third = keys_in_steps(alloc, 3, false)?;
+    let second = changed(alloc, folder, &mut file, &first, &third, steps)?;
+    for (is_second, from, to, descending, want) in WALKS {
+        let tree = if *is_second { &second } else { &first };
+        let given = keys_walked(alloc, folder, tree, *from, *to, *descending, steps)?;
+        if given.as_str() != *want {
+            return Err(Fail::from(format!(in alloc; "{given} from {from} to {to}")?));
+        }
+    }
+    Ok(())
+}
+
+fn walk_in_memory<L: Ledger>(alloc: Global, blank: Blank) -> Result<(), Fail>
+    requires name { blank.name ≡ L.name }
+    requires parts { blank.parts ≡ L.parts }
+    requires some { 0 < L.parts }
+{
+    past_nodes_are_the_files::<MemoryFolder>();
+    let mut steps = Steps::<L>::new(blank);
+    let mut folder = MemoryFolder::new(alloc, Vec::new(alloc), false)?;
+    walk_past_trees(alloc, &mut folder, &mut steps)
+}
+
+#[test]
+fn trees_are_read_by_the_name_of_their_file(rt: HostRuntime) -> Result<(), Fail> {
+    walk_in_memory::<Brand>(rt.alloc(), Blank::new(1))
 }

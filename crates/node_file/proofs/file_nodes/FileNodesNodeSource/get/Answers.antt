@@ -2,7 +2,8 @@ use Rattle.std.proofs.Common.{refl, [], ◌∷◌, ap, arith}
 use Rattle.gate_file.specs.Calls.{KeepsIn, Told}
 use Rattle.tree_laws.specs.Stores.{pieces_size}
 use Rattle.node_file.specs.FileNodeLaws.{adds_same}
-use Rattle.node_file.proofs.Storing.{get_fails, on_always, same_nodes, same_ready}
+use Rattle.node_file.proofs.Getting.{on_always, same_nodes}
+use Rattle.node_file.proofs.Storing.{get_fails, same_ready}
 use Rattle.node_file.proofs.file_nodes.FileNodesNodeSource.get.Goals as goal
 
 pub returns-clause-ready : goal.returns-clause-ready
