@@ -1,4 +1,4 @@
-//! Tests of the public calls of the crates `reduce_tree`, `tree_query` and `node_file`; nothing else.
+//! Tests of the public calls of the crates `reduce_tree`, `tree_query`, `node_file` and `index_trees`; nothing else.
 #![tactic(auto)]
 
 #[cfg(test)]
@@ -8,7 +8,13 @@ mod case;
 #[cfg(test)]
 mod edit_tests;
 #[cfg(test)]
+mod exchange_file_tests;
+#[cfg(test)]
+mod exchange_tests;
+#[cfg(test)]
 mod file_tests;
+#[cfg(test)]
+mod indexes;
 #[cfg(test)]
 mod items;
 #[cfg(test)]

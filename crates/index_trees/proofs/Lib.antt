@@ -1,0 +1,20 @@
+mod Members
+mod ItemOrder
+pub mod Sequences
+pub mod ViewSums
+mod Replacing
+mod EditSteps
+mod BackSteps
+mod RowPlaces
+mod RowsApart
+mod RowsNamed
+mod RowsExchanged
+mod PlacesExchanged
+mod BackExchanged
+mod OldPlaces
+mod OneEdit
+mod EditedView
+pub mod EditedViews
+mod EditedBack
+mod Exchanged
+pub mod ReadBack
