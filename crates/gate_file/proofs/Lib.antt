@@ -16,3 +16,4 @@ pub mod Opened
 pub mod Published
 pub mod Stretches
 pub mod Numbered
+pub mod Emptied

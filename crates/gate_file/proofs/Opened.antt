@@ -15,7 +15,7 @@ use Rattle.gate_file.specs.declared.gate.GateFile.{GateFile}
 use Rattle.gate_file.specs.Header.{IsFit, newest}
 use Rattle.gate_file.specs.GateFile.{name_of, root_of}
 use Rattle.gate_file.specs.Open.{IsDropped, IsFirstDamage, IsOpened, IsWholeOrEmpty, WhileOpening, opened, side_in, side_of}
-use Rattle.gate_file.specs.Pair.{IsOfRoot, IsOpenPair, PairHolds, StandsFor, own_bytes}
+use Rattle.gate_file.specs.Pair.{EachStands, IsOfRoot, IsOpenPair, PairHolds, StandsFor, own_bytes}
 use Rattle.gate_file.specs.RootPlace.{IsPlaceOf, IsRootDamage}
 use Rattle.gate_file.specs.Shown.{HasAll, Shows}
 use Rattle.gate_file.proofs.Beside.{slots_of_all, stands_beside}
@@ -73,19 +73,26 @@ module _ {X : Type 0} (stem : Stem) (Holds : Option Root → List ℕ → X → 
         empty_stands stem Holds of_root image (λ n of_pair. ⊎_elim (λ same. ap image same ∙ none_low) (λ same. ap image same ∙ none_high) (sides stem n of_pair)) x
         (of_root.rootless (seen named) [] x (subst (λ r. Holds r (seen named) x) none stands.stands))
 
-  -- while the pair is opened that has nothing pending and stands for something, so does each image
-  pub while_opening : (files : FileName → File) (x : X) → PairHolds stem Holds files x → (image : FileName → List ℕ) → WhileOpening stem files image → StandsFor stem Holds image x
-  while_opening files x holds image (inl before) =
-      stands_beside stem Holds image (λ n. (files n).seen) x holds.stands (λ n of_pair. IsImage-settled (files n).seen (image n) (subst (λ f. IsImage f (image n)) (holds.whole n of_pair) (before n of_pair)))
-  while_opening files x holds image (inr left) = by_sides (left (side_of stem false) refl) (left (side_of stem true) refl)
+  -- while the pair is opened of which each image stands for something, each image goes on to
+  pub while_each : (files : FileName → File) (x : X) → EachStands stem Holds files x → (image : FileName → List ℕ) → WhileOpening stem files image → StandsFor stem Holds image x
+  while_each files x each image (inl before) = each.images image before
+  while_each files x each image (inr left) = by_sides (left (side_of stem false) refl) (left (side_of stem true) refl)
     where
       by_sides : IsWholeOrEmpty (opened stem files) (side_of stem false) (files (side_of stem false)).seen (image (side_of stem false))
           → IsWholeOrEmpty (opened stem files) (side_of stem true) (files (side_of stem true)).seen (image (side_of stem true)) → StandsFor stem Holds image x
-      by_sides (inl low) (inl high) = stands_beside stem Holds image (λ n. (files n).seen) x holds.stands
+      by_sides (inl low) (inl high) = stands_beside stem Holds image (λ n. (files n).seen) x each.seen
           (λ n of_pair. ⊎_elim (λ is. subst (λ k. image k ≡ (files k).seen) (sym is) low) (λ is. subst (λ k. image k ≡ (files k).seen) (sym is) high) (sides stem n of_pair))
-      by_sides (inl low) (inr high) = stands_low image (λ n. (files n).seen) x holds.stands low high.0 high.1
-      by_sides (inr low) (inl high) = stands_high image (λ n. (files n).seen) x holds.stands low.0 high low.1
-      by_sides (inr low) (inr high) = stands_none image (λ n. (files n).seen) x holds.stands low.0 high.0 low.1 high.1
+      by_sides (inl low) (inr high) = stands_low image (λ n. (files n).seen) x each.seen low high.0 high.1
+      by_sides (inr low) (inl high) = stands_high image (λ n. (files n).seen) x each.seen low.0 high low.1
+      by_sides (inr low) (inr high) = stands_none image (λ n. (files n).seen) x each.seen low.0 high.0 low.1 high.1
+
+  -- where nothing of the pair is pending, a crash leaves what is read
+  pub each_of_pair : (files : FileName → File) (x : X) → PairHolds stem Holds files x → EachStands stem Holds files x
+  each_of_pair files x holds = record {
+    images = λ image before.
+        stands_beside stem Holds image (λ n. (files n).seen) x holds.stands (λ n of_pair. IsImage-settled (files n).seen (image n) (subst (λ f. IsImage f (image n)) (holds.whole n of_pair) (before n of_pair)));
+    seen = holds.stands;
+  }
 
 -- ---- the object that is opened
 
@@ -120,18 +127,21 @@ module _ (stem : Stem) (gate : GateFile) (old new : FileName → File) (gate_is 
       by_root (inr some) = subst (λ b. IsRootDamage Spells gate b name at) (opened_bytes some.0 some.1) damage
 
   -- what the pair stood for is held under the root of the object
-  pub opened_holds : {X : Type 0} (Holds : Option Root → List ℕ → X → Type 0) → IsOfRoot Holds → (x : X) → PairHolds stem Holds old x → Holds (root_of gate) (own_bytes gate new) x
-  opened_holds {X} Holds of_root x holds = by_root (root_of gate) refl (subst (λ (g : GateFile). Holds (root_of g) (own_bytes g old) x) (sym gate_is) holds.stands.stands)
+  pub opened_seen : {X : Type 0} (Holds : Option Root → List ℕ → X → Type 0) → IsOfRoot Holds → (x : X) → StandsFor stem Holds (λ n. (old n).seen) x → Holds (root_of gate) (own_bytes gate new) x
+  opened_seen {X} Holds of_root x stands = by_root (root_of gate) refl (subst (λ (g : GateFile). Holds (root_of g) (own_bytes g old) x) (sym gate_is) stands.stands)
     where
       by_root : (root : Option Root) → root_of gate ≡ root → Holds root (own_bytes gate old) x → Holds root (own_bytes gate new) x
       by_root None none held = of_root.rootless (own_bytes gate old) (own_bytes gate new) x held
       by_root (Some root) some held = subst (λ b. Holds (Some root) b x) (sym (opened_bytes root some)) held
 
+  pub opened_holds : {X : Type 0} (Holds : Option Root → List ℕ → X → Type 0) → IsOfRoot Holds → (x : X) → PairHolds stem Holds old x → Holds (root_of gate) (own_bytes gate new) x
+  opened_holds Holds of_root x holds = opened_seen Holds of_root x holds.stands
+
 -- no slot is damaged of a pair that stands for something
-pub undamaged : {X : Type 0} (stem : Stem) (Holds : Option Root → List ℕ → X → Type 0) (files : FileName → File) (x : X) (name : FileName) (at : ℕ) → PairHolds stem Holds files x → IsFirstDamage stem files name at → ⊥
-undamaged stem Holds files x name at holds damage =
+pub undamaged_seen : {X : Type 0} (stem : Stem) (Holds : Option Root → List ℕ → X → Type 0) (files : FileName → File) (x : X) (name : FileName) (at : ℕ) → StandsFor stem Holds (λ n. (files n).seen) x → IsFirstDamage stem files name at → ⊥
+undamaged_seen stem Holds files x name at stands damage =
     let P = λ (slot : FileName × ℕ). IsFit slot.1 (files slot.0).seen in
-    let all : All P (damage.before ++ (name, at) ∷ damage.after) = subst (All P) damage.split holds.stands.fit in
+    let all : All P (damage.before ++ (name, at) ∷ damage.after) = subst (All P) damage.split stands.fit in
     let fit : IsFit at (files name).seen = All-at P damage.before (name, at) damage.after all in
     damage.damaged.1 (fit damage.damaged.0)
   where
@@ -139,16 +149,28 @@ undamaged stem Holds files x name at holds damage =
     All-at P [] slot after all = All-head P slot after all
     All-at P (x ∷ xs) slot after all = All-at P xs slot after (All-tail P x (xs ++ slot ∷ after) all)
 
+pub undamaged : {X : Type 0} (stem : Stem) (Holds : Option Root → List ℕ → X → Type 0) (files : FileName → File) (x : X) (name : FileName) (at : ℕ) → PairHolds stem Holds files x → IsFirstDamage stem files name at → ⊥
+undamaged stem Holds files x name at holds = undamaged_seen stem Holds files x name at holds.stands
+
 -- as a folder tells it: each image stands for what the pair stood for
+pub opening_each : {X : Type 0} (stem : Stem) (Holds : Option Root → List ℕ → X → Type 0) → IsOfRoot Holds → (old new : Option (Disk FileName)) (Before : (FileName → File) → Type 0) (x : X)
+    (ends : (FileName → File) → (FileName → File) → Type 0) (ends' : (FileName → File) → Type 0)
+    → ((files : FileName → File) → Before files → EachStands stem Holds files x)
+    → ((a b : Disk FileName) → Before a.now → ends a.now b.now → ends' b.now) → IfTold old (λ d. Before d.now)
+    → Tells old new (λ a b. Moves (λ name. name.stem ≡ stem) (WhileOpening stem a.now) (ends a.now) a b)
+    → Tells old new (Moves (λ name. name.stem ≡ stem) (λ image. StandsFor stem Holds image x) ends')
+opening_each stem Holds of_root old new Before x ends ends' standing endings before moves =
+    told_given old new (λ d. Before d.now) (λ a b. Moves (λ name. name.stem ≡ stem) (WhileOpening stem a.now) (ends a.now) a b)
+    (Moves (λ name. name.stem ≡ stem) (λ image. StandsFor stem Holds image x) ends')
+    (λ a b is moved.
+    moves_wider (λ name. name.stem ≡ stem) (λ name. name.stem ≡ stem) (WhileOpening stem a.now) (λ image. StandsFor stem Holds image x) (ends a.now) ends' a b (λ n same. same)
+    (λ image framed. while_each stem Holds of_root a.now x (standing a.now is) image framed.inside) (λ others ended. endings a b is ended) moved)
+    before moves
+
 pub opening_stands : {X : Type 0} (stem : Stem) (Holds : Option Root → List ℕ → X → Type 0) → IsOfRoot Holds → (old new : Option (Disk FileName)) (x : X)
     (ends : (FileName → File) → (FileName → File) → Type 0) (ends' : (FileName → File) → Type 0)
     → ((a b : Disk FileName) → PairHolds stem Holds a.now x → ends a.now b.now → ends' b.now) → IfTold old (λ d. PairHolds stem Holds d.now x)
     → Tells old new (λ a b. Moves (λ name. name.stem ≡ stem) (WhileOpening stem a.now) (ends a.now) a b)
     → Tells old new (Moves (λ name. name.stem ≡ stem) (λ image. StandsFor stem Holds image x) ends')
-opening_stands stem Holds of_root old new x ends ends' endings holds moves =
-    told_given old new (λ d. PairHolds stem Holds d.now x) (λ a b. Moves (λ name. name.stem ≡ stem) (WhileOpening stem a.now) (ends a.now) a b)
-    (Moves (λ name. name.stem ≡ stem) (λ image. StandsFor stem Holds image x) ends')
-    (λ a b is moved.
-    moves_wider (λ name. name.stem ≡ stem) (λ name. name.stem ≡ stem) (WhileOpening stem a.now) (λ image. StandsFor stem Holds image x) (ends a.now) ends' a b (λ n same. same)
-    (λ image framed. while_opening stem Holds of_root a.now x is image framed.inside) (λ others ended. endings a b is ended) moved)
-    holds moves
+opening_stands stem Holds of_root old new x ends ends' =
+    opening_each stem Holds of_root old new (λ files. PairHolds stem Holds files x) x ends ends' (λ files holds. each_of_pair stem Holds of_root files x holds)

@@ -7,7 +7,7 @@ use Rattle.gate_file.specs.declared.root.Root.{Root}
 use Rattle.gate_file.specs.declared.gate.GateFile.{GateFile}
 use Rattle.gate_file.specs.Header.{data_start, slot_at, open_root, IsFit}
 use Rattle.gate_file.specs.GateFile.{name_of, root_of, Keeps}
-use Rattle.gate_file.specs.Open.{side_in, slots_of}
+use Rattle.gate_file.specs.Open.{side_in, slots_of, BeforeOpening}
 use Rattle.gate_file.specs.Shown.{HasAll}
 
 -- what the slots of a pair name whose gates are open
@@ -39,9 +39,25 @@ module _ {X : Type 0} (stem : Stem) (Holds : Option Root → List ℕ → X → 
     pub whole : (name : FileName) → name.stem ≡ stem → files name ≡ settled (files name).seen
     pub stands : StandsFor (λ name. (files name).seen) x
 
+  -- each image that a crash may leave of the pair stands for this, and so does what is read of it
+  pub record EachStands (files : FileName → File) (x : X) : Type 0 where
+    pub images : (image : FileName → List ℕ) → BeforeOpening stem files image → StandsFor image x
+    pub seen : StandsFor (λ name. (files name).seen) x
+
 -- the bytes of an object's own file
 abbrev pub own_bytes : GateFile → (FileName → File) → List ℕ
 own_bytes gate files = (files (name_of gate)).seen
+
+-- and those of them that are durable
+abbrev pub durable_bytes : GateFile → (FileName → File) → List ℕ
+durable_bytes gate files = (files (name_of gate)).durable
+
+-- What an object keeps is what the folder holds of its pair: its file, of which what was added may be pending, and beside it a side
+-- without bytes.
+pub record IsOpenFile (stem : Stem) (gate : GateFile) (files : FileName → File) : Type 0 where
+  pub own : (name_of gate).stem ≡ stem
+  pub keeps : Keeps gate (files (name_of gate))
+  pub other : (name : FileName) → name.stem ≡ stem → name ≢ name_of gate → files name ≡ settled []
 
 -- What an object keeps is what the folder holds of its pair: its file, of which nothing is pending, and beside it a side
 -- without bytes.

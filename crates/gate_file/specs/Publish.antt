@@ -6,7 +6,7 @@ use Rattle.view_ports.specs.declared.file_name.Stem.{Stem}
 use Rattle.view_ports.specs.declared.file_name.FileName.{FileName}
 use Rattle.gate_file.specs.declared.root.Root.{Root}
 use Rattle.gate_file.specs.declared.gate.GateFile.{GateFile}
-use Rattle.gate_file.specs.Pair.{IsOpenPair, own_bytes}
+use Rattle.gate_file.specs.Pair.{IsOpenFile, IsOpenPair, durable_bytes, own_bytes}
 use Rattle.gate_file.specs.Shown.{HasAll, Shows, IsFront}
 use Rattle.gate_file.specs.GateFile.{commits_of, name_of, root_of, start_of, appended, next_root, committed, Keeps}
 
@@ -59,6 +59,12 @@ Publishes gate bytes skipped result =
 abbrev pub WillHold : {X : Type 0} → (Option Root → List ℕ → X → Type 0) → GateFile → List ℕ → List ℕ → ℕ → X → Type 0
 WillHold Holds gate old bytes skipped x =
     (front : List ℕ) → length front ≡ start_of gate → HasAll old front → Holds (Some (published_root gate (length bytes) skipped)) (front ++ bytes) x
+
+-- what is durable of an open file holds `x`, and the file will hold `y` once the bytes are published
+pub record TurnsFile {X : Type 0} (stem : Stem) (Holds : Option Root → List ℕ → X → Type 0) (gate : GateFile) (bytes : List ℕ) (skipped : ℕ) (files : FileName → File) (x y : X) : Type 0 where
+  pub is_open : IsOpenFile stem gate files
+  pub holds : Holds (root_of gate) (durable_bytes gate files) x
+  pub will : commits_of gate < 2 ^ 50 → WillHold Holds gate (own_bytes gate files) bytes skipped y
 
 -- an open pair holds `x`, and it will hold `y` once the bytes are published
 pub record Turns {X : Type 0} (stem : Stem) (Holds : Option Root → List ℕ → X → Type 0) (gate : GateFile) (bytes : List ℕ) (skipped : ℕ) (files : FileName → File) (x y : X) : Type 0 where

@@ -1,5 +1,5 @@
 -- The tree of the back-index after its edits.
-use Rattle.std.proofs.Common.{◌≡◌, ◌≤◌, ℕ, List, All, length, Result, Ok, Err, subst, ap, sym}
+use Rattle.std.proofs.Common.{◌≡◌, ◌≤◌, ℕ, List, All, length, Result, Ok, Err, subst, ap, sym, arith}
 use Rattle.std.specs.Prelude.{IfOk, OnOk, IsPermutation, IsSorted}
 use Rattle.std.specs.List.Sorted.{IsStrictlySortedBy}
 use Rattle.std.proofs.lemmas.List.Elements.{recursion_from_All}
@@ -13,7 +13,7 @@ use Rattle.tree_laws.specs.declared.tree.TreeFault.TheVariants as tree_fault
 use Rattle.tree_laws.specs.Stores.{KeepsPlaces, Places}
 use Rattle.builtin_reduces.specs.Kept.{item_cmp}
 use Rattle.reduce_tree.specs.declared.edit.Edit.{Edit}
-use Rattle.reduce_tree.specs.Applied.{applied, edit_key, AreEdits, IsEdited}
+use Rattle.reduce_tree.specs.Applied.{applied, edit_key, insertions, AreEdits, IsEdited}
 use Rattle.reduce_tree.specs.Calls.{UnlessStore}
 use Rattle.reduce_tree.proofs.Made.{made}
 use Rattle.child_pool.specs.declared.pool_fault.PoolFault.{PoolFault}
@@ -24,13 +24,14 @@ use Rattle.index_items.specs.BackIndex.{IsBackIndex}
 use Rattle.index_items.specs.BackItem.{BackEntry, entry_bytes, entry_cmp}
 use Rattle.index_items.specs.BackLaws.{entry_cmp_total}
 use Rattle.index_trees.specs.Edited.{AreShortEntries, EditsBack, Lists, MayExchange}
-use Rattle.index_trees.specs.Edits.{back_edits}
-use Rattle.index_trees.specs.Exchanges.{StoreWent}
+use Rattle.index_trees.specs.Edits.{back_edits, entry_insert_count}
+use Rattle.index_trees.specs.Exchanges.{GotFound, StoreWent}
 use Rattle.index_trees.specs.Faults.{by_pool}
 use Rattle.index_trees.specs.Trees.{back_items, no_summaries}
 use Rattle.index_trees.proofs.BackExchanged.{are_edits, back_exchanged, AreBackEdits}
+use Rattle.index_trees.proofs.Inserted.{entries_inserted, insertions_permutation}
 use Rattle.index_trees.proofs.Members.{all_of}
-use Rattle.index_trees.proofs.OneEdit.{bad_now, blamed, blames_none, bytes_by, failed_at, has_room, most_bytes_by, most_steps_by, no_smaller, steps_by, Applies, AppliesTo, FoundBad, StoreRan}
+use Rattle.index_trees.proofs.OneEdit.{bad_now, blamed, blames_none, bytes_by, failed_at, has_room, most_bytes_by, most_puts_by, most_steps_by, no_smaller, pieces_by, puts_by, steps_by, Applies, AppliesTo, FoundBad, StoreRan}
 use Rattle.index_trees.proofs.Sequences.{StoreLaws}
 
 -- ---- faults without a query server as those of one with it
@@ -80,6 +81,13 @@ module _ {S F : Type 0} (n : Sources S F) (laws : StoreLaws n) where
   pooled_went old new (Err (tree_fault.Summer fault)) h = h
   pooled_went old new (Err tree_fault.NoMemory) h = h
 
+  pub pooled_found : {X : Type 0} (old new : S) (result : Result X (TreeFault F Want)) → GotFound n old new result → GotFound n old new (pooled result)
+  pooled_found old new (Ok value) h = h
+  pooled_found old new (Err (tree_fault.Store fault)) h = h
+  pooled_found old new (Err (tree_fault.BadNode at)) h = h
+  pooled_found old new (Err (tree_fault.Summer fault)) h = h
+  pooled_found old new (Err tree_fault.NoMemory) h = h
+
 -- ---- the edits
 
 -- the edits of these documents, in order
@@ -94,6 +102,9 @@ entry_edits_of changes olds edits items is are sorted = subst (AreEntryEdits cha
 module _ {S F : Type 0} (n : Sources S F) (changes : List DocRows) (olds : List (List BackRow)) (edits : List (Edit BackEntry)) (by : AreEntryEdits changes olds edits) (old new : S) (before now : ℕ) (tree : Tree) where
   number : length edits ≡ length (back_edits changes olds)
   number = length_permutation (back_edits changes olds) edits by.are
+
+  inserted : insertions edits ≤ entry_insert_count changes
+  inserted = omega (arith, insertions_permutation (back_edits changes olds) edits by.are, entries_inserted changes olds)
 
   -- the tree holds the back-index of rows that may be exchanged
   module _ (there : Places) (rows : List (List Row)) (entries : List BackEntry) (lists : Lists n changes olds old new before now tree there rows entries) (may : MayExchange n changes olds old new before now tree rows) where
@@ -134,6 +145,9 @@ module _ {S F : Type 0} (n : Sources S F) (changes : List DocRows) (olds : List 
     abbrev all : ℕ
     all = length (back_edits changes olds)
 
+    abbrev more : ℕ
+    more = entry_insert_count changes
+
     pub edited_back : EditsBack n changes olds old new before now tree (pooled result)
     edited_back = record {
       kept = pooled_unless (KeepsPlaces (n.nodes old) (n.nodes new)) result a.kept;
@@ -146,14 +160,20 @@ module _ {S F : Type 0} (n : Sources S F) (changes : List DocRows) (olds : List 
           pooled_if result (λ after is. (later there rows entries lists may, index_then there rows entries lists may, is)) (to.tree_is there entries lists.told (edits_are there rows entries lists may) lists.holds);
       size = pooled_if result (λ after size. size) a.size;
       room = λ enough. pooled_if result (λ after room. room) (has_room n edits old new before now tree result a enough);
-      steps = λ h low. pooled_if result (λ after steps. steps) (steps_by n edits old new before now tree result all number a h low);
-      most_steps = most_steps_by n edits old new before now tree result all number a;
+      steps = λ h low. pooled_if result (λ after steps. steps) (steps_by n edits old new before now tree result all more number inserted a h low);
+      most_steps = most_steps_by n edits old new before now tree result all more number inserted a;
+      puts = λ h low. pooled_if result (λ after puts. puts) (puts_by n edits old new before now tree result all more number inserted a h low);
+      most_puts = most_puts_by n edits old new before now tree result all more number inserted a;
       bytes = λ there rows entries longest h lists may short then low.
-          pooled_if result (λ after bytes. bytes) (bytes_by n edits old new before now tree result all number back_items no_summaries to there entries (later there rows entries lists may) longest lists.told lists.holds
+          pooled_if result (λ after bytes. bytes) (bytes_by n edits old new before now tree result all more number inserted back_items no_summaries to there entries (later there rows entries lists may) longest lists.told lists.holds
           (is_edited there rows entries lists may) (short_now there rows entries lists may longest short) (short_later there rows entries lists may longest then) h low);
       most_bytes = λ there rows entries longest h lists may short then.
-          most_bytes_by n edits old new before now tree result all number back_items no_summaries to there entries (later there rows entries lists may) longest lists.told lists.holds
+          most_bytes_by n edits old new before now tree result all more number inserted back_items no_summaries to there entries (later there rows entries lists may) longest lists.told lists.holds
           (is_edited there rows entries lists may) (short_now there rows entries lists may longest short) (short_later there rows entries lists may longest then) h;
+      pieces = λ there rows entries longest lists may short then.
+          pieces_by n edits old new before now tree result all more number inserted back_items no_summaries to there entries (later there rows entries lists may) longest lists.told lists.holds
+          (is_edited there rows entries lists may) (short_now there rows entries lists may longest short) (short_later there rows entries lists may longest then);
+      found = λ there entries told holds. pooled_found n laws old new result (to.found there entries told holds);
       sound = λ there entries at told holds is. blames_none result at (to.sound there entries told holds) (pooled_blame result at is);
       damaged = λ at is. bad_now back_items no_summaries n old new tree result at a.kept bad (pooled_blame result at is);
     }

@@ -25,6 +25,7 @@ use Rattle.reduce_tree.specs.Applied.{applied, insertions, IsEdited}
 use Rattle.reduce_tree.specs.Calls.{places}
 use Rattle.reduce_tree.specs.Counts.{node_size}
 use Rattle.reduce_tree.proofs.Made.{made}
+use Rattle.reduce_tree.proofs.Since.{since_none}
 use Rattle.child_pool.specs.declared.pool_fault.PoolFault.{PoolFault}
 use Rattle.child_pool.specs.declared.pool_fault.PoolFault.TheVariants.{Compile, NoMemory}
 use Rattle.child_pool.specs.declared.summers.Summers.{Summers}
@@ -35,15 +36,17 @@ use Rattle.child_pool.specs.Summers.{IsUsableFor, SummersFail, SummersGo}
 use Rattle.child_pool.specs.TalkLaws.{goes_none}
 use Rattle.child_pool.proofs.WiderTalk.{among_back, among_front, fails_wider, goes_wider}
 use Rattle.row_exchange.specs.declared.doc_rows.DocRows.{DocRows}
-use Rattle.row_exchange.specs.Replaced.{replaced, replaced_views}
+use Rattle.row_exchange.specs.Replaced.{new_rows, replaced, replaced_views}
 use Rattle.index_items.specs.declared.back_row.BackRow.{BackRow}
 use Rattle.index_items.proofs.Rising.{contains-cases, contains-none}
 use Rattle.index_trees.specs.Edits.{view_edits}
 use Rattle.index_trees.specs.Edited.{EditsView, OverView, Went}
-use Rattle.index_trees.specs.Exchanges.{Complains, GivesUp, IsUsable, SummersWent, Talks}
+use Rattle.index_trees.specs.Exchanges.{Complains, GivesUp, IsUsable, PutsWithin, SummersWent, Talks}
 use Rattle.index_trees.specs.Trees.{row_items, HasRows}
 use Rattle.index_trees.specs.ViewValues.{view_values, AreFunctionsOf, SumsBy}
-use Rattle.index_trees.proofs.OneEdit.{Applies, AppliesTo, FoundBad, SumDid, applies_others, bad_now, blames_none, bytes_by, faulty_others, has_room, most_bytes_by, most_steps_by, no_smaller, steps_by, store_went}
+use Rattle.index_trees.proofs.Found.{got_none}
+use Rattle.index_trees.proofs.Inserted.{insertions_permutation, rows_inserted}
+use Rattle.index_trees.proofs.OneEdit.{Applies, AppliesTo, FoundBad, SumDid, applies_others, bad_now, blames_none, bytes_by, faulty_others, has_room, most_bytes_by, most_puts_by, most_steps_by, no_smaller, pieces_by, puts_by, steps_by, store_went}
 use Rattle.index_trees.proofs.RowsExchanged.{AreSortedEdits, edit_cmp, edits_rise, rows_exchanged}
 use Rattle.index_trees.proofs.Sequences.{StoreLaws, done, each_from-at, err_same, keeps_itself, talks_none}
 use Rattle.index_trees.proofs.ViewSums.{IsFirst, first_of, functions_stay, summer_values}
@@ -107,6 +110,9 @@ module _ {S F C : Type 0} (n : Sources S F) (laws : StoreLaws n) (s : Servers C)
   module _ (after : Summers C) (a : Applies n edits old new before now tree result) (called : Called turned after) (are : IsPermutation (view_edits view changes olds) edits) (sorted : IsSorted edit_cmp edits) (some : edits ≢ []) where
     count : length edits ≡ length (view_edits view changes olds)
     count = length_permutation (view_edits view changes olds) edits are
+
+    inserted : insertions edits ≤ length (new_rows changes view)
+    inserted = omega (arith, insertions_permutation (view_edits view changes olds) edits are, rows_inserted view changes olds)
 
     -- ---- the talk
 
@@ -217,16 +223,22 @@ module _ {S F C : Type 0} (n : Sources S F) (laws : StoreLaws n) (s : Servers C)
       made = λ f there rows over. has_then f there rows over result ((to_view f there rows over).tree_is there (here f there rows over) over.begins.told (edits_rise view changes rows (here f there rows over) edits (given f there rows over)) over.has);
       size = a.size;
       room = has_room n edits old new before now tree result a;
-      steps = steps_by n edits old new before now tree result (length (view_edits view changes olds)) count a;
-      most_steps = most_steps_by n edits old new before now tree result (length (view_edits view changes olds)) count a;
+      steps = steps_by n edits old new before now tree result (length (view_edits view changes olds)) (length (new_rows changes view)) count inserted a;
+      most_steps = most_steps_by n edits old new before now tree result (length (view_edits view changes olds)) (length (new_rows changes view)) count inserted a;
+      puts = puts_by n edits old new before now tree result (length (view_edits view changes olds)) (length (new_rows changes view)) count inserted a;
+      most_puts = most_puts_by n edits old new before now tree result (length (view_edits view changes olds)) (length (new_rows changes view)) count inserted a;
       bytes = λ f there rows longest h over short.
-          bytes_by n edits old new before now tree result (length (view_edits view changes olds)) count row_items (view_values f own) (to_view f there rows over) there (here f there rows over) (then_rows f there rows over) longest over.begins.told over.has
+          bytes_by n edits old new before now tree result (length (view_edits view changes olds)) (length (new_rows changes view)) count inserted row_items (view_values f own) (to_view f there rows over) there (here f there rows over) (then_rows f there rows over) longest over.begins.told over.has
           (edited f there rows over) short.old_rows short.then_rows h;
       most_bytes = λ f there rows longest h over short.
-          most_bytes_by n edits old new before now tree result (length (view_edits view changes olds)) count row_items (view_values f own) (to_view f there rows over) there (here f there rows over) (then_rows f there rows over) longest over.begins.told over.has
+          most_bytes_by n edits old new before now tree result (length (view_edits view changes olds)) (length (new_rows changes view)) count inserted row_items (view_values f own) (to_view f there rows over) there (here f there rows over) (then_rows f there rows over) longest over.begins.told over.has
           (edited f there rows over) short.old_rows short.then_rows h;
+      pieces = λ f there rows longest over short.
+          pieces_by n edits old new before now tree result (length (view_edits view changes olds)) (length (new_rows changes view)) count inserted row_items (view_values f own) (to_view f there rows over) there (here f there rows over) (then_rows f there rows over) longest over.begins.told over.has
+          (edited f there rows over) short.old_rows short.then_rows;
       usable = λ row comes. is_usable result (called.usable (inserts_some edits row (Contains-permutation (view_edits view changes olds) edits (Insert row) are comes)));
       complains = complains;
+      found = λ f there rows over. (to_view f there rows over).found there (here f there rows over) over.begins.told over.has;
       sound = λ f there rows at over is. blames_none result at ((to_view f there rows over).sound there (here f there rows over) over.begins.told over.has) is;
       damaged = damaged;
     }
@@ -247,6 +259,12 @@ module _ {S F C : Type 0} (n : Sources S F) (laws : StoreLaws n) (s : Servers C)
   no_bytes : (edits per size : ℕ) → n.size store ≤ n.size store + (edits * per) * size
   no_bytes edits per size = omega arith
 
+  no_puts : (edits per : ℕ) → length (n.puts store) ≤ length (n.puts store) + edits * per
+  no_puts edits per = omega arith
+
+  no_pieces : (most : ℕ) → PutsWithin most (n.puts store) (n.puts store)
+  no_pieces most = since_none (λ piece. length piece + 8 ≤ most) (n.puts store) (n.puts store) refl
+
   -- memory ran out before
   pub wants_memory : EditsView n s changes olds store store summers summers steps steps view tree (Err tree_fault.NoMemory)
   wants_memory = record {
@@ -256,10 +274,14 @@ module _ {S F C : Type 0} (n : Sources S F) (laws : StoreLaws n) (s : Servers C)
     room = λ enough. tt;
     steps = λ h low. tt;
     most_steps = λ h low few. no_more (length (view_edits view changes olds)) (8 * (h + 1));
+    puts = λ h low. tt;
+    most_puts = λ h low few. no_puts (length (view_edits view changes olds)) (4 * (h + 1));
     bytes = λ f there rows longest h over short low. tt;
     most_bytes = λ f there rows longest h over short low few. no_bytes (length (view_edits view changes olds)) (4 * (h + 1)) (node_size longest);
+    pieces = λ f there rows longest over short. no_pieces (node_size longest);
     usable = λ row comes. tt;
     complains = λ is. absurd (let never = err_same Tree tree_fault.NoMemory (tree_fault.Summer Compile) is in cc);
+    found = λ f there rows over. got_none (places (n.nodes store)) (n.gets store);
     sound = λ f there rows at over is. let never = err_same Tree tree_fault.NoMemory (tree_fault.BadNode at) is in cc;
     damaged = λ at is. absurd (let never = err_same Tree tree_fault.NoMemory (tree_fault.BadNode at) is in cc);
   }
@@ -288,10 +310,14 @@ module _ {S F C : Type 0} (n : Sources S F) (laws : StoreLaws n) (s : Servers C)
       room = λ enough. enough;
       steps = λ h low high. no_more (length (view_edits view changes olds)) (8 * (h + 1));
       most_steps = λ h low few. no_more (length (view_edits view changes olds)) (8 * (h + 1));
+      puts = λ h low high. no_puts (length (view_edits view changes olds)) (4 * (h + 1));
+      most_puts = λ h low few. no_puts (length (view_edits view changes olds)) (4 * (h + 1));
       bytes = λ f there rows longest h over short low high. no_bytes (length (view_edits view changes olds)) (4 * (h + 1)) (node_size longest);
       most_bytes = λ f there rows longest h over short low few. no_bytes (length (view_edits view changes olds)) (4 * (h + 1)) (node_size longest);
+      pieces = λ f there rows longest over short. no_pieces (node_size longest);
       usable = λ row comes. absurd (contains-none (Insert row) (subst (λ es. Contains es (Insert row)) all_none comes));
       complains = λ is. absurd (let never : done Tree (TreeFault F PoolFault) tree ≡ Err (tree_fault.Summer Compile) = is in cc);
+      found = λ f there rows over. got_none (places (n.nodes store)) (n.gets store);
       sound = λ f there rows at over is. let never : done Tree (TreeFault F PoolFault) tree ≡ Err (tree_fault.BadNode at) = is in cc;
       damaged = λ at is. absurd (let never : done Tree (TreeFault F PoolFault) tree ≡ Err (tree_fault.BadNode at) = is in cc);
     }

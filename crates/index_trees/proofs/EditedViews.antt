@@ -1,10 +1,10 @@
 -- The trees of the views, one edited after another.
-use Rattle.std.proofs.Common.{◌≡◌, ◌≢◌, ◌<◌, ◌≤◌, ◌+◌, ◌*◌, ◌^◌, ◌⊎◌, ℕ, zero, suc, List, [], ◌∷◌, ◌++◌, All, Contains, length, take, drop, get_or, Option, None, Result, Ok, Err, refl, sym, ap, ◌∙◌, subst, arith, inl, inr, length-append}
-use Rattle.std.specs.Prelude.{Vec}
+use Rattle.std.proofs.Common.{◌≡◌, ◌≢◌, ◌<◌, ◌≤◌, ◌+◌, ◌*◌, ◌^◌, ◌⊎◌, ℕ, zero, suc, List, [], ◌∷◌, ◌++◌, All, Contains, length, take, drop, get_or, Option, None, Some, Result, Ok, Err, refl, sym, ap, ◌∙◌, subst, arith, inl, inr, length-append}
+use Rattle.std.specs.Prelude.{slice_get, Vec}
 use Rattle.std.specs.declared.alloc.Global.{Global}
 use Rattle.std.proofs.Math.Nat.{eq-or-lt_of_le}
 use Rattle.std.proofs.lemmas.List.{length-take-le, take-append-drop, take_all}
-use Rattle.std.proofs.lemmas.List.Elements.{All-contains, All-get_or, All-nil, All-push, All-weaker, Contains-append_left, Contains-push}
+use Rattle.std.proofs.lemmas.List.Elements.{All-contains, All-get_or, All-nil, All-push, All-weaker, Contains-push}
 use Rattle.json_terms.specs.declared.term.Row.{Row}
 use Rattle.design_docs.specs.declared.design.Reduce.TheVariants.{Source}
 use Rattle.view_ports.specs.declared.servers.Servers.{Ghosts as Servers}
@@ -20,27 +20,40 @@ use Rattle.reduce_tree.specs.declared.edit.Edit.TheVariants.{Insert}
 use Rattle.reduce_tree.specs.Calls.{places}
 use Rattle.reduce_tree.specs.Counts.{node_size}
 use Rattle.reduce_tree.proofs.Quiet.{all_front}
+use Rattle.reduce_tree.proofs.Since.{since_both, since_none}
 use Rattle.child_pool.specs.declared.pool_fault.PoolFault.{PoolFault}
 use Rattle.child_pool.specs.declared.pool_fault.PoolFault.TheVariants.{Compile}
 use Rattle.child_pool.specs.declared.summers.Summers.{Summers}
 use Rattle.child_pool.specs.ReduceTalk.{Compiles, Fails, Goes, reduce_in, reduce_sources}
 use Rattle.child_pool.specs.TalkLaws.{goes_both, stands_on}
 use Rattle.row_exchange.specs.declared.doc_rows.DocRows.{DocRows}
-use Rattle.row_exchange.specs.Replaced.{replaced, replaced_views}
+use Rattle.row_exchange.specs.Replaced.{new_rows, replaced, replaced_views}
 use Rattle.row_exchange.proofs.Each.{take_next}
 use Rattle.index_items.specs.declared.back_row.BackRow.{BackRow}
 use Rattle.index_trees.specs.Edits.{row_edit_count, view_edits}
 use Rattle.index_trees.specs.Edited.{AreAllShort, AreEnough, AreShortIn, AreShortRows, EditsView, EditsViews, OverView, OverViews}
-use Rattle.index_trees.specs.Exchanges.{Complains, IsUsable}
+use Rattle.index_trees.specs.Exchanges.{Complains, GotFound, IsUsable, PutsWithin}
 use Rattle.index_trees.specs.Faults.{listed}
 use Rattle.index_trees.specs.Trees.{row_items, EachAt, HasRows}
 use Rattle.index_trees.specs.ViewValues.{view_values}
+use Rattle.index_trees.proofs.Found.{found_other, found_then, got_none}
+use Rattle.index_trees.proofs.Inserted.{inserts_more, inserts_split}
 use Rattle.index_trees.proofs.Sequences.{StoreLaws, done, each_append, each_front, each_map, each_next, err_same, extends_then, keeps_itself, length-each_from, refused, rows_stay, sum_bounds, sum_products, talks_none, told_then, went_then}
 
 -- ---- numbers of edits
 
 all_last : {X : Type 0} (P : X → Type 0) (xs : List X) (x : X) → All P (xs ++ x ∷ []) → P x
 all_last P xs x all = All-contains P (xs ++ x ∷ []) x all (Contains-push xs x)
+
+-- the element of a number stays where others come behind it, and one that comes has the next number
+get_front : {X : Type 0} (xs ys : List X) (k : ℕ) (x : X) → slice_get xs k ≡ Some x → slice_get (xs ++ ys) k ≡ Some x
+get_front [] ys k x is = absurd (cc)
+get_front (y ∷ xs) ys zero x is = is
+get_front (y ∷ xs) ys (suc k) x is = get_front xs ys k x is
+
+get_last : {X : Type 0} (xs : List X) (x : X) → slice_get (xs ++ x ∷ []) (length xs) ≡ Some x
+get_last [] x = refl
+get_last (y ∷ xs) x = get_last xs x
 
 module _ (changes : List DocRows) (olds : List (List BackRow)) where
   counts_add : (view few more : ℕ) → row_edit_count view (few + more) changes olds ≡ row_edit_count view few changes olds + row_edit_count (view + few) more changes olds
@@ -102,6 +115,12 @@ module _ {S F C : Type 0} (n : Sources S F) (laws : StoreLaws n) (s : Servers C)
         let both = sum_bounds (row_edit_count 0 here changes olds) (length (view_edits here changes olds)) (8 * (h + 1)) i j k first second in
         subst (λ e. k ≤ i + e * (8 * (h + 1))) (sym (count_more changes olds ts t)) both
 
+    sum_puts : (h : ℕ) → length (n.puts b) ≤ length (n.puts a) + row_edit_count 0 here changes olds * (4 * (h + 1)) → length (n.puts c) ≤ length (n.puts b) + length (view_edits here changes olds) * (4 * (h + 1))
+        → length (n.puts c) ≤ length (n.puts a) + row_edit_count 0 (length (ts ++ t ∷ [])) changes olds * (4 * (h + 1))
+    sum_puts h first second =
+        let both = sum_bounds (row_edit_count 0 here changes olds) (length (view_edits here changes olds)) (4 * (h + 1)) (length (n.puts a)) (length (n.puts b)) (length (n.puts c)) first second in
+        subst (λ e. length (n.puts c) ≤ length (n.puts a) + e * (4 * (h + 1))) (sym (count_more changes olds ts t)) both
+
     sum_bytes : (size h : ℕ) → n.size b ≤ n.size a + (row_edit_count 0 here changes olds * (4 * (h + 1))) * size → n.size c ≤ n.size b + (length (view_edits here changes olds) * (4 * (h + 1))) * size
         → n.size c ≤ n.size a + (row_edit_count 0 (length (ts ++ t ∷ [])) changes olds * (4 * (h + 1))) * size
     sum_bytes size h first second =
@@ -113,14 +132,14 @@ module _ {S F C : Type 0} (n : Sources S F) (laws : StoreLaws n) (s : Servers C)
       first_enough : AreEnough n s changes olds a b u v i j ts h
       first_enough = record {
         more = enough.more;
-        edits = omega (arith, enough.edits, count_more changes olds ts t);
+        inserts = omega (arith, enough.inserts, inserts_more changes ts t);
         each = all_front (λ (tree : Tree). (tree.height ≤ h) × (tree.count + enough.more < 8 ^ h)) ts (t ∷ []) enough.each;
       }
 
-      own_enough : (t.height ≤ h) × (t.count + length (view_edits here changes olds) < 8 ^ h)
+      own_enough : (t.height ≤ h) × (t.count + length (new_rows changes here) < 8 ^ h)
       own_enough =
           let own = all_last (λ (tree : Tree). (tree.height ≤ h) × (tree.count + enough.more < 8 ^ h)) ts t enough.each in
-          (own.0, omega (arith, own.1, enough.edits, count_more changes olds ts t))
+          (own.0, omega (arith, own.1, enough.inserts, inserts_more changes ts t))
 
     -- the rows of the next view are short too
     first_short : (longest : ℕ) (rows : List (List Row)) → AreAllShort n s changes olds a c u w i k (ts ++ t ∷ []) longest rows → AreAllShort n s changes olds a b u v i j ts longest rows
@@ -131,6 +150,20 @@ module _ {S F C : Type 0} (n : Sources S F) (laws : StoreLaws n) (s : Servers C)
       old_rows = All-get_or (AreShortRows longest) rows here [] within short.old_rows;
       then_rows = All-get_or (AreShortRows longest) (replaced_views changes rows) here [] (omega (arith, within, length-each_from (replaced changes) 0 rows)) short.then_rows;
     }
+
+    -- each piece is small, and something stands at each place that was got
+    module _ (f : Option Functions) (there : Places) (rows : List (List Row)) (rest : List Tree) (over : OverViews n s changes olds a c u w i k (ts ++ t ∷ rest) f there rows) where
+      both_found : (r : Result Tree (TreeFault F PoolFault)) → EditsView n s changes olds b c v w j k here t r → GotFound n a c r
+      both_found r next =
+          found_then n laws a b c begun.went.store (begun.found f there rows (first_over f there rows rest over)) r next.went.kept (next.found f (places (n.nodes b)) rows (next_over f there rows rest over))
+
+    both_pieces : (f : Option Functions) (there : Places) (rows : List (List Row)) (longest : ℕ) → OverViews n s changes olds a c u w i k (ts ++ t ∷ []) f there rows → AreAllShort n s changes olds a c u w i k (ts ++ t ∷ []) longest rows
+        → (r : Result Tree (TreeFault F PoolFault)) → EditsView n s changes olds b c v w j k here t r → PutsWithin (node_size longest) (n.puts a) (n.puts c)
+    both_pieces f there rows longest over short r next =
+        let Small : List ℕ → Type 0 = λ piece. length piece + 8 ≤ node_size longest in
+        let over_next = next_over f there rows [] over in
+        since_both Small Small Small (λ x h. h) (λ x h. h) (n.puts a) (n.puts b) (n.puts c) (begun.pieces f there rows longest (first_over f there rows [] over) (first_short longest rows short))
+        (next.pieces f (places (n.nodes b)) rows longest over_next (next_short longest rows over_next.within short))
 
     damaged_here : (at : ℕ) → WhereTold (n.nodes c) (λ there. IsFaulty row_items (view_values None (reduce_in v.design.now.views here)) there t at)
         → WhereTold (n.nodes c) (λ there. IsFaulty row_items (view_values None (reduce_in u.design.now.views here)) there t at)
@@ -205,6 +238,10 @@ module _ {S F C : Type 0} (n : Sources S F) (laws : StoreLaws n) (s : Servers C)
             sum_steps h (begun.steps h (all_front (λ (tree : Tree). tree.height ≤ h) ts (t ∷ []) low) (all_front (λ (tree : Tree). tree.height ≤ h) es (e ∷ []) after))
             (next.steps h (all_last (λ (tree : Tree). tree.height ≤ h) ts t low) (all_last (λ (tree : Tree). tree.height ≤ h) es e after));
         most_steps = λ h enough. let own = own_enough h enough in sum_steps h (begun.most_steps h (first_enough h enough)) (next.most_steps h own.0 own.1);
+        puts = λ h low after.
+            sum_puts h (begun.puts h (all_front (λ (tree : Tree). tree.height ≤ h) ts (t ∷ []) low) (all_front (λ (tree : Tree). tree.height ≤ h) es (e ∷ []) after))
+            (next.puts h (all_last (λ (tree : Tree). tree.height ≤ h) ts t low) (all_last (λ (tree : Tree). tree.height ≤ h) es e after));
+        most_puts = λ h enough. let own = own_enough h enough in sum_puts h (begun.most_puts h (first_enough h enough)) (next.most_puts h own.0 own.1);
         bytes = λ f there rows longest h over short low after.
             let over_next = next_over f there rows [] over in
             sum_bytes (node_size longest) h
@@ -215,8 +252,10 @@ module _ {S F C : Type 0} (n : Sources S F) (laws : StoreLaws n) (s : Servers C)
             let over_next = next_over f there rows [] over in
             sum_bytes (node_size longest) h (begun.most_bytes f there rows longest h (first_over f there rows [] over) (first_short longest rows short) (first_enough h enough))
             (next.most_bytes f (places (n.nodes b)) rows longest h over_next (next_short longest rows over_next.within short) own.0 own.1);
+        pieces = λ f there rows longest over short. both_pieces f there rows longest over short (Ok e) next;
         usable = usable_ok;
         complains = λ is. absurd (let never : Ok (es ++ e ∷ []) ≡ Err (tree_fault.Summer Compile) = is in cc);
+        found = λ f there rows over. both_found f there rows [] over (Ok e) next;
         sound = λ f there rows at over is. let never : Ok (es ++ e ∷ []) ≡ Err (tree_fault.BadNode at) = is in cc;
         damaged = λ at is. absurd (let never : Ok (es ++ e ∷ []) ≡ Err (tree_fault.BadNode at) = is in cc);
       }
@@ -239,16 +278,20 @@ module _ {S F C : Type 0} (n : Sources S F) (laws : StoreLaws n) (s : Servers C)
         room = λ all. tt;
         steps = λ h low. tt;
         most_steps = λ h enough. let own = own_enough h enough in sum_steps h (begun.most_steps h (first_enough h enough)) (next.most_steps h own.0 own.1);
+        puts = λ h low. tt;
+        most_puts = λ h enough. let own = own_enough h enough in sum_puts h (begun.most_puts h (first_enough h enough)) (next.most_puts h own.0 own.1);
         bytes = λ f there rows longest h over short low. tt;
         most_bytes = λ f there rows longest h over short enough.
             let own = own_enough h enough in
             let over_next = next_over f there rows [] over in
             sum_bytes (node_size longest) h (begun.most_bytes f there rows longest h (first_over f there rows [] over) (first_short longest rows short) (first_enough h enough))
             (next.most_bytes f (places (n.nodes b)) rows longest h over_next (next_short longest rows over_next.within short) own.0 own.1);
+        pieces = λ f there rows longest over short. both_pieces f there rows longest over short (Err fault) next;
         usable = λ view row small comes. tt;
         complains = λ is. complains_err (err_same (List Tree) fault (tree_fault.Summer Compile) is);
+        found = λ f there rows over. found_other Tree (List Tree) n a c fault (both_found f there rows [] over (Err fault) next);
         sound = λ f there rows at over is. next.sound f (places (n.nodes b)) rows at (next_over f there rows [] over) (ap (refused Tree) (err_same (List Tree) fault (tree_fault.BadNode at) is));
-        damaged = λ at is. (here, t, Contains-push ts t, damaged_here at (next.damaged at (ap (refused Tree) (err_same (List Tree) fault (tree_fault.BadNode at) is))));
+        damaged = λ at is. (here, t, get_last ts t, damaged_here at (next.damaged at (ap (refused Tree) (err_same (List Tree) fault (tree_fault.BadNode at) is))));
       }
 
   -- ---- the ends
@@ -270,10 +313,14 @@ module _ {S F C : Type 0} (n : Sources S F) (laws : StoreLaws n) (s : Servers C)
     room = λ all. All-nil (λ (tree : Tree). 8 * tree.count ≤ n.size a);
     steps = λ h low after. omega arith;
     most_steps = λ h enough. omega arith;
+    puts = λ h low after. omega arith;
+    most_puts = λ h enough. omega arith;
     bytes = λ f there rows longest h over short low after. omega arith;
     most_bytes = λ f there rows longest h over short enough. omega arith;
+    pieces = λ f there rows longest over short. since_none (λ piece. length piece + 8 ≤ node_size longest) (n.puts a) (n.puts a) refl;
     usable = λ view row small comes. absurd (omega (arith, small));
     complains = λ is. absurd (let never : done (List Tree) (TreeFault F PoolFault) [] ≡ Err (tree_fault.Summer Compile) = is in cc);
+    found = λ f there rows over. got_none (places (n.nodes a)) (n.gets a);
     sound = λ f there rows at over is. let never : done (List Tree) (TreeFault F PoolFault) [] ≡ Err (tree_fault.BadNode at) = is in cc;
     damaged = λ at is. absurd (let never : done (List Tree) (TreeFault F PoolFault) [] ≡ Err (tree_fault.BadNode at) = is in cc);
   }
@@ -289,10 +336,14 @@ module _ {S F C : Type 0} (n : Sources S F) (laws : StoreLaws n) (s : Servers C)
       room = λ all. tt;
       steps = λ h low. tt;
       most_steps = done.most_steps;
+      puts = λ h low. tt;
+      most_puts = done.most_puts;
       bytes = λ f there rows longest h over short low. tt;
       most_bytes = done.most_bytes;
+      pieces = done.pieces;
       usable = λ view row small comes. tt;
       complains = λ is. absurd (let never = err_same (List Tree) tree_fault.NoMemory (tree_fault.Summer Compile) is in cc);
+      found = done.found;
       sound = λ f there rows at over is. let never = err_same (List Tree) tree_fault.NoMemory (tree_fault.BadNode at) is in cc;
       damaged = λ at is. absurd (let never = err_same (List Tree) tree_fault.NoMemory (tree_fault.BadNode at) is in cc);
     }
@@ -309,7 +360,7 @@ module _ {S F C : Type 0} (n : Sources S F) (laws : StoreLaws n) (s : Servers C)
       front_enough : (h : ℕ) → AreEnough n s changes olds a c u w i k (ts ++ rest) h → AreEnough n s changes olds a c u w i k ts h
       front_enough h enough = record {
         more = enough.more;
-        edits = omega (arith, enough.edits, count_split changes olds ts rest);
+        inserts = omega (arith, enough.inserts, inserts_split changes ts rest);
         each = all_front (λ (tree : Tree). (tree.height ≤ h) × (tree.count + enough.more < 8 ^ h)) ts rest enough.each;
       }
 
@@ -317,6 +368,11 @@ module _ {S F C : Type 0} (n : Sources S F) (laws : StoreLaws n) (s : Servers C)
       more_steps h few =
           let both = sum_bounds (row_edit_count 0 (length ts) changes olds) (row_edit_count (length ts) (length rest) changes olds) (8 * (h + 1)) i k k few (omega arith) in
           subst (λ e. k ≤ i + e * (8 * (h + 1))) (sym (count_split changes olds ts rest)) both
+
+      more_puts : (h : ℕ) → length (n.puts c) ≤ length (n.puts a) + row_edit_count 0 (length ts) changes olds * (4 * (h + 1)) → length (n.puts c) ≤ length (n.puts a) + row_edit_count 0 (length (ts ++ rest)) changes olds * (4 * (h + 1))
+      more_puts h few =
+          let both = sum_bounds (row_edit_count 0 (length ts) changes olds) (row_edit_count (length ts) (length rest) changes olds) (4 * (h + 1)) (length (n.puts a)) (length (n.puts c)) (length (n.puts c)) few (omega arith) in
+          subst (λ e. length (n.puts c) ≤ length (n.puts a) + e * (4 * (h + 1))) (sym (count_split changes olds ts rest)) both
 
       more_bytes : (size h : ℕ) → n.size c ≤ n.size a + (row_edit_count 0 (length ts) changes olds * (4 * (h + 1))) * size → n.size c ≤ n.size a + (row_edit_count 0 (length (ts ++ rest)) changes olds * (4 * (h + 1))) * size
       more_bytes size h few =
@@ -330,8 +386,8 @@ module _ {S F C : Type 0} (n : Sources S F) (laws : StoreLaws n) (s : Servers C)
       complains_further is = let own = done.complains is in (own.0, further own.0 own.1, own.2, own.3)
 
       damaged_further : (at : ℕ) → refused (List Tree) fault ≡ Err (tree_fault.BadNode at)
-          → (view : ℕ) × (tree : Tree) × Contains (ts ++ rest) tree × WhereTold (n.nodes c) (λ there. IsFaulty row_items (view_values None (reduce_in u.design.now.views view)) there tree at)
-      damaged_further at is = let own = done.damaged at is in (own.0, own.1, Contains-append_left ts rest own.1 own.2, own.3)
+          → (view : ℕ) × (tree : Tree) × (slice_get (ts ++ rest) view ≡ Some tree) × WhereTold (n.nodes c) (λ there. IsFaulty row_items (view_values None (reduce_in u.design.now.views view)) there tree at)
+      damaged_further at is = let own = done.damaged at is in (own.0, own.1, get_front ts rest own.0 own.1 own.2, own.3)
 
       pub gives_up_early : EditsViews n s changes olds a c u w i k (ts ++ rest) (Err fault)
       gives_up_early = record {
@@ -342,11 +398,15 @@ module _ {S F C : Type 0} (n : Sources S F) (laws : StoreLaws n) (s : Servers C)
         room = λ all. tt;
         steps = λ h low. tt;
         most_steps = λ h enough. more_steps h (done.most_steps h (front_enough h enough));
+        puts = λ h low. tt;
+        most_puts = λ h enough. more_puts h (done.most_puts h (front_enough h enough));
         bytes = λ f there rows longest h over short low. tt;
         most_bytes = λ f there rows longest h over short enough.
             more_bytes (node_size longest) h (done.most_bytes f there rows longest h (front_over f there rows over) (record { old_rows = short.old_rows; then_rows = short.then_rows }) (front_enough h enough));
+        pieces = λ f there rows longest over short. done.pieces f there rows longest (front_over f there rows over) (record { old_rows = short.old_rows; then_rows = short.then_rows });
         usable = λ view row small comes. tt;
         complains = complains_further;
+        found = λ f there rows over. done.found f there rows (front_over f there rows over);
         sound = λ f there rows at over is. done.sound f there rows at (front_over f there rows over) is;
         damaged = damaged_further;
       }

@@ -1,5 +1,5 @@
 -- An exchange: the old places of the documents' rows are found, the trees of the views are edited, and then that of the back-index.
-use Rattle.std.proofs.Common.{◌≡◌, ◌≢◌, ◌<◌, ◌≤◌, ◌+◌, ◌*◌, ◌^◌, ℕ, List, [], ◌∷◌, ◌++◌, All, Contains, length, map, Option, Some, Result, Ok, Err, refl, sym, ap, ◌∙◌, subst, arith, inl, inr}
+use Rattle.std.proofs.Common.{◌≡◌, ◌≢◌, ◌<◌, ◌≤◌, ◌+◌, ◌*◌, ◌^◌, ℕ, List, [], ◌∷◌, ◌++◌, All, Contains, length, map, Option, Some, Result, Ok, Err, refl, sym, ap, ◌∙◌, subst, arith}
 use Rattle.std.specs.Prelude.{slice_index_or, vec_len}
 use Rattle.std.specs.List.Sorted.{IsStrictlySortedBy}
 use Rattle.std.proofs.Math.Nat.{add-mul, mul-le-mul_left}
@@ -19,11 +19,12 @@ use Rattle.tree_laws.specs.Trees.{IsTree, IsTreeSize}
 use Rattle.tree_laws.specs.Values.{no_values}
 use Rattle.tree_laws.proofs.Structure.{no_sums, same_sums, tree_passes}
 use Rattle.tree_query.specs.Bare.{HoldsItems}
-use Rattle.tree_query.specs.Calls.{Fails, OnlyReads}
+use Rattle.tree_query.specs.Calls.{Fails, OnlyReads, WentOver}
 use Rattle.builtin_reduces.specs.Kept.{item_cmp}
 use Rattle.reduce_tree.specs.declared.edit.Edit.TheVariants.{Insert, Remove}
 use Rattle.reduce_tree.specs.Calls.{places, UnlessStore}
 use Rattle.reduce_tree.specs.Counts.{node_size, ReadsFor}
+use Rattle.reduce_tree.proofs.Since.{since_both, since_none}
 use Rattle.child_pool.specs.declared.pool_fault.PoolFault.{PoolFault}
 use Rattle.child_pool.specs.declared.pool_fault.PoolFault.TheVariants.{Compile}
 use Rattle.child_pool.specs.declared.summers.Summers.{Summers}
@@ -32,16 +33,18 @@ use Rattle.row_exchange.specs.Replaced.{new_rows, replaced, replaced_views}
 use Rattle.index_items.specs.declared.back_row.BackRow.{BackRow}
 use Rattle.index_items.specs.BackIndex.{IsBackIndex}
 use Rattle.index_items.specs.BackItem.{BackEntry}
+use Rattle.index_items.specs.BackLaws.{entries_spelled_once}
 use Rattle.index_items.proofs.Rising.{contains-here}
 use Rattle.index_trees.specs.declared.trees.IndexTrees.{IndexTrees}
-use Rattle.index_trees.specs.Edits.{back_edits, edit_count, gone, old_places, own_rows, row_at, row_edit_count, row_edits, view_edits}
+use Rattle.index_trees.specs.Edits.{back_edits, edit_count, entry_insert_count, gone, insert_count, old_places, own_rows, row_at, row_edit_count, row_edits, row_insert_count, view_edits}
 use Rattle.index_trees.specs.Edited.{AreAllShort, AreEnough, EditsBack, EditsViews, Lists, MayExchange, OverViews}
-use Rattle.index_trees.specs.Exchanges.{AreShort, AreWithin, Complains, Exchanges, IsFaultyIn, IsOver, IsTouched, StoreWent, SummersWent}
+use Rattle.index_trees.specs.Exchanges.{AreShort, AreWithin, Complains, Exchanges, GotFound, GotThere, IsFaultyIn, IsOver, PutsWithin, StoreWent, SummersWent}
 use Rattle.index_trees.specs.Exchanges.IsFaultyIn.{of_back, of_rows}
 use Rattle.index_trees.specs.Faults.{by_pool}
 use Rattle.index_trees.specs.Trees.{back_items, no_summaries, AreLow, HasRows, HaveRoom, HoldTrees}
-use Rattle.index_trees.proofs.RowPlaces.{all_edits, view_edits_are}
-use Rattle.index_trees.proofs.Sequences.{StoreLaws, done, each_map, each_there, err_same, extends_then, keeps_both, keeps_itself, length-each_from, refused, rows_stay, store_then, sum_products, talks_none, told_then, unless_map}
+use Rattle.index_trees.proofs.EditedBack.{pooled_found}
+use Rattle.index_trees.proofs.Found.{fails_found, found_other, found_then, reads_found}
+use Rattle.index_trees.proofs.Sequences.{StoreLaws, done, each_map, each_there, err_same, extends_then, keeps_both, keeps_itself, length-each_from, refused, rows_stay, store_then, sum_bounds, sum_products, talks_none, told_then, unless_map}
 
 -- ---- numbers
 
@@ -50,13 +53,7 @@ steps_all docs low h few more i j k l lower first second third =
     let reads : docs * (2 * low) ≤ docs * (2 * h) = mul-le-mul_left docs (let twice : 2 * low ≤ 2 * h = omega (arith, lower) in twice) in
     omega (arith, first, second, third, reads, add-mul few more (8 * (h + 1)))
 
--- ---- lists
-
-none_left : {X : Type 0} (xs ys : List X) → xs ++ ys ≡ [] → (xs ≡ []) × (ys ≡ [])
-none_left [] ys none = (refl, none)
-none_left (x ∷ xs) ys none = absurd (let never : x ∷ (xs ++ ys) ≡ [] = none in cc)
-
--- ---- views that are touched
+-- ---- views that get rows
 
 module _ (view : ℕ) where
   -- a new row is inserted
@@ -75,21 +72,6 @@ module _ (view : ℕ) where
             Contains-append_left (row_edits view change old) (view_edits view changes olds) (Insert row)
                 (Contains-append_left (map Insert (own_rows view change)) (map (λ here. Remove (row_at change.id here)) (gone view change old)) (Insert row) first),
           )
-
-  -- without new rows and old ones there is nothing to edit
-  no_edits : (changes : List DocRows) → new_rows changes view ≡ [] → all_edits view changes [] ≡ []
-  no_edits [] none = refl
-  no_edits (change ∷ changes) none =
-      let parts = none_left (own_rows view change) (new_rows changes view) none in
-      ap (λ l. (map Insert l ++ []) ++ all_edits view changes []) parts.0 ∙ no_edits changes parts.1
-
-  pub is_touched : (changes : List DocRows) (rows : List (List Row)) → view_edits view changes (old_places changes rows) ≢ [] → IsTouched changes rows view
-  is_touched changes rows some = of_old (slice_index_or rows view []) refl (new_rows changes view) refl
-    where
-      of_old : (old : List Row) → slice_index_or rows view [] ≡ old → (new : List Row) → new_rows changes view ≡ new → IsTouched changes rows view
-      of_old (row ∷ old) is new are = inr (λ none. let never : row ∷ old ≡ [] = sym is ∙ none in cc)
-      of_old [] is (row ∷ new) are = inl (λ none. let never : row ∷ new ≡ [] = sym are ∙ none in cc)
-      of_old [] is [] are = absurd (some (view_edits_are view rows [] (sym is) changes ∙ no_edits changes are))
 
 -- ---- the same refusal of another answer
 
@@ -200,13 +182,19 @@ module _ {S F C : Type 0} (n : Sources S F) (laws : StoreLaws n) (s : Servers C)
       room = λ enough. tt;
       steps = λ f there rows h over low. tt;
       most_steps = λ f there rows h over within. let low = within.back.0 in let first = steps_first h low in omega (arith, first);
+      puts = λ f there rows h over low. tt;
+      most_puts = λ f there rows h over within. let same = ap length reads.puts in omega (arith, same);
       bytes = λ f there rows longest h over short then_short low. tt;
       most_bytes = λ f there rows longest h over short then_short within. let same = reads.size in omega (arith, same);
+      pieces = λ f there rows longest over short then_short. since_none (λ piece. length piece + 8 ≤ node_size longest) (n.puts s0) (n.puts s1) reads.puts;
       reads = reads_first;
       store = store_err fault ran;
       talk = talk_err fault;
       usable = λ view within some. tt;
       complains = λ is. absurd (no_summer fault Compile (err_same IndexTrees (by_pool fault) (tree_fault.Summer Compile) is));
+      found = λ f there rows over.
+          pooled_found n laws s0 s1 (refused IndexTrees fault)
+          (fails_found back_items no_summaries entries_spelled_once n laws back there over.holds.entries s0 s1 over.told over.holds.listed reads.nodes reads.puts IndexTrees fault ran);
       sound = λ f there rows at over is.
           sound there over.holds.entries at over.told (bare there back over.holds.entries over.holds.listed) (bad_by fault at (err_same IndexTrees (by_pool fault) (tree_fault.BadNode at) is));
       damaged = damaged_err;
@@ -214,7 +202,10 @@ module _ {S F C : Type 0} (n : Sources S F) (laws : StoreLaws n) (s : Servers C)
 
   -- ---- they were found
 
-  module _ (goes : n.goes s0 s1) (olds : List (List BackRow)) (are : ArePlaces n changes back s0 olds) (s2 : S) (u2 : Summers C) (t2 : ℕ) where
+  module _ (went : WentOver back_items n back s0 s1) (olds : List (List BackRow)) (are : ArePlaces n changes back s0 olds) (s2 : S) (u2 : Summers C) (t2 : ℕ) where
+    goes : n.goes s0 s1
+    goes = went.goes
+
     module _ (se : S) (ue : Summers C) (te : ℕ) (f : Option Functions) (there : Places) (rows : List (List Row)) (over : IsOver n s trees changes s0 se u0 ue t0 te f there rows) where
       found : olds ≡ old_places changes rows
       found = are.places there over.holds.entries rows over.told (bare there back over.holds.entries over.holds.listed) over.holds.are
@@ -236,15 +227,28 @@ module _ {S F C : Type 0} (n : Sources S F) (laws : StoreLaws n) (s : Servers C)
       all_short : (longest : ℕ) → AreShort longest rows → AreShort longest (replaced_views changes rows) → AreAllShort n s changes olds s1 s2 u0 u2 t1 t2 ts longest rows
       all_short longest short then_short = record { old_rows = short.each; then_rows = then_short.each }
 
-      enough : (h : ℕ) → AreWithin h (edit_count changes rows) trees → AreEnough n s changes olds s1 s2 u0 u2 t1 t2 ts h
-      enough h within = record { more = edit_count changes rows; edits = omega (arith, count_all); each = within.views }
+      first_found : GotThere (places (n.nodes s1)) (n.gets s0) (n.gets s1)
+      first_found = reads_found back_items no_summaries entries_spelled_once n laws back there over.holds.entries s0 s1 over.told over.holds.listed reads.nodes reads.puts went
 
-    -- a complaint is of a view that has rows or gets some
+    abbrev most : ℕ
+    most = insert_count changes (vec_len trees.views)
+
+    enough : (h : ℕ) → AreWithin h most trees → AreEnough n s changes olds s1 s2 u0 u2 t1 t2 ts h
+    enough h within =
+        let long = trees.views.ok.0 in
+        let same : length ts ≡ vec_len trees.views = omega (arith, long) in
+        let views = ap (λ m. row_insert_count 0 m changes) same in
+        record { more = most; inserts = omega (arith, views); each = within.views }
+
+    back_enough : (h : ℕ) → AreWithin h most trees → back.count + entry_insert_count changes < 8 ^ h
+    back_enough h within = let own = within.back.1 in omega (arith, own)
+
+    -- a complaint is of a view with edits
     complains_of : (se : S) (te : ℕ) → ((view : ℕ) × (view < length ts) × Complains s u0 u2 view × (view_edits view changes olds ≢ []))
-        → (view : ℕ) × (view < vec_len trees.views) × Complains s u0 u2 view × ((f : Option Functions) (there : Places) (rows : List (List Row)) → IsOver n s trees changes s0 se u0 u2 t0 te f there rows → IsTouched changes rows view)
+        → (view : ℕ) × (view < vec_len trees.views) × Complains s u0 u2 view × ((f : Option Functions) (there : Places) (rows : List (List Row)) → IsOver n s trees changes s0 se u0 u2 t0 te f there rows → view_edits view changes (old_places changes rows) ≢ [])
     complains_of se te h =
         let long = trees.views.ok.0 in
-        (h.0, omega (arith, h.1, long), h.2, λ f there rows over. is_touched h.0 changes rows (λ none. h.3 (ap (view_edits h.0 changes) (found se u2 te f there rows over) ∙ none)))
+        (h.0, omega (arith, h.1, long), h.2, λ f there rows over none. h.3 (ap (view_edits h.0 changes) (found se u2 te f there rows over) ∙ none))
 
     -- ---- the views weren't edited
 
@@ -266,21 +270,33 @@ module _ {S F C : Type 0} (n : Sources S F) (laws : StoreLaws n) (s : Servers C)
         most_steps = λ f there rows h over within.
             let low = within.back.0 in
             let first = reads.steps in
-            let second = views.most_steps h (enough s2 u2 t2 f there rows over h within) in
+            let second = views.most_steps h (enough h within) in
             let all = steps_all (length changes) back.height h (row_edit_count 0 (length ts) changes olds) (length (back_edits changes olds)) t0 t1 t2 t2 low first.within second (omega arith) in
             subst (λ e. t2 ≤ t0 + (e * (8 * (h + 1)) + length changes * (2 * h))) (sym (count_all s2 u2 t2 f there rows over)) all;
+        puts = λ f there rows h over low. tt;
+        most_puts = λ f there rows h over within.
+            let same = ap length reads.puts in
+            let second = views.most_puts h (enough h within) in
+            let first : length (n.puts s2) ≤ length (n.puts s0) + row_edit_count 0 (length ts) changes olds * (4 * (h + 1)) = omega (arith, second, same) in
+            let all = sum_bounds (row_edit_count 0 (length ts) changes olds) (length (back_edits changes olds)) (4 * (h + 1)) (length (n.puts s0)) (length (n.puts s2)) (length (n.puts s2)) first (omega arith) in
+            subst (λ e. length (n.puts s2) ≤ length (n.puts s0) + e * (4 * (h + 1))) (sym (count_all s2 u2 t2 f there rows over)) all;
         bytes = λ f there rows longest h over short then_short low. tt;
         most_bytes = λ f there rows longest h over short then_short within.
             let same = reads.size in
-            let second = views.most_bytes f there rows longest h (over_views s2 u2 t2 f there rows over) (all_short s2 u2 t2 f there rows over longest short then_short) (enough s2 u2 t2 f there rows over h within) in
+            let second = views.most_bytes f there rows longest h (over_views s2 u2 t2 f there rows over) (all_short s2 u2 t2 f there rows over longest short then_short) (enough h within) in
             let first : n.size s2 ≤ n.size s0 + (row_edit_count 0 (length ts) changes olds * (4 * (h + 1))) * node_size longest = omega (arith, second, same) in
             let all = sum_products (row_edit_count 0 (length ts) changes olds) (length (back_edits changes olds)) (4 * (h + 1)) (node_size longest) (n.size s0) (n.size s2) (n.size s2) first (omega arith) in
             subst (λ e. n.size s2 ≤ n.size s0 + (e * (4 * (h + 1))) * node_size longest) (sym (count_all s2 u2 t2 f there rows over)) all;
+        pieces = λ f there rows longest over short then_short.
+            subst (λ ps. PutsWithin (node_size longest) ps (n.puts s2)) reads.puts (views.pieces f there rows longest (over_views s2 u2 t2 f there rows over) (all_short s2 u2 t2 f there rows over longest short then_short));
         reads = (omega (arith, reads_first.0, views.went.reads.0), omega (arith, reads_first.1, views.went.reads.1));
         store = store_then n laws s0 s1 s2 (refused IndexTrees fault) goes (store_other (List Tree) IndexTrees n s1 s2 fault views.went.store);
         talk = talk_other (List Tree) IndexTrees s u0 u2 fault views.went.talk;
         usable = λ view within some. tt;
         complains = λ is. complains_of s2 t2 (views.complains (ap (refused (List Tree)) (err_same IndexTrees fault (tree_fault.Summer Compile) is)));
+        found = λ f there rows over.
+            found_other (List Tree) IndexTrees n s0 s2 fault
+            (found_then n laws s0 s1 s2 goes (first_found s2 u2 t2 f there rows over) (refused (List Tree) fault) views.went.kept (views.found f there rows (over_views s2 u2 t2 f there rows over)));
         sound = λ f there rows at over is. views.sound f there rows at (over_views s2 u2 t2 f there rows over) (ap (refused (List Tree)) (err_same IndexTrees fault (tree_fault.BadNode at) is));
         damaged = damaged_views;
       }
@@ -321,6 +337,14 @@ module _ {S F C : Type 0} (n : Sources S F) (laws : StoreLaws n) (s : Servers C)
             let all = steps_all (length changes) back.height h (row_edit_count 0 (length ts) changes olds) (length (back_edits changes olds)) t0 t1 t2 t3 low first.within second third in
             subst (λ e. t3 ≤ t0 + (e * (8 * (h + 1)) + length changes * (2 * h))) (sym (count_all s3 u2 t3 f there rows over)) all
 
+        puts_both : length (n.puts s2) ≤ length (n.puts s1) + row_edit_count 0 (length ts) changes olds * (4 * (h + 1)) → length (n.puts s3) ≤ length (n.puts s2) + length (back_edits changes olds) * (4 * (h + 1))
+            → length (n.puts s3) ≤ length (n.puts s0) + edit_count changes rows * (4 * (h + 1))
+        puts_both second third =
+            let same = ap length reads.puts in
+            let first : length (n.puts s2) ≤ length (n.puts s0) + row_edit_count 0 (length ts) changes olds * (4 * (h + 1)) = omega (arith, second, same) in
+            let all = sum_bounds (row_edit_count 0 (length ts) changes olds) (length (back_edits changes olds)) (4 * (h + 1)) (length (n.puts s0)) (length (n.puts s2)) (length (n.puts s3)) first third in
+            subst (λ e. length (n.puts s3) ≤ length (n.puts s0) + e * (4 * (h + 1))) (sym (count_all s3 u2 t3 f there rows over)) all
+
         bytes_both : (size : ℕ) → n.size s2 ≤ n.size s1 + (row_edit_count 0 (length ts) changes olds * (4 * (h + 1))) * size → n.size s3 ≤ n.size s2 + (length (back_edits changes olds) * (4 * (h + 1))) * size
             → n.size s3 ≤ n.size s0 + (edit_count changes rows * (4 * (h + 1))) * size
         bytes_both size second third =
@@ -329,8 +353,21 @@ module _ {S F C : Type 0} (n : Sources S F) (laws : StoreLaws n) (s : Servers C)
             let all = sum_products (row_edit_count 0 (length ts) changes olds) (length (back_edits changes olds)) (4 * (h + 1)) size (n.size s0) (n.size s2) (n.size s3) first third in
             subst (λ e. n.size s3 ≤ n.size s0 + (e * (4 * (h + 1))) * size) (sym (count_all s3 u2 t3 f there rows over)) all
 
-        back_enough : AreWithin h (edit_count changes rows) trees → back.count + length (back_edits changes olds) < 8 ^ h
-        back_enough within = let own = within.back.1 in omega (arith, own, count_all s3 u2 t3 f there rows over)
+      -- what both put, and where both got
+      module _ (f : Option Functions) (there : Places) (rows : List (List Row)) (over : IsOver n s trees changes s0 s3 u0 u2 t0 t3 f there rows) (r : Result Tree (TreeFault F PoolFault)) (own : EditsBack n changes olds s2 s3 t2 t3 back r) where
+        pieces_both : (longest : ℕ) → AreShort longest rows → AreShort longest (replaced_views changes rows) → PutsWithin (node_size longest) (n.puts s0) (n.puts s3)
+        pieces_both longest short then_short =
+            let Small : List ℕ → Type 0 = λ piece. length piece + 8 ≤ node_size longest in
+            subst (λ ps. PutsWithin (node_size longest) ps (n.puts s3)) reads.puts
+            (since_both Small Small Small (λ x h. h) (λ x h. h) (n.puts s1) (n.puts s2) (n.puts s3)
+            (views.pieces f there rows longest (over_views s3 u2 t3 f there rows over) (all_short s3 u2 t3 f there rows over longest short then_short))
+            (own.pieces (places (n.nodes s2)) rows over.holds.entries longest (lists f there rows over) (may f there rows over) short.entries then_short.entries))
+
+        found_both : GotFound n s0 s3 r
+        found_both =
+            let second = own.found (places (n.nodes s2)) over.holds.entries (told_second f there rows over).0 (lists f there rows over).holds in
+            let both = found_then n laws s1 s2 s3 views.went.store (views.found f there rows (over_views s3 u2 t3 f there rows over)) r own.kept second in
+            found_then n laws s0 s1 s3 goes (first_found s3 u2 t3 f there rows over) r (unless_map r (keeps_both (n.nodes s1) (n.nodes s2) (n.nodes s3) views.went.kept) own.kept) both
 
       -- ---- the back-index wasn't edited
 
@@ -354,17 +391,21 @@ module _ {S F C : Type 0} (n : Sources S F) (laws : StoreLaws n) (s : Servers C)
           room = λ enough. tt;
           steps = λ f there rows h over low. tt;
           most_steps = λ f there rows h over within.
-              steps_both f there rows over h within.back.0 (views.most_steps h (enough s3 u2 t3 f there rows over h within)) (own.most_steps h within.back.0 (back_enough f there rows over h within));
+              steps_both f there rows over h within.back.0 (views.most_steps h (enough h within)) (own.most_steps h within.back.0 (back_enough h within));
+          puts = λ f there rows h over low. tt;
+          most_puts = λ f there rows h over within. puts_both f there rows over h (views.most_puts h (enough h within)) (own.most_puts h within.back.0 (back_enough h within));
           bytes = λ f there rows longest h over short then_short low. tt;
           most_bytes = λ f there rows longest h over short then_short within.
               bytes_both f there rows over h (node_size longest)
-              (views.most_bytes f there rows longest h (over_views s3 u2 t3 f there rows over) (all_short s3 u2 t3 f there rows over longest short then_short) (enough s3 u2 t3 f there rows over h within))
-              (own.most_bytes (places (n.nodes s2)) rows over.holds.entries longest h (lists f there rows over) (may f there rows over) short.entries then_short.entries within.back.0 (back_enough f there rows over h within));
+              (views.most_bytes f there rows longest h (over_views s3 u2 t3 f there rows over) (all_short s3 u2 t3 f there rows over longest short then_short) (enough h within))
+              (own.most_bytes (places (n.nodes s2)) rows over.holds.entries longest h (lists f there rows over) (may f there rows over) short.entries then_short.entries within.back.0 (back_enough h within));
+          pieces = λ f there rows longest over short then_short. pieces_both f there rows over (refused Tree fault) own longest short then_short;
           reads = (omega (arith, reads_first.0, views.went.reads.0, own.reads.0), omega (arith, reads_first.1, views.went.reads.1, own.reads.1));
           store = store_then n laws s0 s1 s3 (refused IndexTrees fault) goes (store_then n laws s1 s2 s3 (refused IndexTrees fault) views.went.store (store_other Tree IndexTrees n s2 s3 fault own.store));
           talk = talk_back fault (λ p is. own.unblamed p (ap (refused Tree) is));
           usable = λ view within some. tt;
           complains = λ is. absurd (own.unblamed Compile (ap (refused Tree) (err_same IndexTrees fault (tree_fault.Summer Compile) is)));
+          found = λ f there rows over. found_other Tree IndexTrees n s0 s3 fault (found_both f there rows over (refused Tree fault) own);
           sound = λ f there rows at over is.
               own.sound (places (n.nodes s2)) over.holds.entries at (told_second f there rows over).0 (lists f there rows over).holds (ap (refused Tree) (err_same IndexTrees fault (tree_fault.BadNode at) is));
           damaged = damaged_back;
@@ -421,15 +462,19 @@ module _ {S F C : Type 0} (n : Sources S F) (laws : StoreLaws n) (s : Servers C)
           steps = λ f there rows h over low then_low.
               steps_both f there rows over h low.back (views.steps h low.views (low_views h then_low)) (own.steps h low.back (low_back h then_low));
           most_steps = λ f there rows h over within.
-              steps_both f there rows over h within.back.0 (views.most_steps h (enough s3 u2 t3 f there rows over h within)) (own.most_steps h within.back.0 (back_enough f there rows over h within));
+              steps_both f there rows over h within.back.0 (views.most_steps h (enough h within)) (own.most_steps h within.back.0 (back_enough h within));
+          puts = λ f there rows h over low then_low.
+              puts_both f there rows over h (views.puts h low.views (low_views h then_low)) (own.puts h low.back (low_back h then_low));
+          most_puts = λ f there rows h over within. puts_both f there rows over h (views.most_puts h (enough h within)) (own.most_puts h within.back.0 (back_enough h within));
           bytes = λ f there rows longest h over short then_short low then_low.
               bytes_both f there rows over h (node_size longest)
               (views.bytes f there rows longest h (over_views s3 u2 t3 f there rows over) (all_short s3 u2 t3 f there rows over longest short then_short) low.views (low_views h then_low))
               (own.bytes (places (n.nodes s2)) rows over.holds.entries longest h (lists f there rows over) (may f there rows over) short.entries then_short.entries low.back (low_back h then_low));
           most_bytes = λ f there rows longest h over short then_short within.
               bytes_both f there rows over h (node_size longest)
-              (views.most_bytes f there rows longest h (over_views s3 u2 t3 f there rows over) (all_short s3 u2 t3 f there rows over longest short then_short) (enough s3 u2 t3 f there rows over h within))
-              (own.most_bytes (places (n.nodes s2)) rows over.holds.entries longest h (lists f there rows over) (may f there rows over) short.entries then_short.entries within.back.0 (back_enough f there rows over h within));
+              (views.most_bytes f there rows longest h (over_views s3 u2 t3 f there rows over) (all_short s3 u2 t3 f there rows over longest short then_short) (enough h within))
+              (own.most_bytes (places (n.nodes s2)) rows over.holds.entries longest h (lists f there rows over) (may f there rows over) short.entries then_short.entries within.back.0 (back_enough h within));
+          pieces = λ f there rows longest over short then_short. pieces_both f there rows over (Ok b) own longest short then_short;
           reads = (omega (arith, reads_first.0, views.went.reads.0, own.reads.0), omega (arith, reads_first.1, views.went.reads.1, own.reads.1));
           store = laws.steps.both s0 s1 s3 goes (laws.steps.both s1 s2 s3 views.went.store own.store);
           talk = views.went.talk;
@@ -438,6 +483,7 @@ module _ {S F C : Type 0} (n : Sources S F) (laws : StoreLaws n) (s : Servers C)
               let comes = comes_some view changes olds are.number some in
               views.usable view comes.0 (omega (arith, within, long)) comes.1;
           complains = λ is. absurd (let never : done IndexTrees (TreeFault F PoolFault) after ≡ Err (tree_fault.Summer Compile) = is in cc);
+          found = λ f there rows over. found_both f there rows over (Ok b) own;
           sound = λ f there rows at over is. let never : done IndexTrees (TreeFault F PoolFault) after ≡ Err (tree_fault.BadNode at) = is in cc;
           damaged = λ at is. absurd (let never : done IndexTrees (TreeFault F PoolFault) after ≡ Err (tree_fault.BadNode at) = is in cc);
         }

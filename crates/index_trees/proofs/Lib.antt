@@ -12,9 +12,14 @@ mod RowsExchanged
 mod PlacesExchanged
 mod BackExchanged
 mod OldPlaces
+mod Inserted
+mod Found
 mod OneEdit
 mod EditedView
 pub mod EditedViews
 mod EditedBack
 mod Exchanged
 pub mod ReadBack
+pub mod Holding
+pub mod NoTrees
+mod Batches

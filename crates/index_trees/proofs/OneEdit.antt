@@ -1,5 +1,5 @@
 -- What one call gives that edits a tree, whatever the items and their values are.
-use Rattle.std.proofs.Common.{◌≡◌, ◌<◌, ◌≤◌, ◌+◌, ◌*◌, ◌^◌, ℕ, max, List, [], ◌++◌, All, Contains, length, Option, Some, None, Result, Ok, Err, refl, sym, ap, ◌∙◌, subst, arith}
+use Rattle.std.proofs.Common.{◌≡◌, ◌<◌, ◌≤◌, ◌+◌, ◌*◌, ◌^◌, ℕ, max, List, [], ◌++◌, All, Contains, length, Option, Some, None, Result, Ok, Err, refl, ap, ◌∙◌, subst, arith}
 use Rattle.std.specs.Prelude.{IfErr, IfOk, OnOk}
 use Rattle.std.specs.declared.cmp.Ordering.{Ordering}
 use Rattle.std.proofs.lemmas.List.Elements.{All-append, All-cons, All-nil, Contains-append_left, Contains-append_right}
@@ -26,16 +26,21 @@ use Rattle.reduce_tree.specs.Given.{Takes}
 use Rattle.reduce_tree.specs.Pieces.{AreAmong, InsertAmong}
 use Rattle.reduce_tree.proofs.Applied.{insertions_most}
 use Rattle.child_pool.specs.declared.pool_fault.PoolFault.{PoolFault}
-use Rattle.index_trees.specs.Exchanges.{StoreWent}
+use Rattle.index_trees.specs.Exchanges.{GotFound, PutsWithin, StoreWent}
 use Rattle.index_trees.proofs.Members.{all_of}
 use Rattle.index_trees.proofs.Sequences.{on_map, StoreLaws}
 
 -- ---- numbers
 
--- more levels than the two heights are no fewer steps, and no fewer bytes
+-- more levels than the two heights are no fewer steps, no fewer pieces and no fewer bytes
 pub steps_done : (edits before now low high h : ℕ) → low ≤ h → high ≤ h → now ≤ before + edits * (8 * (max low high + 1)) → now ≤ before + edits * (8 * (h + 1))
 steps_done edits before now low high h l k within =
     let more : edits * (8 * (max low high + 1)) ≤ edits * (8 * (h + 1)) = mul-le-mul_left edits (omega (arith, l, k)) in
+    omega (arith, within, more)
+
+pub puts_done : (edits before now low high h : ℕ) → low ≤ h → high ≤ h → now ≤ before + edits * (4 * (max low high + 1)) → now ≤ before + edits * (4 * (h + 1))
+puts_done edits before now low high h l k within =
+    let more : edits * (4 * (max low high + 1)) ≤ edits * (4 * (h + 1)) = mul-le-mul_left edits (omega (arith, l, k)) in
     omega (arith, within, more)
 
 pub bytes_done : (edits node before now low high h : ℕ) → low ≤ h → high ≤ h → now ≤ before + (edits * (4 * (max low high + 1))) * node → now ≤ before + (edits * (4 * (h + 1))) * node
@@ -50,9 +55,6 @@ module _ {T : Type 0} where
   -- where there is room for all edits there is for what they insert
   pub few_inserted : (edits : List (Edit T)) (count most : ℕ) → count + length edits ≤ most → count + insertions edits ≤ most
   few_inserted edits count most few = omega (arith, few, insertions_most edits)
-
-  pub less_inserted : (edits : List (Edit T)) (count most : ℕ) → count + length edits < most → count + insertions edits < most
-  less_inserted edits count most few = omega (arith, few, insertions_most edits)
 
   module _ (items after : List T) where
     pub old_among : AreAmong (items ++ after) items
@@ -175,6 +177,8 @@ module _ {T S F G : Type 0} (n : Sources S F) (edits : List (Edit T)) (old new :
     pub grows : OnOk result (n.size old + 8 * insertions edits ≤ n.size new)
     pub steps : IfOk result (λ after. now ≤ before + length edits * (8 * (max tree.height after.height + 1)))
     pub most_steps : (h : ℕ) → tree.height ≤ h → tree.count + insertions edits < 8 ^ h → now ≤ before + length edits * (8 * (h + 1))
+    pub puts : IfOk result (λ after. length (n.puts new) ≤ length (n.puts old) + length edits * (4 * (max tree.height after.height + 1)))
+    pub most_puts : (h : ℕ) → tree.height ≤ h → tree.count + insertions edits < 8 ^ h → length (n.puts new) ≤ length (n.puts old) + length edits * (4 * (h + 1))
 
   -- and what is so of one over a tree with these values
   module _ {Sum : Type 0} (i : Items T) (v : Values T Sum) where
@@ -185,6 +189,9 @@ module _ {T S F G : Type 0} (n : Sources S F) (edits : List (Edit T)) (old new :
           → All (λ x. length (i.spelled x) ≤ longest) among → tree.height ≤ h → tree.count + insertions edits < 8 ^ h → n.size new ≤ n.size old + (length edits * (4 * (h + 1))) * node_size longest
       pub done_bytes : (there : Places) (items among : List T) (longest : ℕ) → n.nodes old ≡ Some there → IsTree i v there tree items → AreAmong among items → InsertAmong among edits
           → All (λ x. length (i.spelled x) ≤ longest) among → IfOk result (λ after. n.size new ≤ n.size old + (length edits * (4 * (max tree.height after.height + 1))) * node_size longest)
+      pub pieces : (there : Places) (items among : List T) (longest : ℕ) → n.nodes old ≡ Some there → IsTree i v there tree items → AreAmong among items → InsertAmong among edits
+          → All (λ x. length (i.spelled x) ≤ longest) among → PutsWithin (node_size longest) (n.puts old) (n.puts new)
+      pub found : (there : Places) (items : List T) → n.nodes old ≡ Some there → IsTree i v there tree items → GotFound n old new result
       pub sound : (there : Places) (items : List T) → n.nodes old ≡ Some there → IsTree i v there tree items → IfErr result BlamesNone
 
 module _ {X E : Type 0} where
@@ -216,6 +223,8 @@ module _ {T S F G : Type 0} (n : Sources S F) (edits : List (Edit T)) (old new :
         tree_is = λ p items told are is. if_map result (λ after. tree_passes i v w there later later (stay later) after (applied i.order edits items)) (a.tree_is p items told are (in_v p items is));
         bytes = λ p items among longest h told is. a.bytes p items among longest h told (in_v p items is);
         done_bytes = λ p items among longest told is. a.done_bytes p items among longest told (in_v p items is);
+        pieces = λ p items among longest told is. a.pieces p items among longest told (in_v p items is);
+        found = λ p items told is. a.found p items told (in_v p items is);
         sound = λ p items told is. a.sound p items told (in_v p items is);
       }
 
@@ -226,16 +235,23 @@ module _ {T S F G : Type 0} (n : Sources S F) (edits : List (Edit T)) (old new :
     pub has_room : 8 * tree.count ≤ n.size old → IfOk result (λ after. 8 * after.count ≤ n.size new)
     has_room enough = if_both result (λ after grows count. omega (arith, grows, count, enough)) a.grows a.count
 
-  -- where there are so many edits
-  module _ (all : ℕ) (are : length edits ≡ all) where
+  -- where there are so many edits, and so many items are inserted at most
+  module _ (all more : ℕ) (are : length edits ≡ all) (few : insertions edits ≤ more) where
     pub steps_by : Applies n edits old new before now tree result → (h : ℕ) → tree.height ≤ h → IfOk result (λ after. after.height ≤ h → now ≤ before + all * (8 * (h + 1)))
     steps_by a h low = if_map result (λ after within high. subst (λ k. now ≤ before + k * (8 * (h + 1))) are (steps_done (length edits) before now tree.height after.height h low high within)) a.steps
 
-    few_by : (most : ℕ) → tree.count + all < most → tree.count + insertions edits < most
-    few_by most few = less_inserted edits tree.count most (subst (λ k. tree.count + k < most) (sym are) few)
+    pub puts_by : Applies n edits old new before now tree result → (h : ℕ) → tree.height ≤ h → IfOk result (λ after. after.height ≤ h → length (n.puts new) ≤ length (n.puts old) + all * (4 * (h + 1)))
+    puts_by a h low =
+        if_map result (λ after within high. subst (λ k. length (n.puts new) ≤ length (n.puts old) + k * (4 * (h + 1))) are (puts_done (length edits) (length (n.puts old)) (length (n.puts new)) tree.height after.height h low high within)) a.puts
 
-    pub most_steps_by : Applies n edits old new before now tree result → (h : ℕ) → tree.height ≤ h → tree.count + all < 8 ^ h → now ≤ before + all * (8 * (h + 1))
-    most_steps_by a h low few = subst (λ k. now ≤ before + k * (8 * (h + 1))) are (a.most_steps h low (few_by (8 ^ h) few))
+    within_by : (most : ℕ) → tree.count + more < most → tree.count + insertions edits < most
+    within_by most within = omega (arith, within, few)
+
+    pub most_steps_by : Applies n edits old new before now tree result → (h : ℕ) → tree.height ≤ h → tree.count + more < 8 ^ h → now ≤ before + all * (8 * (h + 1))
+    most_steps_by a h low within = subst (λ k. now ≤ before + k * (8 * (h + 1))) are (a.most_steps h low (within_by (8 ^ h) within))
+
+    pub most_puts_by : Applies n edits old new before now tree result → (h : ℕ) → tree.height ≤ h → tree.count + more < 8 ^ h → length (n.puts new) ≤ length (n.puts old) + all * (4 * (h + 1))
+    most_puts_by a h low within = subst (λ k. length (n.puts new) ≤ length (n.puts old) + k * (4 * (h + 1))) are (a.most_puts h low (within_by (8 ^ h) within))
 
     module _ {Sum : Type 0} (i : Items T) (v : Values T Sum) (a : AppliesTo n edits old new before now tree i v result) where
       abbrev Short : ℕ → List T → Type 0
@@ -251,7 +267,10 @@ module _ {T S F G : Type 0} (n : Sources S F) (edits : List (Edit T)) (old new :
             if_map result (λ t within high. subst (λ k. n.size new ≤ n.size old + (k * (4 * (h + 1))) * node_size longest) are (bytes_done (length edits) (node_size longest) (n.size old) (n.size new) tree.height t.height h lower high within))
             (a.done_bytes there items (items ++ after) longest told is (old_among items after) (new_among items after i.order edits edited) short_all)
 
-        pub most_bytes_by : (h : ℕ) → tree.height ≤ h → tree.count + all < 8 ^ h → n.size new ≤ n.size old + (all * (4 * (h + 1))) * node_size longest
-        most_bytes_by h lower few =
+        pub most_bytes_by : (h : ℕ) → tree.height ≤ h → tree.count + more < 8 ^ h → n.size new ≤ n.size old + (all * (4 * (h + 1))) * node_size longest
+        most_bytes_by h lower within =
             subst (λ k. n.size new ≤ n.size old + (k * (4 * (h + 1))) * node_size longest) are
-            (a.bytes there items (items ++ after) longest h told is (old_among items after) (new_among items after i.order edits edited) short_all lower (few_by (8 ^ h) few))
+            (a.bytes there items (items ++ after) longest h told is (old_among items after) (new_among items after i.order edits edited) short_all lower (within_by (8 ^ h) within))
+
+        pub pieces_by : PutsWithin (node_size longest) (n.puts old) (n.puts new)
+        pieces_by = a.pieces there items (items ++ after) longest told is (old_among items after) (new_among items after i.order edits edited) short_all

@@ -90,6 +90,7 @@ err_same X a b is = cc
 pub record StoreLaws {S F : Type 0} (n : Sources S F) : Type 0 where
   pub steps : AreSteps n.goes
   pub caused : StaysCaused n.goes n.fails
+  pub keeps : (a b : S) → n.goes a b → KeepsPlaces (n.nodes a) (n.nodes b)
 
 pub keeps_both : (a b c : Option Places) → KeepsPlaces a b → KeepsPlaces b c → KeepsPlaces a c
 keeps_both None b c h k = subst (λ (x : Option Places). KeepsPlaces x c) h k

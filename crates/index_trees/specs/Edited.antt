@@ -1,5 +1,5 @@
 -- What an exchange does to the trees one after another. For private clauses.
-use Rattle.std.specs.Prelude.{◌≡◌, ◌≢◌, ◌<◌, ◌≤◌, ◌+◌, ◌*◌, ◌^◌, ℕ, List, [], All, Contains, length, slice_index_or, bytes_eq, true, Option, None, Some, Result, Err, IfOk, OnOk}
+use Rattle.std.specs.Prelude.{◌≡◌, ◌≢◌, ◌<◌, ◌≤◌, ◌+◌, ◌*◌, ◌^◌, ℕ, List, [], All, Contains, length, slice_get, slice_index_or, bytes_eq, true, Option, None, Some, Result, Err, IfOk, OnOk}
 use Rattle.std.specs.List.{list_all, IsDistinct}
 use Rattle.std.specs.List.Sorted.{IsStrictlySortedBy}
 use Rattle.json_terms.specs.declared.term.Row.{Row}
@@ -21,12 +21,12 @@ use Rattle.child_pool.specs.declared.pool_fault.PoolFault.TheVariants.{Compile}
 use Rattle.child_pool.specs.declared.summers.Summers.{Summers}
 use Rattle.child_pool.specs.ReduceTalk.{reduce_in}
 use Rattle.row_exchange.specs.declared.doc_rows.DocRows.{DocRows}
-use Rattle.row_exchange.specs.Replaced.{ids_of, is_change, replaced_views}
+use Rattle.row_exchange.specs.Replaced.{ids_of, is_change, new_rows, replaced_views}
 use Rattle.index_items.specs.declared.back_row.BackRow.{BackRow}
 use Rattle.index_items.specs.BackIndex.{IsBackIndex, IsEntryOf}
 use Rattle.index_items.specs.BackItem.{BackEntry, entry_bytes}
-use Rattle.index_trees.specs.Edits.{back_edits, old_places, row_edit_count, view_edits}
-use Rattle.index_trees.specs.Exchanges.{Complains, IsUsable, StoreWent, SummersWent}
+use Rattle.index_trees.specs.Edits.{back_edits, entry_insert_count, old_places, row_edit_count, row_insert_count, view_edits}
+use Rattle.index_trees.specs.Exchanges.{Complains, GotFound, IsUsable, PutsWithin, StoreWent, SummersWent}
 use Rattle.index_trees.specs.Trees.{back_items, no_summaries, row_items, EachAt, HasRows}
 use Rattle.index_trees.specs.ViewValues.{view_values, SumsBy}
 
@@ -43,9 +43,12 @@ module _ {S F C : Type 0} (n : Sources S F) (s : Servers C) (changes : List DocR
     pub apart : IsDistinct bytes_eq (ids_of changes)
     pub found : olds ≡ old_places changes rows
 
-  -- how many steps so many edits take at most, and how many bytes
+  -- how many steps so many edits take at most, how many pieces and how many bytes
   abbrev pub StepsFor : ℕ → ℕ → Type 0
   StepsFor edits h = now ≤ before + edits * (8 * (h + 1))
+
+  abbrev pub PutsFor : ℕ → ℕ → Type 0
+  PutsFor edits h = length (n.puts new) ≤ length (n.puts old) + edits * (4 * (h + 1))
 
   abbrev pub BytesFor : ℕ → ℕ → ℕ → Type 0
   BytesFor longest edits h = n.size new ≤ n.size old + (edits * (4 * (h + 1))) * node_size longest
@@ -65,6 +68,10 @@ module _ {S F C : Type 0} (n : Sources S F) (s : Servers C) (changes : List DocR
     abbrev edits : ℕ
     edits = length (view_edits view changes olds)
 
+    -- how many rows it gets
+    abbrev inserts : ℕ
+    inserts = length (new_rows changes view)
+
     -- it has the rows of the view
     pub record OverView (functions : Option Functions) (there : Places) (rows : List (List Row)) : Type 0 where
       pub begins : Begins functions there rows
@@ -83,13 +90,17 @@ module _ {S F C : Type 0} (n : Sources S F) (s : Servers C) (changes : List DocR
       pub size : IfOk result IsTreeSize
       pub room : 8 * tree.count ≤ n.size old → IfOk result (λ after. 8 * after.count ≤ n.size new)
       pub steps : (h : ℕ) → tree.height ≤ h → IfOk result (λ after. after.height ≤ h → StepsFor edits h)
-      pub most_steps : (h : ℕ) → tree.height ≤ h → tree.count + edits < 8 ^ h → StepsFor edits h
+      pub most_steps : (h : ℕ) → tree.height ≤ h → tree.count + inserts < 8 ^ h → StepsFor edits h
+      pub puts : (h : ℕ) → tree.height ≤ h → IfOk result (λ after. after.height ≤ h → PutsFor edits h)
+      pub most_puts : (h : ℕ) → tree.height ≤ h → tree.count + inserts < 8 ^ h → PutsFor edits h
       pub bytes : (functions : Option Functions) (there : Places) (rows : List (List Row)) (longest h : ℕ) → OverView functions there rows → AreShortIn longest rows
           → tree.height ≤ h → IfOk result (λ after. after.height ≤ h → BytesFor longest edits h)
       pub most_bytes : (functions : Option Functions) (there : Places) (rows : List (List Row)) (longest h : ℕ) → OverView functions there rows → AreShortIn longest rows
-          → tree.height ≤ h → tree.count + edits < 8 ^ h → BytesFor longest edits h
+          → tree.height ≤ h → tree.count + inserts < 8 ^ h → BytesFor longest edits h
+      pub pieces : (functions : Option Functions) (there : Places) (rows : List (List Row)) (longest : ℕ) → OverView functions there rows → AreShortIn longest rows → PutsWithin (node_size longest) (n.puts old) (n.puts new)
       pub usable : (row : Row) → Contains (view_edits view changes olds) (Insert row) → OnOk result (IsUsable s summers view)
       pub complains : result ≡ Err (tree_fault.Summer Compile) → Complains s summers summers' view × (view_edits view changes olds ≢ [])
+      pub found : (functions : Option Functions) (there : Places) (rows : List (List Row)) → OverView functions there rows → GotFound n old new result
       pub sound : (functions : Option Functions) (there : Places) (rows : List (List Row)) (at : ℕ) → OverView functions there rows → result ≡ Err (tree_fault.BadNode at) → ⊥
       pub damaged : (at : ℕ) → result ≡ Err (tree_fault.BadNode at) → WhereTold (n.nodes new) (λ there. IsFaulty row_items (view_values None (reduce_in summers.design.now.views view)) there tree at)
 
@@ -97,6 +108,9 @@ module _ {S F C : Type 0} (n : Sources S F) (s : Servers C) (changes : List DocR
   module _ (trees : List Tree) where
     abbrev all_edits : ℕ
     all_edits = row_edit_count 0 (length trees) changes olds
+
+    abbrev all_inserts : ℕ
+    all_inserts = row_insert_count 0 (length trees) changes
 
     -- they have the rows of these views
     pub record OverViews (functions : Option Functions) (there : Places) (rows : List (List Row)) : Type 0 where
@@ -109,10 +123,10 @@ module _ {S F C : Type 0} (n : Sources S F) (s : Servers C) (changes : List DocR
       pub old_rows : All (AreShortRows longest) rows
       pub then_rows : All (AreShortRows longest) (replaced_views changes rows)
 
-    -- so many levels are enough for each tree, with this many edits at least
+    -- so many levels are enough for each tree, with as many items more as all get at least
     pub record AreEnough (h : ℕ) : Type 0 where
       pub more : ℕ
-      pub edits : all_edits ≤ more
+      pub inserts : all_inserts ≤ more
       pub each : All (λ (tree : Tree). (tree.height ≤ h) × (tree.count + more < 8 ^ h)) trees
 
     pub record EditsViews (result : Result (List Tree) (TreeFault F PoolFault)) : Type 0 where
@@ -124,19 +138,27 @@ module _ {S F C : Type 0} (n : Sources S F) (s : Servers C) (changes : List DocR
       pub room : All (λ (tree : Tree). 8 * tree.count ≤ n.size old) trees → IfOk result (All (λ (tree : Tree). 8 * tree.count ≤ n.size new))
       pub steps : (h : ℕ) → All (λ (tree : Tree). tree.height ≤ h) trees → IfOk result (λ after. All (λ (tree : Tree). tree.height ≤ h) after → StepsFor all_edits h)
       pub most_steps : (h : ℕ) → AreEnough h → StepsFor all_edits h
+      pub puts : (h : ℕ) → All (λ (tree : Tree). tree.height ≤ h) trees → IfOk result (λ after. All (λ (tree : Tree). tree.height ≤ h) after → PutsFor all_edits h)
+      pub most_puts : (h : ℕ) → AreEnough h → PutsFor all_edits h
       pub bytes : (functions : Option Functions) (there : Places) (rows : List (List Row)) (longest h : ℕ) → OverViews functions there rows → AreAllShort longest rows
           → All (λ (tree : Tree). tree.height ≤ h) trees → IfOk result (λ after. All (λ (tree : Tree). tree.height ≤ h) after → BytesFor longest all_edits h)
       pub most_bytes : (functions : Option Functions) (there : Places) (rows : List (List Row)) (longest h : ℕ) → OverViews functions there rows → AreAllShort longest rows → AreEnough h → BytesFor longest all_edits h
+      pub pieces : (functions : Option Functions) (there : Places) (rows : List (List Row)) (longest : ℕ) → OverViews functions there rows → AreAllShort longest rows → PutsWithin (node_size longest) (n.puts old) (n.puts new)
       pub usable : (view : ℕ) (row : Row) → view < length trees → Contains (view_edits view changes olds) (Insert row) → OnOk result (IsUsable s summers view)
       pub complains : result ≡ Err (tree_fault.Summer Compile) → (view : ℕ) × (view < length trees) × Complains s summers summers' view × (view_edits view changes olds ≢ [])
+      pub found : (functions : Option Functions) (there : Places) (rows : List (List Row)) → OverViews functions there rows → GotFound n old new result
       pub sound : (functions : Option Functions) (there : Places) (rows : List (List Row)) (at : ℕ) → OverViews functions there rows → result ≡ Err (tree_fault.BadNode at) → ⊥
       pub damaged : (at : ℕ) → result ≡ Err (tree_fault.BadNode at)
-          → (view : ℕ) × (tree : Tree) × Contains trees tree × WhereTold (n.nodes new) (λ there. IsFaulty row_items (view_values None (reduce_in summers.design.now.views view)) there tree at)
+          → (view : ℕ) × (tree : Tree) × (slice_get trees view ≡ Some tree) × WhereTold (n.nodes new) (λ there. IsFaulty row_items (view_values None (reduce_in summers.design.now.views view)) there tree at)
 
 -- the tree of the back-index
 module _ {S F : Type 0} (n : Sources S F) (changes : List DocRows) (olds : List (List BackRow)) (old new : S) (before now : ℕ) (tree : Tree) where
   abbrev entry_edits : ℕ
   entry_edits = length (back_edits changes olds)
+
+  -- how many entries it gets
+  abbrev entry_inserts : ℕ
+  entry_inserts = entry_insert_count changes
 
   -- the tree has these entries, of these rows, where the old rows of the documents were found
   pub record Lists (there : Places) (rows : List (List Row)) (entries : List BackEntry) : Type 0 where
@@ -168,10 +190,15 @@ module _ {S F : Type 0} (n : Sources S F) (changes : List DocRows) (olds : List 
     pub size : IfOk result IsTreeSize
     pub room : 8 * tree.count ≤ n.size old → IfOk result (λ after. 8 * after.count ≤ n.size new)
     pub steps : (h : ℕ) → tree.height ≤ h → IfOk result (λ after. after.height ≤ h → now ≤ before + entry_edits * (8 * (h + 1)))
-    pub most_steps : (h : ℕ) → tree.height ≤ h → tree.count + entry_edits < 8 ^ h → now ≤ before + entry_edits * (8 * (h + 1))
+    pub most_steps : (h : ℕ) → tree.height ≤ h → tree.count + entry_inserts < 8 ^ h → now ≤ before + entry_edits * (8 * (h + 1))
+    pub puts : (h : ℕ) → tree.height ≤ h → IfOk result (λ after. after.height ≤ h → length (n.puts new) ≤ length (n.puts old) + entry_edits * (4 * (h + 1)))
+    pub most_puts : (h : ℕ) → tree.height ≤ h → tree.count + entry_inserts < 8 ^ h → length (n.puts new) ≤ length (n.puts old) + entry_edits * (4 * (h + 1))
     pub bytes : (there : Places) (rows : List (List Row)) (entries : List BackEntry) (longest h : ℕ) → Lists there rows entries → MayExchange rows → AreShortEntries longest rows → AreShortEntries longest (replaced_views changes rows)
         → tree.height ≤ h → IfOk result (λ after. after.height ≤ h → n.size new ≤ n.size old + (entry_edits * (4 * (h + 1))) * node_size longest)
     pub most_bytes : (there : Places) (rows : List (List Row)) (entries : List BackEntry) (longest h : ℕ) → Lists there rows entries → MayExchange rows → AreShortEntries longest rows → AreShortEntries longest (replaced_views changes rows)
-        → tree.height ≤ h → tree.count + entry_edits < 8 ^ h → n.size new ≤ n.size old + (entry_edits * (4 * (h + 1))) * node_size longest
+        → tree.height ≤ h → tree.count + entry_inserts < 8 ^ h → n.size new ≤ n.size old + (entry_edits * (4 * (h + 1))) * node_size longest
+    pub pieces : (there : Places) (rows : List (List Row)) (entries : List BackEntry) (longest : ℕ) → Lists there rows entries → MayExchange rows → AreShortEntries longest rows → AreShortEntries longest (replaced_views changes rows)
+        → PutsWithin (node_size longest) (n.puts old) (n.puts new)
+    pub found : (there : Places) (entries : List BackEntry) → n.nodes old ≡ Some there → IsTree back_items no_summaries there tree entries → GotFound n old new result
     pub sound : (there : Places) (entries : List BackEntry) (at : ℕ) → n.nodes old ≡ Some there → IsTree back_items no_summaries there tree entries → result ≡ Err (tree_fault.BadNode at) → ⊥
     pub damaged : (at : ℕ) → result ≡ Err (tree_fault.BadNode at) → WhereTold (n.nodes new) (λ there. IsFaulty back_items no_summaries there tree at)

@@ -12,7 +12,7 @@ use Rattle.view_model.specs.Rows.{rows_from}
 use Rattle.reduce_tree.specs.declared.edit.Edit.{Edit}
 use Rattle.reduce_tree.specs.declared.edit.Edit.TheVariants.{Insert, Remove}
 use Rattle.row_exchange.specs.declared.doc_rows.DocRows.{DocRows}
-use Rattle.row_exchange.specs.Replaced.{ids_of}
+use Rattle.row_exchange.specs.Replaced.{ids_of, new_rows}
 use Rattle.index_items.specs.declared.back_row.BackRow.{BackRow}
 use Rattle.index_items.specs.BackItem.{BackEntry}
 use Rattle.index_items.specs.BackIndex.{back_row, places_in}
@@ -77,3 +77,23 @@ row_edit_count view (suc count) changes olds = length (view_edits view changes o
 -- and in all views, with the entries of the back-index
 abbrev pub edit_count : List DocRows → List (List Row) → ℕ
 edit_count changes rows = row_edit_count 0 (length rows) changes (old_places changes rows) + length (back_edits changes (old_places changes rows))
+
+-- how many rows are inserted in so many views, the first of which has this number, whatever is removed
+abbrev pub row_insert_count : ℕ → ℕ → List DocRows → ℕ
+row_insert_count view zero changes = 0
+row_insert_count view (suc count) changes = length (new_rows changes view) + row_insert_count (suc view) count changes
+
+-- 1 for a document that has a row in one of the views, and else 0
+abbrev pub one_entry : List (List (Json × Json)) → ℕ
+one_entry [] = 0
+one_entry ([] ∷ lists) = one_entry lists
+one_entry ((row ∷ list) ∷ lists) = 1
+
+-- how many entries of the back-index are inserted: one for each document that has a new row
+abbrev pub entry_insert_count : List DocRows → ℕ
+entry_insert_count [] = 0
+entry_insert_count (change ∷ changes) = one_entry change.rows + entry_insert_count changes
+
+-- how many rows and entries are inserted, with so many views
+abbrev pub insert_count : List DocRows → ℕ → ℕ
+insert_count changes views = row_insert_count 0 views changes + entry_insert_count changes

@@ -5,3 +5,4 @@ pub mod Exchanges
 pub mod Edited
 pub mod Faults
 pub mod Reading
+pub mod Laws

@@ -27,11 +27,15 @@ use view_ports::Servers;
 ///
 /// A step makes two reads of the store at most. An edit is a row or an entry of the back-index that is removed, added or replaced, and
 /// `h` the greatest height of the trees before and after: it takes `8 * (h + 1)` steps and puts `4 * (h + 1)` nodes at most for each
-/// edit, and `2 * h` steps for each document. The same holds after a refusal for an `h` that is enough for all items together.
+/// edit, and `2 * h` steps for each document. The same holds after a refusal for an `h` that is each tree's height at least, where the
+/// items of each tree and all rows and entries that are inserted are together fewer than `8^h`. Over trees that hold rows no piece, also
+/// one at which the store fails, is longer than a node of 32 entries of the longest item among the old and new ones.
 ///
-/// Over trees that hold rows `BadNode` never comes; else it names a place that is reached from one of them, where no node that fits
-/// stands, or one with a summary that spells no value. `Store` and `Summer` hand on what the store and the summers answered. `NoMemory`
-/// comes where memory runs out, a row is out of the bounds of an item, or a tree would have more than 2^40 items.
+/// Over trees that hold rows `BadNode` never comes, and something stands at each place that is got, also where the store fails. Else
+/// `BadNode` names a place that is reached from one of the trees, where no node that fits stands, or one with a summary that spells no
+/// value of that tree's own view. `Store` and `Summer` hand on what the store and the summers answered; over trees that hold rows a
+/// complaint is of the source of a view with edits. `NoMemory` comes where memory runs out, a row is out of the bounds of an item, or a
+/// tree would have more than 2^40 items.
 pub fn exchange<S: NodeStore, C: Servers, L: Ledger>(
     alloc: Global,
     store: &mut S,

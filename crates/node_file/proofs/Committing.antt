@@ -16,7 +16,8 @@ use Rattle.gate_file.proofs.Appends.{has_all_then, shows_then}
 use Rattle.gate_file.proofs.Published.{has_all_more}
 use Rattle.tree_laws.specs.Stores.{Extends}
 use Rattle.node_file.specs.FileNodes.{IsKept, IsLonger, MovesOn}
-use Rattle.node_file.specs.RecordLaws.{carried, front_has}
+use Rattle.gate_file.proofs.Published.{front_has}
+use Rattle.node_file.specs.RecordLaws.{carried}
 use Rattle.node_file.specs.Records.{node_at}
 
 -- ---- each node stands in the file with its new root

@@ -20,7 +20,7 @@ use Rattle.tree_laws.specs.Stores.{pieces_size}
 use Rattle.node_file.specs.Cache.{puts_of, NotesGet, NotesPut}
 use Rattle.node_file.specs.declared.file_nodes.FileNodes.{FileNodes}
 use Rattle.node_file.specs.FileNodes.{Adds, AddsNoMore, AddsSome, FileFails, FileGoes, Grows, HasSame, IsKept, MovesOn, Stays, WasAsked, record_size}
-use Rattle.node_file.specs.FileNodeLaws.{adds_none, adds_ready, adds_same, longer_itself}
+use Rattle.node_file.specs.FileNodeLaws.{adds_none, adds_ready, adds_same, longer_itself, moves_still}
 use Rattle.node_file.specs.Puts.{IsPutFault}
 use Rattle.node_file.specs.Reads.{GetsNone, WasGot}
 use Rattle.node_file.specs.RecordLaws.{appended_stays, sized_long}
@@ -46,26 +46,28 @@ module _ {F : Type 0} (f : Folders F) where
   same_ready gate old new ready none =
       told_after (f.disk old) (f.disk new) (KeepsIn gate) (KeepsIn gate) MovesNone (λ a b keeps still. subst (Keeps gate) (sym (none_same a b still (name_of gate))) keeps) ready none
 
-  some_of : (gate gate' : GateFile) (old new : F) → Adds f gate gate' old new → AddsSome f gate gate' old new
-  some_of gate gate' old new adds = record {
-    file = adds.file;
-    disk = told_map (f.disk old) (f.disk new) (MovesOn gate (IsKept gate gate')) (MovesOn gate (λ file now. Unit {0}))
-        (λ a b moves keeps. unended gate (IsKept gate gate') a b (moves keeps)) adds.disk;
-    faults = adds.faults;
-  }
-    where
-      unended : (gate : GateFile) (ends : File → File → Type 0) (a b : Disk FileName) → MovesFile (name_of gate) (λ file image. Shows (root_of gate) file.durable image) ends a b
-          → MovesFile (name_of gate) (λ file image. Shows (root_of gate) file.durable image) (λ file now. Unit {0}) a b
-      unended gate ends a b moved =
-          file_weaker (name_of gate) (λ file image. Shows (root_of gate) file.durable image) (λ file image. Shows (root_of gate) file.durable image) ends (λ file now. Unit {0}) a b
-          (λ image left. left) (λ ended. tt) moved
+  -- where it ends isn't said
+  unended : (gate : GateFile) (ends : File → File → Type 0) (a b : Disk FileName) → (KeepsIn gate a → MovesFile (name_of gate) (λ file image. Shows (root_of gate) file.durable image) ends a b)
+      → MovesOn gate (λ file now. Unit {0}) a b
+  unended gate ends a b moved keeps =
+      file_weaker (name_of gate) (λ file image. Shows (root_of gate) file.durable image) (λ file image. Shows (root_of gate) file.durable image) ends (λ file now. Unit {0}) a b
+      (λ image left. left) (λ ended. tt) (moved keeps)
 
   -- why a node isn't got
-  get_cause : (gate : GateFile) (old new : F) (fault : GateFault) → GetsNone f (name_of gate) old new fault → Adds f gate gate old new → AddsNoMore f gate gate old new fault
-  get_cause gate old new DiskFault rose adds = rose
-  get_cause gate old new (Full name length) never adds = absurd never
-  get_cause gate old new (Damaged name at) damaged adds = (adds, damaged.0, damaged.1)
-  get_cause gate old new NoMemory memory adds = adds
+  get_cause : (gate : GateFile) (old new : F) (fault : GateFault) → Moved f old new MovesNone → GetsNone f (name_of gate) old new fault → AddsNoMore f gate gate old new fault
+  get_cause gate old new DiskFault none rose = rose
+  get_cause gate old new (Full name length) none never = absurd never
+  get_cause gate old new (Damaged name at) none damaged = (adds_same f gate old new none damaged.2, damaged.0, damaged.1)
+  get_cause gate old new NoMemory none still = adds_same f gate old new none still
+
+  -- no file changed
+  some_same : (gate : GateFile) (old new : F) → Moved f old new MovesNone → f.faults old ≤ f.faults new → AddsSome f gate gate old new
+  some_same gate old new none later = record {
+    file = longer_itself gate;
+    disk = told_map (f.disk old) (f.disk new) MovesNone (MovesOn gate (λ file now. Unit {0}))
+        (λ a b still. unended gate (IsKept gate gate) a b (moves_still gate a b still)) none;
+    faults = later;
+  }
 
   -- what was asked for where a node isn't got
   get_asked : (a b : FileNodes F) (fault : GateFault) → WasGot a.cache.now b.cache.now fault → WasAsked a b fault
@@ -81,13 +83,12 @@ module _ {F : Type 0} (f : Folders F) where
   get_fails a b name at (Ok value) lent notes same own faults counted damaged none = tt
   get_fails a b name at (Err fault) lent notes same own faults counted damaged none =
       let gate = a.file.now in
-      let adds = adds_same f gate a.folder.now b.folder.now none counted.later in
       let why : GetsNone f (name_of gate) a.folder.now b.folder.now fault =
       subst (λ n. GetsNone f n a.folder.now b.folder.now fault) own (gets_none f name at a.folder.now b.folder.now fault faults counted damaged none) in
       record {
         lent = lent;
-        adds = subst (λ (g : GateFile). AddsSome f gate g a.folder.now b.folder.now) (sym same) (some_of gate gate a.folder.now b.folder.now adds);
-        cause = subst (λ (g : GateFile). AddsNoMore f gate g a.folder.now b.folder.now fault) (sym same) (get_cause gate a.folder.now b.folder.now fault why adds);
+        adds = subst (λ (g : GateFile). AddsSome f gate g a.folder.now b.folder.now) (sym same) (some_same gate a.folder.now b.folder.now none counted.later);
+        cause = subst (λ (g : GateFile). AddsNoMore f gate g a.folder.now b.folder.now fault) (sym same) (get_cause gate a.folder.now b.folder.now fault none why);
         asked = get_asked a b fault (got_last a.cache.now b.cache.now name at fault notes faults);
         grows = grows_none a b notes.puts same;
       }
@@ -95,8 +96,8 @@ module _ {F : Type 0} (f : Folders F) where
   -- ---- a piece is put
 
   module _ (gate : GateFile) (bytes : List ℕ) (old new : F) where
-    adds_appended : {T : Type 0} (E : Type 0) (value : T) → Tells (f.disk old) (f.disk new) (Appends {E = E} gate bytes (Ok value)) → f.faults old ≤ f.faults new → Adds f gate (appended gate (length bytes)) old new
-    adds_appended E value moved later = record {
+    adds_appended : {T : Type 0} (E : Type 0) (value : T) → Tells (f.disk old) (f.disk new) (Appends {E = E} gate bytes (Ok value)) → f.faults new ≡ f.faults old → Adds f gate (appended gate (length bytes)) old new
+    adds_appended E value moved still = record {
       file = record { same = refl; longer = omega arith };
       stays = told_map (f.disk old) (f.disk new) (Appends {E = E} gate bytes (Ok value)) (Stays gate)
           (λ a b moves. appended_stays gate (appended gate (length bytes)) bytes (a.now (name_of gate)) (b.now (name_of gate)) moves.ended) moved;
@@ -105,7 +106,7 @@ module _ {F : Type 0} (f : Folders F) where
           file_weaker (name_of gate) (λ file image. Shows (root_of gate) file.durable image) (λ file image. Shows (root_of gate) file.durable image)
           (IsAppended (appended gate (length bytes)) bytes) (IsKept gate (appended gate (length bytes))) a b
           (λ image left. left) (λ ended. record { durable = ended.durable; keeps = ended.keeps }) moves) moved;
-      faults = later;
+      still = still;
     }
 
     some_appended : {E : Type 0} (T : Type 0) (fault : E) → Tells (f.disk old) (f.disk new) (Appends {T = T} gate bytes (Err fault)) → f.faults old ≤ f.faults new → AddsSome f gate gate old new
@@ -116,11 +117,11 @@ module _ {F : Type 0} (f : Folders F) where
     }
 
   pub put_adds : {T E : Type 0} (gate gate' : GateFile) (piece : List ℕ) (old new : F) (result : Result T E) → OnOk result (gate' ≡ appended gate (length piece + 8))
-      → Moved f old new (Appends gate (sized piece) result) → f.faults old ≤ f.faults new → OnOk result (Adds f gate gate' old new)
-  put_adds {T} {E} gate gate' piece old new (Ok value) done moved later =
+      → Moved f old new (Appends gate (sized piece) result) → OnOk result (f.faults new ≡ f.faults old) → OnOk result (Adds f gate gate' old new)
+  put_adds {T} {E} gate gate' piece old new (Ok value) done moved still =
       let same : appended gate (length (sized piece)) ≡ gate' = ap (appended gate) (sized_long piece) ∙ sym done in
-      subst (λ (g : GateFile). Adds f gate g old new) same (adds_appended gate (sized piece) old new E value moved later)
-  put_adds {T} {E} gate gate' piece old new (Err fault) done moved later = tt
+      subst (λ (g : GateFile). Adds f gate g old new) same (adds_appended gate (sized piece) old new E value moved still)
+  put_adds {T} {E} gate gate' piece old new (Err fault) done moved still = tt
 
   pub put_ready : {T E : Type 0} (gate gate' : GateFile) (old new : F) (result : Result T E) → Told f old (KeepsIn gate) → OnOk result (Adds f gate gate' old new) → OnOk result (Told f new (KeepsIn gate'))
   put_ready gate gate' old new (Ok value) ready adds = adds_ready f gate gate' old new adds ready

@@ -1,5 +1,5 @@
 -- The laws of a file as a store of nodes.
-use Rattle.std.proofs.Common.{◌≡◌, inl, inr, ℕ, ◌≤◌, [], length, refl, sym, ap, ◌∙◌, subst, arith}
+use Rattle.std.proofs.Common.{◌≡◌, inl, inr, ℕ, [], length, refl, sym, ap, ◌∙◌, subst, arith}
 use Rattle.std.proofs.lemmas.Bool.{cases_eq}
 use Rattle.view_ports.specs.Disk.{Disk, IfTold, MovesNone, Tells}
 use Rattle.view_ports.specs.File.{File}
@@ -46,7 +46,7 @@ longer_then a b c first second = record {
 -- ---- the disk
 
 -- nothing was changed
-moves_still : (gate : GateFile) (a b : Disk FileName) → MovesNone a b → MovesOn gate (IsKept gate gate) a b
+pub moves_still : (gate : GateFile) (a b : Disk FileName) → MovesNone a b → MovesOn gate (IsKept gate gate) a b
 moves_still gate a b none keeps =
     let name = name_of gate in
     none_wider (λ n. n ≡ name) (λ image. Shows (root_of gate) (a.now name).durable (image name)) (λ files. IsKept gate gate (a.now name) (files name)) a b
@@ -74,17 +74,17 @@ moves_both gate size ends1 ends2 ends a b c endings kept first second keeps =
 
 module _ {F : Type 0} (f : Folders F) where
   -- nothing was changed
-  pub adds_same : (gate : GateFile) (old new : F) → Tells (f.disk old) (f.disk new) MovesNone → f.faults old ≤ f.faults new → Adds f gate gate old new
-  adds_same gate old new none later = record {
+  pub adds_same : (gate : GateFile) (old new : F) → Tells (f.disk old) (f.disk new) MovesNone → f.faults new ≡ f.faults old → Adds f gate gate old new
+  adds_same gate old new none still = record {
     file = longer_itself gate;
     stays = told_map (f.disk old) (f.disk new) MovesNone (Stays gate)
         (has_still (name_of gate)) none;
     disk = told_map (f.disk old) (f.disk new) MovesNone (MovesOn gate (IsKept gate gate)) (λ a b still. moves_still gate a b still) none;
-    faults = later;
+    still = still;
   }
 
   pub adds_none : (gate : GateFile) (folder : F) → Adds f gate gate folder folder
-  adds_none gate folder = adds_same gate folder folder (told_refl (f.disk folder) MovesNone none_refl) (omega arith)
+  adds_none gate folder = adds_same gate folder folder (told_refl (f.disk folder) MovesNone none_refl) refl
 
   -- the same, where what was lengthened is written out
   module _ (gate : GateFile) (size : ℕ) (a b c : F) (first : Adds f gate (record gate { length = size }) a b) where
@@ -105,14 +105,14 @@ module _ {F : Type 0} (f : Folders F) where
       stays = stays_both second.stays;
       disk = disk_both (IsKept (record gate { length = size }) last) (IsKept gate last)
           (λ file then now early late. record { durable = shows_then (root_of gate) file.durable then.durable now.durable early.durable late.durable; keeps = late.keeps }) second.disk;
-      faults = omega (arith, first.faults, second.faults);
+      still = second.still ∙ first.still;
     }
 
     some_written : (last : GateFile) → AddsSome f (record gate { length = size }) last b c → AddsSome f gate last a c
     some_written last second = record {
       file = longer_then gate (record gate { length = size }) last first.file second.file;
       disk = disk_both (λ file now. Unit {0}) (λ file now. Unit {0}) (λ file then now early late. tt) second.disk;
-      faults = omega (arith, first.faults, second.faults);
+      faults = omega (arith, first.still, second.faults);
     }
 
   -- one after the other
@@ -130,7 +130,7 @@ module _ {F : Type 0} (f : Folders F) where
     some_both second = some_written x (length_of y) a b c first_written z (subst (λ (g : GateFile). AddsSome f g z b c) first.file.same second)
 
     pub cause_both : (fault : GateFault) → AddsNoMore f y z b c fault → AddsNoMore f x z a c fault
-    cause_both DiskFault rose = Rose-earlier (f.faults a) (f.faults b) (f.faults c) first.faults rose
+    cause_both DiskFault rose = Rose-earlier (f.faults a) (f.faults b) (f.faults c) (omega (arith, first.still)) rose
     cause_both (Full name length) cause = (adds_both cause.0, cause.1)
     cause_both (Damaged name at) cause = (adds_both cause.0, cause.1, cause.2)
     cause_both NoMemory adds = adds_both adds

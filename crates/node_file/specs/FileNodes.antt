@@ -42,12 +42,12 @@ abbrev pub MovesOn : GateFile → (File → File → Type 0) → Disk FileName �
 MovesOn gate ends old new = KeepsIn gate old → MovesFile (name_of gate) (λ file image. Shows (root_of gate) file.durable image) ends old new
 
 module _ {F : Type 0} (f : Folders F) where
-  -- records were added to the file of an object, and the object keeps what the file is
+  -- records were added to the file of an object, the object keeps what the file is, and no fault was counted
   pub record Adds (gate gate' : GateFile) (old new : F) : Type 0 where
     pub file : IsLonger gate gate'
     pub stays : Moved f old new (Stays gate)
     pub disk : Moved f old new (MovesOn gate (IsKept gate gate'))
-    pub faults : f.faults old ≤ f.faults new
+    pub still : f.faults new ≡ f.faults old
 
   -- so far as a fault let them
   pub record AddsSome (gate gate' : GateFile) (old new : F) : Type 0 where

@@ -1,5 +1,5 @@
 -- The laws of a source over the name of a file.
-use Rattle.std.proofs.Common.{◌≡◌, [], List, ℕ, refl, sym, ap, ◌∙◌, subst, arith}
+use Rattle.std.proofs.Common.{◌≡◌, [], List, ℕ, refl, ap, ◌∙◌, subst, arith}
 use Rattle.view_ports.specs.declared.folder.Folder.{Ghosts as Folders}
 use Rattle.gate_file.specs.declared.fault.GateFault.{GateFault}
 use Rattle.gate_file.specs.declared.gate.GateFile.{GateFile}
@@ -11,7 +11,7 @@ use Rattle.node_file.specs.declared.past_nodes.PastNodes.{PastNodes}
 use Rattle.node_file.specs.Cache.{gets_of, puts_of}
 use Rattle.node_file.specs.FileNodes.{Adds, nodes_of}
 use Rattle.node_file.specs.PastNodes.{HasSamePast, PastFails, PastGoes, past_nodes}
-use Rattle.node_file.specs.ReadLaws.{goes_on_both, none_both, places_kept, read_both, read_none, read_places, was_got_both}
+use Rattle.node_file.specs.ReadLaws.{goes_on_both, none_both, places_kept, read_both, read_none, read_places, tried_both, was_got_both}
 use Rattle.node_file.specs.Reads.{GetsNone, nodes_in}
 
 same_past_both : {F : Type 0} (a b c : PastNodes F) → HasSamePast a b → HasSamePast b c → HasSamePast a c
@@ -36,7 +36,7 @@ module _ {F : Type 0} (f : Folders F) where
   pub past_causes : StaysCaused (PastGoes f) (PastFails f)
   past_causes a b c fault goes fails = record {
     lent = same_past_both a b c goes.lent fails.lent;
-    reads = read_both f a.folder.now b.folder.now c.folder.now goes.reads fails.reads;
+    reads = tried_both f a.folder.now b.folder.now c.folder.now goes.reads fails.reads;
     cause = none_both f a.name a.folder.now b.folder.now c.folder.now fault goes.reads (subst (λ n. GetsNone f n b.folder.now c.folder.now fault) goes.lent.name fails.cause);
     asked = was_got_both a.cache.now b.cache.now c.cache.now fault goes.gets fails.asked;
     puts = fails.puts ∙ goes.puts;

@@ -8,7 +8,7 @@ use Rattle.tree_laws.specs.Stores.{Places}
 use Rattle.node_file.specs.declared.cache.NodeCache.{NodeCache}
 use Rattle.node_file.specs.declared.past_nodes.PastNodes.{PastNodes}
 use Rattle.node_file.specs.Cache.{gets_of, puts_of}
-use Rattle.node_file.specs.Reads.{GetsNone, GoesOn, OnlyRead, WasGot, nodes_in}
+use Rattle.node_file.specs.Reads.{GetsNone, GoesOn, OnlyRead, OnlyTried, WasGot, nodes_in}
 
 -- the references that the source was lent, and the name
 pub record HasSamePast {F : Type 0} (old new : PastNodes F) : Type 0 where
@@ -39,7 +39,7 @@ module _ {F : Type 0} (f : Folders F) where
   -- what calls do of which the last answered a fault, and why it did
   pub record PastFails (old new : PastNodes F) (fault : GateFault) : Type 0 where
     pub lent : HasSamePast old new
-    pub reads : OnlyRead f old.folder.now new.folder.now
+    pub reads : OnlyTried f old.folder.now new.folder.now
     pub cause : GetsNone f old.name old.folder.now new.folder.now fault
     pub asked : WasGot old.cache.now new.cache.now fault
     pub puts : puts_of new.cache.now ≡ puts_of old.cache.now

@@ -14,7 +14,7 @@ use Rattle.gate_file.specs.Shown.{HasAll}
 use Rattle.tree_laws.specs.Stores.{Extends, KeepsPlaces}
 use Rattle.node_file.specs.declared.cache.NodeCache.{NodeCache}
 use Rattle.node_file.specs.Cache.{gets_of}
-use Rattle.node_file.specs.Reads.{GetsNone, GoesOn, OnlyRead, WasGot, nodes_in}
+use Rattle.node_file.specs.Reads.{GetsNone, GoesOn, OnlyRead, OnlyTried, WasGot, nodes_in}
 use Rattle.node_file.specs.RecordLaws.{carried, has_itself}
 use Rattle.node_file.specs.Records.{node_at}
 
@@ -51,19 +51,25 @@ has_still name a b still = subst (λ file. HasAll (a.now name).seen file.seen) (
 
 module _ {F : Type 0} (f : Folders F) where
   pub read_none : (folder : F) → OnlyRead f folder folder
-  read_none folder = record { disk = told_refl (f.disk folder) MovesNone none_refl; faults = omega arith }
+  read_none folder = record { disk = told_refl (f.disk folder) MovesNone none_refl; still = refl }
 
   pub read_both : (a b c : F) → OnlyRead f a b → OnlyRead f b c → OnlyRead f a c
   read_both a b c first second = record {
     disk = told_then (f.disk a) (f.disk b) (f.disk c) MovesNone MovesNone MovesNone none_then first.disk second.disk;
-    faults = omega (arith, first.faults, second.faults);
+    still = second.still ∙ first.still;
+  }
+
+  pub tried_both : (a b c : F) → OnlyRead f a b → OnlyTried f b c → OnlyTried f a c
+  tried_both a b c first second = record {
+    disk = told_then (f.disk a) (f.disk b) (f.disk c) MovesNone MovesNone MovesNone none_then first.disk second.disk;
+    faults = omega (arith, first.still, second.faults);
   }
 
   pub none_both : (name : FileName) (a b c : F) (fault : GateFault) → OnlyRead f a b → GetsNone f name b c fault → GetsNone f name a c fault
-  none_both name a b c DiskFault first rose = Rose-earlier (f.faults a) (f.faults b) (f.faults c) first.faults rose
+  none_both name a b c DiskFault first rose = Rose-earlier (f.faults a) (f.faults b) (f.faults c) (omega (arith, first.still)) rose
   none_both name a b c (Full other length) first never = absurd never
-  none_both name a b c (Damaged other at) first damaged = damaged
-  none_both name a b c NoMemory first memory = tt
+  none_both name a b c (Damaged other at) first damaged = (damaged.0, damaged.1, damaged.2 ∙ first.still)
+  none_both name a b c NoMemory first still = still ∙ first.still
 
   pub read_places : (name name' : FileName) (a b : F) → name' ≡ name → OnlyRead f a b → KeepsPlaces (nodes_in f name a) (nodes_in f name' b)
   read_places name name' a b same only =

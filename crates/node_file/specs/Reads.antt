@@ -28,14 +28,19 @@ module _ {F : Type 0} (f : Folders F) where
   abbrev pub nodes_in : FileName → F → Option Places
   nodes_in name folder = option_map (λ disk. node_at (disk.now name).seen) (f.disk folder)
 
-  -- only reads were made
-  pub record OnlyRead (old new : F) : Type 0 where
+  -- only reads were made, and faults may have been counted
+  pub record OnlyTried (old new : F) : Type 0 where
     pub disk : Moved f old new MovesNone
     pub faults : f.faults old ≤ f.faults new
 
-  -- why a node of the file isn't got
+  -- only reads were made, none of which failed
+  pub record OnlyRead (old new : F) : Type 0 where
+    pub disk : Moved f old new MovesNone
+    pub still : f.faults new ≡ f.faults old
+
+  -- why a node of the file isn't got: a fault is counted only where the disk failed
   abbrev pub GetsNone : FileName → F → F → GateFault → Type 0
   GetsNone own old new DiskFault = Rose (f.faults old) (f.faults new)
   GetsNone own old new (Full name length) = ⊥
-  GetsNone own old new (Damaged name at) = (name ≡ own) × Told f new (λ d. node_at (d.now name).seen at ≡ None)
-  GetsNone own old new NoMemory = Unit {0}
+  GetsNone own old new (Damaged name at) = (name ≡ own) × Told f new (λ d. node_at (d.now name).seen at ≡ None) × (f.faults new ≡ f.faults old)
+  GetsNone own old new NoMemory = f.faults new ≡ f.faults old

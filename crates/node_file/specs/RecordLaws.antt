@@ -14,7 +14,7 @@ use Rattle.gate_file.specs.Header.{data_start}
 use Rattle.gate_file.specs.Shown.{HasAll, IsFront}
 use Rattle.gate_file.proofs.FileFacts.{part_carried}
 use Rattle.gate_file.proofs.Opened.{has_all_same}
-use Rattle.gate_file.proofs.Published.{has_all_more}
+use Rattle.gate_file.proofs.Published.{front_has, front_long, has_all_more}
 use Rattle.tree_laws.specs.Nodes.{IsSized, number_bytes, sized}
 use Rattle.tree_laws.specs.Stores.{Extends}
 use Rattle.tree_laws.proofs.Prefixes.{number_long}
@@ -118,22 +118,6 @@ put_there front piece behind small =
     })
 
 -- ---- a record that was appended
-
-pub front_has : (seen front : List ℕ) → IsFront seen front → HasAll seen front
-front_has [] front blank = record { long = omega arith; rest = λ place behind within. absurd (omega arith) }
-front_has (byte ∷ bytes) front same = has_all_same (byte ∷ bytes) front same
-
-front_long : (gate : GateFile) (file : File) → Keeps gate file → (front : List ℕ) → IsFront file.seen front → length front ≡ start_of gate
-front_long gate file keeps front made = by_seen file.seen refl made
-  where
-    by_seen : (seen : List ℕ) → file.seen ≡ seen → IsFront seen front → length front ≡ start_of gate
-    by_seen [] is blank = let none : length file.seen ≡ 0 = ap length is in omega (arith, blank.long, keeps.size)
-    by_seen (byte ∷ rest) is same =
-        let size = keeps.size in
-        let whole : length file.seen ≡ length (byte ∷ rest) = ap length is in
-        let made_now = keeps.made (omega (arith, whole)) in
-        let long = keeps.durable.long in
-        omega (arith, ap length same, whole)
 
 module _ (gate after : GateFile) (bytes : List ℕ) (old new : File) (appends : IsAppended after bytes old new) where
   -- all that stood behind the slots stands there

@@ -109,7 +109,7 @@ module _ {T M Sum Fault : Type 0} (i : Items T) (m : Summers M T Sum Fault) (fir
       omega (arith, entries_size (child_entry i.spelled) (longest + (sum_limit + 32)) cs each, most_size (longest + (sum_limit + 32)) (length cs) (omega arith) few)
 
   module _ (among : List T) (all : All Small among) where
-    abbrev IsSmall : List ℕ → Type 0
+    abbrev pub IsSmall : List ℕ → Type 0
     IsSmall bytes = length bytes + 8 ≤ node_size longest
 
     own_small : (own : List T) → AreAmong among own → All Small own
@@ -137,7 +137,7 @@ module _ {T M Sum Fault : Type 0} (i : Items T) (m : Summers M T Sum Fault) (fir
       were_small a b (tree_fault.Summer fault) h = since_weaker (IsPiece i m first among (places (s.nodes b)) Below) IsSmall (piece_small (places (s.nodes b)) Below) (s.puts a) (s.puts b) h
       were_small a b tree_fault.NoMemory h = since_weaker (IsPiece i m first among (places (s.nodes b)) Below) IsSmall (piece_small (places (s.nodes b)) Below) (s.puts a) (s.puts b) h
 
-      pieces_small : {X : Type 0} (now : Places) (a b : S) (q : Result X (TreeFault F Fault))
+      pub pieces_small : {X : Type 0} (now : Places) (a b : S) (q : Result X (TreeFault F Fault))
           → MatchResult q (λ _. AreTreePieces i m first among now (s.puts a) (s.puts b)) (λ fault. WerePieces i s m first among a b fault) → EachSince IsSmall (s.puts a) (s.puts b)
       pieces_small now a b (Ok value) h = since_both (IsPiece i m first among now Below) (IsPiece i m first among now Root) IsSmall (piece_small now Below) (piece_small now Root) (s.puts a) h.mid (s.puts b) h.below h.root
       pieces_small now a b (Err fault) h = were_small a b fault h

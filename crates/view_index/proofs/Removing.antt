@@ -17,7 +17,8 @@ use Rattle.view_model.specs.Picture.{Picture}
 use Rattle.view_index.specs.Held.{HoldsIndex, HoldsPicture, IsFileOf, Stands}
 use Rattle.view_index.specs.Removes.{AreEmpty}
 use Rattle.view_index.proofs.Carried.{picture_of_root}
-use Rattle.view_index.proofs.Emptying.{cleared_empty, clear_pair, IsOtherEmpty}
+use Rattle.gate_file.proofs.Emptied.{cleared_empty, IsOtherEmpty}
+use Rattle.view_index.proofs.Emptying.{clear_pair}
 
 module _ (stem : Stem) (views : ℕ) (gate : GateFile) (picture : Option Picture) where
   abbrev IsThere : (FileName → File) → Type 0
@@ -45,24 +46,3 @@ module _ (stem : Stem) (views : ℕ) (gate : GateFile) (picture : Option Picture
       (λ image stands. inl stands) (λ there image either. either) (λ there done. done) first
       (clear_pair stem views gate b d picture result first.ended.0 first.ended.1 second))
       (opens old mid gate_is moves holds) clears
-
--- whatever the files held, they have no bytes in the end
-pub removed_empty : {E : Type 0} (stem : Stem) (gate : GateFile) (result : Result (Unit {0}) E) (old mid new : Option (Disk FileName)) → (name_of gate).stem ≡ stem
-    → Tells old mid (λ a b. Moves (IsFileOf stem) (WhileOpening stem a.now) (IsOpened gate a.now) a b) → Tells mid new (Empties (name_of gate) result) → IfTold new (λ d. OnOk result (AreEmpty stem d.now))
-removed_empty stem gate result old mid new own_of moves clears =
-    cleared_empty stem (name_of gate) own_of result mid new
-    (told_after old mid (λ d. Unit {0}) (λ d. IsOtherEmpty stem (name_of gate) d.now) (λ a b. Moves (IsFileOf stem) (WhileOpening stem a.now) (IsOpened gate a.now) a b)
-    (λ a b any moved n of_pair differs. moved.ended.other n (of_pair ∙ sym own_of) differs) (told_all old (λ d. Unit {0}) (λ d. tt)) moves)
-    clears
-
--- what was opened, by its result
-pub opened_by : {E : Type 0} (stem : Stem) (gate : GateFile) (result : Result GateFile E) → result ≡ Ok gate → (old mid : Option (Disk FileName))
-    → Tells old mid (λ a b. Moves (IsFileOf stem) (WhileOpening stem a.now) (λ files. IfOk result (λ gate. IsOpened gate a.now files)) a b)
-    → Tells old mid (λ a b. Moves (IsFileOf stem) (WhileOpening stem a.now) (IsOpened gate a.now) a b)
-opened_by stem gate result was old mid told =
-    subst (λ (r : Result GateFile _). Tells old mid (λ a b. Moves (IsFileOf stem) (WhileOpening stem a.now) (λ files. IfOk r (λ gate. IsOpened gate a.now files)) a b)) was told
-
--- a refusal did nothing to the end
-pub failed_done : {T E : Type 0} (result : Result T E) (P : Type 0) → IsErr result → OnOk result P
-failed_done (Ok value) P failed = (let never : ⊥ = cc in absurd never)
-failed_done (Err error) P failed = tt

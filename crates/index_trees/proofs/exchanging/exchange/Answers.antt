@@ -11,7 +11,7 @@ use Rattle.index_trees.proofs.exchanging.exchange.Goals as goal
 pub returns-in-Err : goal.returns-in-Err
 returns-in-Err g c =
     let n = g.S.NodeSource in
-    let laws : StoreLaws n = record { steps = g.met.S.NodeSource.are_steps; caused = g.met.S.NodeSource.stays_caused } in
+    let laws : StoreLaws n = record { steps = g.met.S.NodeSource.are_steps; caused = g.met.S.NodeSource.stays_caused; keeps = g.met.S.NodeSource.keeps } in
     let e = c.in-Err.ensures in
     subst (λ f. Exchanges n g.C.Servers c.args.trees.now c.args.changes.now c.args.store.now c.all_old_places.new.store c.args.summers.now c.args.summers.now c.args.steps.now c.all_old_places.new.steps (refused IndexTrees f)) (sym c.with_pool.ensures)
     (at_places n laws g.C.Servers c.args.trees.now c.args.changes.now c.args.store.now c.all_old_places.new.store c.args.summers.now c.args.steps.now c.all_old_places.new.steps e.reads c.in-Err.fault e.ran c.requires.ready
@@ -21,7 +21,7 @@ pub returns-in_err-views : goal.returns-in_err-views
 returns-in_err-views g c =
     let n = g.S.NodeSource in
     let s = g.C.Servers in
-    let laws : StoreLaws n = record { steps = g.met.S.NodeSource.are_steps; caused = g.met.S.NodeSource.stays_caused } in
+    let laws : StoreLaws n = record { steps = g.met.S.NodeSource.are_steps; caused = g.met.S.NodeSource.stays_caused; keeps = g.met.S.NodeSource.keeps } in
     let e = c.in-Ok.ensures in
     let olds = c.in-Ok.olds.items in
     let changes = c.args.changes.now in
@@ -37,13 +37,13 @@ returns-in_err-views g c =
     subst (λ os. EditsViews n s changes os s1 s2 c.args.summers.now u2 t1 t2 c.args.trees.now.views.items (Err fault)) c.as_slice-2.ensures.value
     (subst (λ ts. EditsViews n s changes c.as_slice-2.result.now s1 s2 c.args.summers.now u2 t1 t2 ts (Err fault)) c.as_slice.ensures.value c.in_err-views.ensures) in
     subst (Exchanges n s c.args.trees.now changes c.args.store.now s2 c.args.summers.now u2 c.args.steps.now t2) (sym (p.1 ∙ ap (refused IndexTrees) p.2))
-    (at_views n laws s c.args.trees.now changes c.args.store.now s1 c.args.summers.now c.args.steps.now t1 e.reads e.ran.goes olds are s2 u2 t2 fault views)
+    (at_views n laws s c.args.trees.now changes c.args.store.now s1 c.args.summers.now c.args.steps.now t1 e.reads e.ran olds are s2 u2 t2 fault views)
 
 pub returns-in_err-back : goal.returns-in_err-back
 returns-in_err-back g c =
     let n = g.S.NodeSource in
     let s = g.C.Servers in
-    let laws : StoreLaws n = record { steps = g.met.S.NodeSource.are_steps; caused = g.met.S.NodeSource.stays_caused } in
+    let laws : StoreLaws n = record { steps = g.met.S.NodeSource.are_steps; caused = g.met.S.NodeSource.stays_caused; keeps = g.met.S.NodeSource.keeps } in
     let e = c.in-Ok.ensures in
     let olds = c.in-Ok.olds.items in
     let changes = c.args.changes.now in
@@ -63,13 +63,13 @@ returns-in_err-back g c =
     (subst (λ ts. EditsViews n s changes c.as_slice-2.result.now s1 s2 c.args.summers.now u2 t1 t2 ts (Ok es)) c.as_slice.ensures.value c.in_ok-views.ensures) in
     let own : EditsBack n changes olds s2 s3 t2 t3 c.args.trees.now.back (Err fault) = subst (λ os. EditsBack n changes os s2 s3 t2 t3 c.args.trees.now.back (Err fault)) c.as_slice-3.ensures.value c.in_err-back.ensures in
     subst (Exchanges n s c.args.trees.now changes c.args.store.now s3 c.args.summers.now u2 c.args.steps.now t3) (sym (p.1 ∙ ap (refused IndexTrees) p.2))
-    (at_back n laws s c.args.trees.now changes c.args.store.now s1 c.args.summers.now c.args.steps.now t1 e.reads e.ran.goes olds are s2 u2 t2 es views s3 t3 fault own)
+    (at_back n laws s c.args.trees.now changes c.args.store.now s1 c.args.summers.now c.args.steps.now t1 e.reads e.ran olds are s2 u2 t2 es views s3 t3 fault own)
 
 pub returns : goal.returns
 returns g c =
     let n = g.S.NodeSource in
     let s = g.C.Servers in
-    let laws : StoreLaws n = record { steps = g.met.S.NodeSource.are_steps; caused = g.met.S.NodeSource.stays_caused } in
+    let laws : StoreLaws n = record { steps = g.met.S.NodeSource.are_steps; caused = g.met.S.NodeSource.stays_caused; keeps = g.met.S.NodeSource.keeps } in
     let e = c.in-Ok.ensures in
     let olds = c.in-Ok.olds.items in
     let changes = c.args.changes.now in
@@ -87,4 +87,4 @@ returns g c =
     subst (λ os. EditsViews n s changes os s1 s2 c.args.summers.now u2 t1 t2 c.args.trees.now.views.items (Ok es)) c.as_slice-2.ensures.value
     (subst (λ ts. EditsViews n s changes c.as_slice-2.result.now s1 s2 c.args.summers.now u2 t1 t2 ts (Ok es)) c.as_slice.ensures.value c.in_ok-views.ensures) in
     let own : EditsBack n changes olds s2 s3 t2 t3 c.args.trees.now.back (Ok back) = subst (λ os. EditsBack n changes os s2 s3 t2 t3 c.args.trees.now.back (Ok back)) c.as_slice-3.ensures.value c.in_ok-back.ensures in
-    at_end n laws s c.args.trees.now changes c.args.store.now s1 c.args.summers.now c.args.steps.now t1 e.reads e.ran.goes olds are s2 u2 t2 es views s3 t3 back own (record { views = c.in_ok-views.views; back = back }) refl refl
+    at_end n laws s c.args.trees.now changes c.args.store.now s1 c.args.summers.now c.args.steps.now t1 e.reads e.ran olds are s2 u2 t2 es views s3 t3 back own (record { views = c.in_ok-views.views; back = back }) refl refl

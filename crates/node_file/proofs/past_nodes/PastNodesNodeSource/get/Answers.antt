@@ -1,5 +1,5 @@
 use Rattle.std.proofs.Common.{refl, [], ◌∷◌}
-use Rattle.node_file.proofs.Getting.{on_always, past_fails, same_nodes}
+use Rattle.node_file.proofs.Getting.{on_still, past_fails, same_nodes}
 use Rattle.node_file.proofs.past_nodes.PastNodesNodeSource.get.Goals as goal
 
 pub returns-clause-nodes : goal.returns-clause-nodes
@@ -7,10 +7,10 @@ returns-clause-nodes g c = same_nodes c.args.self.now.name (g.F.Folder.disk c.ar
 
 pub returns-clause-goes : goal.returns-clause-goes
 returns-clause-goes g c =
-    on_always c.get_node.result _
-    (record {
+    on_still c.get_node.result _
+    (λ ok. record {
       lent = record { cache = refl; folder = refl; name = refl };
-      reads = record { disk = c.get_node.ensures.disk; faults = c.get_node.ensures.cause.later };
+      reads = record { disk = c.get_node.ensures.disk; still = c.get_node.ensures.cause.still ok };
       gets = (c.args.at ∷ [], c.get_node.ensures.cache.gets);
       puts = c.get_node.ensures.cache.puts;
     })

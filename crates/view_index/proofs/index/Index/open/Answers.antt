@@ -11,6 +11,7 @@ use Rattle.gate_file.specs.GateFile.{name_of}
 use Rattle.gate_file.specs.Opens.{Empties}
 use Rattle.view_ports.proofs.Told.{told_after, told_all, told_back, told_both, told_map, told_now, told_pair, told_then}
 use Rattle.gate_file.specs.declared.fault.GateFault.TheVariants.{Damaged}
+use Rattle.gate_file.proofs.Emptied.{both_ok, opened_still, others_both, others_cleared}
 use Rattle.gate_file.proofs.Openings.{failed_open}
 use Rattle.gate_file.proofs.Stretches.{told_end}
 use Rattle.view_index.specs.declared.fault.IndexFault.TheVariants.{NoMemory, Store}
@@ -21,7 +22,7 @@ use Rattle.view_index.specs.Held.{or_empty, up_to, HoldsIndex, IsFileOf, Stands}
 use Rattle.view_index.specs.Index.{file_of, seq_of, views_of}
 use Rattle.view_index.specs.Opens.{FindsDamage, IsFound, IsLoaded}
 use Rattle.view_index.specs.Removes.{AreEmpty}
-use Rattle.view_index.proofs.Emptying.{both_ok, opened_still, others_both, others_cleared, stands_cleared, up_to_kept, was_past, Cleared, WasPast}
+use Rattle.view_index.proofs.Emptying.{stands_cleared, up_to_kept, was_past, Cleared, WasPast}
 use Rattle.view_index.proofs.Loaded.{holds_views, length-empty}
 use Rattle.view_index.proofs.Opening.{finds_none}
 use Rattle.view_index.proofs.index.Index.open.Goals as goal

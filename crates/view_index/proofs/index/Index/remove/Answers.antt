@@ -12,12 +12,12 @@ use Rattle.gate_file.specs.declared.fault.GateFault.TheVariants.{Damaged}
 use Rattle.gate_file.specs.GateFile.{name_of}
 use Rattle.gate_file.specs.Open.{IsOpened, WhileOpening}
 use Rattle.gate_file.specs.Opens.{Empties}
+use Rattle.gate_file.proofs.Emptied.{failed_done, opened_by, others_cleared, removed_empty}
 use Rattle.gate_file.proofs.Opened.{undamaged}
 use Rattle.view_index.specs.Held.{HoldsIndex, HoldsPicture, IsFileOf, Stands}
 use Rattle.view_index.specs.Removes.{AreEmpty}
-use Rattle.view_index.proofs.Emptying.{others_cleared}
 use Rattle.view_index.proofs.Opening.{others_stay, stands_failed}
-use Rattle.view_index.proofs.Removing.{failed_done, opened_by, removed, removed_empty}
+use Rattle.view_index.proofs.Removing.{removed}
 use Rattle.view_index.proofs.index.Index.remove.Goals as goal
 
 pub returns-in_err-file : goal.returns-in_err-file
