@@ -21,7 +21,7 @@ const FAILING: &[(u64, [u64; 2], &[u64])] = &[
 ];
 
 /// Puts a document `d` with this number, whose member `a` is a key.
-fn put(
+pub fn put(
     alloc: Global,
     bench: &mut Bench,
     number: u64,

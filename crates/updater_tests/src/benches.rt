@@ -1,5 +1,6 @@
 //! Documents, query servers and an index in memory: what is written, what is asked, and what the index shows after an update.
 
+use change_mapper::{DocRows, MappingFault, map_changes};
 use child_pool::{Pool, PoolFault};
 use crash_disk::MemoryFolder;
 use design_docs::{Design, DesignFault, read_design};
@@ -135,6 +136,27 @@ impl Bench {
         );
         *shown = text_shown(alloc, &index)?;
         done
+    }
+
+    /// Maps the documents that were written since a sequence.
+    pub fn map_since(
+        &mut self,
+        alloc: Global,
+        docs: &Docs,
+        seq: u64,
+    ) -> Result<Vec<DocRows>, MappingFault> {
+        if self.design.views.len() > MANY {
+            return Err(MappingFault::NoMemory);
+        }
+        map_changes(
+            alloc,
+            &mut self.folder,
+            &mut self.servers,
+            &mut self.pool,
+            docs,
+            &self.design,
+            seq,
+        )
     }
 }
 

@@ -1,0 +1,73 @@
+-- A picture is carried by each image that has all bytes behind the slots, and an open index stands for its own.
+use Rattle.std.proofs.Common.{◌≡◌, ℕ, ◌≤◌, List, [], Option, Some, None, refl, ap, subst}
+use Rattle.view_ports.specs.File.{File, IsImage, settled}
+use Rattle.view_ports.specs.Functions.{Functions}
+use Rattle.view_ports.specs.declared.file_name.FileName.{FileName}
+use Rattle.view_ports.specs.declared.file_name.Stem.{Stem}
+use Rattle.view_ports.proofs.Images.{IsImage-settled}
+use Rattle.gate_file.specs.declared.root.Root.{Root}
+use Rattle.gate_file.specs.Header.{data_start}
+use Rattle.gate_file.specs.Pair.{IsOfRoot, IsOpenFile}
+use Rattle.gate_file.specs.Shown.{HasAll}
+use Rattle.gate_file.proofs.FileFacts.{part_carried}
+use Rattle.gate_file.proofs.Images.{empty_stands}
+use Rattle.gate_file.proofs.Published.{file_stands}
+use Rattle.design_docs.specs.declared.design.View.{View}
+use Rattle.node_file.specs.RecordLaws.{carried}
+use Rattle.node_file.specs.Records.{node_at}
+use Rattle.view_model.specs.Picture.{Picture}
+use Rattle.index_items.specs.RootRecord.{root_bytes}
+use Rattle.index_trees.proofs.Holding.{trees_stay}
+use Rattle.tree_index.specs.declared.index.Index.{Index}
+use Rattle.tree_index.specs.Calls.{IsAt, IsOpen}
+use Rattle.tree_index.specs.Held.{HoldsIndex, HoldsPicture, HoldsRows, IsFileOf, Said, Spells}
+use Rattle.tree_index.specs.Index.{file_of, stem_of}
+
+-- what a root record says stands in each image that has its bytes
+pub spells_carried : (count : ℕ) (root : Root) (bytes image : List ℕ) (said : Said) → data_start ≤ root.offset → HasAll bytes image → Spells count root bytes said → Spells count root image said
+spells_carried count root bytes image said behind has spells = record {
+  part = part_carried bytes image has root.offset root.length (root_bytes said.seq said.views said.back) behind spells.part;
+  content = spells.content;
+}
+
+module _ (functions : Option Functions) (views : List View) where
+  pub rows_carried : (root : Root) (bytes image : List ℕ) (picture : Picture) → data_start ≤ root.offset → HasAll bytes image → HoldsRows functions views root bytes picture → HoldsRows functions views root image picture
+  rows_carried root bytes image picture behind has holds = record {
+    said = holds.said;
+    spells = spells_carried _ root bytes image holds.said behind has holds.spells;
+    seq = holds.seq;
+    rows = trees_stay functions views (node_at bytes) (node_at image) (holds.said).views (holds.said).back picture.rows (carried bytes image has) holds.rows;
+  }
+
+  module _ (bytes image : List ℕ) where
+    rootless : (picture : Option Picture) → HoldsPicture functions views None bytes picture → HoldsPicture functions views None image picture
+    rootless None holds = tt
+    rootless (Some picture) holds = holds
+
+    rooted : (root : Root) (picture : Option Picture) → data_start ≤ root.offset → HasAll bytes image → HoldsPicture functions views (Some root) bytes picture → HoldsPicture functions views (Some root) image picture
+    rooted root None behind has holds = holds
+    rooted root (Some picture) behind has holds = rows_carried root bytes image picture behind has holds
+
+  pub picture_of_root : IsOfRoot (HoldsPicture functions views)
+  picture_of_root = record {
+    rootless = λ bytes image picture holds. rootless bytes image picture holds;
+    rooted = λ root bytes image picture behind has holds. rooted bytes image root picture behind has holds;
+  }
+
+-- ---- an open index
+
+pub open_file : (index : Index) (files : FileName → File) → IsOpen index files → IsOpenFile (stem_of index) (file_of index) files
+open_file index files is = record { own = refl; keeps = is.keeps; other = is.other }
+
+pub index_stands : (functions : Option Functions) (views : List View) (index : Index) (files : FileName → File) (picture : Option Picture) → IsAt functions views index files picture → HoldsIndex functions views (stem_of index) files picture
+index_stands functions views index files picture at =
+    file_stands (stem_of index) (file_of index) files (open_file index files at.is_open) (HoldsPicture functions views) (picture_of_root functions views) picture at.holds
+
+-- files without bytes stand for no picture
+pub empty_stands_none : (functions : Option Functions) (views : List View) (stem : Stem) (files : FileName → File) → ((name : FileName) → IsFileOf stem name → files name ≡ settled []) → HoldsIndex functions views stem files None
+empty_stands_none functions views stem files empty = record {
+  images = λ image left.
+      empty_stands stem (HoldsPicture functions views) (picture_of_root functions views) image
+      (λ n of_pair. IsImage-settled [] (image n) (subst (λ f. IsImage f (image n)) (empty n of_pair) (left n of_pair))) None tt;
+  seen = empty_stands stem (HoldsPicture functions views) (picture_of_root functions views) (λ n. (files n).seen) (λ n of_pair. ap (λ (f : File). f.seen) (empty n of_pair)) None tt;
+}

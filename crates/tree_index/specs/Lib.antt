@@ -1,0 +1,14 @@
+pub mod Trees
+pub mod Sizes
+pub mod Told
+pub mod Faults
+pub mod Held
+pub mod Index
+pub mod Calls
+pub mod Opens
+pub mod Removes
+pub mod Replaces
+pub mod RowsRead
+pub mod Laws
+pub mod Walks
+pub mod InFile
