@@ -2,8 +2,6 @@
 #![tactic(auto)]
 
 #[cfg(test)]
-mod batch_tests;
-#[cfg(test)]
 mod damage_tests;
 #[cfg(test)]
 mod indexes;
@@ -11,5 +9,3 @@ mod indexes;
 mod run_tests;
 #[cfg(test)]
 mod scripts;
-#[cfg(test)]
-mod stop_tests;

@@ -1,4 +1,0 @@
-use Rattle.tree_index_tests.proofs.stop_tests.a_stop_leaves_the_last_commit_or_the_next.Given as goal
-
-abbrev pub ghosts-stop_everywhere : goal.ghosts-stop_everywhere
-ghosts-stop_everywhere a = record { name = a.blank.name; parts = a.blank.parts }
