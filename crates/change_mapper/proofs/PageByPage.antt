@@ -42,7 +42,8 @@ use Rattle.change_mapper.specs.Written.{documents_of, documents_since, AreLastWr
 use Rattle.change_mapper.proofs.ChangedSoFar.{taken_all}
 use Rattle.change_mapper.proofs.LastWrites.{last-append, page_last, rising-append, rising_page, rows_distinct}
 use Rattle.change_mapper.proofs.OnlyReading.{known_before, loaded_before, reads_then}
-use Rattle.change_mapper.proofs.Pages.{documents-append, front_none, mapped-append, rows-append, some-append}
+use Rattle.row_exchange.proofs.Updating.{changed_rows-append}
+use Rattle.change_mapper.proofs.Pages.{documents-append, front_none, mapped-append, some-append}
 use Rattle.change_mapper.proofs.ReadSoFar.{none_read, undamaged_all}
 
 abbrev pub refusal : MappingFault → Result (List DocRows) MappingFault
@@ -369,7 +370,7 @@ module _ {F C : Type 0} (f : Folders F) (s : Servers C) (docs : Docs) (design : 
           lists = (come.given).lists ++ others;
           mapped = mapped_then;
           each = length-append (come.given).lists others ∙ (λ i. (come.given).each i + each i) ∙ sym (length-append (mapped_of changes) (mapped_of page)) ∙ ap length (sym (mapped-append changes page));
-          rows_are = added ∙ ap (λ (r : List DocRows). r ++ page_rows) (come.given).rows_are ∙ sym (rows-append (length design.views) page others changes (come.given).lists (come.given).each);
+          rows_are = added ∙ ap (λ (r : List DocRows). r ++ page_rows) (come.given).rows_are ∙ sym (changed_rows-append (length design.views) page others changes (come.given).lists (come.given).each);
         };
         begun = begun ∙ ap (λ b. b || has_some (documents_of page)) come.begun ∙ some-append (documents_of changes) (documents_of page) ∙ ap has_some (sym (documents-append changes page));
         goes = λ history. subst (λ (n : ℕ). IfTold (f.disk old.folder) (λ d. AreAt docs d.now history → changes_after seq history ≡ (changes ++ page) ++ changes_after n history)) (sym after) (goes_on history);

@@ -6,10 +6,11 @@ use Rattle.view_ports.specs.Calls.{Call}
 use Rattle.view_ports.specs.Disk.{Tells}
 use Rattle.view_ports.specs.Faults.{Rose}
 use Rattle.view_ports.specs.Functions.{Functions}
+use Rattle.view_ports.specs.declared.file_name.FileName.{FileName}
 use Rattle.view_ports.specs.Lines.{ended}
 use Rattle.view_ports.proofs.DiskRuns.{moves_wider, none_wider}
-use Rattle.view_ports.proofs.Told.{told_all, told_map, told_now}
-use Rattle.view_groups.specs.Cleans.{IsIndexFile}
+use Rattle.view_ports.proofs.Told.{told_all, told_map, told_now, told_pair}
+use Rattle.tree_groups.specs.Cleans.{IsIndexFile}
 use Rattle.view_engine.specs.declared.engine.Engine.{Engine}
 use Rattle.view_engine.specs.declared.halt.StepFault.{StepFault}
 use Rattle.view_engine.specs.declared.halt.StepFault.TheVariants as halt
@@ -23,7 +24,7 @@ use Rattle.view_engine.specs.Refusals.{refusal_text, request_of}
 use Rattle.view_engine.specs.Steps.{Answers, Does, MayHaveCalled}
 use Rattle.view_engine.specs.Worlds.{HasRoomAt}
 use Rattle.view_engine.specs.Calls.{IsStep, Scene}
-use Rattle.view_engine.specs.Disks.{IsOnIndexes, IsReasonOf, LiesOpen, MovesIndexes, MovesIndexOf, SparesStep}
+use Rattle.view_engine.specs.Disks.{IsFitFor, IsOnIndexes, IsReasonOf, LiesOpen, MovesIndexes, MovesIndexOf, SparesStep}
 use Rattle.view_engine.specs.ViewQuery.{view_query}
 use Rattle.view_engine.specs.Worlds.{languages as languages_of}
 use Rattle.view_engine.proofs.Stepping.{step_damaged, step_filled, step_full, step_full_in, step_kept, step_room_left, step_sound, step_on, step_still, step_stopped}
@@ -72,9 +73,9 @@ spent_refused (Ok request) = tt
 spent_refused (Err refusal) = inr refl
 
 -- a fault of the disk is the folder's
-disk_rose : {F : Type 0} (f : Folders F) (engine : Engine) (old new : F) (request : Result Request Refusal) → IsReasonOf f engine old new request halt.DiskFault → Rose (f.faults old) (f.faults new)
-disk_rose f engine old new request (inl why) = why.0
-disk_rose f engine old new request (inr why) = absurd why
+disk_rose : {F : Type 0} (f : Folders F) (engine engine' : Engine) (old new : F) (request : Result Request Refusal) → IsReasonOf f engine engine' old new request halt.DiskFault → Rose (f.faults old) (f.faults new)
+disk_rose f engine engine' old new request (inl why) = why.0
+disk_rose f engine engine' old new request (inr why) = absurd why
 
 -- a view or a cleanup changes files of indexes alone
 index_files : {F : Type 0} (f : Folders F) (engine : Engine) (old new : F) (request : Result Request Refusal) → IsOnIndexes request → MovesIndexes f engine old new request → Tells (f.disk old) (f.disk new) MovesIndexFiles
@@ -90,9 +91,9 @@ module _ {F C : Type 0} {f : Folders F} {s : Servers C} {old new : Scene F C} {l
   -- a step of the engine that is done is an answer
   pub answered_by : start ≡ [] → IsStep f s old new line start out (Ok tt) → SparesStep f old.folder new.folder (Ok tt) → IsAnswered f s old new line out
   answered_by empty step spares = record {
-    answers = λ before at.
+    answers = λ before at fit.
         answered_done s.functions s.honest (languages_of old.engine) before (f.disk old.folder) (f.disk new.folder) (s.may_follow new.servers) (s.faults new.servers) new.engine line start out empty
-        (step.does before at);
+        (step.does before at fit);
     room = step_room step empty;
     prints = record {
       none = λ none. step.prints.none none ∙ empty;
@@ -113,9 +114,9 @@ module _ {F C : Type 0} {f : Folders F} {s : Servers C} {old new : Scene F C} {l
   -- where it had no memory the answer is a constant
   pub answered_constant : IsStep f s old new line start out (Err halt.NoMemory) → SparesStep f old.folder new.folder (Err halt.NoMemory) → IsAnswered f s old new line (ended (refusal_text NoMemory))
   answered_constant step spares = record {
-    answers = λ before at.
+    answers = λ before at fit.
         answered_spent s.functions s.honest (languages_of old.engine) before (f.disk old.folder) (f.disk new.folder) (s.may_follow new.servers) (s.faults new.servers) new.engine line step.asked
-        (step.does before at);
+        (step.does before at fit);
     room = λ before at. told_all (f.disk old.folder) (λ d. is_ok (ended (refusal_text NoMemory)) ≡ true → HasRoomAt d.now before.world (request_of line)) (λ d ok. absurd (constant_no_ok ok));
     prints = record { none = λ none. absurd (step.asked none); some = λ some. (refusal_text NoMemory, refusal_line NoMemory, refl); refused = λ some. spent_refused (request_of line) };
     counts = spent_counts line (step.asked) step;
@@ -132,19 +133,20 @@ module _ {F C : Type 0} {f : Folders F} {s : Servers C} {old new : Scene F C} {l
   pub unanswered_by : (fault : StepFault) → fault ≢ halt.NoMemory → LiesOpen f old.engine old.folder → IsStep f s old new line start out (Err fault) → SparesStep f old.folder new.folder (Err fault)
       → IsUnanswered f s old new line fault
   unanswered_by fault other is_open step spares = record {
-    halts = λ before at.
-        let stopped = step_stopped step before at other in
+    halts = λ before at fit.
+        let stopped = step_stopped step before at fit other in
         record {
           moments = stopped.0;
-          whole = step_sound step before at;
-          full = step_full step before at;
-          filled = step_filled step before at;
-          room = step_room_left step before at;
+          whole = told_pair (f.disk old.folder) (λ d. (name : FileName) (at : ℕ) → fault ≡ halt.Damaged name at → IsIndexFile name × (IsFitFor (request_of line) before.world → ⊥)) (λ d. IsFitFor (request_of line) before.world)
+              (λ d. (name : FileName) (at : ℕ) → fault ≡ halt.Damaged name at → ⊥) (λ d unsound is_fit name at is. (unsound name at is).1 is_fit) (step_sound step before at fit) fit;
+          full = step_full step before at fit;
+          filled = told_now (f.disk new.folder) _ _ (λ d full name length is view. (old.engine.cache, new.engine.cache, full name length is view)) (step_filled step before at fit);
+          room = step_room_left step before at fit;
           last = (stopped.1).after;
           called = (stopped.1).allowed;
           left = (stopped.1).child;
         };
-    cause = λ is. disk_rose f old.engine old.folder new.folder (request_of line) (subst (IsReasonOf f old.engine old.folder new.folder (request_of line)) is step.why);
+    cause = λ is. disk_rose f old.engine new.engine old.folder new.folder (request_of line) (subst (IsReasonOf f old.engine new.engine old.folder new.folder (request_of line)) is step.why);
     spares = λ apart. spares (λ is. apart (let same : fault ≡ halt.DiskFault = cc in same));
     found = record {
       halts = other;

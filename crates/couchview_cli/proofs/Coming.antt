@@ -1,10 +1,10 @@
 -- A session goes on by the lines that it answers, and comes to an end.
-use Rattle.std.specs.Prelude.{◌≡◌, ◌≢◌, ◌+◌, ◌*◌, ℕ, List, [], ◌∷◌, true, cond, Option, Result}
-use Rattle.std.proofs.Common.{refl, sym, ap, ◌∙◌, subst, arith}
+use Rattle.std.specs.Prelude.{◌≡◌, ◌≢◌, ◌⊎◌, ◌+◌, ◌++◌, ◌*◌, ℕ, List, [], ◌∷◌, true, cond, Option, Result}
+use Rattle.std.proofs.Common.{refl, sym, ap, ◌∙◌, subst, inl, inr, arith}
 use Rattle.view_ports.specs.declared.folder.Folder.{Ghosts as Folders}
 use Rattle.view_ports.specs.declared.servers.Servers.{Ghosts as Servers}
 use Rattle.view_ports.specs.Disk.{IfTold, LeavesOnly, MovesNone, Tells}
-use Rattle.view_ports.specs.Exchanges.{Exchange, LeadsTo}
+use Rattle.view_ports.specs.Exchanges.{Exchange, LeadsTo, lines_of}
 use Rattle.view_ports.specs.Faults.{Rose, RoseBy}
 use Rattle.view_ports.proofs.Counting.{Rose-earlier}
 use Rattle.view_ports.proofs.Moments.{joined, started}
@@ -19,7 +19,7 @@ use Rattle.doc_file.specs.Docs.{IsDocsFile}
 use Rattle.view_engine.specs.declared.halt.StepFault.{StepFault}
 use Rattle.view_engine.specs.declared.halt.StepFault.TheVariants.{DiskFault}
 use Rattle.view_engine.specs.declared.engine.Engine.{Engine}
-use Rattle.view_engine.specs.Disks.{LiesOpen}
+use Rattle.view_engine.specs.Disks.{IsFitFor, LiesOpen}
 use Rattle.view_engine.specs.Accepted.{is_ok, after_exchange, EachOk}
 use Rattle.view_engine.specs.declared.refusal.Refusal.{Refusal}
 use Rattle.view_engine.specs.declared.request.Request.{Request}
@@ -45,6 +45,7 @@ use Rattle.couchview_cli.specs.Serving.{width, HadRoom}
 use Rattle.couchview_cli.specs.Session.{HasCome, IsAnswered, IsUnanswered, KeepsPorts, Origin, StepsOf, scene_of}
 use Rattle.couchview_cli.proofs.Counting.{writes_more}
 use Rattle.couchview_cli.proofs.Keeping.{Answered-of}
+use Rattle.couchview_cli.proofs.Clashing.{first_of_lines, first_of_run, fit_or_met, meets, met_later, met_now, on_origin, one_of, prefix_then, HasMet}
 use Rattle.couchview_cli.proofs.Moving.{GoesSoundly, moved_line, moved_start, told_first, went_before, went_nowhere, WentOn}
 
 module _ {F C : Type 0} (f : Folders F) (s : Servers C) (origin : Origin) where
@@ -61,9 +62,9 @@ module _ {F C : Type 0} (f : Folders F) (s : Servers C) (origin : Origin) where
     pub grew : IfTold (f.disk old.folder) (λ d. GoesSoundly s.functions s.honest origin.languages before.world after.world)
     pub moments : Tells (f.disk old.folder) (f.disk new.folder) (LeavesOnly (StandsEither before.world after.world))
 
-  pub come_line : (old new : Scene F C) (before : Moment) (e : Exchange) → HasCome f s origin old before → IsAnswered f s old new e.line e.text → HasGone old new before e
-  come_line old new before e come answered =
-      let there = Answered-of origin.languages e.line come.languages (answered.answers before come.stands) in
+  pub come_line : (old new : Scene F C) (before : Moment) (e : Exchange) → HasCome f s origin old before → IfTold (f.disk old.folder) (λ d. IsFitFor (request_of e.line) before.world) → IsAnswered f s old new e.line e.text → HasGone old new before e
+  come_line old new before e come fit answered =
+      let there = Answered-of origin.languages e.line come.languages (answered.answers before come.stands fit) in
       let Step = Answers s.functions s.honest origin.languages before e there.after in
       let grew =
       told_now (f.disk old.folder) (λ d. Step) (λ d. GoesSoundly s.functions s.honest origin.languages before.world (there.after).world)
@@ -134,59 +135,91 @@ module _ {F C : Type 0} (f : Folders F) (s : Servers C) (origin : Origin) where
 module _ {F C : Type 0} (f : Folders F) (s : Servers C) (r : Responds (Session F C) StepFault)
     (answers : (old new : Session F C) (line : List ℕ) → r.answers old line new → KeepsPorts old new × IsAnswered f s (scene_of old) (scene_of new) line (r.text new))
     (stops : (old new : Session F C) (line : List ℕ) (fault : StepFault) → r.stops old line fault new → KeepsPorts old new × IsUnanswered f s (scene_of old) (scene_of new) line fault) where
+  -- lines that were answered lead on, or one of them asks for a view of designs that clash
   runs : (origin : Origin) (start last : Session F C) (before : Moment) (es : List Exchange) → HasCome f s origin (scene_of start) before → LeadsTo (Steps r) start es last
-      → HasRun f s origin (scene_of start) (scene_of last) before es
+      → HasRun f s origin (scene_of start) (scene_of last) before es ⊎ HasMet s.functions s.honest origin before es
   runs origin start last before [] come leads =
-      subst (λ (session : Session F C). HasRun f s origin (scene_of start) (scene_of session) before []) (sym leads) (run_none f s origin (scene_of start) before come)
+      inl (subst (λ (session : Session F C). HasRun f s origin (scene_of start) (scene_of session) before []) (sym leads) (run_none f s origin (scene_of start) before come))
   runs origin start last before (e ∷ es) come leads =
       let mid = leads.0 in
       let step = leads.1 in
       let answered = subst (λ (text : List ℕ). IsAnswered f s (scene_of start) (scene_of mid) e.line text) (sym step.1) (answers start mid e.line step.0).1 in
-      let gone = come_line f s origin (scene_of start) (scene_of mid) before e come answered in
-      run_line f s origin (scene_of start) (scene_of mid) (scene_of last) before e es come answered gone (runs origin mid last gone.after es gone.come leads.2)
+      elim (fit_or_met (f.disk start.folder.now) (request_of e.line) before.world) [
+        | inl fit ↦
+            (let gone = come_line f s origin (scene_of start) (scene_of mid) before e come fit answered in
+            elim (runs origin mid last gone.after es gone.come leads.2) [
+              | inl rest ↦ inl (run_line f s origin (scene_of start) (scene_of mid) (scene_of last) before e es come answered gone rest)
+              | inr met ↦ inr (met_later s.functions s.honest origin before e es gone.after gone.step met)
+            ])
+        | inr clash ↦ inr (met_now s.functions s.honest origin before e es (on_origin _ origin.disk (f.disk start.folder.now) (request_of e.line) before.world come.moved.moments clash))
+      ]
 
   -- what the loop over its lines did, from the origin
   pub comes : (origin : Origin) (start last : Session F C) (left left' held held' : Option (List ℕ)) (end : LoopEnd StepFault) → HasCome f s origin (scene_of start) (at_start origin.opening width origin.faults)
       → Loops r start last left left' held held' end → Comes f s origin (scene_of last) left left' held held' end
   comes origin start last left left' held held' (loop_end.Run end) come loops =
       let run = loops.ends.run in
-      let ran = runs origin start last (at_start origin.opening width origin.faults) run.exchanges come run.leads in
       record {
         bytes = loops.bytes;
         reads = loops.reads;
         counts = loops.counts;
-        ends = record {
-          gained = loops.ends.gained;
-          moment = ran.after;
-          run = record { exchanges = run.exchanges; lines = run.lines; rest = run.rest; cut = run.cut; answered = run.answered; leads = ran.leads; written = run.written };
-          has_come = ran.come;
-          fits = ran.fits;
-          wrote = loops.ends.wrote;
-        };
+        ends = elim (runs origin start last (at_start origin.opening width origin.faults) run.exchanges come run.leads) [
+          | inl ran ↦ inl (record {
+            gained = loops.ends.gained;
+            moment = ran.after;
+            run = record { exchanges = run.exchanges; lines = run.lines; rest = run.rest; cut = run.cut; answered = run.answered; leads = ran.leads; written = run.written };
+            has_come = ran.come;
+            fits = ran.fits;
+            wrote = loops.ends.wrote;
+          })
+          | inr met ↦ inr (meets s.functions s.honest origin run.exchanges loops.bytes run.lines run.rest run.cut (first_of_run _ end run.lines run.rest (lines_of run.exchanges) run.answered) met)
+        ];
       }
   comes origin start last left left' held held' (loop_end.Stopped fault) come loops =
       let cut = loops.ends in
-      let ran = runs origin start cut.mid (at_start origin.opening width origin.faults) cut.exchanges come cut.leads in
+      let all = first_of_lines _ cut.lines cut.rest (lines_of cut.exchanges ++ cut.line ∷ cut.more) cut.answered in
       record {
         bytes = loops.bytes;
         reads = loops.reads;
         counts = loops.counts;
-        ends = record {
-          exchanges = cut.exchanges;
-          lines = cut.lines;
-          rest = cut.rest;
-          line = cut.line;
-          more = cut.more;
-          mid = scene_of cut.mid;
-          moment = ran.after;
-          cut = cut.cut;
-          answered = cut.answered;
-          leads = ran.leads;
-          has_come = ran.come;
-          fits = ran.fits;
-          halts = (stops cut.mid last cut.line fault cut.stops).1;
-          wrote = cut.wrote;
-        };
+        ends = elim (runs origin start cut.mid (at_start origin.opening width origin.faults) cut.exchanges come cut.leads) [
+          | inl ran ↦ elim (fit_or_met (f.disk cut.mid.folder.now) (request_of cut.line) (ran.after).world) [
+            | inl fit ↦ inl (record {
+              exchanges = cut.exchanges;
+              lines = cut.lines;
+              rest = cut.rest;
+              line = cut.line;
+              more = cut.more;
+              mid = scene_of cut.mid;
+              moment = ran.after;
+              cut = cut.cut;
+              answered = cut.answered;
+              leads = ran.leads;
+              has_come = ran.come;
+              fits = ran.fits;
+              halts = (stops cut.mid last cut.line fault cut.stops).1;
+              fit = fit;
+              wrote = cut.wrote;
+            })
+            | inr clash ↦
+                (let on = on_origin _ origin.disk (f.disk cut.mid.folder.now) (request_of cut.line) (ran.after).world ran.come.moved.moments clash in
+                inr (record {
+                  told = on.told;
+                  is_told = on.is_told;
+                  exchanges = cut.exchanges;
+                  lines = cut.lines;
+                  rest = cut.rest;
+                  line = cut.line;
+                  moment = ran.after;
+                  cut = cut.cut;
+                  first = prefix_then (lines_of cut.exchanges ++ cut.line ∷ []) (lines_of cut.exchanges ++ cut.line ∷ cut.more) _ (one_of (lines_of cut.exchanges) cut.line cut.more) all;
+                  leads = ran.leads;
+                  asks = on.asks;
+                  clash = on.clash;
+                }))
+          ]
+          | inr met ↦ inr (meets s.functions s.honest origin cut.exchanges loops.bytes cut.lines cut.rest cut.cut (prefix_then (lines_of cut.exchanges) (lines_of cut.exchanges ++ cut.line ∷ cut.more) _ (cut.line ∷ cut.more, refl) all) met)
+        ];
       }
 
   -- each line that is answered has its reply

@@ -6,7 +6,6 @@ use Rattle.view_engine.specs.Moments.{Moment}
 use Rattle.view_engine.specs.declared.refusal.Refusal.{Refusal}
 use Rattle.view_engine.specs.declared.refusal.Refusal.TheVariants.{NoMemory}
 use Rattle.view_engine.specs.declared.request.Request.{Request}
-use Rattle.view_groups.specs.Cleans.{IsIndexFile}
 use Rattle.view_engine.specs.Refusals.{request_limit, refusal_text, request_of}
 use Rattle.view_ports.specs.Lines.{ended, kept}
 use Rattle.view_ports.proofs.KeptLines.{kept-cases, kept-nil, kept-none}
@@ -16,14 +15,15 @@ use Rattle.view_ports.specs.declared.file_name.FileName.{FileName}
 use Rattle.view_ports.proofs.Told.{told_now}
 use Rattle.view_engine.specs.declared.halt.StepFault.{StepFault}
 use Rattle.view_engine.specs.declared.halt.StepFault.TheVariants.{Damaged, DiskFault, Full}
+use Rattle.view_engine.specs.World.{World}
 use Rattle.view_engine.specs.Worlds.{update_seq, HasBodyDamage, HasRoomAt, IsFullAt, IsFullIn, StandsAround}
 use Rattle.view_ports.specs.declared.folder.Folder.{Ghosts as Folders}
 use Rattle.view_ports.specs.declared.servers.Servers.{Ghosts as Servers}
 use Rattle.view_engine.specs.Accepted.{is_ok}
 use Rattle.view_engine.specs.Calls.{Scene}
 use Rattle.view_engine.proofs.RequestLimit.{Answers-cut, request_limit-is, request_of-long}
-use Rattle.view_engine.specs.Disks.{ChangesFiles, IsOfIndex, IsOnIndexes, IsShapedFor, IsView, MeetsIndexDamageIn, ReadsDocuments}
-use Rattle.view_engine.specs.FullIndex.{IsIndexFullFor}
+use Rattle.view_engine.specs.Disks.{ChangesFiles, IsFitFor, IsOfIndex, IsOnIndexes, IsView, MeetsIndexDamageIn, ReadsDocuments}
+use Rattle.view_engine.specs.FullIndex.{IsIndexFullOf}
 use Rattle.view_engine.specs.Halts.{Writes}
 use Rattle.view_engine.specs.ServerFaults.{says_server_fault}
 use Rattle.couchview_cli.specs.Reading.{says_written, IsFoundOn}
@@ -77,9 +77,9 @@ module _ {functions : List ℕ → Functions} {honest : List ℕ → Type 0} {la
   pub IsHalted-kept : (line : List ℕ) → IsHalted functions honest languages fault old new before (kept request_limit line) HasLeft → IsHalted functions honest languages fault old new before line HasLeft
   IsHalted-kept line halted = record {
     moments = subst (λ r. Tells old new (LeavesOnly (StandsAround functions honest languages before.world r))) (request_kept line) halted.moments;
-    whole = subst (λ r. IfTold old (λ d. (name : FileName) (at : ℕ) → fault ≡ Damaged name at → IsIndexFile name × (IsShapedFor r before.world → ⊥))) (request_kept line) halted.whole;
+    whole = halted.whole;
     full = subst (λ r. IfTold old (λ d. (name : FileName) (length : Option ℕ) → fault ≡ Full name length → IsFullAt d.now before.world r name length ⊎ IsOfIndex r name)) (request_kept line) halted.full;
-    filled = subst (λ r. IfTold new (λ d. (name : FileName) (length : Option ℕ) → fault ≡ Full name length → IsView r → IsIndexFullFor functions honest languages d.now before.world r name length)) (request_kept line) halted.filled;
+    filled = subst (λ r. IfTold new (λ d. (name : FileName) (length : Option ℕ) → fault ≡ Full name length → IsView r → IsIndexFullOf functions honest languages d.now before.world r name length)) (request_kept line) halted.filled;
     room = subst (λ r. IfTold old (λ d. fault ≡ DiskFault → HasRoomAt d.now before.world r)) (request_kept line) halted.room;
     last = halted.last;
     called = subst (λ r. IfTold old (λ d. MayHaveCalled functions honest languages before r halted.last)) (request_kept line) halted.called;
@@ -103,9 +103,13 @@ found_kept : {before now : Told} {fault : StepFault} (line : List ℕ) → IsFou
 found_kept {before = before} {now = now} line found = record {
   halts = found.halts;
   asks = subst (λ request. IfErr request (λ refusal. ⊥)) (request_kept line) found.asks;
-  damaged = λ name at is. subst (λ request. (ReadsDocuments request × IfTold now (λ d. HasBodyDamage d.now name at)) ⊎ (IsOnIndexes request × IfTold before (λ d. MeetsIndexDamageIn d.now request name at))) (request_kept line) (found.damaged name at is);
+  damaged = λ name at is. subst (λ request. (ReadsDocuments request × IfTold now (λ d. HasBodyDamage d.now name at)) ⊎ (IsOnIndexes request × Tells before now (λ a b. MeetsIndexDamageIn a.now b.now request name at))) (request_kept line) (found.damaged name at is);
   full = λ name length is. subst (λ request. (Writes request × IfTold now (λ d. IsFullIn d.now request name length)) ⊎ IsOfIndex request name) (request_kept line) (found.full name length is);
 }
+
+-- what is supposed for a line's request is supposed for that of what is kept of it
+fit_kept : (old : Told) (line : List ℕ) (world : World) → IfTold old (λ d. IsFitFor (request_of line) world) → IfTold old (λ d. IsFitFor (request_of (kept request_limit line)) world)
+fit_kept old line world fit = subst (λ request. IfTold old (λ d. IsFitFor request world)) (sym (request_kept line)) fit
 
 -- what a responder is given of a line is what is kept of it
 is_kept : (line given : List ℕ) → given ≡ kept 2097152 line → given ≡ kept request_limit line
@@ -115,9 +119,9 @@ module _ {F C : Type 0} {f : Folders F} {s : Servers C} {old new : Scene F C} (l
   pub answered_whole : (text : List ℕ) → IsAnswered f s old new given text → IsAnswered f s old new line text
   answered_whole text answered =
       let kept_answered : IsAnswered f s old new (kept request_limit line) text = subst (λ (l : List ℕ). IsAnswered f s old new l text) (is_kept line given is) answered in
-      record { answers = λ before at. Answered-kept line (kept_answered.answers before at); room = λ before at. subst (λ request. IfTold (f.disk old.folder) (λ d. is_ok text ≡ true → HasRoomAt d.now before.world request)) (request_kept line) (kept_answered.room before at); prints = replied_kept line text kept_answered.prints; counts = subst (λ request. update_seq new.engine ≡ update_seq old.engine + cond (says_written request text) 1 0) (request_kept line) kept_answered.counts; blames = λ fault. kept_answered.blames (ap (λ request. says_server_fault request text) (request_kept line) ∙ fault); still = unless_kept ChangesFiles line kept_answered.still; own = unless_kept IsOnIndexes line kept_answered.own; on = answered.on; is_open = answered.is_open; spares = answered.spares; stays = answered.stays }
+      record { answers = λ before at fit. Answered-kept line (kept_answered.answers before at (fit_kept (f.disk old.folder) line before.world fit)); room = λ before at. subst (λ request. IfTold (f.disk old.folder) (λ d. is_ok text ≡ true → HasRoomAt d.now before.world request)) (request_kept line) (kept_answered.room before at); prints = replied_kept line text kept_answered.prints; counts = subst (λ request. update_seq new.engine ≡ update_seq old.engine + cond (says_written request text) 1 0) (request_kept line) kept_answered.counts; blames = λ fault. kept_answered.blames (ap (λ request. says_server_fault request text) (request_kept line) ∙ fault); still = unless_kept ChangesFiles line kept_answered.still; own = unless_kept IsOnIndexes line kept_answered.own; on = answered.on; is_open = answered.is_open; spares = answered.spares; stays = answered.stays }
 
   pub unanswered_whole : (fault : StepFault) → IsUnanswered f s old new given fault → IsUnanswered f s old new line fault
   unanswered_whole fault cut =
       let kept_unanswered : IsUnanswered f s old new (kept request_limit line) fault = subst (λ (l : List ℕ). IsUnanswered f s old new l fault) (is_kept line given is) cut in
-      record { halts = λ before at. IsHalted-kept line (kept_unanswered.halts before at); cause = cut.cause; spares = cut.spares; found = found_kept line kept_unanswered.found; own = unless_kept IsOnIndexes line kept_unanswered.own; on = cut.on; still = unless_kept ChangesFiles line kept_unanswered.still; kept = λ other. unless_kept IsOnIndexes line (kept_unanswered.kept other); indexed = λ is. kept_unanswered.indexed (subst IsOnIndexes (sym (request_kept line)) is); stays = cut.stays }
+      record { halts = λ before at fit. IsHalted-kept line (kept_unanswered.halts before at (fit_kept (f.disk old.folder) line before.world fit)); cause = cut.cause; spares = cut.spares; found = found_kept line kept_unanswered.found; own = unless_kept IsOnIndexes line kept_unanswered.own; on = cut.on; still = unless_kept ChangesFiles line kept_unanswered.still; kept = λ other. unless_kept IsOnIndexes line (kept_unanswered.kept other); indexed = λ is. kept_unanswered.indexed (subst IsOnIndexes (sym (request_kept line)) is); stays = cut.stays }

@@ -3,6 +3,7 @@ pub mod Keeping
 pub mod Counting
 pub mod Answering
 pub mod Replying
+pub mod Clashing
 pub mod Coming
 pub mod Naming
 pub mod Served
@@ -16,6 +17,7 @@ pub mod LoadMeaning
 pub mod LoadRequests
 pub mod LoadSame
 pub mod LoadWhole
+pub mod LoadFits
 pub mod LoadPuts
 pub mod FreshAnswer
 pub mod LoadServing

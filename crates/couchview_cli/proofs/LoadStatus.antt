@@ -1,11 +1,12 @@
--- A load is done, unless a port fails, memory runs out, a file is full or damaged, or the folder has writes.
+-- A load is done, unless a port fails, memory runs out, a file is full, or the folder has writes.
 use Rattle.std.specs.Prelude.{◌≡◌, ◌⊎◌, ℕ, List, [], Option}
-use Rattle.std.proofs.Common.{sym, ◌∙◌, inl, inr}
+use Rattle.std.proofs.Common.{sym, ◌∙◌, subst, inl, inr}
 use Rattle.view_ports.specs.Calls.{Call}
 use Rattle.view_ports.specs.Disk.{IfTold}
 use Rattle.view_ports.specs.Functions.{Functions}
 use Rattle.view_ports.specs.declared.file_name.FileName.{FileName}
 use Rattle.view_ports.proofs.Told.{told_all, told_now}
+use Rattle.view_engine.specs.declared.halt.StepFault.{StepFault}
 use Rattle.view_engine.specs.declared.halt.StepFault.TheVariants.{Damaged, DiskFault, NoMemory}
 use Rattle.view_engine.specs.World.{World}
 use Rattle.couchview_cli.specs.Loading.{IsPrinted, LoadEndsAtFile, Loads}
@@ -28,7 +29,9 @@ module _ (functions : List ℕ → Functions) (honest : List ℕ → Type 0) (do
   pub whole_load : Loads functions honest docs seed opening before after AtEnd status → IfTold before.disk (λ d. IsWhole status)
   whole_load (inl (none, inl all)) = told_all before.disk _ (λ d. printed before.held after.held _ status all.prints sink)
   whole_load (inl (none, inr (inl cut))) =
-      told_all before.disk _ (λ d. wider status (closed before.held after.held [] cut.fault status cut.closes (λ name at is. file (cut, inr (name, at, is))) (λ name size is. file (cut, inl (name, size, is))) disk sink))
+      told_now before.disk (λ d. (name : FileName) (at : ℕ) → cut.fault ≡ Damaged name at → ⊥) _
+      (λ d whole. wider status (closed before.held after.held [] cut.fault status cut.closes whole (λ name size is. file (cut, (name, size, is))) disk sink))
+      (subst (λ (fault : StepFault). IfTold before.disk (λ d. (name : FileName) (at : ℕ) → fault ≡ Damaged name at → ⊥)) cut.is cut.cut.whole)
   whole_load (inl (none, inr (inr (inl unread)))) =
       told_now before.disk (λ d. unread.fault ≡ DiskFault) _
       (λ d is. wider status (closed before.held after.held [] unread.fault status unread.closes (λ name at damaged. let never : ⊥ = not_damaged name at (sym is ∙ damaged) in never) unread.room disk sink)) unread.whole

@@ -29,12 +29,16 @@ use Rattle.view_engine.specs.World.{World}
 use Rattle.view_engine.specs.Worlds.{at_start, Holds, IsAtWorld, StandsFor, width as width_of}
 use Rattle.view_engine.proofs.Worlds.{holds_at}
 use Rattle.load_lines.specs.Lines.{first_lines, second_lines}
+use Rattle.std.specs.Io.KnownBytes.{IsAtEnd}
+use Rattle.line_loop.specs.declared.loop_end.LoopEnd.{LoopEnd}
 use Rattle.couchview_cli.specs.Closing.{Closes, closing_of, fault_status}
+use Rattle.couchview_cli.specs.Ends.{Comes, EndsBy}
 use Rattle.couchview_cli.specs.Loading.{first_view, fresh_answer, info_place, load_lines, load_text, reply_to, second_view, HasBegun, HasServed, HasWant, IsCut, IsIdle, IsPrinted, IsUnread, Loads, NoneWants}
 use Rattle.couchview_cli.specs.Replied.{IsReplied}
 use Rattle.couchview_cli.specs.Serving.{AreLeft, IsCutShort, Outside, Steps, width}
 use Rattle.couchview_cli.specs.Session.{IsAtOrigin, Origin}
 use Rattle.couchview_cli.specs.Showing.{HasComeTo, HasNotRead, HasRunTo, HasShown, RunsOut, StopsEarly, IsShown, NoneIsWant, reply_at}
+use Rattle.couchview_cli.proofs.LoadFits.{never_clashes}
 use Rattle.couchview_cli.proofs.LoadPuts.{each_put}
 use Rattle.couchview_cli.proofs.LoadRequests.{each_line, each_some}
 use Rattle.couchview_cli.proofs.LoadWhole.{second_is_fresh}
@@ -110,6 +114,13 @@ module _ {F C : Type 0} (f : Folders F) (s : Servers C) (docs seed : ℕ) (openi
   replied a e b step = step.0
 
   module _ (low : seed < 2 ^ 31) (few : docs ≤ 20000) (none : IfTold before.disk (λ d. opening.history ≡ [])) (at : IsAtOrigin f s origin start) where
+    -- designs of a load never clash, so a session over its lines came to its end
+    ends_of : {now : Scene F C} {end : LoopEnd StepFault} {left held held' : Option (List ℕ)} (came : Comes f s origin now (Some text) left held held' end) → EndsBy f s origin (IsAtEnd left) held held' came.bytes now end
+    ends_of {now} {end} {left} {held} {held'} came = elim came.ends [
+      | inl ends ↦ ends
+      | inr clash ↦ absurd (never_clashes s.functions s.honest opening before.disk before.faults docs seed low few none left came.bytes came.reads clash)
+    ]
+
     -- lines were served, and the documents read
     abbrev begun : (gained : List ℕ) (end : RunEnd) → HasRunTo f s start text last gained end → HasBegun s.functions s.honest docs seed opening before after AtEnd (status_of end)
     begun gained end ran =
@@ -119,18 +130,18 @@ module _ {F C : Type 0} (f : Folders F) (s : Servers C) (docs seed : ℕ) (openi
           gained = Some gained;
           disk = f.disk ran.mid;
           disk_faults = f.faults ran.mid;
-          served = finished_at [] opening f s first ran.come.left (Some gained) (scene last.engine ran.mid last.servers) (scene stopped.engine ran.mid stopped.servers) stops wide same refl came.bytes end came.reads came.counts came.ends;
+          served = finished_at [] opening f s first ran.come.left (Some gained) (scene last.engine ran.mid last.servers) (scene stopped.engine ran.mid stopped.servers) stops wide same refl came.bytes end came.reads came.counts (ends_of came);
           read = ran.read;
         }
 
     lines_served : (gained : List ℕ) (ran : HasRunTo f s start text last gained InputEnded) → lines_of (begun gained InputEnded ran).served.runs.exchanges ≡ load_lines docs seed
     lines_served gained ran =
         let came = ran.come.come origin at in
-        run_lines Step _ (at_start opening width before.faults) came.ends.moment (load_lines docs seed) came.bytes came.ends.gained ran.come.left (each_line docs seed low few) came.reads (ran.come.over refl) came.ends.run
+        run_lines Step _ (at_start opening width before.faults) (ends_of came).moment (load_lines docs seed) came.bytes (ends_of came).gained ran.come.left (each_line docs seed low few) came.reads (ran.come.over refl) (ends_of came).run
 
     none_refused : (gained : List ℕ) (ran : HasRunTo f s start text last gained InputEnded) → NoneIsWant gained → NoneWants (begun gained InputEnded ran).served.runs.exchanges
     none_refused gained ran done =
-        let ended_ = (ran.come.come origin at).ends in
+        let ended_ = ends_of (ran.come.come origin at) in
         none_wants gained ended_.run.exchanges (written_of Step replied (at_start opening width before.faults) ended_.moment ended_.run.exchanges ended_.run.leads) (ended_.wrote ∙ ended_.run.written) done
 
     abbrev served : (gained : List ℕ) → HasRunTo f s start text last gained InputEnded → NoneIsWant gained → HasServed s.functions s.honest docs seed opening before after AtEnd
@@ -140,7 +151,7 @@ module _ {F C : Type 0} (f : Folders F) (s : Servers C) (docs seed : ℕ) (openi
     pub loads_all : (shown : List ℕ) (status : ℕ) → HasShown f s start text docs seed last shown → IsPrinted before.held held shown status → Does status
     loads_all shown status has prints =
         let mid = has.ran.mid in
-        let ended_ = (has.ran.come.come origin at).ends in
+        let ended_ = ends_of (has.ran.come.come origin at) in
         let run = ended_.run in
         let moment = ended_.moment in
         let start_ = at_start opening width before.faults in
@@ -193,7 +204,7 @@ module _ {F C : Type 0} (f : Folders F) (s : Servers C) (docs seed : ℕ) (openi
           → IsCutShort s.functions s.honest [] opening first (record after { left = came.left; held = ended_by (Some gained) fault }) AtEnd (fault_status fault)
       cut_at gained fault came =
           let came_ = came.come origin at in
-          cut_now [] opening f s first came.left (ended_by (Some gained) fault) last (scene stopped.engine last.folder stopped.servers) stops wide same refl (Some gained) came_.bytes fault (fault_status fault) came_.reads came_.counts (line_cause gained fault came) came_.ends (closes_by (Some gained) fault)
+          cut_now [] opening f s first came.left (ended_by (Some gained) fault) last (scene stopped.engine last.folder stopped.servers) stops wide same refl (Some gained) came_.bytes fault (fault_status fault) came_.reads came_.counts (line_cause gained fault came) (ends_of came_) (closes_by (Some gained) fault)
 
       read_cause : (mid : F) (fault : StepFault) → f.faults start.folder ≤ f.faults mid → IsReadReasonOf f last.engine mid last.folder fault → fault ≡ DiskFault → Rose before.disk_faults (f.faults last.folder)
       read_cause mid fault later why is =
@@ -202,7 +213,7 @@ module _ {F C : Type 0} (f : Folders F) (s : Servers C) (docs seed : ℕ) (openi
       unread : (fault : StepFault) (status : ℕ) → fault ≢ NoMemory → HasNotRead f s start text last fault → Closes before.held held [] fault status → IsUnread s.functions s.honest docs seed opening before after AtEnd status
       unread fault status other is closes =
           let mid = is.ran.mid in
-          let ended_ = (is.ran.come.come origin at).ends in
+          let ended_ = ends_of (is.ran.come.come origin at) in
           record {
             fault = fault;
             ran = served is.gained is.ran is.done;
@@ -228,13 +239,13 @@ module _ {F C : Type 0} (f : Folders F) (s : Servers C) (docs seed : ℕ) (openi
       given_up (inl still) = inl (idle still)
       given_up (inr (inl (gained, end, ran, counted))) = inr (inl (status_of end, begun gained end ran))
       given_up (inr (inr (gained, met, came, want))) =
-          let off = (came.come origin at).ends in
+          let off = ends_of (came.come origin at) in
           inr (inr (record { left = came.left; gained = ended_by (Some gained) met; status = fault_status met; cut = cut_at gained met came; wants = subst HasWant off.wrote want }))
 
       -- something was in the way
       pub loads_not : (fault : StepFault) (status : ℕ) → StopsEarly f s start text last fault → Closes before.held held [] fault status → Does status
       loads_not fault status (inl (gained, came, done)) closes =
-          let off = (came.come origin at).ends in
+          let off = ends_of (came.come origin at) in
           inl (
             none,
             inr (inl (record {

@@ -19,10 +19,8 @@ use Rattle.view_engine.specs.Engine.{HasStopped}
 use Rattle.view_engine.specs.Moments.{Moment}
 use Rattle.view_engine.specs.Accepted.{accepted}
 use Rattle.view_engine.specs.Steps.{Answers, MayHaveCalled}
-use Rattle.view_engine.specs.Disks.{IsShapedFor}
 use Rattle.view_engine.specs.World.{World}
 use Rattle.view_engine.specs.Worlds.{at_start, StandsAround, StandsFor, width as width_of}
-use Rattle.view_groups.specs.Cleans.{IsIndexFile}
 use Rattle.view_engine.proofs.AcceptedWrites.{LeadsTo-accepted}
 use Rattle.view_engine.proofs.Worlds.{holds_at, images_at}
 use Rattle.couchview_cli.specs.Closing.{Closes}
@@ -109,7 +107,7 @@ module _ (languages : List (List ℕ × List ℕ)) (opening : World) where
         → IsCutShort s.functions s.honest languages opening before (after_at now.folder) (AreLeft (s.may_follow stopped.servers)) status
     cut_now mid bytes fault status reads counts cause off closes =
         let come = off.has_come in
-        let halted = IsHalted-of languages off.line come.languages (off.halts.halts off.moment come.stands) in
+        let halted = IsHalted-of languages off.line come.languages (off.halts.halts off.moment come.stands off.fit) in
         let old = f.disk off.mid.folder in
         let new = f.disk now.folder in
         let begun = origin_of languages opening before in
@@ -133,7 +131,7 @@ module _ (languages : List (List ℕ × List ℕ)) (opening : World) where
           closes = closes_after before.held mid held (text_of off.exchanges) fault status off.wrote closes;
           halts = off.halts.found.halts;
           cause = cause;
-          whole = told_first s.functions s.honest begun old new world come.moved ((name : FileName) (at : ℕ) → fault ≡ Damaged name at → IsIndexFile name × (IsShapedFor (request_of off.line) world → ⊥)) halted.whole;
+          whole = told_first s.functions s.honest begun old new world come.moved ((name : FileName) (at : ℕ) → fault ≡ Damaged name at → ⊥) halted.whole;
           mid = old;
           until = come.moved.moments;
           holds = holds_at old (s.may_follow off.mid.servers) (s.faults off.mid.servers) off.mid.engine off.moment come.stands;

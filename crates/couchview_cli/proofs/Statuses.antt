@@ -17,7 +17,7 @@ use Rattle.view_engine.specs.declared.halt.StepFault.TheVariants.{DiskFault, Dam
 use Rattle.view_engine.specs.World.{World}
 use Rattle.couchview_cli.specs.Closing.{Closes, fault_status}
 use Rattle.couchview_cli.specs.Reading.{AnswersLines}
-use Rattle.couchview_cli.specs.Serving.{EndsAtFile, IsShort, Outside, Serves, StopsAtLimit}
+use Rattle.couchview_cli.specs.Serving.{Clashes, EndsAtFile, IsShort, Outside, Serves, StopsAtLimit}
 
 -- no run ends with the status of words that are no command
 pub fault_no_usage : (fault : StepFault) → fault_status fault ≢ 2
@@ -126,22 +126,25 @@ closed before after text fault status (inl written) whole room disk sink = fault
 closed before after text fault status (inr failed) whole room disk sink = absurd (sink failed.0)
 
 module _ {functions : List ℕ → Functions} {honest : List ℕ → Type 0} {languages : List (List ℕ × List ℕ)} {opening : World} {AtEnd : List Call → Type 0} (before after : Outside) (status : ℕ) where
-  -- input that is short enough is read to its end, unless a port fails, memory runs out, or a full file or a damaged index ends the run
+  -- input that is short enough is read to its end, unless a port fails, memory runs out, a full file ends the run, or designs clash
   complete_of : Serves functions honest languages opening before after AtEnd status → IsShort before.left → (status ≡ 3 → ⊥) → (status ≡ 4 → ⊥) → (status ≡ 5 → ⊥)
-      → (EndsAtFile functions honest languages opening before after AtEnd status → ⊥) → IfTold before.disk (λ d. (status ≡ 0) ⊎ (status ≡ 6))
-  complete_of (inl finishes) short disk sink source roomy =
+      → (EndsAtFile functions honest languages opening before after AtEnd status → ⊥) → (Clashes functions honest languages opening before after → ⊥) → IfTold before.disk (λ d. (status ≡ 0) ⊎ (status ≡ 6))
+  complete_of (inl finishes) short disk sink source roomy apart =
       told_all before.disk _ (λ d. complete finishes.end status (length finishes.bytes) finishes.ends finishes.counts (consumed_short before.left after.left finishes.bytes finishes.reads short) sink source)
-  complete_of (inr (inl cut)) short disk sink source roomy =
-      told_all before.disk _ (λ d. closed before.held after.held (text_of cut.exchanges) cut.fault status cut.closes (λ name at is. roomy (cut, inr (name, at, is))) (λ name size is. roomy (cut, inl (name, size, is))) disk sink)
-  complete_of (inr (inr unopened)) short disk sink source roomy =
+  complete_of (inr (inl cut)) short disk sink source roomy apart =
+      told_now before.disk (λ d. (name : FileName) (at : ℕ) → cut.fault ≡ Damaged name at → ⊥) _
+      (λ d whole. closed before.held after.held (text_of cut.exchanges) cut.fault status cut.closes whole (λ name size is. roomy (cut, (name, size, is))) disk sink) cut.whole
+  complete_of (inr (inr (inl unopened))) short disk sink source roomy apart =
       told_now before.disk (λ d. (name : FileName) (at : ℕ) → unopened.fault ≡ Damaged name at → ⊥) _
       (λ d whole. closed before.held after.held [] unopened.fault status unopened.closes whole unopened.room disk sink) unopened.whole
+  complete_of (inr (inr (inr clash))) short disk sink source roomy apart = absurd (apart clash)
 
   -- the same where the languages are named in another way
   pub Serves-complete : {named : List (List ℕ × List ℕ)} → languages ≡ named → Serves functions honest languages opening before after AtEnd status → IsShort before.left → (status ≡ 3 → ⊥) → (status ≡ 4 → ⊥) → (status ≡ 5 → ⊥)
-      → (EndsAtFile functions honest named opening before after AtEnd status → ⊥) → IfTold before.disk (λ d. (status ≡ 0) ⊎ (status ≡ 6))
-  Serves-complete same serves short disk sink source roomy =
+      → (EndsAtFile functions honest named opening before after AtEnd status → ⊥) → (Clashes functions honest named opening before after → ⊥) → IfTold before.disk (λ d. (status ≡ 0) ⊎ (status ≡ 6))
+  Serves-complete same serves short disk sink source roomy apart =
       complete_of serves short disk sink source (λ full. roomy (subst (λ (ls : List (List ℕ × List ℕ)). EndsAtFile functions honest ls opening before after AtEnd status) same full))
+      (λ clash. apart (subst (λ (ls : List (List ℕ × List ℕ)). Clashes functions honest ls opening before after) same clash))
 
 -- a run that read as many bytes as a run reads at most ends there
 pub limited : (before after : Outside) (status : ℕ) → AnswersLines before after status → StopsAtLimit before.left after.left status

@@ -30,9 +30,9 @@ closing_of (Damaged name offset) = about_file (codes "damaged") name (decimal of
 closing_of (Full name length) = about_file (codes "full") name (limit_text length)
 closing_of NoMemory = []
 
--- a file is full, or damaged
-abbrev pub IsOfFile : StepFault → Type 0
-IsOfFile fault = ((name : FileName) × (length : Option ℕ) × (fault ≡ Full name length)) ⊎ ((name : FileName) × (at : ℕ) × (fault ≡ Damaged name at))
+-- a file is full
+abbrev pub IsOfFull : StepFault → Type 0
+IsOfFull fault = (name : FileName) × (length : Option ℕ) × (fault ≡ Full name length)
 
 -- the sink gained the text and the last line, or it failed in the last line
 abbrev pub Closes : Option (List ℕ) → Option (List ℕ) → List ℕ → StepFault → ℕ → Type 0

@@ -1,9 +1,10 @@
 -- How the run of a session ends.
-use Rattle.std.specs.Prelude.{ℕ, List, ◌∷◌, ◌++◌, Option, length}
+use Rattle.std.specs.Prelude.{◌⊎◌, ℕ, List, ◌∷◌, ◌++◌, Option, length}
 use Rattle.std.specs.Io.KnownBytes.{Appends, Consumes, IsAtEnd}
 use Rattle.view_ports.specs.declared.run_end.RunEnd.{RunEnd}
 use Rattle.view_ports.specs.declared.folder.Folder.{Ghosts as Folders}
 use Rattle.view_ports.specs.declared.servers.Servers.{Ghosts as Servers}
+use Rattle.view_ports.specs.Disk.{IfTold}
 use Rattle.view_ports.specs.Exchanges.{Exchange, LeadsTo, lines_of, text_of}
 use Rattle.view_ports.specs.Lines.{IsCut}
 use Rattle.view_ports.specs.Runs.{AreLines, Run}
@@ -12,9 +13,11 @@ use Rattle.line_loop.specs.declared.loop_end.LoopEnd.TheVariants as loop_end
 use Rattle.line_loop.specs.Loops.{HasReadBy}
 use Rattle.view_engine.specs.declared.halt.StepFault.{StepFault}
 use Rattle.view_engine.specs.Calls.{Scene}
+use Rattle.view_engine.specs.Disks.{IsFitFor}
 use Rattle.view_engine.specs.Moments.{Moment}
+use Rattle.view_engine.specs.Refusals.{request_of}
 use Rattle.view_engine.specs.Worlds.{at_start}
-use Rattle.couchview_cli.specs.Serving.{HaveRoom, width}
+use Rattle.couchview_cli.specs.Serving.{HaveRoom, MeetsClash, width}
 use Rattle.couchview_cli.specs.Session.{HasCome, IsUnanswered, Origin, StepsOf}
 
 module _ {F C : Type 0} (f : Folders F) (s : Servers C) (origin : Origin) (IsOver : Type 0) (held now : Option (List ℕ)) (bytes : List ℕ) (after : Scene F C) where
@@ -42,15 +45,16 @@ module _ {F C : Type 0} (f : Folders F) (s : Servers C) (origin : Origin) (IsOve
     pub has_come : HasCome f s origin mid moment
     pub fits : HaveRoom s.functions s.honest origin.languages origin.opening moment.world origin.disk (f.disk mid.folder) exchanges
     pub halts : IsUnanswered f s mid after line fault
+    pub fit : IfTold (f.disk mid.folder) (λ d. IsFitFor (request_of line) (moment.world))
     pub wrote : Appends held now (text_of exchanges)
 
   abbrev pub EndsBy : LoopEnd StepFault → Type 0
   EndsBy (loop_end.Run end) = Ended end
   EndsBy (loop_end.Stopped fault) = CutOff fault
 
--- a session that began at the origin read the bytes that the source lost, and came to this end
+-- a session that began at the origin read the bytes that the source lost, and came to this end, or met designs that clash
 pub record Comes {F C : Type 0} (f : Folders F) (s : Servers C) (origin : Origin) (after : Scene F C) (left left' held held' : Option (List ℕ)) (end : LoopEnd StepFault) : Type 0 where
   pub bytes : List ℕ
   pub reads : Consumes left left' bytes
   pub counts : HasReadBy end (length bytes)
-  pub ends : EndsBy f s origin (IsAtEnd left') held held' bytes after end
+  pub ends : EndsBy f s origin (IsAtEnd left') held held' bytes after end ⊎ MeetsClash s.functions s.honest origin.languages origin.opening origin.disk origin.faults bytes

@@ -35,7 +35,7 @@ use Rattle.view_engine.specs.World.{World}
 use Rattle.view_engine.specs.Worlds.{HasBodyDamage, Holds, StandsFor}
 use Rattle.load_lines.specs.Documents.{load_map}
 use Rattle.load_lines.specs.Lines.{first_lines, info_line, second_lines, view_line}
-use Rattle.couchview_cli.specs.Closing.{Closes, fault_status, IsOfFile}
+use Rattle.couchview_cli.specs.Closing.{Closes, fault_status, IsOfFull}
 use Rattle.couchview_cli.specs.Reading.{HasReplied, IsOpenAt, ReadsNothing, Told}
 use Rattle.couchview_cli.specs.Serving.{Finishes, IsCutShort, IsUnopened, Outside}
 
@@ -173,9 +173,9 @@ module _ (functions : List ℕ → Functions) (honest : List ℕ → Type 0) (do
   Loads status = (IfTold before.disk (λ d. opening.history ≡ []) × (LoadsAll status ⊎ (IsLoadCut status ⊎ (IsUnread status ⊎ IsGivenUp status))))
       ⊎ (HasWrites status ⊎ IsUnopened functions honest [] opening before after AtEnd status)
 
-  -- a file that is full cuts it short, or an index that is damaged
+  -- a file that is full cuts it short
   abbrev pub LoadEndsAtFile : ℕ → Type 0
-  LoadEndsAtFile status = (cut : IsLoadCut status) × IsOfFile cut.fault
+  LoadEndsAtFile status = (cut : IsLoadCut status) × IsOfFull cut.fault
 
 -- ---- whatever the folder holds
 

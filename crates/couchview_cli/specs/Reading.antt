@@ -12,7 +12,7 @@ use Rattle.view_ports.specs.Runs.{AreLines, HasRead, Run, input_limit, status_of
 use Rattle.line_loop.specs.declared.loop_end.LoopEnd.{LoopEnd}
 use Rattle.line_loop.specs.declared.loop_end.LoopEnd.TheVariants as loop_end
 use Rattle.line_loop.specs.Loops.{HasReadBy}
-use Rattle.view_groups.specs.Cleans.{IsIndexFile}
+use Rattle.tree_groups.specs.Cleans.{IsIndexFile}
 use Rattle.view_engine.specs.declared.engine.Engine.{Engine}
 use Rattle.view_engine.specs.declared.halt.StepFault.{StepFault}
 use Rattle.view_engine.specs.declared.halt.StepFault.TheVariants.{Damaged, DiskFault, Full, NoMemory}
@@ -40,7 +40,7 @@ Replies before exchange after = IsReplied exchange.line exchange.text
 pub record IsFoundOn (before now : Option (Disk FileName)) (line : List ℕ) (fault : StepFault) : Type 0 where
   pub halts : fault ≢ NoMemory
   pub asks : IfErr (request_of line) (λ refusal. ⊥)
-  pub damaged : (name : FileName) (at : ℕ) → fault ≡ Damaged name at → (ReadsDocuments (request_of line) × IfTold now (λ d. HasBodyDamage d.now name at)) ⊎ (IsOnIndexes (request_of line) × IfTold before (λ d. MeetsIndexDamageIn d.now (request_of line) name at))
+  pub damaged : (name : FileName) (at : ℕ) → fault ≡ Damaged name at → (ReadsDocuments (request_of line) × IfTold now (λ d. HasBodyDamage d.now name at)) ⊎ (IsOnIndexes (request_of line) × Tells before now (λ a b. MeetsIndexDamageIn a.now b.now (request_of line) name at))
   pub full : (name : FileName) (length : Option ℕ) → fault ≡ Full name length → (Writes (request_of line) × IfTold now (λ d. IsFullIn d.now (request_of line) name length)) ⊎ IsOfIndex (request_of line) name
 
 -- none of these lines is a request that may change files

@@ -10,10 +10,10 @@ use Rattle.view_ports.specs.declared.servers.Servers.{Ghosts as Servers}
 use Rattle.view_ports.specs.Calls.{Call, child}
 use Rattle.view_ports.specs.Disk.{Disk, IfTold, IsImageOf, LeavesOnly, MovesNone, Tells}
 use Rattle.view_ports.specs.Faults.{Rose}
-use Rattle.view_ports.specs.Exchanges.{Exchange, LeadsTo, lines_of, text_of}
+use Rattle.view_ports.specs.Exchanges.{Exchange, IsPrefixOf, LeadsTo, lines_of, text_of}
 use Rattle.view_ports.specs.Functions.{Functions}
 use Rattle.child_pool.specs.Histories.{AllStops}
-use Rattle.view_ports.specs.Lines.{IsCut}
+use Rattle.view_ports.specs.Lines.{last_line, IsCut}
 use Rattle.view_ports.specs.Runs.{AreLines, Run, HasRead, status_of, input_limit}
 use Rattle.view_engine.specs.declared.halt.StepFault.{StepFault}
 use Rattle.view_engine.specs.declared.halt.StepFault.TheVariants.{Damaged, DiskFault, Full, NoMemory}
@@ -21,16 +21,15 @@ use Rattle.view_engine.specs.declared.refusal.Refusal.{Refusal}
 use Rattle.view_engine.specs.declared.request.Request.{Request}
 use Rattle.view_engine.specs.World.{World}
 use Rattle.view_engine.specs.Moments.{Moment}
-use Rattle.view_engine.specs.Disks.{IsOfIndex, IsOnIndexes, IsShapedFor, IsView}
+use Rattle.view_engine.specs.Disks.{IsOfIndex, IsOnIndexes, IsView}
 use Rattle.view_engine.specs.Fresh.{IsFreshStep}
-use Rattle.view_engine.specs.FullIndex.{IsIndexFullFor}
-use Rattle.view_engine.specs.Updating.{IsSound}
+use Rattle.view_engine.specs.FullIndex.{IsIndexFullOf}
+use Rattle.view_engine.specs.Updating.{HasClash, IsSound}
 use Rattle.view_engine.specs.Worlds.{at_start, GoesOnFrom, HasRoomAt, Holds, IsFullAt, StandsAround, StandsFor}
-use Rattle.view_groups.specs.Cleans.{IsIndexFile}
 use Rattle.view_engine.specs.Refusals.{request_of}
 use Rattle.view_engine.specs.Steps.{Answers, Makes, MayHaveCalled}
 use Rattle.view_engine.specs.Accepted.{accepted, EachOk}
-use Rattle.couchview_cli.specs.Closing.{Closes, IsOfFile}
+use Rattle.couchview_cli.specs.Closing.{Closes, IsOfFull}
 use Rattle.couchview_cli.specs.Replied.{IsReplied}
 
 -- what the ports tell at one moment: the bytes that the source has left, those that the sink holds, the disk, and how many
@@ -72,7 +71,7 @@ module _ (functions : List ℕ → Functions) (honest : List ℕ → Type 0) (la
   StandsSinceWith opening world line image =
       StandsSince opening world image ⊎ ((after : World) × Makes functions honest languages world (request_of line) after × StandsFor image after × (Sound opening → Sound after))
 
-  -- Before a line in a run the disk was `mid`: nothing was pending there, its files held a world of this history, and what the line's
+  -- Before a line in a run the disk was `mid`: nothing of the documents was pending there, its files held a world of this history, and what the line's
   -- request writes passes neither limit of the documents' file among them.
   pub record HadRoom (opening last : World) (old new : Option (Disk FileName)) (world : World) (request : Result Request Refusal) : Type 0 where
     pub mid : Option (Disk FileName)
@@ -99,8 +98,8 @@ module _ (functions : List ℕ → Functions) (honest : List ℕ → Type 0) (la
 module _ (functions : List ℕ → Functions) (honest : List ℕ → Type 0) (languages : List (List ℕ × List ℕ)) (opening : World) where
   -- A run that read the bytes that the source lost, that wrote what the sink gained, and that ended with this status. The
   -- world at its end has the writes of the opening and exactly those that were answered `ok`, and its pictures stand where those of
-  -- the opening did. Each image since the start stands for a first part of it, and each image now for the whole of it. Nothing is
-  -- pending, and the files hold that world, so a later run begins with it.
+  -- the opening did. Each image since the start stands for a first part of it, and each image now for the whole of it. Nothing of the
+  -- documents is pending, and the files hold that world, so a later run begins with it.
   pub record Finishes (before after : Outside) (AtEnd : List Call → Type 0) (status : ℕ) : Type 0 where
     pub bytes : List ℕ
     pub gained : List ℕ
@@ -122,11 +121,10 @@ module _ (functions : List ℕ → Functions) (honest : List ℕ → Type 0) (la
 
   -- A run that a fault of the folder cut short: some first lines were answered, each wholly, and then the line in hand was
   -- not. Its request took effect wholly or not at all. The last line that is written names the fault, unless the sink fails.
-  -- Want of memory doesn't cut a run short: such a line is answered. `mid` is the disk before the line in hand: nothing is
-  -- pending there, its files hold the world, and a file that is full is one of them. No file changes since but in a view or a cleanup, or where the
+  -- Want of memory doesn't cut a run short: such a line is answered. `mid` is the disk before the line in hand: nothing of
+  -- the documents is pending there, its files hold the world, and a file that is full is one of them. No file changes since but in a view or a cleanup, or where the
   -- disk failed, and there the line's write would have passed no limit. A file of an index is full only where it would be with the next
-  -- picture of the view's design. A file that is damaged is one of an index, and none is where the
-  -- pictures have the shape of their designs. `last` is how the query servers were left.
+  -- picture of the view's design. No file is damaged. `last` is how the query servers were left.
   pub record IsCutShort (before after : Outside) (AtEnd : List Call → Type 0) (status : ℕ) : Type 0 where
     pub bytes : List ℕ
     pub exchanges : List Exchange
@@ -146,13 +144,13 @@ module _ (functions : List ℕ → Functions) (honest : List ℕ → Type 0) (la
     pub closes : Closes before.held after.held (text_of exchanges) fault status
     pub halts : fault ≢ NoMemory
     pub cause : fault ≡ DiskFault → Rose before.disk_faults after.disk_faults
-    pub whole : IfTold before.disk (λ d. (name : FileName) (at : ℕ) → fault ≡ Damaged name at → IsIndexFile name × (IsShapedFor (request_of line) moment.world → ⊥))
+    pub whole : IfTold before.disk (λ d. (name : FileName) (at : ℕ) → fault ≡ Damaged name at → ⊥)
     pub mid : Option (Disk FileName)
     pub until : Tells before.disk mid (LeavesOnly (StandsSince functions honest languages opening moment.world))
     pub holds : IfTold mid (λ d. Holds d.now moment.world)
     pub fits : HaveRoom functions honest languages opening moment.world before.disk mid exchanges
     pub full : IfTold mid (λ d. (name : FileName) (length : Option ℕ) → fault ≡ Full name length → IsFullAt d.now moment.world (request_of line) name length ⊎ IsOfIndex (request_of line) name)
-    pub filled : IfTold after.disk (λ d. (name : FileName) (length : Option ℕ) → fault ≡ Full name length → IsView (request_of line) → IsIndexFullFor functions honest languages d.now moment.world (request_of line) name length)
+    pub filled : IfTold after.disk (λ d. (name : FileName) (length : Option ℕ) → fault ≡ Full name length → IsView (request_of line) → IsIndexFullOf functions honest languages d.now moment.world (request_of line) name length)
     pub room : IfTold mid (λ d. fault ≡ DiskFault → HasRoomAt d.now moment.world (request_of line))
     pub kept : fault ≢ DiskFault → (IsOnIndexes (request_of line) → ⊥) → Tells mid after.disk MovesNone
     pub since : Tells mid after.disk (LeavesOnly (StandsAround functions honest languages moment.world (request_of line)))
@@ -163,9 +161,9 @@ module _ (functions : List ℕ → Functions) (honest : List ℕ → Type 0) (la
     pub faulted : after.faults ≡ last.faults
     pub at_end : AtEnd last.calls
 
-  -- a file that is full cuts it short, or an index that is damaged
+  -- a file that is full cuts it short
   abbrev pub EndsAtFile : Outside → Outside → (List Call → Type 0) → ℕ → Type 0
-  EndsAtFile before after AtEnd status = (cut : IsCutShort before after AtEnd status) × IsOfFile cut.fault
+  EndsAtFile before after AtEnd status = (cut : IsCutShort before after AtEnd status) × IsOfFull cut.fault
 
   -- the folder could not be opened: nothing was read, and each image stands for the opening
   pub record IsUnopened (before after : Outside) (AtEnd : List Call → Type 0) (status : ℕ) : Type 0 where
@@ -179,8 +177,32 @@ module _ (functions : List ℕ → Functions) (honest : List ℕ → Type 0) (la
     pub faulted : after.faults ≡ before.faults
     pub at_end : AtEnd []
 
+  -- Of the lines of these bytes some first ones were answered, from this disk on, and then a line asks for a view where two designs
+  -- that differ have one signature, so that one index would be of both.
+  pub record MeetsClash (disk : Option (Disk FileName)) (faults : ℕ) (bytes : List ℕ) : Type 0 where
+    pub told : Disk FileName
+    pub is_told : disk ≡ Some told
+    pub exchanges : List Exchange
+    pub lines : List (List ℕ)
+    pub rest : List ℕ
+    pub line : List ℕ
+    pub moment : Moment
+    pub cut : IsCut bytes lines rest
+    pub first : IsPrefixOf (lines_of exchanges ++ line ∷ []) (lines ++ last_line rest)
+    pub leads : LeadsTo (Steps functions honest languages opening disk) (at_start opening width faults) exchanges moment
+    pub asks : IsView (request_of line)
+    pub clash : HasClash (moment.world).history
+
+  -- a run that read the bytes that the source lost, and met that: of what it does from there on only that is said which is said of any folder
+  pub record Clashes (before after : Outside) : Type 0 where
+    pub bytes : List ℕ
+    pub reads : Consumes before.left after.left bytes
+    pub counts : length bytes ≤ input_limit
+    pub meets : MeetsClash before.disk before.faults bytes
+
   abbrev pub Serves : Outside → Outside → (List Call → Type 0) → ℕ → Type 0
-  Serves before after AtEnd status = Finishes before after AtEnd status ⊎ (IsCutShort before after AtEnd status ⊎ IsUnopened before after AtEnd status)
+  Serves before after AtEnd status =
+      Finishes before after AtEnd status ⊎ (IsCutShort before after AtEnd status ⊎ (IsUnopened before after AtEnd status ⊎ Clashes before after))
 
 -- the status is 8 exactly where as many bytes were read as a run reads at most, unless the run ended in a line of them:
 -- since the folder or the sink failed, a file is damaged or full, or memory ran out

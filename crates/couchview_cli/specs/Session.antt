@@ -16,11 +16,10 @@ use Rattle.view_engine.specs.Calls.{KeepsChild, Scene, StandsAt, Stays, scene}
 use Rattle.view_engine.specs.Refusals.{refusal_text, request_of}
 use Rattle.view_engine.specs.Moments.{Moment}
 use Rattle.view_engine.specs.ServerFaults.{is_server_fault}
-use Rattle.view_engine.specs.Disks.{ChangesFiles, IsOfIndex, IsOnIndexes, IsShapedFor, IsView, LiesOpen}
-use Rattle.view_engine.specs.FullIndex.{IsIndexFullFor}
+use Rattle.view_engine.specs.Disks.{ChangesFiles, IsFitFor, IsOfIndex, IsOnIndexes, IsView, LiesOpen}
+use Rattle.view_engine.specs.FullIndex.{IsIndexFullOf}
 use Rattle.view_engine.specs.Steps.{Answers, MayHaveCalled}
 use Rattle.view_engine.specs.Updating.{IsSound}
-use Rattle.view_groups.specs.Cleans.{IsIndexFile}
 use Rattle.view_engine.specs.World.{World}
 use Rattle.view_engine.specs.Worlds.{at_start, languages as languages_of, update_seq, GoesOnFrom, HasRoomAt, IsFullAt, StandsAround, StandsEither}
 use Rattle.couchview_cli.specs.declared.session.Session.{Session}
@@ -54,13 +53,12 @@ module _ (functions : List ℕ → Functions) (honest : List ℕ → Type 0) whe
   StepsOf origin = Steps functions honest origin.languages origin.opening origin.disk
 
   -- a line was not answered, since the folder failed, or a file is damaged or full: the request took effect wholly or not at all, and
-  -- may have called query servers. Damage is that of an index alone, and not where the pictures have the
-  -- shape that is asked.
+  -- may have called query servers. No file was damaged.
   pub record IsHalted (languages : List (List ℕ × List ℕ)) (fault : StepFault) (old new : Option (Disk FileName)) (before : Moment) (line : List ℕ) (HasLeft : Moment → Type 0) : Type 0 where
     pub moments : Tells old new (LeavesOnly (StandsAround functions honest languages before.world (request_of line)))
-    pub whole : IfTold old (λ d. (name : FileName) (at : ℕ) → fault ≡ Damaged name at → IsIndexFile name × (IsShapedFor (request_of line) before.world → ⊥))
+    pub whole : IfTold old (λ d. (name : FileName) (at : ℕ) → fault ≡ Damaged name at → ⊥)
     pub full : IfTold old (λ d. (name : FileName) (length : Option ℕ) → fault ≡ Full name length → IsFullAt d.now before.world (request_of line) name length ⊎ IsOfIndex (request_of line) name)
-    pub filled : IfTold new (λ d. (name : FileName) (length : Option ℕ) → fault ≡ Full name length → IsView (request_of line) → IsIndexFullFor functions honest languages d.now before.world (request_of line) name length)
+    pub filled : IfTold new (λ d. (name : FileName) (length : Option ℕ) → fault ≡ Full name length → IsView (request_of line) → IsIndexFullOf functions honest languages d.now before.world (request_of line) name length)
     pub room : IfTold old (λ d. fault ≡ DiskFault → HasRoomAt d.now before.world (request_of line))
     pub last : Moment
     pub called : IfTold old (λ d. MayHaveCalled functions honest languages before (request_of line) last)
@@ -69,7 +67,7 @@ module _ (functions : List ℕ → Functions) (honest : List ℕ → Type 0) whe
 module _ {F C : Type 0} (f : Folders F) (s : Servers C) where
   -- a line was answered with this text, whatever the moment was
   pub record IsAnswered (old new : Scene F C) (line text : List ℕ) : Type 0 where
-    pub answers : (before : Moment) → StandsAt f s old before
+    pub answers : (before : Moment) → StandsAt f s old before → IfTold (f.disk old.folder) (λ d. IsFitFor (request_of line) before.world)
         → Answered s.functions s.honest (languages_of old.engine) (f.disk old.folder) (f.disk new.folder) before line text (StandsAt f s new)
     pub room : (before : Moment) → StandsAt f s old before → IfTold (f.disk old.folder) (λ d. is_ok text ≡ true → HasRoomAt d.now before.world (request_of line))
     pub prints : IsReplied line text
@@ -87,7 +85,7 @@ module _ {F C : Type 0} (f : Folders F) (s : Servers C) where
 
   -- a line was not answered, for this fault
   pub record IsUnanswered (old new : Scene F C) (line : List ℕ) (fault : StepFault) : Type 0 where
-    pub halts : (before : Moment) → StandsAt f s old before → IsHalted s.functions s.honest (languages_of old.engine) fault (f.disk old.folder) (f.disk new.folder) before line (KeepsChild f s new)
+    pub halts : (before : Moment) → StandsAt f s old before → IfTold (f.disk old.folder) (λ d. IsFitFor (request_of line) before.world) → IsHalted s.functions s.honest (languages_of old.engine) fault (f.disk old.folder) (f.disk new.folder) before line (KeepsChild f s new)
     pub cause : fault ≡ DiskFault → Rose (f.faults old.folder) (f.faults new.folder)
     pub spares : fault ≢ DiskFault → f.faults new.folder ≡ f.faults old.folder
     pub found : IsFoundOn (f.disk old.folder) (f.disk new.folder) line fault

@@ -14,7 +14,7 @@ ghost use Rattle.couchview_cli.specs.Command.{AreLanguages, AskFor, AskToServe, 
 ghost use Rattle.couchview_cli.specs.Command as spec;
 ghost use Rattle.couchview_cli.specs.Loading.{AnswersLoad, LoadEndsAtFile, Loads};
 ghost use Rattle.couchview_cli.specs.Reading.{AnswersLines};
-ghost use Rattle.couchview_cli.specs.Serving.{outside, AreLeft, EndsAtFile, IsShort, Serves, StopsAtLimit};
+ghost use Rattle.couchview_cli.specs.Serving.{outside, AreLeft, Clashes, EndsAtFile, IsShort, Serves, StopsAtLimit};
 
 use crate::built_in::is_built_in;
 use crate::load::load;
@@ -231,7 +231,8 @@ pub fn couchview<S: Source, K: Sink, F: Folder, C: Servers>(
     ensures disk_count { F.faults folder.old ≤ F.faults folder.new }
     ensures server_count { C.faults servers.old ≤ C.faults servers.new }
 
-    // Where no port fails, and no full file or damaged index ends the run, input that is short enough is read to its end.
+    // Where no port fails, no full file ends the run, and no view is asked for of designs that clash, input that is short enough is read
+    // to its end.
     ensures complete { (kept : Vec (String Global) Global) → AskToServe words.now kept
         → (opening : World) → IfTold (F.disk folder.old) (λ d. Holds d.now opening)
         → IsShort (S.left source.old)
@@ -242,6 +243,9 @@ pub fn couchview<S: Source, K: Sink, F: Folder, C: Servers>(
         (outside S.Source K.Sink F.Folder C.Servers source.old sink.old folder.old servers.old)
         (outside S.Source K.Sink F.Folder C.Servers source.new sink.new folder.new servers.new)
         (AreLeft (C.may_follow servers.new)) result
+        → ¬ Clashes C.functions C.honest (languages_named kept) opening
+        (outside S.Source K.Sink F.Folder C.Servers source.old sink.old folder.old servers.old)
+        (outside S.Source K.Sink F.Folder C.Servers source.new sink.new folder.new servers.new)
         → IfTold (F.disk folder.old) (λ d. (result ≡ 0) ⊎ (result ≡ 6)) }
 
     // So is a load done, unless the folder has writes.

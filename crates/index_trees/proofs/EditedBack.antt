@@ -10,7 +10,7 @@ use Rattle.tree_laws.specs.declared.store.NodeSource.{Ghosts as Sources}
 use Rattle.tree_laws.specs.declared.tree.Tree.{Tree}
 use Rattle.tree_laws.specs.declared.tree.TreeFault.{TreeFault}
 use Rattle.tree_laws.specs.declared.tree.TreeFault.TheVariants as tree_fault
-use Rattle.tree_laws.specs.Stores.{KeepsPlaces, Places}
+use Rattle.tree_laws.specs.Stores.{EachSince, KeepsPlaces, Places, WhereTold}
 use Rattle.builtin_reduces.specs.Kept.{item_cmp}
 use Rattle.reduce_tree.specs.declared.edit.Edit.{Edit}
 use Rattle.reduce_tree.specs.Applied.{applied, edit_key, insertions, AreEdits, IsEdited}
@@ -25,12 +25,13 @@ use Rattle.index_items.specs.BackItem.{BackEntry, entry_bytes, entry_cmp}
 use Rattle.index_items.specs.BackLaws.{entry_cmp_total}
 use Rattle.index_trees.specs.Edited.{AreShortEntries, EditsBack, Lists, MayExchange}
 use Rattle.index_trees.specs.Edits.{back_edits, entry_insert_count}
-use Rattle.index_trees.specs.Exchanges.{GotFound, StoreWent}
+use Rattle.index_trees.specs.Exchanges.{GotFound, IsNodeOf, StoreWent}
 use Rattle.index_trees.specs.Faults.{by_pool}
 use Rattle.index_trees.specs.Trees.{back_items, no_summaries}
 use Rattle.index_trees.proofs.BackExchanged.{are_edits, back_exchanged, AreBackEdits}
 use Rattle.index_trees.proofs.Inserted.{entries_inserted, insertions_permutation}
 use Rattle.index_trees.proofs.Members.{all_of}
+use Rattle.index_trees.proofs.Got.{entry_nodes, FoundGood}
 use Rattle.index_trees.proofs.OneEdit.{bad_now, blamed, blames_none, bytes_by, failed_at, has_room, most_bytes_by, most_puts_by, most_steps_by, no_smaller, pieces_by, puts_by, steps_by, Applies, AppliesTo, FoundBad, StoreRan}
 use Rattle.index_trees.proofs.Sequences.{StoreLaws}
 
@@ -141,7 +142,7 @@ module _ {S F : Type 0} (n : Sources S F) (changes : List DocRows) (olds : List 
 
   -- ---- the call
 
-  module _ (laws : StoreLaws n) (result : Result Tree (TreeFault F Want)) (a : Applies n edits old new before now tree result) (to : AppliesTo n edits old new before now tree back_items no_summaries result) (bad : FoundBad back_items no_summaries n old new tree result) where
+  module _ (laws : StoreLaws n) (result : Result Tree (TreeFault F Want)) (a : Applies n edits old new before now tree result) (to : AppliesTo n edits old new before now tree back_items no_summaries result) (bad : FoundBad back_items no_summaries n old new tree result) (good : FoundGood back_items no_summaries n old new result) where
     abbrev all : ℕ
     all = length (back_edits changes olds)
 
@@ -174,6 +175,7 @@ module _ {S F : Type 0} (n : Sources S F) (changes : List DocRows) (olds : List 
           pieces_by n edits old new before now tree result all more number inserted back_items no_summaries to there entries (later there rows entries lists may) longest lists.told lists.holds
           (is_edited there rows entries lists may) (short_now there rows entries lists may longest short) (short_later there rows entries lists may longest then);
       found = λ there entries told holds. pooled_found n laws old new result (to.found there entries told holds);
+      got = pooled_on (WhereTold (n.nodes new) (λ there. EachSince (IsNodeOf back_items (λ node. Unit {0}) there) (n.gets old) (n.gets new))) result (entry_nodes n old new no_summaries result a.kept good);
       sound = λ there entries at told holds is. blames_none result at (to.sound there entries told holds) (pooled_blame result at is);
       damaged = λ at is. bad_now back_items no_summaries n old new tree result at a.kept bad (pooled_blame result at is);
     }

@@ -45,6 +45,7 @@ use Rattle.index_trees.specs.Exchanges.{Complains, GivesUp, IsUsable, PutsWithin
 use Rattle.index_trees.specs.Trees.{row_items, HasRows}
 use Rattle.index_trees.specs.ViewValues.{view_values, AreFunctionsOf, SumsBy}
 use Rattle.index_trees.proofs.Found.{got_none}
+use Rattle.index_trees.proofs.Got.{nodes_none, view_nodes, FoundGood}
 use Rattle.index_trees.proofs.Inserted.{insertions_permutation, rows_inserted}
 use Rattle.index_trees.proofs.OneEdit.{Applies, AppliesTo, FoundBad, SumDid, applies_others, bad_now, blames_none, bytes_by, faulty_others, has_room, most_bytes_by, most_puts_by, most_steps_by, no_smaller, pieces_by, puts_by, steps_by, store_went}
 use Rattle.index_trees.proofs.RowsExchanged.{AreSortedEdits, edit_cmp, edits_rise, rows_exchanged}
@@ -106,6 +107,7 @@ module _ {S F C : Type 0} (n : Sources S F) (laws : StoreLaws n) (s : Servers C)
     pub ran : SumRan u v result
     pub usable : 0 < insertions edits → OnOk result (usable s u)
     pub found : FoundBad row_items (summer_values s u) n old new tree result
+    pub good : FoundGood row_items (summer_values s u) n old new result
 
   module _ (after : Summers C) (a : Applies n edits old new before now tree result) (called : Called turned after) (are : IsPermutation (view_edits view changes olds) edits) (sorted : IsSorted edit_cmp edits) (some : edits ≢ []) where
     count : length edits ≡ length (view_edits view changes olds)
@@ -239,6 +241,7 @@ module _ {S F C : Type 0} (n : Sources S F) (laws : StoreLaws n) (s : Servers C)
       usable = λ row comes. is_usable result (called.usable (inserts_some edits row (Contains-permutation (view_edits view changes olds) edits (Insert row) are comes)));
       complains = complains;
       found = λ f there rows over. (to_view f there rows over).found there (here f there rows over) over.begins.told over.has;
+      got = view_nodes n old new views view (summer_values s turned) (λ sum fits. fits) (λ sum. refl) result a.kept called.good;
       sound = λ f there rows at over is. blames_none result at ((to_view f there rows over).sound there (here f there rows over) over.begins.told over.has) is;
       damaged = damaged;
     }
@@ -282,6 +285,7 @@ module _ {S F C : Type 0} (n : Sources S F) (laws : StoreLaws n) (s : Servers C)
     usable = λ row comes. tt;
     complains = λ is. absurd (let never = err_same Tree tree_fault.NoMemory (tree_fault.Summer Compile) is in cc);
     found = λ f there rows over. got_none (places (n.nodes store)) (n.gets store);
+    got = tt;
     sound = λ f there rows at over is. let never = err_same Tree tree_fault.NoMemory (tree_fault.BadNode at) is in cc;
     damaged = λ at is. absurd (let never = err_same Tree tree_fault.NoMemory (tree_fault.BadNode at) is in cc);
   }
@@ -318,6 +322,7 @@ module _ {S F C : Type 0} (n : Sources S F) (laws : StoreLaws n) (s : Servers C)
       usable = λ row comes. absurd (contains-none (Insert row) (subst (λ es. Contains es (Insert row)) all_none comes));
       complains = λ is. absurd (let never : done Tree (TreeFault F PoolFault) tree ≡ Err (tree_fault.Summer Compile) = is in cc);
       found = λ f there rows over. got_none (places (n.nodes store)) (n.gets store);
+      got = nodes_none summers.design.now.views n store;
       sound = λ f there rows at over is. let never : done Tree (TreeFault F PoolFault) tree ≡ Err (tree_fault.BadNode at) = is in cc;
       damaged = λ at is. absurd (let never : done Tree (TreeFault F PoolFault) tree ≡ Err (tree_fault.BadNode at) = is in cc);
     }

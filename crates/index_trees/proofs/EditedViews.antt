@@ -37,6 +37,7 @@ use Rattle.index_trees.specs.Faults.{listed}
 use Rattle.index_trees.specs.Trees.{row_items, EachAt, HasRows}
 use Rattle.index_trees.specs.ViewValues.{view_values}
 use Rattle.index_trees.proofs.Found.{found_other, found_then, got_none}
+use Rattle.index_trees.proofs.Got.{nodes_both, nodes_none, NodesGot}
 use Rattle.index_trees.proofs.Inserted.{inserts_more, inserts_split}
 use Rattle.index_trees.proofs.Sequences.{StoreLaws, done, each_append, each_front, each_map, each_next, err_same, extends_then, keeps_itself, length-each_from, refused, rows_stay, sum_bounds, sum_products, talks_none, told_then, went_then}
 
@@ -256,6 +257,7 @@ module _ {S F C : Type 0} (n : Sources S F) (laws : StoreLaws n) (s : Servers C)
         usable = usable_ok;
         complains = λ is. absurd (let never : Ok (es ++ e ∷ []) ≡ Err (tree_fault.Summer Compile) = is in cc);
         found = λ f there rows over. both_found f there rows [] over (Ok e) next;
+        got = nodes_both u.design.now.views n a b c next.went.kept begun.got (subst (λ d. NodesGot d.now.views n b c) same_design next.got);
         sound = λ f there rows at over is. let never : Ok (es ++ e ∷ []) ≡ Err (tree_fault.BadNode at) = is in cc;
         damaged = λ at is. absurd (let never : Ok (es ++ e ∷ []) ≡ Err (tree_fault.BadNode at) = is in cc);
       }
@@ -290,6 +292,7 @@ module _ {S F C : Type 0} (n : Sources S F) (laws : StoreLaws n) (s : Servers C)
         usable = λ view row small comes. tt;
         complains = λ is. complains_err (err_same (List Tree) fault (tree_fault.Summer Compile) is);
         found = λ f there rows over. found_other Tree (List Tree) n a c fault (both_found f there rows [] over (Err fault) next);
+        got = tt;
         sound = λ f there rows at over is. next.sound f (places (n.nodes b)) rows at (next_over f there rows [] over) (ap (refused Tree) (err_same (List Tree) fault (tree_fault.BadNode at) is));
         damaged = λ at is. (here, t, get_last ts t, damaged_here at (next.damaged at (ap (refused Tree) (err_same (List Tree) fault (tree_fault.BadNode at) is))));
       }
@@ -321,6 +324,7 @@ module _ {S F C : Type 0} (n : Sources S F) (laws : StoreLaws n) (s : Servers C)
     usable = λ view row small comes. absurd (omega (arith, small));
     complains = λ is. absurd (let never : done (List Tree) (TreeFault F PoolFault) [] ≡ Err (tree_fault.Summer Compile) = is in cc);
     found = λ f there rows over. got_none (places (n.nodes a)) (n.gets a);
+    got = nodes_none u.design.now.views n a;
     sound = λ f there rows at over is. let never : done (List Tree) (TreeFault F PoolFault) [] ≡ Err (tree_fault.BadNode at) = is in cc;
     damaged = λ at is. absurd (let never : done (List Tree) (TreeFault F PoolFault) [] ≡ Err (tree_fault.BadNode at) = is in cc);
   }
@@ -344,6 +348,7 @@ module _ {S F C : Type 0} (n : Sources S F) (laws : StoreLaws n) (s : Servers C)
       usable = λ view row small comes. tt;
       complains = λ is. absurd (let never = err_same (List Tree) tree_fault.NoMemory (tree_fault.Summer Compile) is in cc);
       found = done.found;
+      got = tt;
       sound = λ f there rows at over is. let never = err_same (List Tree) tree_fault.NoMemory (tree_fault.BadNode at) is in cc;
       damaged = λ at is. absurd (let never = err_same (List Tree) tree_fault.NoMemory (tree_fault.BadNode at) is in cc);
     }
@@ -407,6 +412,7 @@ module _ {S F C : Type 0} (n : Sources S F) (laws : StoreLaws n) (s : Servers C)
         usable = λ view row small comes. tt;
         complains = complains_further;
         found = λ f there rows over. done.found f there rows (front_over f there rows over);
+        got = tt;
         sound = λ f there rows at over is. done.sound f there rows at (front_over f there rows over) is;
         damaged = damaged_further;
       }

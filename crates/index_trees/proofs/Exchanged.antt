@@ -44,6 +44,7 @@ use Rattle.index_trees.specs.Faults.{by_pool}
 use Rattle.index_trees.specs.Trees.{back_items, no_summaries, AreLow, HasRows, HaveRoom, HoldTrees}
 use Rattle.index_trees.proofs.EditedBack.{pooled_found}
 use Rattle.index_trees.proofs.Found.{fails_found, found_other, found_then, reads_found}
+use Rattle.index_trees.proofs.Got.{entries_got, nodes_both, reads_got, NodesGot}
 use Rattle.index_trees.proofs.Sequences.{StoreLaws, done, each_map, each_there, err_same, extends_then, keeps_both, keeps_itself, length-each_from, refused, rows_stay, store_then, sum_bounds, sum_products, talks_none, told_then, unless_map}
 
 -- ---- numbers
@@ -192,6 +193,7 @@ module _ {S F C : Type 0} (n : Sources S F) (laws : StoreLaws n) (s : Servers C)
       talk = talk_err fault;
       usable = λ view within some. tt;
       complains = λ is. absurd (no_summer fault Compile (err_same IndexTrees (by_pool fault) (tree_fault.Summer Compile) is));
+      got = tt;
       found = λ f there rows over.
           pooled_found n laws s0 s1 (refused IndexTrees fault)
           (fails_found back_items no_summaries entries_spelled_once n laws back there over.holds.entries s0 s1 over.told over.holds.listed reads.nodes reads.puts IndexTrees fault ran);
@@ -294,6 +296,7 @@ module _ {S F C : Type 0} (n : Sources S F) (laws : StoreLaws n) (s : Servers C)
         talk = talk_other (List Tree) IndexTrees s u0 u2 fault views.went.talk;
         usable = λ view within some. tt;
         complains = λ is. complains_of s2 t2 (views.complains (ap (refused (List Tree)) (err_same IndexTrees fault (tree_fault.Summer Compile) is)));
+        got = tt;
         found = λ f there rows over.
             found_other (List Tree) IndexTrees n s0 s2 fault
             (found_then n laws s0 s1 s2 goes (first_found s2 u2 t2 f there rows over) (refused (List Tree) fault) views.went.kept (views.found f there rows (over_views s2 u2 t2 f there rows over)));
@@ -405,6 +408,7 @@ module _ {S F C : Type 0} (n : Sources S F) (laws : StoreLaws n) (s : Servers C)
           talk = talk_back fault (λ p is. own.unblamed p (ap (refused Tree) is));
           usable = λ view within some. tt;
           complains = λ is. absurd (own.unblamed Compile (ap (refused Tree) (err_same IndexTrees fault (tree_fault.Summer Compile) is)));
+          got = tt;
           found = λ f there rows over. found_other Tree IndexTrees n s0 s3 fault (found_both f there rows over (refused Tree fault) own);
           sound = λ f there rows at over is.
               own.sound (places (n.nodes s2)) over.holds.entries at (told_second f there rows over).0 (lists f there rows over).holds (ap (refused Tree) (err_same IndexTrees fault (tree_fault.BadNode at) is));
@@ -484,6 +488,11 @@ module _ {S F C : Type 0} (n : Sources S F) (laws : StoreLaws n) (s : Servers C)
               views.usable view comes.0 (omega (arith, within, long)) comes.1;
           complains = λ is. absurd (let never : done IndexTrees (TreeFault F PoolFault) after ≡ Err (tree_fault.Summer Compile) = is in cc);
           found = λ f there rows over. found_both f there rows over (Ok b) own;
+          got =
+              let views_are = u0.design.now.views in
+              let first : NodesGot views_are n s0 s1 = reads_got views_are n back s0 s1 reads.nodes went.got in
+              let second : NodesGot views_are n s0 s2 = nodes_both views_are n s0 s1 s2 views.went.kept first views.got in
+              nodes_both views_are n s0 s2 s3 own.kept second (entries_got views_are n s2 s3 own.got);
           sound = λ f there rows at over is. let never : done IndexTrees (TreeFault F PoolFault) after ≡ Err (tree_fault.BadNode at) = is in cc;
           damaged = λ at is. absurd (let never : done IndexTrees (TreeFault F PoolFault) after ≡ Err (tree_fault.BadNode at) = is in cc);
         }

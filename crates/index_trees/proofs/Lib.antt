@@ -15,6 +15,7 @@ mod OldPlaces
 mod Inserted
 mod Found
 mod OneEdit
+mod Got
 mod EditedView
 pub mod EditedViews
 mod EditedBack

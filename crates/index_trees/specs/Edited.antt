@@ -10,7 +10,7 @@ use Rattle.tree_laws.specs.declared.tree.Tree.{Tree}
 use Rattle.tree_laws.specs.declared.tree.TreeFault.{TreeFault}
 use Rattle.tree_laws.specs.declared.tree.TreeFault.TheVariants as tree_fault
 use Rattle.tree_laws.specs.Reaching.{IsFaulty}
-use Rattle.tree_laws.specs.Stores.{KeepsPlaces, Places, WhereTold}
+use Rattle.tree_laws.specs.Stores.{EachSince, KeepsPlaces, Places, WhereTold}
 use Rattle.tree_laws.specs.Trees.{IsTree, IsTreeSize}
 use Rattle.builtin_reduces.specs.Kept.{item_bytes, item_cmp}
 use Rattle.reduce_tree.specs.declared.edit.Edit.TheVariants.{Insert}
@@ -26,7 +26,7 @@ use Rattle.index_items.specs.declared.back_row.BackRow.{BackRow}
 use Rattle.index_items.specs.BackIndex.{IsBackIndex, IsEntryOf}
 use Rattle.index_items.specs.BackItem.{BackEntry, entry_bytes}
 use Rattle.index_trees.specs.Edits.{back_edits, entry_insert_count, old_places, row_edit_count, row_insert_count, view_edits}
-use Rattle.index_trees.specs.Exchanges.{Complains, GotFound, IsUsable, PutsWithin, StoreWent, SummersWent}
+use Rattle.index_trees.specs.Exchanges.{Complains, GotFound, GotNodesIn, IsNodeOf, IsUsable, PutsWithin, StoreWent, SummersWent}
 use Rattle.index_trees.specs.Trees.{back_items, no_summaries, row_items, EachAt, HasRows}
 use Rattle.index_trees.specs.ViewValues.{view_values, SumsBy}
 
@@ -101,6 +101,7 @@ module _ {S F C : Type 0} (n : Sources S F) (s : Servers C) (changes : List DocR
       pub usable : (row : Row) → Contains (view_edits view changes olds) (Insert row) → OnOk result (IsUsable s summers view)
       pub complains : result ≡ Err (tree_fault.Summer Compile) → Complains s summers summers' view × (view_edits view changes olds ≢ [])
       pub found : (functions : Option Functions) (there : Places) (rows : List (List Row)) → OverView functions there rows → GotFound n old new result
+      pub got : OnOk result (WhereTold (n.nodes new) (λ there. GotNodesIn summers.design.now.views there (n.gets old) (n.gets new)))
       pub sound : (functions : Option Functions) (there : Places) (rows : List (List Row)) (at : ℕ) → OverView functions there rows → result ≡ Err (tree_fault.BadNode at) → ⊥
       pub damaged : (at : ℕ) → result ≡ Err (tree_fault.BadNode at) → WhereTold (n.nodes new) (λ there. IsFaulty row_items (view_values None (reduce_in summers.design.now.views view)) there tree at)
 
@@ -147,6 +148,7 @@ module _ {S F C : Type 0} (n : Sources S F) (s : Servers C) (changes : List DocR
       pub usable : (view : ℕ) (row : Row) → view < length trees → Contains (view_edits view changes olds) (Insert row) → OnOk result (IsUsable s summers view)
       pub complains : result ≡ Err (tree_fault.Summer Compile) → (view : ℕ) × (view < length trees) × Complains s summers summers' view × (view_edits view changes olds ≢ [])
       pub found : (functions : Option Functions) (there : Places) (rows : List (List Row)) → OverViews functions there rows → GotFound n old new result
+      pub got : OnOk result (WhereTold (n.nodes new) (λ there. GotNodesIn summers.design.now.views there (n.gets old) (n.gets new)))
       pub sound : (functions : Option Functions) (there : Places) (rows : List (List Row)) (at : ℕ) → OverViews functions there rows → result ≡ Err (tree_fault.BadNode at) → ⊥
       pub damaged : (at : ℕ) → result ≡ Err (tree_fault.BadNode at)
           → (view : ℕ) × (tree : Tree) × (slice_get trees view ≡ Some tree) × WhereTold (n.nodes new) (λ there. IsFaulty row_items (view_values None (reduce_in summers.design.now.views view)) there tree at)
@@ -200,5 +202,6 @@ module _ {S F : Type 0} (n : Sources S F) (changes : List DocRows) (olds : List 
     pub pieces : (there : Places) (rows : List (List Row)) (entries : List BackEntry) (longest : ℕ) → Lists there rows entries → MayExchange rows → AreShortEntries longest rows → AreShortEntries longest (replaced_views changes rows)
         → PutsWithin (node_size longest) (n.puts old) (n.puts new)
     pub found : (there : Places) (entries : List BackEntry) → n.nodes old ≡ Some there → IsTree back_items no_summaries there tree entries → GotFound n old new result
+    pub got : OnOk result (WhereTold (n.nodes new) (λ there. EachSince (IsNodeOf back_items (λ node. Unit {0}) there) (n.gets old) (n.gets new)))
     pub sound : (there : Places) (entries : List BackEntry) (at : ℕ) → n.nodes old ≡ Some there → IsTree back_items no_summaries there tree entries → result ≡ Err (tree_fault.BadNode at) → ⊥
     pub damaged : (at : ℕ) → result ≡ Err (tree_fault.BadNode at) → WhereTold (n.nodes new) (λ there. IsFaulty back_items no_summaries there tree at)

@@ -6,11 +6,15 @@ use Rattle.design_docs.specs.declared.design.View.{View}
 use Rattle.design_docs.specs.declared.design.Reduce.TheVariants.{Source}
 use Rattle.view_ports.specs.declared.servers.Servers.{Ghosts as Servers}
 use Rattle.view_ports.specs.Functions.{Functions}
+use Rattle.tree_laws.specs.declared.item.Item.{Ghosts as Items}
+use Rattle.tree_laws.specs.declared.node.Node.{Node}
 use Rattle.tree_laws.specs.declared.store.NodeSource.{Ghosts as Sources}
+use Rattle.tree_laws.specs.declared.tree.Fill.{Fill}
 use Rattle.tree_laws.specs.declared.tree.Tree.{Tree}
 use Rattle.tree_laws.specs.declared.tree.TreeFault.{TreeFault}
 use Rattle.tree_laws.specs.declared.tree.TreeFault.TheVariants as tree_fault
-use Rattle.tree_laws.specs.Reaching.{IsFaulty}
+use Rattle.tree_laws.specs.Fetching.{KeepsBadSum}
+use Rattle.tree_laws.specs.Reaching.{IsFaulty, StandsFit}
 use Rattle.tree_laws.specs.Stores.{EachSince, KeepsPlaces, Places, WhereTold}
 use Rattle.builtin_reduces.specs.Kept.{item_bytes}
 use Rattle.reduce_tree.specs.Calls.{places, UnlessStore}
@@ -118,6 +122,28 @@ pub data IsFaultyIn (there : Places) (views : List View) (trees : IndexTrees) (a
   of_rows : (view : ℕ) (tree : Tree) → slice_get trees.views.items view ≡ Some tree → IsFaulty row_items (view_values None (reduce_in views view)) there tree at → IsFaultyIn there views trees at
   of_back : IsFaulty back_items no_summaries there trees.back at → IsFaultyIn there views trees at
 
+-- such a node stands at the place, and fits there
+pub record IsNodeOf {T : Type 0} (i : Items T) (IsSuch : Node T → Type 0) (there : Places) (at : ℕ) : Type 0 where
+  pub level : ℕ
+  pub count : ℕ
+  pub fill : Fill
+  pub node : Node T
+  pub stands : StandsFit i there at level count fill node
+  pub such : IsSuch node
+
+-- each summary of the node spells a value of this view
+abbrev pub AreRead : List View → ℕ → Node Row → Type 0
+AreRead views view node = KeepsBadSum (view_values None (reduce_in views view)) node → ⊥
+
+-- a node of the rows of a view stands there, of which each summary is read, or one of the back-index
+pub data HasNodeIn (there : Places) (views : List View) (at : ℕ) : Type 0 where
+  of_view : (view : ℕ) → IsNodeOf row_items (AreRead views view) there at → HasNodeIn there views at
+  of_entries : IsNodeOf back_items (λ node. Unit {0}) there at → HasNodeIn there views at
+
+-- and so it does at each place that was got between
+abbrev pub GotNodesIn : List View → Places → List ℕ → List ℕ → Type 0
+GotNodesIn views there = EachSince (HasNodeIn there views)
+
 module _ {S F C : Type 0} (n : Sources S F) (s : Servers C) (trees : IndexTrees) (changes : List DocRows) (old new : S) (summers summers' : Summers C) (before now : ℕ) where
   -- The store tells what stands there, and the trees hold these rows, by the functions of the query server where they are known. No document
   -- is named twice, and each has a list for each view.
@@ -176,6 +202,8 @@ module _ {S F C : Type 0} (n : Sources S F) (s : Servers C) (trees : IndexTrees)
         × ((functions : Option Functions) (there : Places) (rows : List (List Row)) → IsOver functions there rows → view_edits view changes (old_places changes rows) ≢ [])
     -- over trees that hold rows something stands at each place that is got
     pub found : (functions : Option Functions) (there : Places) (rows : List (List Row)) → IsOver functions there rows → GotFound n old new result
+    -- whatever stands in the store, no bad node is passed over
+    pub got : OnOk result (WhereTold (n.nodes new) (λ there. GotNodesIn summers.design.now.views there (n.gets old) (n.gets new)))
     -- no node is blamed of trees that hold rows, and each that is blamed is bad
     pub sound : (functions : Option Functions) (there : Places) (rows : List (List Row)) (at : ℕ) → IsOver functions there rows → result ≡ Err (tree_fault.BadNode at) → ⊥
     pub damaged : (at : ℕ) → result ≡ Err (tree_fault.BadNode at) → WhereTold (n.nodes new) (λ there. IsFaultyIn there summers.design.now.views trees at)

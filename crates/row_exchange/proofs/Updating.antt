@@ -154,7 +154,7 @@ module _ (count : ℕ) (page : List (ℕ × Write)) (rest : Lists) where
   append_more false id (Some d) changes each [] same = absurd (omega (arith, same))
   append_more false id (Some d) changes each (list ∷ lists) same = ap (λ l. record { id = id; rows = list } ∷ l) (each lists (omega (arith, same)))
 
-  changed_rows-append : (changes : List (ℕ × Write)) (lists : Lists) → length lists ≡ length (mapped_of changes)
+  pub changed_rows-append : (changes : List (ℕ × Write)) (lists : Lists) → length lists ≡ length (mapped_of changes)
       → changed_rows count (changes ++ page) (lists ++ rest) ≡ changed_rows count changes lists ++ changed_rows count page rest
   changed_rows-append [] [] same = refl
   changed_rows-append [] (list ∷ lists) same = absurd (omega (arith, same))

@@ -74,7 +74,7 @@ impl Request {
 }
 
 /// Appends a member that has a revision, where there is one.
-fn put_rev(text: &mut String, name: &str, rev: Option<Rev>) -> Result<(), AllocError> {
+pub fn put_rev(text: &mut String, name: &str, rev: Option<Rev>) -> Result<(), AllocError> {
     match rev {
         Some(rev) => write!(text, ",\"{name}\":\"{rev}\""),
         None => Ok(()),

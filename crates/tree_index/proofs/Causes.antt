@@ -10,11 +10,12 @@ use Rattle.gate_file.specs.declared.fault.GateFault.{GateFault}
 use Rattle.gate_file.specs.declared.fault.GateFault.TheVariants.{DiskFault, Damaged, Full, NoMemory as GateNoMemory}
 use Rattle.gate_file.specs.declared.gate.GateFile.{GateFile}
 use Rattle.gate_file.specs.GateFile.{name_of}
+use Rattle.gate_file.specs.Pair.{own_bytes}
 use Rattle.gate_file.specs.Publish.{IsTooLong}
 use Rattle.design_docs.specs.declared.design.View.{View}
 use Rattle.tree_laws.specs.declared.tree.TreeFault.{TreeFault}
 use Rattle.tree_laws.specs.declared.tree.TreeFault.TheVariants as tree_fault
-use Rattle.tree_laws.specs.Stores.{Places}
+use Rattle.tree_laws.specs.Stores.{Places, WhereTold}
 use Rattle.node_file.specs.declared.file_nodes.FileNodes.{FileNodes}
 use Rattle.node_file.specs.Cache.{gets_of}
 use Rattle.node_file.specs.FileNodes.{nodes_of, record_size, Adds, FileFails, Stays}
@@ -28,14 +29,14 @@ use Rattle.child_pool.specs.declared.pool_fault.PoolFault.TheVariants as pool_fa
 use Rattle.child_pool.specs.declared.summers.Summers.{Summers}
 use Rattle.row_exchange.specs.declared.doc_rows.DocRows.{DocRows}
 use Rattle.index_trees.specs.declared.trees.IndexTrees.{IndexTrees}
-use Rattle.index_trees.specs.Exchanges.{Exchanges, FailsFound, GotFound, IsOver as TreesOver, StoreWent, SummersWent as TreesWent}
+use Rattle.index_trees.specs.Exchanges.{Exchanges, FailsFound, GotFound, GotNodesIn, IsOver as TreesOver, StoreWent, SummersWent as TreesWent}
 use Rattle.tree_index.specs.declared.fault.IndexFault.{IndexFault}
 use Rattle.tree_index.specs.declared.fault.IndexFault.TheVariants.{Store}
 use Rattle.tree_index.specs.declared.index.Index.{Index}
 use Rattle.tree_index.specs.Calls.{IsCounted}
 use Rattle.tree_index.specs.InFile.{in_file}
 use Rattle.tree_index.specs.Index.{file_of, next_in, next_of}
-use Rattle.tree_index.specs.Replaces.{HasItsCause, IsBadNode, IsFilled, IsOver, SummersWent}
+use Rattle.tree_index.specs.Replaces.{GotInFile, HasItsCause, IsBadNode, IsFilled, IsOver, SummersWent}
 use Rattle.tree_index.proofs.Answering.{answered, told_as, FileWent}
 use Rattle.tree_index.proofs.Blaming.{compile_of, counts_disk, counts_none, damage_of, disk_of, full_of, newest_such, want_named}
 use Rattle.tree_index.proofs.Costs.{number_of_views}
@@ -104,6 +105,10 @@ counted f gate gate' old new own found went = by_found found went
     by_found (Err (tree_fault.BadNode at)) adds = none (Err (tree_fault.BadNode at)) (λ is. cc) adds
     by_found (Err (tree_fault.Summer fault)) adds = none (Err (tree_fault.Summer fault)) (λ is. cc) adds
     by_found (Err tree_fault.NoMemory) adds = none (Err tree_fault.NoMemory) (λ is. cc) adds
+
+on_weaker : (P Q : Type 0) → (P → Q) → (found : Found) → OnOk found P → OnOk found Q
+on_weaker P Q then (Ok after) on = then on
+on_weaker P Q then (Err fault) on = tt
 
 on_answered : (own : FileName) (P : Type 0) (found : Found) → OnOk found P → OnOk (answered own found) P
 on_answered own P (Ok after) on = on
@@ -190,10 +195,19 @@ module _ {F C : Type 0} (f : Folders F) (s : Servers C) (changes : List DocRows)
         long = subst (λ (g : GateFile). IsTooLong g (record_size asked.0)) file_now asked.3;
       }
 
+  -- whatever was got fits
+  got_nodes : (e : Disk FileName) → f.disk new ≡ Some e → OnOk result (GotInFile f s changes index index' old new summers summers' a.cache.now b.cache.now e)
+  got_nodes e told =
+      let Got : Type 0 = GotInFile f s changes index index' old new summers summers' a.cache.now b.cache.now e in
+      on_answered own Got found
+      (on_weaker (WhereTold (nodes_of f b) (λ there. GotNodesIn views there (gets_of a.cache.now) (gets_of b.cache.now))) Got
+      (λ got. got (node_at (own_bytes (file_of index') e.now)) (told_after f s changes index index' a b summers summers' before now found x file_is file_now is e told)) found x.got)
+
   pub causes : HasItsCause f s changes index index' old new summers summers' a.cache.now b.cache.now result
   causes = record {
     sound = λ functions picture. told_as (f.disk old) _ (λ d told over. sound functions picture d told over);
     damaged = told_as (f.disk new) _ bad_node;
+    got = told_as (f.disk new) _ got_nodes;
     full = full_file;
     faults = want_named own found;
     cause = counted f (file_of index) (file_of index') old new own found file_went;

@@ -6,6 +6,7 @@ pub mod Committing
 pub mod Opening
 pub mod Emptying
 pub mod Removing
+pub mod Opened
 mod RowsWalked
 mod RowsFound
 pub mod Kept

@@ -9,7 +9,6 @@ use Rattle.view_ports.specs.File.{File, settled}
 use Rattle.view_ports.specs.Functions.{Functions}
 use Rattle.view_ports.specs.declared.file_name.FileName.{FileName}
 use Rattle.view_ports.specs.declared.file_name.Stem.{Stem}
-use Rattle.view_ports.proofs.DiskRuns.{moves_wider}
 use Rattle.view_ports.proofs.Told.{told_after, told_given, told_map, told_pair, told_then}
 use Rattle.gate_file.specs.declared.gate.GateFile.{GateFile}
 use Rattle.gate_file.specs.declared.root.Root.{Root}
@@ -209,14 +208,6 @@ module _ (stem : Stem) where
       (λ a b d moved still. moves_then_none (IsFileOf stem) (WhileOpening stem a.now) (λ files. IfOk result (λ gate. IsOpened gate a.now files)) (ends a.now) a b d
       (λ ended same. endings a b d ended same) moved still)
       first none
-
-  -- other files are as they were
-  pub others_stay : (old new : Option (Disk FileName)) (leaves : (FileName → File) → (FileName → List ℕ) → Type 0) (ends : (FileName → File) → (FileName → File) → Type 0)
-      → Tells old new (λ a b. Moves (IsFileOf stem) (leaves a.now) (ends a.now) a b) → Tells old new (Moves (IsFileOf stem) (λ image. Unit {0}) (λ files. Unit {0}))
-  others_stay old new leaves ends moves =
-      told_map old new (λ a b. Moves (IsFileOf stem) (leaves a.now) (ends a.now) a b) (Moves (IsFileOf stem) (λ image. Unit {0}) (λ files. Unit {0}))
-      (λ a b moved. moves_wider (IsFileOf stem) (IsFileOf stem) (leaves a.now) (λ image. Unit {0}) (ends a.now) (λ files. Unit {0}) a b (λ n is. is) (λ image framed. tt) (λ others ended. tt) moved)
-      moves
 
   -- a refusal finds nothing
   pub finds_none : {T E : Type 0} (result : Result T E) (P : (FileName → File) → (FileName → File) → T → Type 0) (old new : Option (Disk FileName)) (R : Disk FileName → Disk FileName → Type 0)

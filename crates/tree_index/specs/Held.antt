@@ -1,11 +1,12 @@
 -- What the files of an index hold, and the picture that they stand for.
-use Rattle.std.specs.Prelude.{◌≡◌, ℕ, List, [], length, replicate, Option, Some, None, nat_le, if◌then◌else◌}
+use Rattle.std.specs.Prelude.{◌≡◌, ◌⊎◌, ℕ, List, [], length, replicate, Option, Some, None, nat_le, if◌then◌else◌}
+use Rattle.view_ports.specs.Disk.{Disk, Moves}
 use Rattle.view_ports.specs.File.{File}
 use Rattle.view_ports.specs.Functions.{Functions}
 use Rattle.view_ports.specs.declared.file_name.FileName.{FileName}
 use Rattle.view_ports.specs.declared.file_name.Stem.{Stem}
 use Rattle.gate_file.specs.declared.root.Root.{Root}
-use Rattle.gate_file.specs.Open.{IsPart}
+use Rattle.gate_file.specs.Open.{AreFitSlots, IsPart, WhileOpening}
 use Rattle.gate_file.specs.Pair.{EachStands, StandsFor}
 use Rattle.gate_file.specs.RootPlace.{IsPairDamage}
 use Rattle.design_docs.specs.declared.design.View.{View}
@@ -62,6 +63,16 @@ module _ (functions : Option Functions) (views : List View) where
 -- a file of this index
 abbrev pub IsFileOf : Stem → FileName → Type 0
 IsFileOf stem name = name.stem ≡ stem
+
+-- a crash leaves no bytes of the files of this index
+abbrev pub IsGone : Stem → (FileName → List ℕ) → Type 0
+IsGone stem image = (name : FileName) → IsFileOf stem name → image name ≡ []
+
+-- What becomes of the files, whatever they held and whatever is answered: a crash leaves of them what it may leave while a pair is opened,
+-- or no bytes, but that only where no slot is damaged and they may be emptied. Files of other names are as they were.
+abbrev pub OnlyOpens : Stem → ((FileName → File) → Type 0) → Disk FileName → Disk FileName → Type 0
+OnlyOpens stem MayEmpty old new =
+    Moves (IsFileOf stem) (λ image. WhileOpening stem old.now image ⊎ (IsGone stem image × AreFitSlots stem old.now × MayEmpty old.now)) (λ files. Unit {0}) old new
 
 -- no picture counts as one of no write, with so many views without rows
 abbrev pub or_empty : ℕ → Option Picture → Picture

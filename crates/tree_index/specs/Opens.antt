@@ -22,7 +22,7 @@ use Rattle.tree_index.specs.declared.fault.IndexFault.{IndexFault}
 use Rattle.tree_index.specs.declared.fault.IndexFault.TheVariants.{NoMemory, Store}
 use Rattle.tree_index.specs.declared.index.Index.{Index}
 use Rattle.tree_index.specs.Calls.{IsAt, IsCounted, IsOpen}
-use Rattle.tree_index.specs.Held.{up_to, HoldsIndex, HoldsPicture, IsDamagedAt, IsFileOf, Said, SpellsRoot, Stands}
+use Rattle.tree_index.specs.Held.{up_to, HoldsIndex, HoldsPicture, IsDamagedAt, IsFileOf, OnlyOpens, Said, SpellsRoot, Stands}
 use Rattle.tree_index.specs.Index.{file_of, last_of, picture_of, seq_of, stem_of, views_of, IsSettled}
 
 -- damage that is found is of this kind
@@ -87,12 +87,18 @@ module _ {F : Type 0} (f : Folders F) (stem : Stem) (count : ℕ) (old new : F) 
     pub sound : (functions : Option Functions) (views : List View) (picture : Option Picture) → length views ≡ count
         → IfTold (f.disk old) (λ d. HoldsIndex functions views stem d.now picture → FindsDamage (λ name at. ⊥) result)
     pub damaged : IfTold (f.disk old) (λ d. FindsDamage (IsDamagedAt stem count d.now) result)
-    pub others : Tells (f.disk old) (f.disk new) (Moves (IsFileOf stem) (λ image. Unit {0}) (λ files. Unit {0}))
+    pub files : Tells (f.disk old) (f.disk new) (OnlyOpens stem (λ files. ⊥))
     -- where no slot is damaged, neither is the file touched whose root record is
     pub left : Tells (f.disk old) (f.disk new) (λ a b. FindsDamage (λ name at. AreFitSlots stem a.now → IsLeft stem a.now b.now) result)
     pub faults : IfErr result IsOpenFault
     pub cause : IsCounted f old new result
     pub reads : RisesBy 5 (f.reads old) (f.reads new)
+
+-- the root record says a sequence past the newest write
+pub record IsPastWrite (stem : Stem) (count newest : ℕ) (files : FileName → File) : Type 0 where
+  pub said : Said
+  pub says : Says count (root_of (opened stem files)) (own_bytes (opened stem files) files) said
+  pub past : newest < said.seq
 
 -- an index of files without bytes, which is at no picture, of whatever views
 pub record IsEmptied (stem : Stem) (count : ℕ) (new : FileName → File) (index : Index) : Type 0 where
@@ -127,8 +133,8 @@ module _ {F : Type 0} (f : Folders F) (stem : Stem) (count newest : ℕ) (old ne
     pub sound : (functions : Option Functions) (views : List View) (picture : Option Picture) → length views ≡ count
         → IfTold (f.disk old) (λ d. HoldsIndex functions views stem d.now picture → FindsDamage (λ name at. ⊥) result)
     pub damaged : IfTold (f.disk old) (λ d. FindsDamage (IsDamagedAt stem count d.now) result)
-    -- files of other names are as they were
-    pub others : Tells (f.disk old) (f.disk new) (Moves (IsFileOf stem) (λ image. Unit {0}) (λ files. Unit {0}))
+    -- whatever they held, the files are emptied only where they say to be past the newest write
+    pub files : Tells (f.disk old) (f.disk new) (OnlyOpens stem (IsPastWrite stem count newest))
     -- where no slot is damaged, neither is the file touched whose root record is
     pub left : Tells (f.disk old) (f.disk new) (λ a b. FindsDamage (λ name at. AreFitSlots stem a.now → IsLeft stem a.now b.now) result)
     pub faults : IfErr result IsOpenFault

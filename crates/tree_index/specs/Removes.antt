@@ -14,7 +14,7 @@ use Rattle.view_model.specs.Picture.{Picture}
 use Rattle.tree_index.specs.declared.fault.IndexFault.{IndexFault}
 use Rattle.tree_index.specs.declared.fault.IndexFault.TheVariants.{Store}
 use Rattle.tree_index.specs.Calls.{IsCounted}
-use Rattle.tree_index.specs.Held.{HoldsIndex, IsFileOf, Stands}
+use Rattle.tree_index.specs.Held.{HoldsIndex, IsFileOf, OnlyOpens, Stands}
 use Rattle.tree_index.specs.Opens.{FindsDamage}
 
 -- the disk failed, or a file is damaged
@@ -38,8 +38,8 @@ module _ {F : Type 0} (f : Folders F) (stem : Stem) (old new : F) where
     -- whatever they held, they have no bytes in the end
     pub empty : IfTold (f.disk new) (λ d. OnOk result (AreEmpty stem d.now))
     pub damaged : IfTold (f.disk old) (λ d. FindsDamage (IsFirstDamage stem d.now) result)
-    -- files of other names are as they were
-    pub others : Tells (f.disk old) (f.disk new) (Moves (IsFileOf stem) (λ image. Unit {0}) (λ files. Unit {0}))
+    -- where a slot is damaged they are not emptied
+    pub files : Tells (f.disk old) (f.disk new) (OnlyOpens stem (λ files. Unit {0}))
     pub faults : IfErr result IsRemoveFault
     pub cause : IsCounted f old new result
     pub reads : RisesBy 4 (f.reads old) (f.reads new)

@@ -24,7 +24,7 @@ use Rattle.child_pool.specs.declared.summers.Summers.{Summers}
 use Rattle.row_exchange.specs.declared.doc_rows.DocRows.{DocRows}
 use Rattle.row_exchange.specs.Replaced.{ids_of, is_change, new_rows, replaced_views}
 use Rattle.index_trees.specs.Edits.{edit_count, insert_count, old_places, view_edits}
-use Rattle.index_trees.specs.Exchanges.{AreShort, AreWithin, Complains, GivesUp, IsFaultyIn, IsUsable, PutsWithin, Talks}
+use Rattle.index_trees.specs.Exchanges.{AreShort, AreWithin, Complains, GivesUp, GotNodesIn, IsFaultyIn, IsUsable, PutsWithin, Talks}
 use Rattle.index_trees.specs.Trees.{AreLow}
 use Rattle.index_trees.specs.ViewValues.{SumsBy}
 use Rattle.tree_index.specs.declared.fault.IndexFault.{IndexFault}
@@ -89,10 +89,16 @@ module _ {F C : Type 0} (f : Folders F) (s : Servers C) (changes : List DocRows)
       pub last : puts_of cache' ≡ piece ∷ (more ++ puts_of cache)
       pub long : IsTooLong (file_of index') (record_size piece)
 
+    -- at each place that was got stands a node that fits, of the rows of a view or of the back-index
+    abbrev pub GotInFile : Disk FileName → Type 0
+    GotInFile d = GotNodesIn views (node_at (own_bytes (file_of index') d.now)) (gets_of cache) (gets_of cache')
+
     pub record HasItsCause (result : Result (Unit {0}) IndexFault) : Type 0 where
       -- no damage is found over an index that is at a picture, and what is found is there
       pub sound : (functions : Option Functions) (picture : Option Picture) → IfTold (f.disk old) (λ d. IsOver functions picture d → FindsDamage (λ name at. ⊥) result)
       pub damaged : IfTold (f.disk new) (λ d. FindsDamage (IsBadNode d) result)
+      -- and no bad node is passed over, whatever the files hold
+      pub got : IfTold (f.disk new) (λ d. OnOk result (GotInFile d))
       pub full : (name : FileName) (size : Option ℕ) → result ≡ Err (Store (Full name size)) → IsFilled name size
       -- want of memory is named as that
       pub faults : IfErr result (λ fault. (fault ≢ Store GateNoMemory) × (fault ≢ Summer pool_fault.NoMemory))

@@ -9,3 +9,5 @@ mod indexes;
 mod run_tests;
 #[cfg(test)]
 mod scripts;
+#[cfg(test)]
+mod stop_tests;

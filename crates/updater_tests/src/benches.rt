@@ -6,11 +6,16 @@ use crash_disk::MemoryFolder;
 use design_docs::{Design, DesignFault, read_design};
 use doc_file::{DocFault, Docs, Rev};
 use json_terms::{NoMemory, Row, Term, read_term, write_term};
+use node_file::NodeCache;
 use std::alloc::Global;
+use std::sync::ledger::Ledger;
 use std::test::Fail;
 use test_tools::same_text;
+use tree_groups::Groups;
+use tree_laws::Steps;
 use view_index::Index;
 use view_ports::FieldServers;
+use view_signature::signature;
 use view_updater::{UpdateFault, update};
 
 const SIG: [u8; 32] = *b"0123456789abcdef0123456789abcdef";
@@ -90,6 +95,25 @@ fn text_shown(alloc: Global, index: &Index) -> Result<Vec<u8>, NoMemory> {
     Ok(text)
 }
 
+/// The sequence of an index over trees, and the rows of its views.
+fn text_of_trees<L: Ledger>(
+    alloc: Global,
+    folder: &mut MemoryFolder,
+    cache: &mut NodeCache,
+    index: &tree_index::Index,
+    steps: &mut Steps<L>,
+) -> Result<Vec<u8>, tree_index::IndexFault> {
+    let mut text = Vec::new(alloc);
+    text.extend_from_slice(index.seq().to_string(alloc)?.as_bytes())?;
+    for view in 0..index.views() {
+        if view < MANY {
+            let rows = index.rows(alloc, folder, cache, view as u32, steps)?;
+            put_rows(alloc, &rows, &mut text)?;
+        }
+    }
+    Ok(text)
+}
+
 impl Bench {
     /// A folder, and servers of which the calls with these numbers fail.
     pub fn new(alloc: Global, folder: MemoryFolder, fail: &[u64]) -> Result<Bench, NoMemory> {
@@ -136,6 +160,102 @@ impl Bench {
         );
         *shown = text_shown(alloc, &index)?;
         done
+    }
+
+    /// Opens the documents and an index over trees, and updates it. What it shows then is in `shown`, also where the servers' fault
+    /// refuses the update, which is answered.
+    pub fn update_trees<L: Ledger>(
+        &mut self,
+        alloc: Global,
+        cache: &mut NodeCache,
+        steps: &mut Steps<L>,
+        shown: &mut Vec<u8>,
+    ) -> Result<bool, Fail> {
+        let docs = Docs::open(alloc, &mut self.folder)?;
+        let views = self.design.views.len();
+        if views > MANY {
+            return Err(Fail::from(NoMemory));
+        }
+        let newest = docs.info().update_seq;
+        let mut index = tree_index::Index::open(
+            alloc,
+            &mut self.folder,
+            SIG,
+            views as u32,
+            newest,
+        )?;
+        let done = tree_updater::update(
+            alloc,
+            &mut self.folder,
+            cache,
+            &mut self.servers,
+            &mut self.pool,
+            &docs,
+            &self.design,
+            &mut index,
+            steps,
+        );
+        *shown = text_of_trees(alloc, &mut self.folder, cache, &index, steps)?;
+        match done {
+            Ok(()) => Ok(false),
+            Err(tree_updater::UpdateFault::Pool(PoolFault::ServerFault)) => Ok(true),
+            Err(fault) => Err(Fail::from(fault)),
+        }
+    }
+
+    /// The signature of the design.
+    pub fn signature(&self, alloc: Global) -> Result<[u8; 32], NoMemory> {
+        signature(alloc, &self.design)
+    }
+
+    /// Opens the documents, and brings the index of the design up to date, of which none is open before. What it shows then is answered.
+    pub fn bring<L: Ledger>(
+        &mut self,
+        alloc: Global,
+        cache: &mut NodeCache,
+        steps: &mut Steps<L>,
+    ) -> Result<Vec<u8>, Fail> {
+        let docs = Docs::open(alloc, &mut self.folder)?;
+        if self.design.views.len() > MANY {
+            return Err(Fail::from(NoMemory));
+        }
+        let mut groups = Groups::new(alloc);
+        let place = groups.update(
+            alloc,
+            &mut self.folder,
+            cache,
+            &mut self.servers,
+            &mut self.pool,
+            &docs,
+            &self.design,
+            steps,
+        )?;
+        let index = groups.index(place);
+        Ok(text_of_trees(alloc, &mut self.folder, cache, index, steps)?)
+    }
+
+    /// What the index of the design shows as it is opened.
+    pub fn found<L: Ledger>(
+        &mut self,
+        alloc: Global,
+        cache: &mut NodeCache,
+        steps: &mut Steps<L>,
+    ) -> Result<Vec<u8>, Fail> {
+        let docs = Docs::open(alloc, &mut self.folder)?;
+        if self.design.views.len() > MANY {
+            return Err(Fail::from(NoMemory));
+        }
+        let mut groups = Groups::new(alloc);
+        let place = groups.open(alloc, &mut self.folder, &docs, &self.design)?;
+        let index = groups.index(place);
+        Ok(text_of_trees(alloc, &mut self.folder, cache, index, steps)?)
+    }
+
+    /// Removes the indexes of all signatures but these.
+    pub fn clean_up(&mut self, alloc: Global, kept: &[[u8; 32]]) -> Result<(), Fail> {
+        let mut groups = Groups::new(alloc);
+        groups.clean_up(alloc, &mut self.folder, kept)?;
+        Ok(())
     }
 
     /// Maps the documents that were written since a sequence.

@@ -1,4 +1,4 @@
-//! Tests of the public calls of the crates `view_updater` and `change_mapper`; nothing else.
+//! Tests of the public calls of the crates `view_updater`, `change_mapper`, `tree_updater` and `tree_groups`; nothing else.
 #![tactic(auto)]
 
 #[cfg(test)]
@@ -10,6 +10,10 @@ mod change_tests;
 #[cfg(test)]
 mod folder_tests;
 #[cfg(test)]
+mod group_tests;
+#[cfg(test)]
 mod scripts;
+#[cfg(test)]
+mod tree_tests;
 #[cfg(test)]
 mod update_tests;

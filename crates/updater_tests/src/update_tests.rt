@@ -14,7 +14,7 @@ const NEVER: u64 = u64::MAX;
 /// The child is kept. The second update makes none, nor do those behind a deletion alone and behind a design document alone. The
 /// calls behind the fourth write are 13 to 20, those behind the sixth 21 to 28, and those behind the last 29 to 36. A call that
 /// fails alone is made good.
-const FAILING: &[([u64; 2], &[usize])] = &[
+pub const FAILING: &[([u64; 2], &[usize])] = &[
     ([NEVER, NEVER], &[]),
     ([0, 1], &[3]),
     ([6, 7], &[3]),

@@ -1,6 +1,6 @@
 -- A request on the documents alone, as the engine performs it.
 use Rattle.std.specs.Prelude.{IfErr, IfOk, OnOk}
-use Rattle.std.proofs.Common.{◌≡◌, ◌≢◌, ◌≤◌, ◌∙◌, ℕ, List, length, Option, Some, None, inl, inr, Result, Ok, Err, refl, sym, ap, subst, arith}
+use Rattle.std.proofs.Common.{◌≡◌, ◌≢◌, ◌⊎◌, ◌∙◌, ℕ, List, Option, Some, None, inl, inr, Result, Ok, Err, refl, sym, ap, subst, arith}
 use Rattle.std.proofs.lemmas.Result.{IfErr-weaker}
 use Rattle.json_terms.specs.Json.{members_of, object}
 use Rattle.view_ports.specs.Functions.{Functions}
@@ -16,9 +16,8 @@ use Rattle.view_ports.specs.declared.file_name.FileName.{FileName}
 use Rattle.doc_file.specs.declared.docs.Docs.{Docs}
 use Rattle.doc_file.specs.Docs.{IsAt as AreAt}
 use Rattle.design_docs.specs.History.{Write}
-use Rattle.view_groups.specs.declared.groups.Groups.{Groups}
-use Rattle.view_groups.specs.Pictures.{Pictures}
-use Rattle.view_groups.specs.Groups.{AreAt as AreIndexesAt}
+use Rattle.node_file.specs.declared.cache.NodeCache.{NodeCache}
+use Rattle.tree_groups.specs.declared.groups.Groups.{Groups}
 use Rattle.view_engine.specs.declared.engine.Engine.{Engine}
 use Rattle.view_engine.specs.declared.halt.Halt.{Halt}
 use Rattle.view_engine.specs.declared.halt.Halt.TheVariants.{Refused, Stopped}
@@ -36,15 +35,17 @@ use Rattle.view_engine.specs.Put.{put_write}
 use Rattle.view_engine.specs.Worlds.{IsAtWorld, StandsAround, StandsEither, StandsFor}
 use Rattle.view_engine.specs.Moments.{Moment, with_world}
 use Rattle.view_engine.specs.Refusals.{refusal_text}
+use Rattle.view_engine.specs.Signatures.{kinds_of}
 use Rattle.view_engine.specs.Steps.{DoesRequest, DoesRequestText, IsRefusedAs, IsWrite, Makes, MayHaveCalled, Performs}
-use Rattle.view_engine.specs.World.{World, NoneIsNewer, written}
+use Rattle.view_engine.specs.World.{World, written}
 use Rattle.view_engine.proofs.OnDisk.{documents_reason, documents_still}
 use Rattle.view_engine.proofs.Between.{stands_first}
 use Rattle.view_engine.proofs.Cleared.{clears_none, clears_other}
-use Rattle.view_engine.proofs.Whole.{documents_at, documents_open, indexes_at, kept_whole, leaves_around, told_leaves_before, told_leaves_none}
+use Rattle.view_engine.proofs.Whole.{documents_at, documents_open, indexes_at, kept_whole, leaves_around, told_leaves_before, told_leaves_none, within_longer}
 use Rattle.view_engine.proofs.Following.{follows_refused, follows_spent}
 use Rattle.view_engine.proofs.Performing.{none_called}
 use Rattle.view_engine.proofs.ServerFaults.{err_unblamed}
+use Rattle.view_engine.proofs.Signatures.{indexes_later, opened_later, owned_later}
 
 module _ (functions : List ℕ → Functions) (honest : List ℕ → Type 0) (languages : List (List ℕ × List ℕ)) where
   performs_here : (request : Request) (before : Moment) (reply : List ℕ) (after : World) → DoesHere before.world request reply after
@@ -72,21 +73,15 @@ module _ (functions : List ℕ → Functions) (honest : List ℕ → Type 0) (la
   write_makes world (Ok (Delete id given)) write is = (write, is, refl)
   write_makes world other write is = absurd is
 
--- after a request on the documents the pictures are as they were, and no write is lost
+-- after a request on the documents the world is as it was, or has one write more
 abbrev GrowsAlone : World → World → Type 0
-GrowsAlone world after = (after.pictures ≡ world.pictures) × (length world.history ≤ length after.history)
-
-grows_by : (world : World) (write : Write) (after : World) → after ≡ written world write → GrowsAlone world after
-grows_by world write after wrote = subst (GrowsAlone world) (sym wrote) (refl, omega arith)
-
-grows_none : (world after : World) → after ≡ world → GrowsAlone world after
-grows_none world after same = subst (GrowsAlone world) (sym same) (refl, omega arith)
+GrowsAlone world after = (after ≡ world) ⊎ ((write : Write) × (after ≡ written world write))
 
 does_grow : (request : Request) (world : World) (reply : List ℕ) (after : World) → DoesHere world request reply after → GrowsAlone world after
-does_grow (Put document) world reply after does = grows_by world (put_write world (object (members_of document))) after does.wrote
-does_grow (Delete id given) world reply after does = grows_by world (delete_write world id) after does.wrote
-does_grow (Get id) world reply after does = grows_none world after does.1
-does_grow Info world reply after does = grows_none world after does.1
+does_grow (Put document) world reply after does = inr (put_write world (object (members_of document)), does.wrote)
+does_grow (Delete id given) world reply after does = inr (delete_write world id, does.wrote)
+does_grow (Get id) world reply after does = inl does.1
+does_grow Info world reply after does = inl does.1
 does_grow other world reply after does = absurd does
 
 -- and the world is the one with the request's write, where it has one
@@ -95,36 +90,46 @@ does_write (Put document) world reply after write does is = ap (written world) (
 does_write (Delete id given) world reply after write does is = ap (written world) (is.1).2 ∙ sym does.wrote
 does_write other world reply after write does is = absurd is
 
-within_grown : (world after : World) → GrowsAlone world after → NoneIsNewer world → NoneIsNewer after
-within_grown world after grown within = λ sig picture has.
-    let low = within sig picture (ap (λ (pictures : Pictures). pictures sig) (sym grown.0) ∙ has) in
-    omega (arith, low, grown.1)
-
-module _ {F C : Type 0} (f : Folders F) (s : Servers C) (docs docs' : Docs) (pool : Pool) (groups : Groups) (old new : F) (servers : C) (out out' : List ℕ) where
+module _ {F C : Type 0} (f : Folders F) (s : Servers C) (docs docs' : Docs) (pool : Pool) (groups : Groups) (cache : NodeCache) (old new : F) (servers : C) (out out' : List ℕ) where
   abbrev before_it : Engine
-  before_it = record { docs = docs; pool = pool; groups = groups }
+  before_it = record { docs = docs; pool = pool; groups = groups; cache = cache }
 
   abbrev after_it : Engine
-  after_it = record { docs = docs'; pool = pool; groups = groups }
+  after_it = record { docs = docs'; pool = pool; groups = groups; cache = cache }
 
   abbrev Stands : World → Type 0
   Stands world = IfTold (f.disk old) (λ d. IsAtWorld before_it d.now world)
 
+  -- beside pictures that stay the engine is at the world that the documents are at
+  grown : (a b : Disk FileName) {world after : World} → IsAtWorld before_it a.now world → MovesDocuments (λ image. Unit {0}) a b → GrowsAlone world after → AreAt docs' b.now after.history → IsAtWorld after_it b.now after
+  grown a b {world} here moves (inl same) =
+      subst (λ (w : World). AreAt docs' b.now w.history → IsAtWorld after_it b.now w) (sym same) (λ there. record {
+        documents = there;
+        indexes = indexes_at a b moves (kinds_of world.history) groups world.pictures here.indexes;
+        within = here.within;
+        owned = here.owned;
+        opened = here.opened;
+      })
+  grown a b {world} here moves (inr (write, wrote)) =
+      subst (λ (w : World). AreAt docs' b.now w.history → IsAtWorld after_it b.now w) (sym wrote) (λ there. record {
+        documents = there;
+        indexes = indexes_later write world.history world.pictures here.owned groups b.now here.opened (indexes_at a b moves (kinds_of world.history) groups world.pictures here.indexes);
+        within = within_longer world write here.within;
+        owned = owned_later write world.history world.pictures here.owned;
+        opened = opened_later write world.history groups here.opened;
+      })
+
   -- the engine is at the world that the documents are at, beside the pictures that were there
   whole : Tells (f.disk old) (f.disk new) (MovesDocuments (λ image. Unit {0})) → (world after : World) → Stands world → IfTold (f.disk old) (λ d. GrowsAlone world after) → IfTold (f.disk new) (λ d. AreAt docs' d.now after.history)
       → IfTold (f.disk new) (λ d. IsAtWorld after_it d.now after)
-  whole own world after at grown documents = by_disk (f.disk old) (f.disk new) at grown own documents
+  whole own world after at alone documents = by_disk (f.disk old) (f.disk new) at alone own documents
     where
       by_disk : (x y : Option (Disk FileName)) → IfTold x (λ d. IsAtWorld before_it d.now world) → IfTold x (λ d. GrowsAlone world after) → Tells x y (MovesDocuments (λ image. Unit {0})) → IfTold y (λ d. AreAt docs' d.now after.history)
           → IfTold y (λ d. IsAtWorld after_it d.now after)
       by_disk None None here grow moves there = tt
       by_disk None (Some b) here grow moves there = absurd moves
       by_disk (Some a) None here grow moves there = tt
-      by_disk (Some a) (Some b) here grow moves there = record {
-        documents = there;
-        indexes = subst (AreIndexesAt groups b.now) (sym grow.0) (indexes_at a b moves groups world.pictures here.indexes);
-        within = within_grown world after grow here.within;
-      }
+      by_disk (Some a) (Some b) here grow moves there = grown a b here moves grow there
 
   -- a crash leaves the world before a request that is done, or after it
   moments_done : (request : Request) (reply : List ℕ) (world after : World) → Stands world → IfTold (f.disk old) (λ d. DoesHere world request reply after) → Tells (f.disk old) (f.disk new) (MovesDocuments (DocumentsStandAround world (Ok request)))
@@ -159,7 +164,7 @@ module _ {F C : Type 0} (f : Folders F) (s : Servers C) (docs docs' : Docs) (poo
     still_there Allows Known none own allows left = record {
       after = with_world before left.after;
       is_at = record {
-        documents = whole own before.world left.after at.documents (told_now (f.disk old) (λ d. Known left.after) (λ d. GrowsAlone before.world left.after) (λ d known. grows_none before.world left.after (allows left.after known).0) left.allowed) left.is_at;
+        documents = whole own before.world left.after at.documents (told_now (f.disk old) (λ d. Known left.after) (λ d. GrowsAlone before.world left.after) (λ d known. inl (allows left.after known).0) left.allowed) left.is_at;
         child = record { width = at.child.width; started = at.child.started; reducer = at.child.reducer; child = at.child.child; follows = at.child.follows; counts = at.child.counts };
       };
       moments = told_leaves_before before_it before.world left.after (f.disk old) (f.disk new) none at.documents;
@@ -222,8 +227,8 @@ module _ {F C : Type 0} (f : Folders F) (s : Servers C) (docs docs' : Docs) (poo
 
 -- nothing was called
 pub leaves_all : {F C : Type 0} {Wants : Type 0} (now : Scene F C) (request : Result Request Refusal) → LeavesAlone request Wants now now
-leaves_all now (Ok request) = record { servers = λ none. refl; pool = λ none. refl; groups = λ none. refl; wanting = λ wants none. refl; all = tt }
-leaves_all now (Err refusal) = record { servers = λ none. refl; pool = λ none. refl; groups = λ none. refl; wanting = λ wants none. refl; all = refl }
+leaves_all now (Ok request) = record { servers = λ none. refl; pool = λ none. refl; cache = λ none. refl; groups = λ none. refl; wanting = λ wants none. refl; all = tt }
+leaves_all now (Err refusal) = record { servers = λ none. refl; pool = λ none. refl; cache = λ none. refl; groups = λ none. refl; wanting = λ wants none. refl; all = refl }
 
 -- of what is no view nothing is said of a design document
 pub fits_other : {F C : Type 0} (f : Folders F) (s : Servers C) (old new : Scene F C) (request : Result Request Refusal) → (IsView request → ⊥) → (refusal : Option Refusal) → FitsDesign f s old new request refusal
@@ -237,7 +242,7 @@ on_ok_of (Err halt) holds = tt
 
 -- the same by how the line ends
 pub leaves_ends : {F C : Type 0} {old new : Scene F C} {request : Result Request Refusal} {Wants Wanting : Type 0} → (Wanting → Wants) → LeavesAlone request Wants old new → LeavesAlone request Wanting old new
-leaves_ends wants leaves = record { servers = leaves.servers; pool = leaves.pool; groups = leaves.groups; wanting = λ now. leaves.wanting (wants now); all = leaves.all }
+leaves_ends wants leaves = record { servers = leaves.servers; pool = leaves.pool; cache = leaves.cache; groups = leaves.groups; wanting = λ now. leaves.wanting (wants now); all = leaves.all }
 
 -- a view isn't one of these, so that it meets no full file here
 full_here : {F : Type 0} (f : Folders F) (docs : Docs) (old new : F) (request : Request) (P : Type 0) (name : FileName) (length : Option ℕ) → IsReason f docs old new (Ok request) (Full name length) → IsView (Ok request) → P
@@ -245,27 +250,27 @@ full_here f docs old new (View view limits) P name length why is = absurd why.0
 full_here f docs old new other P name length why is = absurd is
 
 -- what a request function promises of the documents is what the engine promises of the request
-pub acted : {F C : Type 0} {f : Folders F} {s : Servers C} {docs docs' : Docs} {pool : Pool} {groups : Groups} {old new : F} {servers : C} {request made : Request} {out out' : List ℕ} {result : Result (Unit {0}) Halt}
-    → request ≡ made → (made ≡ Cleanup → ⊥) → (IsView (Ok made) → ⊥) → LiesOpen f (record { docs = docs; pool = pool; groups = groups }) old → ActsHere f docs docs' old new made out out' result
-    → Performed f s (scene (record { docs = docs; pool = pool; groups = groups }) old servers) (scene (record { docs = docs'; pool = pool; groups = groups }) new servers) (Ok request) out out' result
-acted {f = f} {s = s} {docs = docs} {docs' = docs'} {pool = pool} {groups = groups} {old = old} {new = new} {servers = servers} {request = request} {made = made} {out = out} {out' = out'} {result = result} is other no_view is_open acts =
-    subst (λ (r : Request). Performed f s (scene (record { docs = docs; pool = pool; groups = groups }) old servers) (scene (record { docs = docs'; pool = pool; groups = groups }) new servers) (Ok r) out out' result) (sym is) (record {
-      does = λ before at. does_here f s docs docs' pool groups old new servers out out' made before at result acts.disk acts.does;
-      prints = prints_here f s docs docs' pool groups old new servers out out' made result acts.does;
+pub acted : {F C : Type 0} {f : Folders F} {s : Servers C} {docs docs' : Docs} {pool : Pool} {groups : Groups} {cache : NodeCache} {old new : F} {servers : C} {request made : Request} {out out' : List ℕ} {result : Result (Unit {0}) Halt}
+    → request ≡ made → (made ≡ Cleanup → ⊥) → (IsView (Ok made) → ⊥) → LiesOpen f (record { docs = docs; pool = pool; groups = groups; cache = cache }) old → ActsHere f docs docs' old new made out out' result
+    → Performed f s (scene (record { docs = docs; pool = pool; groups = groups; cache = cache }) old servers) (scene (record { docs = docs'; pool = pool; groups = groups; cache = cache }) new servers) (Ok request) out out' result
+acted {f = f} {s = s} {docs = docs} {docs' = docs'} {pool = pool} {groups = groups} {cache = cache} {old = old} {new = new} {servers = servers} {request = request} {made = made} {out = out} {out' = out'} {result = result} is other no_view is_open acts =
+    subst (λ (r : Request). Performed f s (scene (record { docs = docs; pool = pool; groups = groups; cache = cache }) old servers) (scene (record { docs = docs'; pool = pool; groups = groups; cache = cache }) new servers) (Ok r) out out' result) (sym is) (record {
+      does = λ before at fit. does_here f s docs docs' pool groups cache old new servers out out' made before at result acts.disk acts.does;
+      prints = prints_here f s docs docs' pool groups cache old new servers out out' made result acts.does;
       silent = acts.silent;
       refused = tt;
       blames = λ is. absurd (acts.unblamed is);
       follows = acts.follows;
       designed = on_ok_of result (fits_other f s _ _ (Ok made) no_view None);
       unasked = λ refusal refused. fits_other f s _ _ (Ok made) no_view (Some refusal);
-      leaves = record { servers = λ none. refl; pool = λ none. refl; groups = λ none. refl; wanting = λ wants none. refl; all = tt };
+      leaves = record { servers = λ none. refl; pool = λ none. refl; cache = λ none. refl; groups = λ none. refl; wanting = λ wants none. refl; all = tt };
       fits = acts.fits;
       disk = kept_whole refl is_open acts.disk;
       cleared = clears_other f docs old new (Ok made) _ _ (λ same. other (let one : made ≡ Cleanup = cc in one));
-      filled = λ before at name length is view.
+      filled = λ before at fit name length is view.
           full_here f docs old new made _ name length (subst (λ (r : Result (Unit {0}) Halt). IfErr r (IfStopped (IsReason f docs old new (Ok made)))) is acts.why) view;
-      why = IfErr-weaker result (IfStopped (IsReason f docs old new (Ok made))) (IfStopped (IsReasonOf f (record { docs = docs; pool = pool; groups = groups }) old new (Ok made)))
-          (λ halt is. documents_reason f (record { docs = docs; pool = pool; groups = groups }) old new (Ok made) halt is) acts.why;
+      why = IfErr-weaker result (IfStopped (IsReason f docs old new (Ok made))) (IfStopped (IsReasonOf f (record { docs = docs; pool = pool; groups = groups; cache = cache }) (record { docs = docs'; pool = pool; groups = groups; cache = cache }) old new (Ok made)))
+          (λ halt is. documents_reason f (record { docs = docs; pool = pool; groups = groups; cache = cache }) (record { docs = docs'; pool = pool; groups = groups; cache = cache }) old new (Ok made) halt is) acts.why;
       stays = record { languages = refl; width = refl; disk_faults = acts.later; server_faults = omega arith };
     })
 
@@ -278,7 +283,7 @@ module _ {F C : Type 0} {f : Folders F} {s : Servers C} {now : Scene F C} {reque
   -- nothing was called, and memory ran out
   pub spent_at_once : LiesOpen f now.engine now.folder → Performed f s now now request out out (Err (Stopped NoMemory))
   spent_at_once is_open = record {
-    does = λ before at. record {
+    does = λ before at fit. record {
       after = before;
       is_at = at;
       moments = told_leaves_none now.engine before.world (f.disk now.folder) (f.disk now.folder) (told_refl (f.disk now.folder) MovesNone none_refl) at.documents;
@@ -295,7 +300,7 @@ module _ {F C : Type 0} {f : Folders F} {s : Servers C} {now : Scene F C} {reque
     fits = tt;
     disk = kept_whole refl is_open (documents_still (documents_open _ _ is_open));
     cleared = clears_none f now.engine.docs now.folder now.folder request _ _ (told_refl (f.disk now.folder) MovesNone none_refl) (λ done. done);
-    filled = λ before at name length never. absurd cc;
+    filled = λ before at fit name length never. absurd cc;
     why = inl tt;
     stays = record { languages = refl; width = refl; disk_faults = omega arith; server_faults = omega arith };
   }
@@ -304,7 +309,7 @@ module _ {F C : Type 0} {f : Folders F} {s : Servers C} {now : Scene F C} {reque
   pub refused_at_once : {refusal : Refusal} → (request ≡ Ok Cleanup → ⊥) → (IsView request → ⊥) → RefusesUnread request (Err (Refused refusal)) → refusal ≢ ServerFault → IfOk request (λ one. IsRefusedBy now.engine.docs one refusal) → ((before : Moment) → DoesRequest s.functions s.honest (languages_of now.engine.pool) before request (refusal_text refusal) before)
       → LiesOpen f now.engine now.folder → Performed f s now now request out out (Err (Refused refusal))
   refused_at_once {refusal} no_cleanup no_view unread other refused does is_open = record {
-    does = λ before at. record {
+    does = λ before at fit. record {
       after = before;
       is_at = at;
       moments = told_leaves_none now.engine before.world (f.disk now.folder) (f.disk now.folder) (told_refl (f.disk now.folder) MovesNone none_refl) at.documents;
@@ -323,7 +328,7 @@ module _ {F C : Type 0} {f : Folders F} {s : Servers C} {now : Scene F C} {reque
     fits = tt;
     disk = kept_whole refl is_open (documents_still (documents_open _ _ is_open));
     cleared = clears_other f now.engine.docs now.folder now.folder request _ _ no_cleanup;
-    filled = λ before at name length never. absurd cc;
+    filled = λ before at fit name length never. absurd cc;
     why = tt;
     stays = record { languages = refl; width = refl; disk_faults = omega arith; server_faults = omega arith };
   }

@@ -15,19 +15,20 @@ use Rattle.doc_file.specs.Docs.{entries_of, file_of, HoldsHistory, IsAt, IsDocsF
 use Rattle.doc_file.specs.Held.{HoldsWrites, KeepsEach, Stands}
 use Rattle.design_docs.specs.History.{Write}
 use Rattle.doc_file.proofs.Stores.{at_holds}
-use Rattle.view_index.specs.Calls.{IsAt as IsIndexAt}
-use Rattle.view_index.specs.Held.{HoldsIndex, IsFileOf, Stands as IndexStands}
+use Rattle.tree_index.specs.Held.{IsFileOf}
 use Rattle.view_model.specs.Picture.{Picture}
 use Rattle.view_model.specs.Standing.{AreSetAt}
-use Rattle.view_groups.specs.declared.groups.Groups.{Groups}
-use Rattle.view_groups.specs.Groups.{open_of, AreAt as AreIndexesAt}
-use Rattle.view_groups.specs.Pictures.{AreHeld, Pictures}
-use Rattle.view_groups.specs.Reached.{sig_of}
-use Rattle.view_groups.proofs.Standing.{images_stand_around}
+use Rattle.tree_groups.specs.declared.groups.Groups.{Groups}
+use Rattle.tree_groups.specs.Groups.{open_of, AreAt as AreIndexesAt}
+use Rattle.tree_groups.specs.Pictures.{AreHeld, HoldsOf, IsAtOf, Kinds, Pictures, StandFor, StandsOf}
+use Rattle.tree_groups.specs.Reached.{sig_of}
+use Rattle.tree_groups.proofs.Standing.{images_stand_around}
 use Rattle.view_engine.specs.declared.engine.Engine.{Engine}
+use Rattle.view_engine.specs.Signatures.{kinds_of, AreOwned, HasSignature}
 use Rattle.view_engine.specs.World.{World, NoneIsNewer}
 use Rattle.view_engine.specs.Worlds.{IsAtWorld, StandsFor}
 use Rattle.view_engine.proofs.Beside.{open_beside_indexes}
+use Rattle.view_engine.proofs.Signatures.{owned_set}
 
 -- ---- the documents
 
@@ -50,14 +51,14 @@ documents_stand docs files history image at left =
 -- ---- the indexes
 
 -- pictures that are the same one by one
-module _ (pictures other : Pictures) (same : (sig : List ℕ) → pictures sig ≡ other sig) where
-  pub held_alike : (files : FileName → File) → AreHeld files pictures → AreHeld files other
-  held_alike files held = λ sig. let here = held sig in (here.0, subst (λ picture. HoldsIndex (View sig) here.0 files picture) (same sig) here.1)
+module _ (kinds : Kinds) (pictures other : Pictures) (same : (sig : List ℕ) → pictures sig ≡ other sig) where
+  pub held_alike : (files : FileName → File) → AreHeld kinds files pictures → AreHeld kinds files other
+  held_alike files held = λ sig. subst (λ picture. HoldsOf kinds sig files picture) (same sig) (held sig)
 
-  pub indexes_alike : (groups : Groups) (files : FileName → File) → AreIndexesAt groups files pictures → AreIndexesAt groups files other
+  pub indexes_alike : (groups : Groups) (files : FileName → File) → AreIndexesAt kinds groups files pictures → AreIndexesAt kinds groups files other
   indexes_alike groups files at = record {
     held = held_alike files at.held;
-    each = λ k d within sig named. subst (λ picture. IsIndexAt (slice_index_or (open_of groups) k d) files picture) (same sig) (at.each k d within sig named);
+    each = λ k d within sig named. subst (λ picture. IsAtOf kinds sig (slice_index_or (open_of groups) k d) files picture) (same sig) (at.each k d within sig named);
   }
 
 -- ---- the picture of one signature
@@ -108,19 +109,22 @@ module _ (engine : Engine) (design : Design) (files : FileName → File) (world 
   documents_there = documents_stand engine.docs files world.history image at.documents (λ n of_docs. framed.outside n (view_is_no_docs (sig_of design) n of_docs))
 
   -- an image of the old picture stands for the world
-  pub old_stands : (views : ℕ) → IndexStands (View (sig_of design)) views image (world.pictures (sig_of design)) → StandsFor image world
-  old_stands views stands = record {
+  pub old_stands : StandsOf (kinds_of world.history) (sig_of design) image (world.pictures (sig_of design)) → StandsFor image world
+  old_stands stands = record {
     documents = documents_there;
-    indexes = images_stand_around design files world.pictures world.pictures image views (world.pictures (sig_of design)) at.indexes.held (record { inside = stands; outside = framed.outside }) (refl, λ sig differs. refl);
+    indexes = images_stand_around (kinds_of world.history) design files world.pictures world.pictures image (world.pictures (sig_of design)) at.indexes.held (record { inside = stands; outside = framed.outside }) (refl, λ sig differs. refl);
     within = at.within;
+    owned = at.owned;
   }
 
   -- and one of the next for the world with that
-  pub next_stands : (views : ℕ) (next : Picture) (after : World) → IndexStands (View (sig_of design)) views image (Some next) → next.seq ≡ length world.history → after.history ≡ world.history
+  pub next_stands : HasSignature world.history (sig_of design) → (next : Picture) (after : World) → StandsOf (kinds_of world.history) (sig_of design) image (Some next) → next.seq ≡ length world.history → after.history ≡ world.history
       → AreSetAt (sig_of design) (Some next) world.pictures after.pictures → StandsFor image after
-  next_stands views next after stands seq history set = record {
+  next_stands has next after stands seq history set = record {
     documents = subst (Stands image) (sym history) documents_there;
-    indexes = images_stand_around design files world.pictures after.pictures image views (Some next) at.indexes.held (record { inside = stands; outside = framed.outside })
-        (own_is_set (sig_of design) (Some next) world.pictures after.pictures set, others_stay (sig_of design) (Some next) world.pictures after.pictures set);
+    indexes = subst (λ h. StandFor (kinds_of h) image after.pictures) (sym history)
+        (images_stand_around (kinds_of world.history) design files world.pictures after.pictures image (Some next) at.indexes.held (record { inside = stands; outside = framed.outside })
+        (own_is_set (sig_of design) (Some next) world.pictures after.pictures set, others_stay (sig_of design) (Some next) world.pictures after.pictures set));
+    owned = subst (λ h. AreOwned h after.pictures) (sym history) (owned_set world.history (sig_of design) next world.pictures after.pictures has at.owned set);
     within = none_newer_set (sig_of design) next world after at.within seq history set;
   }

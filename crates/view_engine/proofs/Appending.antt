@@ -1,6 +1,5 @@
 -- What a view's reply line asks for, from the reduces of its design that were lent a pool and servers for it.
-use Rattle.std.specs.Prelude.{◌≡◌, ◌≢◌, ◌⊎◌, ◌++◌, ℕ, List, [], ◌∷◌, Bool, true, false, if◌then◌else◌, Some, Result, Ok, Err, OnErr, slice_index_or}
-use Rattle.std.specs.List.{AllByRecursion}
+use Rattle.std.specs.Prelude.{◌≡◌, ◌≢◌, ◌⊎◌, ◌++◌, ℕ, List, [], ◌∷◌, Bool, true, false, if◌then◌else◌, Some, Result, Ok, Err, OnErr}
 use Rattle.std.proofs.Common.{refl, sym, ap, ◌∙◌, subst, inl, inr}
 use Rattle.json_terms.specs.declared.term.Row.{Row}
 use Rattle.design_docs.specs.declared.design.Design.{Design}
@@ -22,12 +21,10 @@ use Rattle.child_pool.specs.SummerLaws.{fits, lawful, means}
 use Rattle.child_pool.specs.Summers.{SummersFail, SummersGo, reduce_of}
 use Rattle.child_pool.specs.ViewSums.{view_sum_text}
 use Rattle.child_pool.proofs.Whole.{fails_whole, reduces_whole, stands_idle}
-use Rattle.view_index.specs.Parts.{HasParts}
 use Rattle.view_model.specs.declared.group_values.AnswerFault.{AnswerFault}
 use Rattle.view_model.specs.declared.group_values.AnswerFault.TheVariants as answer
 use Rattle.view_model.specs.Answer.{IsAnswer}
 use Rattle.view_model.specs.GroupValues.{IsCaused}
-use Rattle.view_model.specs.Picture.{Picture}
 use Rattle.range_query.specs.Summed.{IsSummedText}
 use Rattle.view_model.specs.Groups.{picked_groups}
 use Rattle.view_engine.specs.Answering.{fault_of_answer, Answers, AppendsAnswer, HasAll, HasMet, Shows}
@@ -50,7 +47,7 @@ spent_alone (BadReply line) never = absurd (never (λ same. cc))
 spent_alone Compile never = absurd (never (λ same. cc))
 spent_alone UnknownLanguage never = absurd (never (λ same. cc))
 
-module _ {C : Type 0} (s : Servers C) (old new : C) (pool pool' : Pool) (design : Design) (place : ℕ) (query : Query) (picture : Picture) (a b : Summers C)
+module _ {C : Type 0} (s : Servers C) (old new : C) (pool pool' : Pool) (design : Design) (place : ℕ) (query : Query) (seq : ℕ) (rows : List Row) (a b : Summers C)
     (idle : a.slot.stage ≡ Idle) (same_pool : a.slot.pool.now ≡ pool) (same_servers : a.slot.servers.now ≡ old) (same_design : a.design.now ≡ design) (at : a.view ≡ place) where
   reduce_is : reduce_of s a ≡ reduce_in design.views place
   reduce_is = ap (λ (d : Design). reduce_in d.views a.view) same_design ∙ ap (reduce_in design.views) at
@@ -58,26 +55,21 @@ module _ {C : Type 0} (s : Servers C) (old new : C) (pool pool' : Pool) (design 
   -- ---- the answer
 
   -- a text that answers by the values of the summers answers by those of the view, whatever the path
-  answers : (rows : List Row) → rows ≡ slice_index_or picture.rows place [] → (seq : ℕ) → seq ≡ picture.seq
-      → (query.reduced ≡ true → has_reduce (reduce_in design.views place) ≡ true) → (reply : List ℕ) → IsAnswer (IsSummedText view_sum_text (fits s a) (lawful s a) (means s a)) query seq rows reply
+  answers : (query.reduced ≡ true → has_reduce (reduce_in design.views place) ≡ true) → (reply : List ℕ) → IsAnswer (IsSummedText view_sum_text (fits s a) (lawful s a) (means s a)) query seq rows reply
       → (path : List ℕ) (calls : List Call) → s.may_follow old calls → path_in (languages_of pool) design.language ≡ Some path → HasItsChildren pool calls
-      → Answers (s.functions path) (s.honest path) (reduce_in design.views place) query picture.seq (slice_index_or picture.rows place []) reply
-  answers rows rows_are seq seq_is has reply is path calls follows known children =
+      → Answers (s.functions path) (s.honest path) (reduce_in design.views place) query seq rows reply
+  answers has reply is path calls follows known children =
       let known_here : path_in (languages_of a.slot.pool.now) a.design.now.language ≡ Some path =
       subst (λ (d : Design). path_in (languages_of a.slot.pool.now) d.language ≡ Some path) (sym same_design) (subst (λ (p : Pool). path_in (languages_of p) design.language ≡ Some path) (sym same_pool) known) in
       let stands = stands_idle s a.design.now.language a.slot path calls idle known_here (subst (λ (c : C). s.may_follow c calls) (sym same_servers) follows) (subst (λ (p : Pool). HasItsChildren p calls) (sym same_pool) children) in
-      subst (λ (n : ℕ). Answers (s.functions path) (s.honest path) (reduce_in design.views place) query n (slice_index_or picture.rows place []) reply) seq_is
-      (subst (λ (shown : List Row). Answers (s.functions path) (s.honest path) (reduce_in design.views place) query seq shown reply) rows_are
-      (subst (λ (r : Reduce). Answers (s.functions path) (s.honest path) r query seq rows reply) reduce_is
-      (own_answer s a path calls known_here stands query seq rows reply (λ reduced. subst (λ (r : Reduce). has_reduce r ≡ true) (sym reduce_is) (has reduced)) is)))
+      subst (λ (r : Reduce). Answers (s.functions path) (s.honest path) r query seq rows reply) reduce_is
+      (own_answer s a path calls known_here stands query seq rows reply (λ reduced. subst (λ (r : Reduce). has_reduce r ≡ true) (sym reduce_is) (has reduced)) is)
 
-  appends : (rows : List Row) → rows ≡ slice_index_or picture.rows place [] → AllByRecursion HasParts rows → (seq : ℕ) → seq ≡ picture.seq
-      → (query.reduced ≡ true → has_reduce (reduce_in design.views place) ≡ true) → (reply : List ℕ) → IsAnswer (IsSummedText view_sum_text (fits s a) (lawful s a) (means s a)) query seq rows reply → IsLine reply
-      → (out out' : List ℕ) → out' ≡ out ++ ended reply → AppendsAnswer s old new pool pool' design place query picture out out'
-  appends rows rows_are parts seq seq_is has reply is plain out out' appended = record {
+  appends : (query.reduced ≡ true → has_reduce (reduce_in design.views place) ≡ true) → (reply : List ℕ) → IsAnswer (IsSummedText view_sum_text (fits s a) (lawful s a) (means s a)) query seq rows reply → IsLine reply
+      → (out out' : List ℕ) → out' ≡ out ++ ended reply → AppendsAnswer s old new pool pool' design place query seq rows out out'
+  appends has reply is plain out out' appended = record {
     reply = reply;
-    is = answers rows rows_are seq seq_is has reply is;
-    parts = subst (AllByRecursion HasParts) rows_are parts;
+    is = answers has reply is;
     line = answer_line (IsSummedText view_sum_text (fits s a) (lawful s a) (means s a)) query seq rows reply is plain;
     unlike = unlike_answer (IsSummedText view_sum_text (fits s a) (lawful s a) (means s a)) query seq rows reply is;
     appended = appended;
@@ -113,21 +105,18 @@ module _ {C : Type 0} (s : Servers C) (old new : C) (pool pool' : Pool) (design 
 
     -- ---- the groups that are picked
 
-    module _ (rows : List Row) (rows_are : rows ≡ slice_index_or picture.rows place []) (unpicked : picked_groups query rows ≡ [] → b ≡ a) where
+    module _ (unpicked : picked_groups query rows ≡ [] → b ≡ a) where
       -- what the query asks for
       abbrev asked : Bool → List (List Row) → List (List ℕ)
       asked reduced groups = if reduced then source_for groups (reduce_in design.views place) else []
-
-      asked_is : asked query.reduced (picked_groups query rows) ≡ asked_sources query (reduce_in design.views place) (slice_index_or picture.rows place [])
-      asked_is = ap (asked_sources query (reduce_in design.views place)) rows_are
 
       all_by : SummersGo s a b → (reduced : Bool) (groups : List (List Row)) → (reduced ≡ false → b ≡ a) → (groups ≡ [] → b ≡ a) → Reduces s old new pool pool' design.language (asked reduced groups)
       all_by go true (group ∷ groups) whole empty = said (Reduces s) (reduces_whole s a.design.now.language (reduce_source (reduce_of s a)) a.slot b.slot idle go.idle go.slot)
       all_by go true [] whole empty = none_by (empty refl)
       all_by go false groups whole empty = none_by (whole refl)
 
-      all : SummersGo s a b → HasAll s old new pool pool' design place query picture
-      all go = subst (Reduces s old new pool pool' design.language) asked_is (all_by go query.reduced (picked_groups query rows) unasked unpicked)
+      all : SummersGo s a b → HasAll s old new pool pool' design place query seq rows
+      all go = all_by go query.reduced (picked_groups query rows) unasked unpicked
 
       met_idle : (fault : PoolFault) → SummersFail s a b fault → b ≡ a → FailsReducing s old new pool pool' design.language [] fault ⊎ ((fault ≡ NoMemory) × Reduces s old new pool pool' design.language [])
       met_idle fault fail same = inr (spent_alone fault (idle_still fault fail same), none_by same)
@@ -139,23 +128,19 @@ module _ {C : Type 0} (s : Servers C) (old new : C) (pool pool' : Pool) (design 
       met_by fault fail true [] whole empty = met_idle fault fail (empty refl)
       met_by fault fail false groups whole empty = met_idle fault fail (whole refl)
 
-      has_met : (fault : PoolFault) → SummersFail s a b fault → HasMet s old new pool pool' design place query picture fault
-      has_met fault fail =
-          subst (λ (sources : List (List ℕ)). FailsReducing s old new pool pool' design.language sources fault ⊎ ((fault ≡ NoMemory) × Reduces s old new pool pool' design.language sources)) asked_is
-          (met_by fault fail query.reduced (picked_groups query rows) unasked unpicked)
+      has_met : (fault : PoolFault) → SummersFail s a b fault → HasMet s old new pool pool' design place query seq rows fault
+      has_met fault fail = met_by fault fail query.reduced (picked_groups query rows) unasked unpicked
 
       -- ---- how it ends
 
-      pub shows_ok : SummersGo s a b → AllByRecursion HasParts rows → (seq : ℕ) → seq ≡ picture.seq
-          → (query.reduced ≡ true → has_reduce (reduce_in design.views place) ≡ true) → (reply : List ℕ) → IsAnswer (IsSummedText view_sum_text (fits s a) (lawful s a) (means s a)) query seq rows reply → IsLine reply
-          → (out out' : List ℕ) → out' ≡ out ++ ended reply → Shows s old new pool pool' design place query picture out out' (Ok tt)
-      shows_ok go parts seq seq_is has reply is plain out out' appended =
-          record { ok = (appends rows rows_are parts seq seq_is has reply is plain out out' appended, all go); err = tt; silent = tt }
+      pub shows_ok : SummersGo s a b → (query.reduced ≡ true → has_reduce (reduce_in design.views place) ≡ true) → (reply : List ℕ) → IsAnswer (IsSummedText view_sum_text (fits s a) (lawful s a) (means s a)) query seq rows reply → IsLine reply
+          → (out out' : List ℕ) → out' ≡ out ++ ended reply → Shows s old new pool pool' design place query seq rows out out' (Ok tt)
+      shows_ok go has reply is plain out out' appended = record { ok = (appends has reply is plain out out' appended, all go); err = tt; silent = tt }
 
-      pub shows_err : (fault : AnswerFault PoolFault) → IsCaused (SummersGo s a b) (SummersFail s a b) fault → (out out' : List ℕ) → out' ≡ out → Shows s old new pool pool' design place query picture out out' (Err (fault_of_answer fault))
+      pub shows_err : (fault : AnswerFault PoolFault) → IsCaused (SummersGo s a b) (SummersFail s a b) fault → (out out' : List ℕ) → out' ≡ out → Shows s old new pool pool' design place query seq rows out out' (Err (fault_of_answer fault))
       shows_err (answer.Values fault) cause out out' silent = record { ok = tt; err = has_met fault cause; silent = silent }
       shows_err answer.NoMemory cause out out' silent = record { ok = tt; err = inr (refl, all cause); silent = silent }
 
       -- memory ran out behind all values
-      pub shows_spent : SummersGo s a b → (out out' : List ℕ) → out' ≡ out → Shows s old new pool pool' design place query picture out out' (Err NoMemory)
+      pub shows_spent : SummersGo s a b → (out out' : List ℕ) → out' ≡ out → Shows s old new pool pool' design place query seq rows out out' (Err NoMemory)
       shows_spent go out out' silent = record { ok = tt; err = inr (refl, all go); silent = silent }

@@ -1,10 +1,11 @@
 -- Images that a crash leaves of worlds between two, and what a cleanup makes of the pictures of a world.
 use Rattle.std.proofs.Common.{◌≡◌, ◌⊎◌, ◌≤◌, ◌∙◌, ℕ, List, length, Option, Some, None, inl, inr, ⊎_elim, refl, sym, subst}
-use Rattle.view_groups.specs.Pictures.{Pictures, StandsOf}
+use Rattle.tree_groups.specs.Pictures.{Pictures, StandFor, StandsOf}
 use Rattle.view_model.specs.Picture.{Picture}
 use Rattle.view_ports.specs.declared.file_name.FileName.{FileName}
 use Rattle.doc_file.specs.Held.{Stands}
 use Rattle.view_engine.specs.Cleanup.{IsCleaned, IsPartlyCleaned}
+use Rattle.view_engine.specs.Signatures.{kinds_of, AreOwned, HasSignature}
 use Rattle.view_engine.specs.World.{World, NoneIsNewer}
 use Rattle.view_engine.specs.Worlds.{IsBetween, StandsEither, StandsFor}
 
@@ -20,8 +21,9 @@ stands_first before after image stands = inl (before, first_between before after
 pub stands_alike : (world other : World) (image : FileName → List ℕ) → other.history ≡ world.history → ((sig : List ℕ) → other.pictures sig ≡ world.pictures sig) → StandsFor image world → StandsFor image other
 stands_alike world other image history pictures stands = record {
   documents = subst (Stands image) (sym history) stands.documents;
-  indexes = λ sig. subst (StandsOf sig image) (sym (pictures sig)) (stands.indexes sig);
+  indexes = subst (λ h. StandFor (kinds_of h) image other.pictures) (sym history) (λ sig. subst (StandsOf (kinds_of world.history) sig image) (sym (pictures sig)) (stands.indexes sig));
   within = λ sig picture is. subst (λ (h : List _). picture.seq ≤ length h) (sym history) (stands.within sig picture (sym (pictures sig) ∙ is));
+  owned = λ sig picture is. subst (λ h. HasSignature h sig) (sym history) (stands.owned sig picture (sym (pictures sig) ∙ is));
 }
 
 -- between a world and itself there is no other
@@ -54,6 +56,10 @@ partly_fewer before mid partly = λ sig picture there. left_there (before.pictur
 pub cleaned_fewer : (before after : World) → IsCleaned before after → AreOfThem before.pictures after.pictures
 cleaned_fewer before after cleaned = λ sig picture there. left_there (before.pictures sig) (after.pictures sig) _ picture (⊎_elim (λ stays. inl stays.1) (λ none. inr (none.1, none.0)) (cleaned.each sig)) there
 
--- so none is newer
+-- so each is that of a design document
+pub owned_left : (before mid : World) → mid.history ≡ before.history → AreOfThem before.pictures mid.pictures → AreOwned before.history before.pictures → AreOwned mid.history mid.pictures
+owned_left before mid history fewer owned = λ sig picture there. subst (λ h. HasSignature h sig) (sym history) (owned sig picture (fewer sig picture there))
+
+-- and none is newer
 pub none_newer_left : (before mid : World) → mid.history ≡ before.history → AreOfThem before.pictures mid.pictures → NoneIsNewer before → NoneIsNewer mid
 none_newer_left before mid history fewer within = λ sig picture there. subst (λ (h : List _). picture.seq ≤ length h) (sym history) (within sig picture (fewer sig picture there))

@@ -1,8 +1,9 @@
 -- What bringing the index of a view's design up to date is to the world.
-use Rattle.std.specs.Prelude.{◌≡◌, ◌≢◌, ◌⊎◌, ◌<◌, ◌≤◌, ℕ, List, [], ◌∷◌, bytes_eq, if◌then◌else◌, length, Option, Some, None, Result, Ok, Err, OnOk}
+use Rattle.std.specs.Prelude.{Bool, ◌≡◌, ◌≢◌, ◌⊎◌, ◌<◌, ◌≤◌, ℕ, List, [], ◌∷◌, bytes_eq, if◌then◌else◌, length, Option, Some, None, Result, Ok, Err, IfOk}
 use Rattle.std.proofs.Common.{true, refl, sym, ap, ◌∙◌, subst, inl, inr, ⊎_elim, arith}
 use Rattle.json_terms.specs.Json.{Json}
 use Rattle.design_docs.specs.declared.design.Design.{Design}
+use Rattle.design_docs.specs.declared.design.View.{View as DesignView}
 use Rattle.view_ports.specs.Disk.{Disk, Framed, IfTold, LeavesOnly, Moves, Tells}
 use Rattle.view_ports.specs.File.{File}
 use Rattle.view_ports.specs.declared.file_name.FileName.{FileName}
@@ -10,36 +11,47 @@ use Rattle.view_ports.specs.declared.file_name.Stem.TheVariants.{Docs as DocsSte
 use Rattle.view_ports.specs.declared.folder.Folder.{Ghosts as Folders}
 use Rattle.view_ports.specs.declared.servers.Servers.{Ghosts as Servers}
 use Rattle.view_ports.proofs.Moments.{weaker}
-use Rattle.view_ports.proofs.Told.{told_now}
+use Rattle.view_ports.proofs.Told.{told_now, told_pair}
 use Rattle.child_pool.specs.declared.pool.Pool.{Pool}
+use Rattle.child_pool.specs.declared.pool_fault.PoolFault.TheVariants.{Compile}
 use Rattle.child_pool.specs.Languages.{path_in}
 use Rattle.child_pool.specs.Pools.{languages_of}
 use Rattle.doc_file.specs.declared.docs.Docs.{Docs}
 use Rattle.doc_file.specs.Docs.{IsAt as AreAt}
-use Rattle.design_docs.specs.History.{Write, AreStored}
-use Rattle.view_index.specs.declared.index.Index.{Index}
-use Rattle.view_index.specs.Held.{or_empty, IsFileOf, Stands as IndexStands}
-use Rattle.view_index.specs.Index.{picture_of}
+use Rattle.design_docs.specs.History.{Write}
+use Rattle.node_file.specs.declared.cache.NodeCache.{NodeCache}
 use Rattle.view_model.specs.Picture.{Picture}
-use Rattle.view_updater.specs.declared.fault.UpdateFault.{UpdateFault}
-use Rattle.view_updater.specs.declared.fault.UpdateFault.TheVariants.{Pool as OfPool}
-use Rattle.child_pool.specs.declared.pool_fault.PoolFault.TheVariants.{Compile}
-use Rattle.view_updater.specs.Updates.{documents_since, ComplainsRightly, HasAskedFor, IsIdleEnd, IsMapped, IsOfIndex, IsThenChecked}
-use Rattle.view_groups.specs.declared.groups.Groups.{Groups}
-use Rattle.view_groups.specs.Brings.{AsksSince, Brings, EndsAt, IsIdle, IsLast, IsMappedTo, IsNext, MayLeave}
-use Rattle.view_groups.specs.Sides.{side}
-use Rattle.view_groups.specs.Groups.{IsGroup}
-use Rattle.view_groups.specs.Reached.{picture_for, sig_of, views_in, IsReached, StandsAround as IndexStandsAround}
+use Rattle.change_mapper.specs.Written.{documents_since}
+use Rattle.tree_index.specs.declared.index.Index.{Index}
+use Rattle.tree_index.specs.Held.{or_empty, IsFileOf}
+use Rattle.tree_index.specs.Index.{picture_of}
+use Rattle.tree_updater.specs.declared.fault.UpdateFault.{UpdateFault}
+use Rattle.tree_updater.specs.declared.fault.UpdateFault.TheVariants.{Pool as OfPool}
+use Rattle.tree_updater.specs.Asking.{HasAskedFor}
+use Rattle.tree_updater.specs.Made.{IsRefused as IsUpdateRefused}
+use Rattle.tree_updater.specs.Paths.{IsPathOf}
+use Rattle.tree_groups.specs.declared.groups.Groups.{Groups}
+use Rattle.tree_groups.specs.Brings.{Brings, EndsAt, IsLost, IsNext, MayLeave}
+use Rattle.tree_groups.specs.Follows.{AsksSince, Follows, IsIdleEnd, IsUnasked}
+use Rattle.tree_groups.specs.Groups.{IsGroup}
+use Rattle.tree_groups.specs.Pictures.{Kinds, StandsOf}
+use Rattle.tree_groups.specs.Reached.{picture_for, sig_of, views_in, IsReached, StandsAround as IndexStandsAround}
+use Rattle.tree_groups.specs.Sides.{side, Side}
 use Rattle.view_engine.specs.declared.engine.Engine.{Engine}
 use Rattle.view_engine.specs.Calls.{scene, StandsAt}
 use Rattle.view_engine.specs.Moments.{Moment}
+use Rattle.view_engine.specs.Signatures.{kinds_of, HasSignature}
+use Rattle.view_engine.specs.Updating.{AreFit}
+use Rattle.view_engine.specs.View.{design_id}
 use Rattle.view_engine.specs.ViewPlan.{IsPlan}
 use Rattle.view_engine.specs.World.{World}
 use Rattle.view_engine.specs.Worlds.{IsAtWorld, StandsAround, StandsEither}
+use Rattle.view_engine.specs.ViewQuery.{ViewQuery, view_request}
 use Rattle.view_engine.proofs.Between.{stands_first}
 use Rattle.view_engine.proofs.Apart.{documents_beside, indexes_alike, next_stands, none_newer_set, old_stands, set_is_alike}
-use Rattle.view_engine.proofs.Viewed.{is_brought, IsKnown, IsNextOf}
-use Rattle.view_engine.specs.ViewQuery.{ViewQuery, view_request}
+use Rattle.view_engine.proofs.Signatures.{kind_is, opened_beside, owned_set}
+use Rattle.view_engine.proofs.Updated.{live_is_design}
+use Rattle.view_engine.proofs.Viewed.{is_brought, planned_signature, IsKnown, IsNextOf}
 
 -- the world in which a design's picture is this one
 abbrev pub with_picture : World → Design → Picture → World
@@ -57,36 +69,49 @@ within_there engine files world design at = by_picture (world.pictures (sig_of d
     by_picture None is = omega arith
     by_picture (Some picture) is = at.within (sig_of design) picture is
 
--- what was asked for is so where the next picture is more
-pub asked_wider : {C : Type 0} (s : Servers C) (servers servers' : C) (pool pool' : Pool) (design : Design) (result : Result ℕ UpdateFault) (documents : List (List (List ℕ × Json))) (IsNext IsNext' : Picture → Type 0)
-    → ((next : Picture) → IsNext next → IsNext' next) → HasAskedFor s servers servers' pool pool' design documents IsNext result → HasAskedFor s servers servers' pool pool' design documents IsNext' result
-asked_wider s servers servers' pool pool' design result documents IsNext IsNext' wider asked = record {
-  between = asked.between;
-  pool_between = asked.pool_between;
-  mapped = asked.mapped;
-  maps = asked.maps;
-  keeps = asked.keeps;
-  later = asked.later;
-  twice = asked.twice;
-  checks = by_mapped asked.mapped asked.checks;
-}
-  where
-    by_mapped : (mapped : Result (Unit {0}) UpdateFault) → IsThenChecked s servers servers' pool pool' design {T = ℕ} IsNext asked.between asked.pool_between mapped result
-        → IsThenChecked s servers servers' pool pool' design {T = ℕ} IsNext' asked.between asked.pool_between mapped result
-    by_mapped (Err fault) is = is
-    by_mapped (Ok done) is = (is.0, wider is.0 is.1, is.2, is.3, is.4)
+-- ---- the design of a plan
 
-module _ {F C : Type 0} (f : Folders F) (s : Servers C) (docs : Docs) (pool pool' : Pool) (groups groups' : Groups) (mid new : F) (servers servers' : C) (name : ViewQuery) (id : List ℕ) (design : Design) (place : ℕ) (path : List ℕ)
+module _ {updating : Bool} (languages : List (List ℕ × List ℕ)) (world : World) (name : ViewQuery) (id : List ℕ) (design : Design) (place : ℕ) (path : List ℕ)
+    (plan : IsPlan updating languages world.history name id design place path) where
+  -- it is one of the history
+  pub has_signature : HasSignature world.history (sig_of design)
+  has_signature = record {
+    document = plan.document;
+    stored = live_is_design world.history (design_id name.design) plan.document refl plan.live;
+    signed = sym (planned_signature languages world name id design place path plan);
+  }
+
+  -- and its signature is of its views, where designs that differ have different signatures
+  pub of_own_views : AreFit world.history → (kinds_of world.history (sig_of design)).views ≡ design.views
+  of_own_views fit =
+      ap (λ sig. (kinds_of world.history sig).views) (planned_signature languages world name id design place path plan)
+      ∙ kind_is world.history fit plan.document (live_is_design world.history (design_id name.design) plan.document refl plan.live)
+      ∙ sym plan.views
+
+-- what is known as the update begins: the engine is at the world, the view is planned, and designs that differ have different signatures
+pub record IsReady (updating : Bool) (engine : Engine) (world : World) (name : ViewQuery) (id : List ℕ) (design : Design) (place : ℕ) (path : List ℕ) (d : Disk FileName) : Type 0 where
+  pub here : IsAtWorld engine d.now world
+  pub plan : IsPlan updating (languages_of engine.pool) world.history name id design place path
+  pub fit : AreFit world.history
+
+module _ {F C : Type 0} (f : Folders F) (s : Servers C) (docs : Docs) (pool pool' : Pool) (groups groups' : Groups) (cache cache' : NodeCache) (steps : ℕ) (mid new : F) (servers servers' : C) (name : ViewQuery) (id : List ℕ) (design : Design) (place : ℕ) (path : List ℕ)
     (within : place < length design.views) (path_is : path_in (languages_of pool) design.language ≡ Some path) (result : Result ℕ UpdateFault)
-    (brings : Brings f s docs design (side mid servers pool groups) (side new servers' pool' groups') result) where
+    (brings : Brings f s docs design (side mid servers pool groups cache 0) (side new servers' pool' groups' cache' steps) result)
+    (follow : Follows f s docs design (side mid servers pool groups cache 0) (side new servers' pool' groups' cache' steps) result) where
   abbrev engine : Engine
-  engine = record { docs = docs; pool = pool; groups = groups }
+  engine = record { docs = docs; pool = pool; groups = groups; cache = cache }
 
   abbrev engine' : Engine
-  engine' = record { docs = docs; pool = pool'; groups = groups' }
+  engine' = record { docs = docs; pool = pool'; groups = groups'; cache = cache' }
 
   abbrev own : List ℕ
   own = sig_of design
+
+  abbrev Old : Side F C
+  Old = side mid servers pool groups cache 0
+
+  abbrev New : Side F C
+  New = side new servers' pool' groups' cache' steps
 
   module _ (before : Moment) (at : StandsAt f s (scene engine mid servers) before) where
     abbrev world : World
@@ -95,53 +120,69 @@ module _ {F C : Type 0} (f : Folders F) (s : Servers C) (docs : Docs) (pool pool
     abbrev seq : ℕ
     seq = (picture_for design world.pictures).seq
 
-    pub reached : (d : Disk FileName) → IsAtWorld engine d.now world → IsReached docs groups design world.history world.pictures d.now
-    reached d here = record { documents = here.documents; indexes = here.indexes; within = within_there engine d.now world design here }
+    abbrev kinds : Kinds
+    kinds = kinds_of world.history
 
-    -- ---- what was asked for
+    abbrev Ready : Disk FileName → Type 0
+    Ready = IsReady true engine world name id design place path
 
-    -- what is told of the next picture, and of the documents
-    abbrev pub IsToldIn : Option (Disk FileName) → Picture → Type 0
-    IsToldIn y next = IfTold y (λ d. IsMapped s.functions s.honest design path world.history (picture_for design world.pictures) next)
+    pub reached : (d : Disk FileName) → Ready d → IsReached s servers pool docs kinds groups design world.history world.pictures d.now
+    reached d ready = record {
+      documents = (ready.here).documents;
+      indexes = (ready.here).indexes;
+      within = within_there engine d.now world design ready.here;
+      own = of_own_views (languages_of pool) world name id design place path ready.plan ready.fit;
+      by = tt;
+    }
 
-    abbrev pub AreSince : List (List (List ℕ × Json)) → Type 0
-    AreSince documents = (documents ≡ documents_since seq world.history) × (seq ≢ length world.history)
+    -- how the files of the index move
+    abbrev MovesAs : Result ℕ UpdateFault → Disk FileName → Disk FileName → Type 0
+    MovesAs r = Moves (IsFileOf (View own)) (IndexStandsAround kinds design world.pictures (MayLeave f s docs design Old New kinds world.history world.pictures r)) (EndsAt f s docs design Old New kinds world.history world.pictures r)
 
-    abbrev Last : Picture → Type 0
-    Last = IsLast f s docs design (side mid servers pool groups) (side new servers' pool' groups') result
+    own_path : IsPathOf s servers pool design path
+    own_path = record { known = path_is; calls = before.calls; follows = at.child.follows; children = at.child.child }
 
-    abbrev Asked : Option (Disk FileName) → Type 0
-    Asked y = (IsIdle f s docs design (side mid servers pool groups) (side new servers' pool' groups') × IsIdleEnd result × IfTold y (λ d. OnOk result (seq ≡ length world.history)))
-        ⊎ ((documents : List (List (List ℕ × Json))) × HasAskedFor s servers servers' pool pool' design {T = ℕ} documents (λ next. IsToldIn y next × Last next) result × IfTold y (λ d. AreSince documents))
+    module _ (ready : IfTold (f.disk mid) Ready) where
+      reached_all : IfTold (f.disk mid) (λ d. IsReached s servers pool docs kinds groups design world.history world.pictures d.now)
+      reached_all = told_now (f.disk mid) Ready _ (λ d is. reached d is) ready
 
-    pub asked_there : Asked (f.disk mid)
-    asked_there = by_disk (f.disk mid) at.documents (brings.asks world.history world.pictures)
-      where
-        by_disk : (y : Option (Disk FileName)) → IfTold y (λ d. IsAtWorld engine d.now world)
-            → IfTold y (λ d. IsReached docs groups design world.history world.pictures d.now → AsksSince f s docs design (side mid servers pool groups) (side new servers' pool' groups') world.history world.pictures result) → Asked y
-        by_disk None here asks = ⊎_elim (λ idle. inl (idle.0, idle.1, tt))
-            (λ some. inr (some.0, asked_wider s servers servers' pool pool' design result some.0 Last (λ next. IsToldIn None next × Last next) (λ next last. (tt, last)) some.1, tt)) brings.asked
-        by_disk (Some d) here asks = ⊎_elim (λ idle. inl (idle.0, idle.1, idle.2))
-            (λ some. inr (
-              documents_since seq world.history,
-              asked_wider s servers servers' pool pool' design result (documents_since seq world.history)
-                  (λ next. IsMappedTo f s docs design (side mid servers pool groups) (side new servers' pool' groups') world.history world.pictures next × Last next) (λ next. IsToldIn (Some d) next × Last next)
-                  (λ next is. (is.0 path before.calls at.child.follows path_is at.child.child, is.1)) some.1,
-              (refl, some.0),
-            )) (asks (reached d here))
+      -- ---- what was asked for
 
-    -- a complaint is right
-    pub complains_there : result ≡ Err (OfPool Compile) → IfTold (f.disk mid) (λ d. ComplainsRightly s design servers pool world.history (picture_for design world.pictures))
-    complains_there is = brings.spoils world.history world.pictures (told_now (f.disk mid) (λ d. IsAtWorld engine d.now world) _ (λ d here. reached d here) at.documents) is
+      abbrev pub AreSince : List (List (List ℕ × Json)) → Type 0
+      AreSince documents = (documents ≡ documents_since seq world.history) × (seq ≢ length world.history)
+
+      abbrev Asked : Option (Disk FileName) → Type 0
+      Asked y = (IsUnasked f s docs design Old New × IsIdleEnd result × IfTold y (λ d. IfOk result (λ slot. seq ≡ length world.history)))
+          ⊎ ((documents : List (List (List ℕ × Json))) × HasAskedFor s servers servers' pool pool' design {T = ℕ} documents result × IfTold y (λ d. AreSince documents))
+
+      pub asked_there : Asked (f.disk mid)
+      asked_there = by_disk (f.disk mid) ready (follow.asks kinds world.history world.pictures)
+        where
+          by_disk : (y : Option (Disk FileName)) → IfTold y Ready
+              → IfTold y (λ d. IsReached s servers pool docs kinds groups design world.history world.pictures d.now → AsksSince f s docs design Old New world.history world.pictures result) → Asked y
+          by_disk None is asks = ⊎_elim (λ idle. inl (idle.0, idle.1, tt)) (λ some. inr (some.0, some.1, tt)) follow.asked
+          by_disk (Some d) is asks = ⊎_elim (λ idle. inl (idle.0, idle.1, idle.2)) (λ some. inr (documents_since seq world.history, some.1, (refl, some.0))) (asks (reached d is))
+
+      -- a complaint is right
+      pub complains_there : result ≡ Err (OfPool Compile)
+          → IfTold (f.disk mid) (λ d. (p : List ℕ) → IsPathOf s servers pool design p → s.honest p → IsUpdateRefused s.functions s.honest design p world.history (picture_for design world.pictures))
+      complains_there is = told_pair (f.disk mid) Ready _ _ (λ d known right. right (reached d known)) ready (brings.spoils is kinds world.history world.pictures)
+
+      -- how the files of the index moved
+      pub moved : Tells (f.disk mid) (f.disk new) (MovesAs result)
+      moved = brings.stands kinds world.history world.pictures reached_all
 
     -- ---- the next picture
 
+    abbrev Next : Picture → Type 0
+    Next = IsNext f s docs design Old New kinds world.history world.pictures
+
     -- it is that of an update of the documents that were written since
-    pub next_is : (next : Picture) (left : World) (documents : List (List (List ℕ × Json))) → IsNext f s docs design (side mid servers pool groups) (side new servers' pool' groups') world.history world.pictures next
+    pub next_is : (next : Picture) (left : World) (documents : List (List (List ℕ × Json))) → Next next
         → documents ≡ documents_since seq world.history → left.history ≡ world.history → ((sig : List ℕ) → left.pictures sig ≡ (with_picture world design next).pictures sig)
         → IsNextOf s.functions s.honest world design path documents next left
     next_is next left documents is_next same history set =
-        let made = is_next path before.calls at.child.follows path_is at.child.child in
+        let made = is_next path own_path in
         record {
           updated = made.mapped.updated;
           compile = λ is_honest some. made.mapped.compile is_honest (λ none. some (same ∙ none));
@@ -150,26 +191,30 @@ module _ {F C : Type 0} (f : Folders F) (s : Servers C) (docs : Docs) (pool pool
           set = set;
         }
 
-    -- how the files of the index move
-    abbrev MovesBy : Result ℕ UpdateFault → Disk FileName → Disk FileName → Type 0
-    MovesBy r = Moves (IsFileOf (View own)) (IndexStandsAround design world.pictures (MayLeave f s docs design (side mid servers pool groups) (side new servers' pool' groups') world.history world.pictures r))
-        (EndsAt f s docs design (side mid servers pool groups) (side new servers' pool' groups') world.history world.pictures r)
+    module _ (a b : Disk FileName) (ready : Ready a) where
+      abbrev here : IsAtWorld engine a.now world
+      here = ready.here
 
-    -- over the disk before and after
-    pub moved : Tells (f.disk mid) (f.disk new) (MovesBy result)
-    moved = brings.stands world.history world.pictures (told_now (f.disk mid) (λ d. IsAtWorld engine d.now world) _ (λ d here. reached d here) at.documents)
+      has : HasSignature world.history own
+      has = has_signature (languages_of pool) world name id design place path ready.plan
 
-    module _ (a b : Disk FileName) (here : IsAtWorld engine a.now world) where
       -- the files of the documents stay
       documents_stay : ((n : FileName) → (IsFileOf (View own) n → ⊥) → b.now n ≡ a.now n) → AreAt docs b.now world.history
       documents_stay others = documents_beside docs a.now b.now (λ n of_docs. others n (λ of_view. let clash : DocsStem ≡ View own = sym of_docs ∙ of_view in let no : ⊥ = cc in no)) world.history here.documents
 
       -- ---- the update was refused, and no file of the index failed
-      pub refused_at : (fault : UpdateFault) → (IsOfIndex fault → ⊥) → MovesBy (Err fault) a b → LeavesOnly (StandsEither world world) a b × IsAtWorld engine' b.now world
+      pub refused_at : (fault : UpdateFault) → (IsLost fault → ⊥) → MovesAs (Err fault) a b → LeavesOnly (StandsEither world world) a b × IsAtWorld engine' b.now world
       refused_at fault other moves = (
-        weaker (Framed (IsFileOf (View own)) a.now (IndexStandsAround design world.pictures (MayLeave f s docs design (side mid servers pool groups) (side new servers' pool' groups') world.history world.pictures (Err fault)))) (StandsEither world world) a b
-            (λ image framed. ⊎_elim (λ old. stands_first world world image (old_stands engine design a.now world here _ image framed old.0 old.1)) (λ next. absurd (other next.1.1)) framed.inside) moves.moments,
-        record { documents = documents_stay moves.others; indexes = moves.ended other; within = here.within },
+        weaker (Framed (IsFileOf (View own)) a.now (IndexStandsAround kinds design world.pictures (MayLeave f s docs design Old New kinds world.history world.pictures (Err fault)))) (StandsEither world world) a b
+            (λ image framed. ⊎_elim (λ old. stands_first world world image (old_stands engine design a.now world here _ image framed old))
+            (λ next. absurd (other (subst IsLost (sym next.1.1) tt))) framed.inside) moves.moments,
+        record {
+          documents = documents_stay moves.others;
+          indexes = moves.ended other;
+          within = here.within;
+          owned = here.owned;
+          opened = opened_beside world.history own groups groups' has follow.only here.opened;
+        },
       )
 
       -- ---- the index was brought up to date
@@ -189,44 +234,44 @@ module _ {F C : Type 0} (f : Folders F) (s : Servers C) (docs : Docs) (pool pool
             none_written (write ∷ older) any long = omega (arith, long)
         next_there (Some next) is seq some = ap (λ p. Some p) (sym is)
 
-        pub brought_at : world.history ≢ [] → MovesBy (Ok slot) a b
-            → LeavesOnly (StandsEither world left) a b × (IsAtWorld engine' b.now left × IsNext f s docs design (side mid servers pool groups) (side new servers' pool' groups') world.history world.pictures shown)
+        pub brought_at : world.history ≢ [] → MovesAs (Ok slot) a b → LeavesOnly (StandsEither world left) a b × (IsAtWorld engine' b.now left × Next shown)
         brought_at some moves =
             let ended = moves.ended in
             let same : ended.index ≡ index = one_index groups' slot own (views_in design) ended.index index ended.group group in
             let shows : shown ≡ or_empty (views_in design) ended.next = ap picture_of (sym same) ∙ ended.shows in
-            let is_next : IsNext f s docs design (side mid servers pool groups) (side new servers' pool' groups') world.history world.pictures shown =
-            subst (IsNext f s docs design (side mid servers pool groups) (side new servers' pool' groups') world.history world.pictures) (sym shows) ended.made in
-            let number : shown.seq ≡ length world.history = (is_next path before.calls at.child.follows path_is at.child.child).mapped.updated.seq in
+            let is_next : Next shown = subst Next (sym shows) ended.made in
+            let number : shown.seq ≡ length world.history = (is_next path own_path).mapped.updated.seq in
             let there : ended.next ≡ Some shown = next_there ended.next shows number some in (
-              weaker (Framed (IsFileOf (View own)) a.now (IndexStandsAround design world.pictures (MayLeave f s docs design (side mid servers pool groups) (side new servers' pool' groups') world.history world.pictures (Ok slot)))) (StandsEither world left) a b
-                  (λ image framed. ⊎_elim (λ old. stands_first world left image (old_stands engine design a.now world here _ image framed old.0 old.1))
+              weaker (Framed (IsFileOf (View own)) a.now (IndexStandsAround kinds design world.pictures (MayLeave f s docs design Old New kinds world.history world.pictures (Ok slot)))) (StandsEither world left) a b
+                  (λ image framed. ⊎_elim (λ old. stands_first world left image (old_stands engine design a.now world here _ image framed old))
                   (λ next.
                   let made = next.1.1 in
                   let this : next.0 ≡ shown = made.2 ∙ ap picture_of (one_index groups' slot own (views_in design) made.0 index made.1 group) in
-                  inr (next_stands engine design a.now world here _ image framed (views_in design) shown left (subst (λ p. IndexStands (View own) (views_in design) image (Some p)) this next.2) number refl (λ sig. refl)))
+                  inr (next_stands engine design a.now world here _ image framed has shown left (subst (λ p. StandsOf kinds own image (Some p)) this next.2) number refl (λ sig. refl)))
                   framed.inside) moves.moments,
               (
                 record {
                   documents = documents_stay moves.others;
-                  indexes = indexes_alike ended.after left.pictures (set_is_alike own (Some shown) world.pictures left.pictures ended.after (λ sig. refl) (ended.set.0 ∙ there) ended.set.1) groups' b.now ended.at;
+                  indexes = indexes_alike kinds ended.after left.pictures (set_is_alike own (Some shown) world.pictures left.pictures ended.after (λ sig. refl) (ended.set.0 ∙ there) ended.set.1) groups' b.now ended.at;
                   within = none_newer_set own shown world left here.within number refl (λ sig. refl);
+                  owned = owned_set world.history own shown world.pictures left.pictures has here.owned (λ sig. refl);
+                  opened = opened_beside world.history own groups groups' has follow.only here.opened;
                 },
                 is_next,
               ),
             )
 
       -- ---- it failed: a crash leaves the world before or the next one
-      pub failed_at : (r : Result ℕ UpdateFault) → IsPlan true (languages_of pool) world.history name id design place path → AreStored world.history → MovesBy r a b
-          → LeavesOnly (StandsAround s.functions s.honest (languages_of pool) world (Ok (view_request name))) a b
-      failed_at r plan stored moves =
-          weaker (Framed (IsFileOf (View own)) a.now (IndexStandsAround design world.pictures (MayLeave f s docs design (side mid servers pool groups) (side new servers' pool' groups') world.history world.pictures r)))
+      pub failed_at : (r : Result ℕ UpdateFault) → MovesAs r a b → LeavesOnly (StandsAround s.functions s.honest (languages_of pool) world (Ok (view_request name))) a b
+      failed_at r moves =
+          weaker (Framed (IsFileOf (View own)) a.now (IndexStandsAround kinds design world.pictures (MayLeave f s docs design Old New kinds world.history world.pictures r)))
           (StandsAround s.functions s.honest (languages_of pool) world (Ok (view_request name))) a b
-          (λ image framed. ⊎_elim (λ old. inl (old_stands engine design a.now world here _ image framed old.0 old.1))
+          (λ image framed. ⊎_elim (λ old. inl (old_stands engine design a.now world here _ image framed old))
           (λ next.
           let is_next = next.1.0 in
           let after = with_picture world design next.0 in
-          let known : IsKnown (languages_of pool) before name id design place path (documents_since seq world.history) = record { plan = plan; stored = stored; documents_are = refl } in
+          let plan = ready.plan in
+          let known : IsKnown (languages_of pool) before name id design place path (documents_since seq world.history) = record { plan = plan; stored = here.documents.stored; documents_are = refl } in
           inr (
             after,
             (
@@ -238,5 +283,5 @@ module _ {F C : Type 0} (f : Folders F) (s : Servers C) (docs : Docs) (pool pool
               is_brought s.functions s.honest (languages_of pool) before name id design place path within (documents_since seq world.history) next.0 after known (next_is next.0 after (documents_since seq world.history) is_next refl refl (λ sig. refl)),
               plan.updates,
             ),
-            next_stands engine design a.now world here _ image framed (views_in design) next.0 after next.2 (is_next path before.calls at.child.follows path_is at.child.child).mapped.updated.seq refl (λ sig. refl),
+            next_stands engine design a.now world here _ image framed has next.0 after next.2 (is_next path own_path).mapped.updated.seq refl (λ sig. refl),
           )) framed.inside) moves.moments

@@ -1,5 +1,5 @@
 -- A cleanup of the documents and the indexes, as the engine performs it.
-use Rattle.std.specs.Prelude.{OnOk}
+use Rattle.std.specs.Prelude.{All, Contains, OnOk}
 use Rattle.std.proofs.Common.{◌≡◌, ℕ, List, Option, Some, None, inl, inr, ⊎_elim, Result, Ok, Err, refl, sym, subst, arith}
 use Rattle.std.proofs.lemmas.Result.{IfErr-weaker}
 use Rattle.view_ports.specs.Disk.{Disk, Framed, IfTold, LeavesOnly, Moves, Tells}
@@ -16,9 +16,11 @@ use Rattle.doc_file.specs.declared.docs.Docs.{Docs}
 use Rattle.doc_file.specs.Docs.{IsAt as AreAt, IsOpen as AreDocumentsOpen}
 use Rattle.doc_file.specs.Held.{Stands}
 use Rattle.design_docs.specs.History.{Write}
-use Rattle.view_groups.specs.declared.groups.Groups.{Groups}
-use Rattle.view_groups.specs.Cleans.{IsIndexFile}
-use Rattle.view_groups.specs.Groups.{AreAt as AreIndexesAt, AreOpen as AreIndexesOpen}
+use Rattle.node_file.specs.declared.cache.NodeCache.{NodeCache}
+use Rattle.tree_groups.specs.declared.groups.Groups.{Groups}
+use Rattle.tree_groups.specs.Cleans.{IsIndexFile}
+use Rattle.tree_groups.specs.Groups.{open_of, AreAt as AreIndexesAt, AreOpen as AreIndexesOpen}
+use Rattle.tree_groups.specs.Pictures.{StandFor}
 use Rattle.view_engine.specs.declared.engine.Engine.{Engine}
 use Rattle.view_engine.specs.declared.halt.Halt.{Halt}
 use Rattle.view_engine.specs.declared.halt.Halt.TheVariants.{Refused, Stopped}
@@ -29,19 +31,21 @@ use Rattle.view_engine.specs.declared.request.Request.TheVariants.{Cleanup}
 use Rattle.view_engine.specs.Calls.{scene, AppendsReplyTo, CrashesAround, DoesBy, KeepsChild, LeavesChild, Performed, Scene, StandsAt}
 use Rattle.view_engine.specs.Cleaning.{CleansUp, EndsCleaned, IsCleanupReason, StandsCleaned}
 use Rattle.view_engine.specs.Cleanup.{done_text, IsCleaned}
-use Rattle.view_engine.specs.Disks.{ClearsIndexes, ClearsUnheld, HasReply, MayWant, IfStopped, IsReasonOf, LiesOpen}
+use Rattle.view_engine.specs.Disks.{ClearsIndexes, ClearsUnheld, HasReply, HasSlotDamage, MayWant, IfStopped, IsReasonOf, LiesOpen}
 use Rattle.view_engine.specs.InMemory.{FollowsDocuments, IsUntouchedBy}
 use Rattle.view_engine.specs.Moments.{Moment, with_world}
 use Rattle.view_engine.specs.Steps.{DoesRequestText, MayHaveCalled}
+use Rattle.view_engine.specs.Signatures.{kinds_of, AreOpenOwned}
 use Rattle.view_engine.specs.World.{World}
 use Rattle.view_engine.specs.Worlds.{IsAtWorld, IsOpen, StandsAround, StandsEither, StandsFor}
 use Rattle.view_engine.proofs.Apart.{documents_beside, documents_stand}
 use Rattle.view_engine.proofs.Beside.{open_beside_indexes}
-use Rattle.view_engine.proofs.Between.{cleaned_fewer, none_newer_left, partly_between, partly_fewer}
+use Rattle.view_engine.proofs.Between.{cleaned_fewer, none_newer_left, owned_left, partly_between, partly_fewer}
 use Rattle.view_engine.proofs.Following.{same_docs}
 use Rattle.view_engine.proofs.Performing.{none_called}
 use Rattle.view_engine.proofs.ReplyLines.{done_line}
 use Rattle.view_engine.proofs.ServerFaults.{unlike_done}
+use Rattle.view_engine.proofs.Signatures.{opened_fewer}
 use Rattle.view_engine.proofs.Whole.{apart, told_leaves_before, world_none}
 
 -- an image of which the files of indexes stand for what a part of a cleanup leaves
@@ -50,16 +54,17 @@ partly_stands engine files world at image framed =
     let mid = framed.inside in
     record {
       documents = subst (Stands image) (sym (mid.1).history) (documents_stand engine.docs files world.history image at.documents (λ n of_docs. framed.outside n (λ of_view. apart n of_view of_docs)));
-      indexes = mid.2;
+      indexes = subst (λ h. StandFor (kinds_of h) image (mid.0).pictures) (sym (mid.1).history) mid.2;
       within = none_newer_left world mid.0 (mid.1).history (partly_fewer world mid.0 mid.1) at.within;
+      owned = owned_left world mid.0 (mid.1).history (partly_fewer world mid.0 mid.1) at.owned;
     }
 
-module _ {F C : Type 0} (f : Folders F) (s : Servers C) (docs : Docs) (pool : Pool) (groups groups' : Groups) (old new : F) (servers : C) (out out' : List ℕ) where
+module _ {F C : Type 0} (f : Folders F) (s : Servers C) (docs : Docs) (pool : Pool) (groups groups' : Groups) (cache : NodeCache) (old new : F) (servers : C) (out out' : List ℕ) where
   abbrev before_it : Engine
-  before_it = record { docs = docs; pool = pool; groups = groups }
+  before_it = record { docs = docs; pool = pool; groups = groups; cache = cache }
 
   abbrev after_it : Engine
-  after_it = record { docs = docs; pool = pool; groups = groups' }
+  after_it = record { docs = docs; pool = pool; groups = groups'; cache = cache }
 
   abbrev now : Scene F C
   now = scene before_it old servers
@@ -81,19 +86,21 @@ module _ {F C : Type 0} (f : Folders F) (s : Servers C) (docs : Docs) (pool : Po
     moments : Tells x y (LeavesOnly (StandsEither world after))
     cleaned : IfTold x (λ d. IsCleaned world after)
 
-  cleaned_to : (world : World) (x y : Option (Disk FileName)) → IfTold x (λ d. IsAtWorld before_it d.now world) → Tells x y (MovesBy world (Ok tt)) → IsCleanedTo world x y
-  cleaned_to world None None at moves = record { after = world; at = tt; moments = tt; cleaned = tt }
-  cleaned_to world None (Some b) at moves = absurd moves
-  cleaned_to world (Some a) None at moves = absurd moves
-  cleaned_to world (Some a) (Some b) at moves =
+  cleaned_to : All (Contains (open_of groups)) (open_of groups') → (world : World) (x y : Option (Disk FileName)) → IfTold x (λ d. IsAtWorld before_it d.now world) → Tells x y (MovesBy world (Ok tt)) → IsCleanedTo world x y
+  cleaned_to closes world None None at moves = record { after = world; at = tt; moments = tt; cleaned = tt }
+  cleaned_to closes world None (Some b) at moves = absurd moves
+  cleaned_to closes world (Some a) None at moves = absurd moves
+  cleaned_to closes world (Some a) (Some b) at moves =
       let ended = moves.ended in
       let history = (ended.1).history in
       record {
         after = ended.0;
         at = record {
           documents = subst (AreAt docs b.now) (sym history) (documents_stay a b world.history moves.others at.documents);
-          indexes = ended.2;
+          indexes = subst (λ h. AreIndexesAt (kinds_of h) groups' b.now (ended.0).pictures) (sym history) ended.2;
           within = none_newer_left world ended.0 history (cleaned_fewer world ended.0 ended.1) at.within;
+          owned = owned_left world ended.0 history (cleaned_fewer world ended.0 ended.1) at.owned;
+          opened = subst (λ h. AreOpenOwned h groups') (sym history) (opened_fewer world.history groups groups' closes at.opened);
         };
         moments = weaker (Framed IsIndexFile a.now (StandsCleaned world)) (StandsEither world ended.0) a b
             (λ image framed. inl (framed.inside.0, partly_between world ended.0 framed.inside.0 framed.inside.1 ended.1, partly_stands before_it a.now world at image framed)) moves.moments;
@@ -126,7 +133,7 @@ module _ {F C : Type 0} (f : Folders F) (s : Servers C) (docs : Docs) (pool : Po
 
   does_clean : (before : Moment) → StandsAt f s now before → (result : Result (Unit {0}) Halt) → LiesOpen f before_it old → CleansUp f docs groups groups' old new out out' result → DoesBy f s now later before (Ok Cleanup) out out' result
   does_clean before at (Ok done) is_open cleans =
-      let to = cleaned_to before.world (f.disk old) (f.disk new) at.documents (moved (Ok done) is_open cleans before at) in
+      let to = cleaned_to cleans.closes before.world (f.disk old) (f.disk new) at.documents (moved (Ok done) is_open cleans before at) in
       record {
         text = ended done_text;
         leaves = record {
@@ -176,13 +183,17 @@ module _ {F C : Type 0} (f : Folders F) (s : Servers C) (docs : Docs) (pool : Po
   fits_done (Ok done) = tt
   fits_done (Err halt) = tt
 
-  reason : (halt : Halt) → IfStopped (IsCleanupReason f docs groups groups' old new) halt → IfStopped (IsReasonOf f before_it old new (Ok Cleanup)) halt
-  reason (Refused refusal) why = tt
-  reason (Stopped DiskFault) why = inl (why, tt)
-  reason (Stopped (Damaged name at)) why = ⊎_elim (λ read. inl (tt, read))
-      (λ slot. inr (tt, slot.0, λ world. told_now (f.disk old) (λ d. AreIndexesAt groups d.now world.pictures → ⊥) _ (λ d never here shaped. never here.indexes) (slot.1 world))) why
-  reason (Stopped (Full name length)) why = absurd why
-  reason (Stopped NoMemory) why = inl tt
+  reason : Tells (f.disk old) (f.disk new) (Moves IsIndexFile (λ image. Unit {0}) (λ files. Unit {0})) → (halt : Halt) → IfStopped (IsCleanupReason f docs groups groups' old new) halt → IfStopped (IsReasonOf f before_it after_it old new (Ok Cleanup)) halt
+  reason others (Refused refusal) why = tt
+  reason others (Stopped DiskFault) why = inl (why, tt)
+  reason others (Stopped (Damaged name at)) why = ⊎_elim (λ read. inl (tt, read))
+      (λ slot. inr (
+        tt,
+        told_given (f.disk old) (f.disk new) (λ d. HasSlotDamage docs d.now name at) (Moves IsIndexFile (λ image. Unit {0}) (λ files. Unit {0})) (λ a b. HasSlotDamage docs a.now name at) (λ a b damage moved. damage) slot.0 others,
+        λ world. told_now (f.disk old) (λ d. AreIndexesAt (kinds_of world.history) groups d.now world.pictures → ⊥) _ (λ d never here fit. never here.indexes) (slot.1 world),
+      )) why
+  reason others (Stopped (Full name length)) why = absurd why
+  reason others (Stopped NoMemory) why = inl tt
 
   held_as : {Done Done' : Type 0} → ClearsUnheld f docs old new Done → (Done' → Done) → ClearsUnheld f docs old new Done'
   held_as held done = record { alone = held.alone; gone = λ is. held.gone (done is); whole = λ is. held.whole (done is) }
@@ -205,7 +216,7 @@ module _ {F C : Type 0} (f : Folders F) (s : Servers C) (docs : Docs) (pool : Po
 
   cleaned_up : (result : Result (Unit {0}) Halt) → LiesOpen f before_it old → CleansUp f docs groups groups' old new out out' result → Performed f s now later (Ok Cleanup) out out' result
   cleaned_up result is_open cleans = record {
-    does = λ before at. does_clean before at result is_open cleans;
+    does = λ before at fit. does_clean before at result is_open cleans;
     prints = prints_done result cleans;
     silent = cleans.silent;
     refused = tt;
@@ -213,7 +224,7 @@ module _ {F C : Type 0} (f : Folders F) (s : Servers C) (docs : Docs) (pool : Po
     follows = follows_done result cleans;
     designed = fits_done result;
     unasked = λ refusal is. tt;
-    leaves = record { servers = λ other. refl; pool = λ other. refl; groups = λ other. absurd (other tt); wanting = λ wants other. groups_left result cleans wants; all = tt };
+    leaves = record { servers = λ other. refl; pool = λ other. refl; cache = λ other. refl; groups = λ other. absurd (other tt); wanting = λ wants other. groups_left result cleans wants; all = tt };
     fits = fits_done result;
     disk = record {
       documents = λ no. absurd (no tt);
@@ -224,15 +235,15 @@ module _ {F C : Type 0} (f : Folders F) (s : Servers C) (docs : Docs) (pool : Po
           (cleans.is_open goes (told_now (f.disk old) (λ d. IsOpen before_it d.now) (λ d. AreIndexesOpen groups d.now) (λ d here. here.indexes) is_open));
     };
     cleared = clears_done result cleans;
-    filled = λ before at name length is view. absurd view;
-    why = IfErr-weaker result (IfStopped (IsCleanupReason f docs groups groups' old new)) (IfStopped (IsReasonOf f before_it old new (Ok Cleanup))) reason cleans.why;
+    filled = λ before at fit name length is view. absurd view;
+    why = IfErr-weaker result (IfStopped (IsCleanupReason f docs groups groups' old new)) (IfStopped (IsReasonOf f before_it after_it old new (Ok Cleanup))) (reason cleans.others) cleans.why;
     stays = record { languages = refl; width = refl; disk_faults = cleans.later; server_faults = omega arith };
   }
 
 -- what a cleanup promises of the documents and the indexes is what the engine promises of the request
-pub cleaned : {F C : Type 0} {f : Folders F} {s : Servers C} {docs : Docs} {pool : Pool} {groups groups' : Groups} {old new : F} {servers : C} {request : Request} {out out' : List ℕ} {result : Result (Unit {0}) Halt}
-    → request ≡ Cleanup → LiesOpen f (record { docs = docs; pool = pool; groups = groups }) old → CleansUp f docs groups groups' old new out out' result
-    → Performed f s (scene (record { docs = docs; pool = pool; groups = groups }) old servers) (scene (record { docs = docs; pool = pool; groups = groups' }) new servers) (Ok request) out out' result
-cleaned {f = f} {s = s} {docs = docs} {pool = pool} {groups = groups} {groups' = groups'} {old = old} {new = new} {servers = servers} {out = out} {out' = out'} {result = result} is is_open cleans =
-    subst (λ (r : Request). Performed f s (scene (record { docs = docs; pool = pool; groups = groups }) old servers) (scene (record { docs = docs; pool = pool; groups = groups' }) new servers) (Ok r) out out' result) (sym is)
-    (cleaned_up f s docs pool groups groups' old new servers out out' result is_open cleans)
+pub cleaned : {F C : Type 0} {f : Folders F} {s : Servers C} {docs : Docs} {pool : Pool} {groups groups' : Groups} {cache : NodeCache} {old new : F} {servers : C} {request : Request} {out out' : List ℕ} {result : Result (Unit {0}) Halt}
+    → request ≡ Cleanup → LiesOpen f (record { docs = docs; pool = pool; groups = groups; cache = cache }) old → CleansUp f docs groups groups' old new out out' result
+    → Performed f s (scene (record { docs = docs; pool = pool; groups = groups; cache = cache }) old servers) (scene (record { docs = docs; pool = pool; groups = groups'; cache = cache }) new servers) (Ok request) out out' result
+cleaned {f = f} {s = s} {docs = docs} {pool = pool} {groups = groups} {groups' = groups'} {cache = cache} {old = old} {new = new} {servers = servers} {out = out} {out' = out'} {result = result} is is_open cleans =
+    subst (λ (r : Request). Performed f s (scene (record { docs = docs; pool = pool; groups = groups; cache = cache }) old servers) (scene (record { docs = docs; pool = pool; groups = groups'; cache = cache }) new servers) (Ok r) out out' result) (sym is)
+    (cleaned_up f s docs pool groups groups' cache old new servers out out' result is_open cleans)

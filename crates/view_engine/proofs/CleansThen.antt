@@ -1,7 +1,7 @@
 -- What reading the live designs and then removing the other indexes comes to.
 use Rattle.std.specs.Prelude.{◌≡◌, ◌⊎◌, ◌≤◌, ◌++◌, ℕ, List, [], ◌∷◌, Bool, true, false, bytes_eq, Result, Ok, Err, IfErr, OnErr, OnOk, Contains}
 use Rattle.std.proofs.Common.{refl, sym, ap, ◌∙◌, subst, inl, inr, ⊎_elim, arith}
-use Rattle.std.proofs.lemmas.List.Elements.{Contains-append_cases, Contains-append_left, Contains-append_right, Contains-push, Contains-push_cases}
+use Rattle.std.proofs.lemmas.List.Elements.{All-contains_itself, Contains-append_cases, Contains-append_left, Contains-append_right, Contains-push, Contains-push_cases}
 use Rattle.std.proofs.lemmas.Slice.Eq.{bytes_eq-Decides}
 use Rattle.view_ports.specs.Disk.{Disk, IfTold, Moves, MovesNone, Tells}
 use Rattle.view_ports.specs.Faults.{Rose}
@@ -18,21 +18,22 @@ use Rattle.gate_file.proofs.Stretches.{told_end}
 use Rattle.doc_file.specs.declared.docs.Docs.{Docs}
 use Rattle.doc_file.specs.Docs.{bytes_in, IsAt as AreAt}
 use Rattle.design_docs.specs.History.{Write}
-use Rattle.view_index.specs.declared.fault.IndexFault.{IndexFault}
-use Rattle.view_index.specs.declared.fault.IndexFault.TheVariants as index
-use Rattle.view_groups.specs.declared.groups.Groups.{Groups}
-use Rattle.view_groups.specs.Cleans.{AreCleared, AreFewer, AreKept, Cleans, EndsAt, IsDamageOf, IsIndexFile, IsUnkept}
-use Rattle.view_groups.specs.Groups.{AreAt as AreIndexesAt, AreOpen as AreIndexesOpen}
-use Rattle.view_groups.specs.Pictures.{Pictures, StandFor}
-use Rattle.view_groups.proofs.Standing.{images_stand}
-use Rattle.view_groups.proofs.Telling.{told_each}
+use Rattle.tree_index.specs.declared.fault.IndexFault.{IndexFault}
+use Rattle.tree_index.specs.declared.fault.IndexFault.TheVariants as index
+use Rattle.tree_groups.specs.declared.groups.Groups.{Groups}
+use Rattle.tree_groups.specs.Cleans.{AreCleared, AreFewer, AreKept, Cleans, EndsAt, IsDamageOf, IsIndexFile, IsUnkept}
+use Rattle.tree_groups.specs.Groups.{open_of, AreAt as AreIndexesAt, AreOpen as AreIndexesOpen}
+use Rattle.tree_groups.specs.Pictures.{Pictures, StandFor}
+use Rattle.tree_groups.proofs.Standing.{images_stand}
 use Rattle.view_engine.specs.declared.halt.Halt.{Halt}
 use Rattle.view_engine.specs.declared.halt.Halt.TheVariants.{Refused, Stopped}
 use Rattle.view_engine.specs.declared.halt.StepFault.TheVariants.{DiskFault, Damaged, Full, NoMemory}
 use Rattle.view_engine.specs.Cleaning.{met_by_index, AreLiveSignatures, CleansUp, EndsCleaned, IsCleanFault, IsCleanupReason, IsStopped, StandsCleaned}
 use Rattle.view_engine.specs.Cleanup.{done_text, IsCleaned, IsPartlyCleaned}
-use Rattle.view_engine.specs.Disks.{ClearsUnheld, IfStopped, IsOfNone, IsReadReason, MayGoOn}
+use Rattle.view_engine.specs.Disks.{ClearsUnheld, IfStopped, IsOfNone, IsReadReason}
 use Rattle.view_engine.specs.HeldDesigns.{AreHeldSignatures, IsUnheld}
+use Rattle.view_engine.proofs.Each.{told_each}
+use Rattle.view_engine.specs.Signatures.{kinds_of}
 use Rattle.view_engine.specs.World.{World}
 
 -- a signature is among some, or not
@@ -60,7 +61,7 @@ module _ (world : World) (kept : List (List ℕ)) (live : AreLiveSignatures worl
   cleaned : (left : Pictures) → AreKept kept world.pictures left → IsCleaned world (with_pictures world left)
   cleaned left are = record { history = refl; each = λ sig. ⊎_elim (λ there. inl ((live sig).0 there, are.stay sig there)) (λ none. inr (λ lives. none ((live sig).1 lives), are.gone sig none)) (contains_or_not kept sig) }
 
-  images_cleaned : (image : FileName → List ℕ) → (fewer : Pictures) × AreFewer kept world.pictures fewer × StandFor image fewer → StandsCleaned world image
+  images_cleaned : (image : FileName → List ℕ) → (fewer : Pictures) × AreFewer kept world.pictures fewer × StandFor (kinds_of world.history) image fewer → StandsCleaned world image
   images_cleaned image left = (with_pictures world left.0, partly left.0 left.1, left.2)
 
 -- how a cleanup ends as the removals do
@@ -73,7 +74,7 @@ same_world world = record { history = refl; fewer = λ sig. inl refl }
 
 module _ {F : Type 0} (f : Folders F) (docs : Docs) (groups : Groups) (old : F) where
   abbrev Stands : World → Type 0
-  Stands world = IfTold (f.disk old) (λ d. AreAt docs d.now world.history × AreIndexesAt groups d.now world.pictures)
+  Stands world = IfTold (f.disk old) (λ d. AreAt docs d.now world.history × AreIndexesAt (kinds_of world.history) groups d.now world.pictures)
 
   -- ---- nothing was removed, since reading failed or memory ran out
   module _ (mid : F) (out : List ℕ) where
@@ -86,8 +87,8 @@ module _ {F : Type 0} (f : Folders F) (docs : Docs) (groups : Groups) (old : F) 
 
     pub cleans_none : (halt : Halt) → IsStopped halt → Tells (f.disk old) (f.disk mid) MovesNone → IfStopped (IsReadReason f docs old mid) halt → f.faults old ≤ f.faults mid → CleansUp f docs groups groups old mid out out (Err halt)
     cleans_none halt is none why later = record {
-      stands = λ world at. told_given (f.disk old) (f.disk mid) (λ d. AreAt docs d.now world.history × AreIndexesAt groups d.now world.pictures) MovesNone (Moves IsIndexFile (StandsCleaned world) (λ files. Unit {0}))
-          (λ a b here same. none_wider IsIndexFile (StandsCleaned world) (λ files. Unit {0}) a b (λ image of_files. (world, same_world world, images_stand a.now world.pictures image here.1.held of_files)) (λ kept. tt) same) at none;
+      stands = λ world at. told_given (f.disk old) (f.disk mid) (λ d. AreAt docs d.now world.history × AreIndexesAt (kinds_of world.history) groups d.now world.pictures) MovesNone (Moves IsIndexFile (StandsCleaned world) (λ files. Unit {0}))
+          (λ a b here same. none_wider IsIndexFile (StandsCleaned world) (λ files. Unit {0}) a b (λ image of_files. (world, same_world world, images_stand (kinds_of world.history) a.now world.pictures image here.1.held of_files)) (λ kept. tt) same) at none;
       others = told_map (f.disk old) (f.disk mid) MovesNone (Moves IsIndexFile (λ image. Unit {0}) (λ files. Unit {0})) (λ a b same. none_wider IsIndexFile (λ image. Unit {0}) (λ files. Unit {0}) a b (λ image of_files. tt) (λ kept. tt) same) none;
       spared = λ history at. told_map (f.disk old) (f.disk mid) MovesNone _ (λ a b same. none_wider (IsOfNone history) (λ image. Unit {0}) (λ files. Unit {0}) a b (λ image of_files. tt) (λ kept. tt) same) none;
       empty = tt;
@@ -98,6 +99,7 @@ module _ {F : Type 0} (f : Folders F) (docs : Docs) (groups : Groups) (old : F) 
       };
       unmoved = λ spent. (refl, none);
       is_open = λ goes are. told_after (f.disk old) (f.disk mid) (λ d. AreIndexesOpen groups d.now) (λ d. AreIndexesOpen groups d.now) MovesNone (λ a b here same. subst (AreIndexesOpen groups) (λ i. λ n. sym (none_same a b same n) i) here) are none;
+      closes = All-contains_itself (open_of groups);
       prints = tt;
       silent = refl;
       stopped = is;
@@ -120,22 +122,22 @@ module _ {F : Type 0} (f : Folders F) (docs : Docs) (groups : Groups) (old : F) 
     told_behind P known = told_after (f.disk old) (f.disk mid) (λ d. P d.now) (λ d. P d.now) MovesNone (λ a b is none. subst P (λ i. λ n. sym (none_same a b none n) i) is) known read
 
     abbrev Fewer : World → (FileName → List ℕ) → Type 0
-    Fewer world image = (fewer : Pictures) × AreFewer kept world.pictures fewer × StandFor image fewer
+    Fewer world image = (fewer : Pictures) × AreFewer kept world.pictures fewer × StandFor (kinds_of world.history) image fewer
 
-    ends : (world : World) → AreLiveSignatures world.history kept → (files : FileName → File) (some : Result (Unit {0}) IndexFault) → EndsAt kept groups' world.pictures some files → EndsCleaned groups' world (ended_as some) files
+    ends : (world : World) → AreLiveSignatures world.history kept → (files : FileName → File) (some : Result (Unit {0}) IndexFault) → EndsAt kept (kinds_of world.history) groups' world.pictures some files → EndsCleaned groups' world (ended_as some) files
     ends world lives files (Ok done) left = (with_pictures world left.0, cleaned world kept lives left.0 left.1, left.2)
     ends world lives files (Err fault) left = tt
 
     stands : (world : World) → Stands world → Tells (f.disk old) (f.disk new) (Moves IsIndexFile (StandsCleaned world) (EndsCleaned groups' world result))
     stands world at =
-        told_then (f.disk old) (f.disk mid) (f.disk new) (λ a b. (AreLiveSignatures world.history kept × AreIndexesAt groups a.now world.pictures) × MovesNone a b)
-        (Moves IsIndexFile (Fewer world) (EndsAt kept groups' world.pictures r)) (Moves IsIndexFile (StandsCleaned world) (EndsCleaned groups' world result))
-        (λ a b c known moved. moves_then IsIndexFile (StandsCleaned world) (Fewer world) (StandsCleaned world) (λ files. Unit {0}) (EndsAt kept groups' world.pictures r) (EndsCleaned groups' world result) a b c
+        told_then (f.disk old) (f.disk mid) (f.disk new) (λ a b. (AreLiveSignatures world.history kept × AreIndexesAt (kinds_of world.history) groups a.now world.pictures) × MovesNone a b)
+        (Moves IsIndexFile (Fewer world) (EndsAt kept (kinds_of world.history) groups' world.pictures r)) (Moves IsIndexFile (StandsCleaned world) (EndsCleaned groups' world result))
+        (λ a b c known moved. moves_then IsIndexFile (StandsCleaned world) (Fewer world) (StandsCleaned world) (λ files. Unit {0}) (EndsAt kept (kinds_of world.history) groups' world.pictures r) (EndsCleaned groups' world result) a b c
         (λ image stands. stands) (λ one image left. images_cleaned world kept known.0.0 image left) (λ one left. ends world known.0.0 c.now r left)
-        (none_wider IsIndexFile (StandsCleaned world) (λ files. Unit {0}) a b (λ image of_files. (world, same_world world, images_stand a.now world.pictures image known.0.1.held of_files)) (λ same. tt) known.1) moved)
-        (told_given (f.disk old) (f.disk mid) (λ d. AreLiveSignatures world.history kept × AreIndexesAt groups d.now world.pictures) MovesNone _ (λ a b known none. (known, none))
-        (told_pair (f.disk old) (λ d. AreAt docs d.now world.history × AreIndexesAt groups d.now world.pictures) (λ d. AreAt docs d.now world.history → AreLiveSignatures world.history kept) _ (λ d here lives. (lives here.0, here.1)) at (live world.history)) read)
-        (cleans.stands world.pictures (told_behind (λ files. AreIndexesAt groups files world.pictures) (told_now (f.disk old) _ _ (λ d here. here.1) at)))
+        (none_wider IsIndexFile (StandsCleaned world) (λ files. Unit {0}) a b (λ image of_files. (world, same_world world, images_stand (kinds_of world.history) a.now world.pictures image known.0.1.held of_files)) (λ same. tt) known.1) moved)
+        (told_given (f.disk old) (f.disk mid) (λ d. AreLiveSignatures world.history kept × AreIndexesAt (kinds_of world.history) groups d.now world.pictures) MovesNone _ (λ a b known none. (known, none))
+        (told_pair (f.disk old) (λ d. AreAt docs d.now world.history × AreIndexesAt (kinds_of world.history) groups d.now world.pictures) (λ d. AreAt docs d.now world.history → AreLiveSignatures world.history kept) _ (λ d here lives. (lives here.0, here.1)) at (live world.history)) read)
+        (cleans.stands (kinds_of world.history) world.pictures (told_behind (λ files. AreIndexesAt (kinds_of world.history) groups files world.pictures) (told_now (f.disk old) _ _ (λ d here. here.1) at)))
 
     -- only files of indexes change that aren't kept
     unkept_alone : Tells (f.disk old) (f.disk new) (Moves (IsUnkept kept) (λ image. Unit {0}) (λ files. Unit {0}))
@@ -196,12 +198,6 @@ module _ {F : Type 0} (f : Folders F) (docs : Docs) (groups : Groups) (old : F) 
         (λ disk. let met : ended_as (Err fault) ≡ Err (Stopped DiskFault) = ap (λ e. ended_as (Err e)) disk in let no : ⊥ = cc in absurd no)
         (λ other. ⊎_elim (λ none. ap Err none) (λ damage. let met : ended_as (Err fault) ≡ Err (Stopped (Damaged damage.0 damage.1)) = ap (λ e. ended_as (Err e)) damage.2 in let no : ⊥ = cc in absurd no) other) kinds
 
-    -- it may go on only where nothing failed but for want of memory
-    goes_on : (some : Result (Unit {0}) IndexFault) → IfErr some IsCleanFault → MayGoOn (ended_as some) → IfErr some (λ e. e ≡ index.NoMemory)
-    goes_on (Ok done) kinds goes = tt
-    goes_on (Err fault) kinds goes = ⊎_elim (λ disk. absurd (subst (λ e. MayGoOn (ended_as (Err e))) disk goes))
-        (λ other. ⊎_elim (λ none. none) (λ damage. absurd (subst (λ e. MayGoOn (ended_as (Err e))) damage.2 goes)) other) kinds
-
     stopped_as : (some : Result (Unit {0}) IndexFault) → IfErr some IsCleanFault → IfErr (ended_as some) IsStopped
     stopped_as (Ok done) kinds = tt
     stopped_as (Err fault) kinds = ⊎_elim (λ disk. subst (λ e. IsStopped (met_by_index e)) (sym disk) tt)
@@ -216,7 +212,7 @@ module _ {F : Type 0} (f : Folders F) (docs : Docs) (groups : Groups) (old : F) 
           (λ d lives there. record { sig = there.sig; damage = there.damage; unlived = λ history here lived. there.unkept ((lives history here there.sig).1 lived) })
           (told_each (f.disk old) (λ history d. AreAt docs d.now history → AreLiveSignatures history kept) live)
           (told_before (λ files. IsDamageOf kept files name at) (told_now (f.disk mid) _ _ (λ d damaged. damaged name at is) cleans.damaged)),
-      λ world. told_before (λ files. AreIndexesAt groups files world.pictures → ⊥) (told_now (f.disk mid) _ _ (λ d never here. never here name at is) (cleans.sound world.pictures)),
+      λ world. told_before (λ files. AreIndexesAt (kinds_of world.history) groups files world.pictures → ⊥) (told_now (f.disk mid) _ _ (λ d never here. never here name at is) (cleans.sound (kinds_of world.history) world.pictures)),
     )
 
     why : (some : Result (Unit {0}) IndexFault) → r ≡ some → IfErr some IsCleanFault → IfErr some (λ e. e ≡ index.Store gate.DiskFault → Rose (f.faults mid) (f.faults new)) → IfErr (ended_as some) (IfStopped (IsCleanupReason f docs groups groups' old new))
@@ -229,7 +225,8 @@ module _ {F : Type 0} (f : Folders F) (docs : Docs) (groups : Groups) (old : F) 
       stands = stands;
       others = others;
       unmoved = λ is. let none = cleans.unmoved (wanted r cleans.faults is) in (none.0, told_none_then (f.disk old) (f.disk mid) (f.disk new) read none.1);
-      is_open = λ goes are. cleans.is_open (told_behind (AreIndexesOpen groups) are) (goes_on r cleans.faults goes);
+      is_open = λ goes are. cleans.is_open (told_behind (AreIndexesOpen groups) are);
+      closes = cleans.only;
       spared = spared;
       empty = empty r cleans.empty;
       held = clears_unheld;

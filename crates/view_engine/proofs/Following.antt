@@ -19,9 +19,9 @@ use Rattle.doc_file.specs.Accepted.State.{known}
 use Rattle.doc_file.specs.Docs.{bytes_in, entries_of, is_deleted, last_of, IsAt, IsSame}
 use Rattle.doc_file.specs.Reads.{IsGetFault}
 use Rattle.doc_file.proofs.Histories.{state_kept}
-use Rattle.view_index.specs.declared.fault.IndexFault.TheVariants as index
-use Rattle.view_updater.specs.declared.fault.UpdateFault.{UpdateFault}
-use Rattle.view_updater.specs.declared.fault.UpdateFault.TheVariants as update
+use Rattle.tree_index.specs.declared.fault.IndexFault.TheVariants as index
+use Rattle.tree_updater.specs.declared.fault.UpdateFault.{UpdateFault}
+use Rattle.tree_updater.specs.declared.fault.UpdateFault.TheVariants as update
 use Rattle.view_engine.specs.declared.halt.Halt.{Halt}
 use Rattle.view_engine.specs.declared.halt.Halt.TheVariants.{Refused, Stopped}
 use Rattle.view_engine.specs.declared.halt.StepFault.{StepFault}

@@ -34,7 +34,7 @@ use Rattle.view_engine.specs.Moments.{Called, CalledReducing, Moment}
 use Rattle.view_engine.specs.Refusals.{refusal_text, request_of}
 use Rattle.view_engine.specs.Steps.{Does, DoesRequestText}
 use Rattle.view_engine.specs.Updating.{picture_in, AreFit, IsBrought, IsSound}
-use Rattle.view_engine.specs.View.{design_id, own_reduces, sources_tried, DoesKeptView, DoesUpdatedView, IsBroughtUp, IsMappedThen, IsMet, IsNever, IsRefused, IsRefusedReducing, IsRefusedTrying, IsRightly, PrintsRows}
+use Rattle.view_engine.specs.View.{design_id, due_reduces, own_reduces, DoesKeptView, DoesUpdatedView, IsBroughtUp, IsMappedThen, IsMet, IsNever, IsRefused, IsRefusedReducing, IsRefusedWriting, IsRightly, PrintsRows}
 use Rattle.view_engine.specs.ViewQuery.{ViewQuery, parameters_of, query_for, reduce_named, view_request}
 use Rattle.view_engine.specs.World.{World, NoneIsNewer}
 
@@ -143,9 +143,9 @@ module _ (functions : List ℕ → Functions) (honest : List ℕ → Type 0) (la
             | inr fault ↦ inr (refused.prints ∙ ap refusal_text fault.0, fault.1)
           ]
 
-      tried : (mapped : Moment) → before.faults ≤ mapped.faults → IsRefusedTrying functions honest languages name design path world mapped after reply → Fresh
+      tried : (mapped : Moment) → before.faults ≤ mapped.faults → IsRefusedWriting functions honest languages name design path world mapped after reply → Fresh
       tried mapped later refused =
-          elim (complains name path (sources_tried design world refused.next) (IsRightly functions honest languages design path world) mapped after reply is_honest refused.called) [
+          elim (complains name path (due_reduces design world) (IsRightly functions honest languages design path world) mapped after reply is_honest refused.called) [
             | inl both ↦ complained both.0 (both.1 is_honest sound fit)
             | inr names ↦ inr (fault_since before mapped after reply later names)
           ]
@@ -163,7 +163,7 @@ module _ (functions : List ℕ → Functions) (honest : List ℕ → Type 0) (la
 
       brought_up : (mapped : Moment) → before.faults ≤ mapped.faults → IsBroughtUp functions honest languages name design path does.source world mapped after reply → Fresh
       brought_up mapped later up =
-          let still : before.faults ≤ (up.between).faults = omega (arith, later, (up.tried).later) in
+          let still : before.faults ≤ (up.between).faults = omega (arith, later, (up.had).later) in
           elim up.answered [
             | inl both ↦ shown up.brought both.1
             | inr called ↦

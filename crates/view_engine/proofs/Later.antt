@@ -33,7 +33,7 @@ module _ (functions : List ℕ → Functions) (honest : List ℕ → Type 0) (la
     | inl called ↦ called.later
     | inr mapped ↦ elim mapped.ends [
       | inl refused ↦ omega (arith, (mapped.served).later, (refused.called).later)
-      | inr up ↦ let last = answered name updated.design (updated.job).path updated.source before.world up.between after reply up.answered in omega (arith, (mapped.served).later, (up.tried).later, last)
+      | inr up ↦ let last = answered name updated.design (updated.job).path updated.source before.world up.between after reply up.answered in omega (arith, (mapped.served).later, (up.had).later, last)
     ]
   ]
 
@@ -41,8 +41,8 @@ module _ (functions : List ℕ → Functions) (honest : List ℕ → Type 0) (la
   asked false before name after values = (values.called).later
   asked true before name after for_view = elim for_view.ends [
     | inl mapping ↦ (mapping.called).later
-    | inr (inl trying) ↦ omega (arith, (trying.served).later, (trying.tried).later)
-    | inr (inr showing) ↦ omega (arith, (showing.served).later, (showing.tried).later, (showing.reduced).later)
+    | inr (inl trying) ↦ omega (arith, (trying.served).later, (trying.asked).later)
+    | inr (inr showing) ↦ omega (arith, (showing.served).later, (showing.had).later, (showing.reduced).later)
   ]
 
   called : (before : Moment) (request : Result Request Refusal) (after : Moment) → MayHaveCalled functions honest languages before request after → before.faults ≤ after.faults

@@ -1,4 +1,7 @@
 pub mod LastWrites
+pub mod Signatures
+pub mod Each
+pub mod OpenAt
 pub mod LiveDocuments
 pub mod Places
 pub mod RequestLimit
@@ -48,6 +51,7 @@ pub mod Planned
 pub mod Beside
 pub mod Sound
 pub mod Reasons
+pub mod ReadRows
 pub mod Filling
 pub mod Ending
 pub mod CleanedUp
@@ -58,3 +62,4 @@ pub mod Fresh
 pub mod Unopened
 pub mod Listed
 pub mod Later
+pub mod Fits

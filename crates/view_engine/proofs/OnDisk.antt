@@ -143,10 +143,10 @@ module _ {F : Type 0} (f : Folders F) (docs : Docs) where
   read_reason old new doc.NoMemory rose damaged full = tt
 
 -- what is told of a fault of the documents is told of the engine's
-pub documents_reason : {F : Type 0} (f : Folders F) (engine : Engine) (old new : F) (request : Result Request Refusal) (halt : Halt) → IfStopped (IsReason f engine.docs old new request) halt
-    → IfStopped (IsReasonOf f engine old new request) halt
-documents_reason f engine old new request (Refused refusal) why = tt
-documents_reason f engine old new request (Stopped fault) why = inl why
+pub documents_reason : {F : Type 0} (f : Folders F) (engine engine' : Engine) (old new : F) (request : Result Request Refusal) (halt : Halt) → IfStopped (IsReason f engine.docs old new request) halt
+    → IfStopped (IsReasonOf f engine engine' old new request) halt
+documents_reason f engine engine' old new request (Refused refusal) why = tt
+documents_reason f engine engine' old new request (Stopped fault) why = inl why
 
 -- two calls that only read, one after the other
 pub reads_then : {F S T : Type 0} {f : Folders F} {docs : Docs} {a b c : F} {first : Result S Halt} {second : Result T Halt} → Reads f docs a b first → Reads f docs b c second → Reads f docs a c second

@@ -1,7 +1,7 @@
 -- A view request before any server is asked.
-use Rattle.std.specs.Prelude.{◌≡◌, ◌<◌, ◌≤◌, ℕ, codes, not, List, [], ◌∷◌, true, Bool, Option, Some, None, option_and_then, option_map, bytes_eq, length, map, slice_index_or}
+use Rattle.std.specs.Prelude.{◌≡◌, ◌<◌, ◌≤◌, ℕ, zero, suc, codes, not, List, [], ◌∷◌, true, Bool, Option, Some, None, option_and_then, option_map, bytes_eq, length, map, slice_index_or}
 use Rattle.std.specs.Map.{lookup}
-use Rattle.std.proofs.Common.{◌⊎◌, inl, inr, refl, sym, ap, ◌∙◌, subst}
+use Rattle.std.proofs.Common.{◌⊎◌, inl, inr, refl, sym, ap, ◌∙◌, subst, arith}
 use Rattle.std.proofs.lemmas.Bool.{and_parts}
 use Rattle.json_terms.specs.Json.{Json}
 use Rattle.json_terms.specs.Find.{member_of}
@@ -22,7 +22,6 @@ use Rattle.doc_file.specs.declared.docs.Docs.{Docs}
 use Rattle.doc_file.specs.Accepted.{state_after}
 use Rattle.doc_file.specs.Held.{IsBodyOf}
 use Rattle.design_docs.specs.History.{Write, last_write, live_document}
-use Rattle.view_updater.proofs.OneTried.{reduce_at}
 use Rattle.view_engine.specs.declared.refusal.Refusal.{Refusal}
 use Rattle.view_engine.specs.declared.refusal.Refusal.TheVariants.{BadQuery, MissingNamedView, UnknownLanguage}
 use Rattle.view_engine.specs.World.{World, of_history}
@@ -172,12 +171,18 @@ pub has_there : (views one : List View) (name text : List ℕ) (place : ℕ) →
 has_there views one name text place one_is text_is has =
     subst (λ (vs : List View). HasReduce vs name place) one_is (subst (λ (t : List ℕ). HasReduce one t place) text_is has)
 
+-- the view in a place has the reduce of that place
+reduce_at : (views : List View) (place : ℕ) (found : View) → place < length views → (slice_index_or views place found).reduce ≡ reduce_in views place
+reduce_at [] place found within = absurd (omega (arith, within))
+reduce_at (view ∷ views) zero found within = refl
+reduce_at (view ∷ views) (suc place) found within = reduce_at views place found (omega (arith, within))
+
 pub reduced_there : (views one two : List View) (name text : List ℕ) (place : ℕ) (view : View) (found : Bool) → one ≡ views → two ≡ views → text ≡ name → place < length one
     → found ≡ has_reduce (slice_index_or two place view).reduce → HasReduce one text place → has_reduce (reduce_named name views) ≡ found
 reduced_there views one two name text place view found one_is two_is text_is within is has =
     sym (is
     ∙ ap (λ (vs : List View). has_reduce (slice_index_or vs place view).reduce) two_is
-    ∙ ap has_reduce (reduce_at views views place view refl (subst (λ (vs : List View). place < length vs) one_is within) ∙ has_there views one name text place one_is text_is has))
+    ∙ ap has_reduce (reduce_at views place view (subst (λ (vs : List View). place < length vs) one_is within) ∙ has_there views one name text place one_is text_is has))
 
 -- a query that is reduced is of a view with a reduce
 pub reduced_has : (views : List View) (name : ViewQuery) (place : ℕ) (query : Query) → query ≡ query_for views name → HasReduce views name.view place → query.reduced ≡ true → has_reduce (reduce_in views place) ≡ true

@@ -1,16 +1,14 @@
 -- The pictures of a world stay true over what requests make of it.
 use Rattle.std.proofs.Common.{◌≡◌, ℕ, List, [], ◌∷◌, Bool, true, false, Some, Result, Ok, Err, inl, inr, refl, sym, subst}
-use Rattle.std.proofs.lemmas.List.Elements.{Contains-append_right}
 use Rattle.json_terms.specs.Json.{Json, members_of, object}
 use Rattle.design_docs.specs.Design.{language_of, views_of}
 use Rattle.view_ports.specs.Exchanges.{Exchange}
 use Rattle.view_ports.specs.Functions.{Functions}
 use Rattle.child_pool.specs.Languages.{path_in}
 use Rattle.design_docs.specs.History.{Write, live_document}
-use Rattle.view_model.specs.Standing.{AreSigned, IsDesignIn, PicturesStand}
-use Rattle.view_model.proofs.Designs.{digests_tell_designs}
+use Rattle.view_model.specs.Standing.{IsDesignIn, PicturesStand}
 use Rattle.view_model.proofs.Standing.{updates_keep_pictures, writes_keep_pictures}
-use Rattle.view_signature.specs.Signature.{digest_of, signature_of}
+use Rattle.view_signature.specs.Signature.{signature_of}
 use Rattle.view_engine.specs.declared.refusal.Refusal.{Refusal}
 use Rattle.view_engine.specs.declared.request.Request.{Request}
 use Rattle.view_engine.specs.declared.request.Request.TheVariants.{Cleanup, Delete, Get, Info, Put, View}
@@ -19,29 +17,17 @@ use Rattle.view_engine.specs.Moments.{Moment}
 use Rattle.view_engine.specs.Put.{put_write}
 use Rattle.view_engine.specs.Refusals.{request_of}
 use Rattle.view_engine.specs.Steps.{Answers, AskedBy, Does, DoesRequest, Makes, MayHaveCalled, Performs}
-use Rattle.view_engine.specs.Updating.{AreFit, AreShaped, IsBrought, IsSound}
+use Rattle.view_engine.specs.Updating.{AreFit, IsBrought, IsSound}
 use Rattle.view_engine.specs.View.{design_id, DoesView}
 use Rattle.view_engine.specs.World.{World, written}
 use Rattle.view_engine.specs.Worlds.{IsBetween}
+use Rattle.view_engine.proofs.Signatures.{fit_before, fit_signed}
 use Rattle.view_engine.proofs.Updated.{live_is_design}
 use Rattle.view_engine.proofs.Between.{between_fewer, cleaned_fewer, partly_fewer, AreOfThem}
 use Rattle.view_engine.specs.ViewQuery.{ViewQuery, parameters_in, view_query}
 use Rattle.query_args.specs.Query.{is_updated}
 
 -- ---- designs
-
-still_stored : (write : Write) (history : List Write) (document : Json) → IsDesignIn history document → IsDesignIn (write ∷ history) document
-still_stored write history document is = record { id = is.id; design = is.design; stored = Contains-append_right (write ∷ []) history (record { id = is.id; document = Some document }) is.stored }
-
--- the designs of a history that goes on are fit only where those before are
-pub fit_before : (write : Write) (history : List Write) → AreFit (write ∷ history) → AreFit history
-fit_before write history fit = record {
-  apart = λ one other is also. fit.apart one other (still_stored write history one is) (still_stored write history other also);
-}
-
--- designs that are fit are the same to views where their signatures are
-pub fit_signed : (languages : List (List ℕ × List ℕ)) (history : List Write) → AreFit history → AreSigned signature_of (λ document. path_in languages (language_of document)) views_of history
-fit_signed languages history fit = digests_tell_designs digest_of (path_in languages) history fit.apart
 
 -- the live document of a design's name is a design of the history
 named_is_design : (history : List Write) (name : List ℕ) (design : Json) → live_document history (design_id name) ≡ Some design → IsDesignIn history design
@@ -52,10 +38,6 @@ named_is_design history name design live = live_is_design history (design_id nam
 module _ (functions : List ℕ → Functions) (honest : List ℕ → Type 0) (languages : List (List ℕ × List ℕ)) where
   abbrev Sound : World → Type 0
   Sound = IsSound functions honest languages
-
-  -- the pictures have the shape of their designs
-  pub sound_shaped : (world : World) → Sound world → AreFit world.history → AreShaped world
-  sound_shaped world sound fit = λ sig picture document has is same. ((sound fit).shaped sig picture document has is same).each_view
 
   pub written_sound : (world : World) (write : Write) → Sound world → Sound (written world write)
   written_sound world write sound = λ fit.

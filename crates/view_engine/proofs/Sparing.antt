@@ -5,11 +5,11 @@ use Rattle.view_ports.specs.declared.folder.Folder.{Ghosts as Folders}
 use Rattle.gate_file.specs.declared.fault.GateFault.TheVariants as gate
 use Rattle.doc_file.specs.declared.fault.DocFault.{DocFault}
 use Rattle.doc_file.specs.declared.fault.DocFault.TheVariants as doc
-use Rattle.view_index.specs.declared.fault.IndexFault.{IndexFault}
-use Rattle.view_index.specs.declared.fault.IndexFault.TheVariants as index
-use Rattle.view_updater.specs.declared.fault.UpdateFault.{UpdateFault}
-use Rattle.view_updater.specs.Faults.{by_index}
-use Rattle.view_updater.specs.Updates.{IsOfDisk}
+use Rattle.tree_index.specs.declared.fault.IndexFault.{IndexFault}
+use Rattle.tree_index.specs.declared.fault.IndexFault.TheVariants as index
+use Rattle.tree_updater.specs.declared.fault.UpdateFault.{UpdateFault}
+use Rattle.tree_updater.specs.Faults.{by_index}
+use Rattle.tree_updater.specs.Follows.{IsOfDisk}
 use Rattle.view_engine.specs.declared.halt.Halt.{Halt}
 use Rattle.view_engine.specs.declared.halt.Halt.TheVariants.{Refused, Stopped}
 use Rattle.view_engine.specs.declared.halt.StepFault.{StepFault}

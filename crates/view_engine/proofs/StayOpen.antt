@@ -9,11 +9,11 @@ use Rattle.view_ports.proofs.Told.{told_all, told_now}
 use Rattle.doc_file.specs.declared.docs.Docs.{Docs}
 use Rattle.doc_file.specs.Docs.{IsAt as AreAt}
 use Rattle.design_docs.specs.History.{Write}
-use Rattle.view_index.specs.declared.index.Index.{Index}
-use Rattle.view_index.specs.Calls.{stem_of}
-use Rattle.view_groups.specs.declared.groups.Groups.{Groups}
-use Rattle.view_groups.specs.Cleans.{KeptStayOpen}
-use Rattle.view_groups.specs.Groups.{open_of}
+use Rattle.tree_index.specs.declared.index.Index.{Index}
+use Rattle.tree_index.specs.Index.{stem_of}
+use Rattle.tree_groups.specs.declared.groups.Groups.{Groups}
+use Rattle.tree_groups.specs.Cleans.{KeptStayOpen}
+use Rattle.tree_groups.specs.Groups.{open_of}
 use Rattle.view_engine.specs.declared.refusal.Refusal.{Refusal}
 use Rattle.view_engine.specs.declared.request.Request.{Request}
 use Rattle.view_engine.specs.declared.request.Request.TheVariants.{Cleanup}

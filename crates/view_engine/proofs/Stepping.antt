@@ -10,11 +10,11 @@ use Rattle.view_ports.specs.declared.folder.Folder.{Ghosts as Folders}
 use Rattle.view_ports.specs.declared.servers.Servers.{Ghosts as Servers}
 use Rattle.view_ports.proofs.DiskRuns.{none_refl, none_same}
 use Rattle.view_ports.proofs.Moments.{weaker}
-use Rattle.view_ports.proofs.Told.{told_after, told_all, told_map, told_now, told_pair, told_refl}
+use Rattle.view_ports.proofs.Told.{told_after, told_all, told_given, told_map, told_now, told_pair, told_refl}
 use Rattle.child_pool.specs.Pools.{languages_of}
 use Rattle.doc_file.specs.declared.docs.Docs.{Docs}
 use Rattle.doc_file.specs.Docs.{IsAt as AreAt, IsDocsFile, IsOpen}
-use Rattle.view_groups.specs.Cleans.{IsIndexFile}
+use Rattle.tree_groups.specs.Cleans.{IsIndexFile}
 use Rattle.view_ports.specs.declared.file_name.Stem.TheVariants.{View as ViewStem}
 use Rattle.view_engine.specs.declared.engine.Engine.{Engine}
 use Rattle.view_engine.specs.declared.halt.Halt.{Halt}
@@ -26,7 +26,7 @@ use Rattle.view_engine.specs.declared.refusal.Refusal.TheVariants as refusal
 use Rattle.view_engine.specs.declared.request.Request.{Request}
 use Rattle.view_engine.specs.declared.request.Request.TheVariants.{Cleanup, Delete, Put, View}
 use Rattle.view_engine.specs.Calls.{CrashesAround, DoesBy, FitsDesign, IsStep, IsToldAs, LeavesChild, Performed, RefusesUnread, Scene, StandsAt, StepsBy}
-use Rattle.view_engine.specs.Disks.{ChangesFiles, IsOfIndex, IsOnIndexes, IsReasonOf, IsShapedFor, IsView, LiesOpen, MayWant, MeetsIndexDamage, MeetsIndexDamageIn, MovesIndexes, MovesIndexOf, ReadsDocuments}
+use Rattle.view_engine.specs.Disks.{ChangesFiles, IsOfIndex, IsOnIndexes, IsReasonOf, IsFitFor, IsView, LiesOpen, MayWant, MeetsIndexDamage, MeetsIndexDamageIn, MovesIndexes, MovesIndexOf, ReadsDocuments}
 use Rattle.view_engine.specs.FullIndex.{IsIndexFullFor}
 use Rattle.view_engine.specs.Halts.{halted_by, FitsFor, IsDamage, IsFullFor, LeavesFiles, WouldWrite, Writes}
 use Rattle.view_engine.specs.InMemory.{IsRefusedBy}
@@ -92,7 +92,7 @@ module _ {F C : Type 0} {f : Folders F} {s : Servers C} where
   -- an empty line
   pub step_nothing : {now : Scene F C} {out : List ℕ} → LiesOpen f now.engine now.folder → IsStep f s now now [] out out (Ok tt)
   step_nothing {now} {out} is_open = record {
-    does = λ before at. record {
+    does = λ before at fit. record {
       text = [];
       leaves = record {
         after = before;
@@ -113,7 +113,7 @@ module _ {F C : Type 0} {f : Folders F} {s : Servers C} where
     idle = λ none. refl;
     disk = kept_whole refl is_open (documents_still (documents_open _ _ is_open));
     cleared = λ some. absurd (some refl);
-    filled = λ before at name length never. absurd cc;
+    filled = λ before at fit name length never. absurd cc;
     why = tt;
     stays = record { languages = refl; width = refl; disk_faults = omega arith; server_faults = omega arith };
   }
@@ -122,8 +122,8 @@ module _ {F C : Type 0} {f : Folders F} {s : Servers C} where
     -- the request was done
     pub step_done : {out' : List ℕ} → Performed f s old new (request_of line) out out' (Ok tt) → IsStep f s old new line out out' (Ok tt)
     step_done {out'} performed = record {
-      does = λ before at.
-          let done = performed.does before at in
+      does = λ before at fit.
+          let done = performed.does before at fit in
           record {
             text = done.text;
             leaves = leaves_as (DoesRequestText s.functions s.honest (languages_of old.engine.pool) before (request_of line) done.text) (Does s.functions s.honest (languages_of old.engine.pool) before line done.text)
@@ -141,7 +141,7 @@ module _ {F C : Type 0} {f : Folders F} {s : Servers C} where
       idle = λ none. absurd (some none);
       disk = disk_ends (λ never. never) (λ goes. tt) performed.disk;
       cleared = λ filled. clears_ends f old.engine.docs old.folder new.folder (request_of line) (λ done. tt) (λ wants. let no : ⊥ = cc in no) performed.cleared;
-      filled = λ before at name length never. absurd cc;
+      filled = λ before at fit name length never. absurd cc;
       why = tt;
       stays = performed.stays;
     }
@@ -149,13 +149,13 @@ module _ {F C : Type 0} {f : Folders F} {s : Servers C} where
     -- it was halted, and that was told
     pub step_told : {mid out' : List ℕ} (halt : Halt) (told : Result (Unit {0}) StepFault) → Performed f s old new (request_of line) out mid (Err halt) → IsToldAs halt mid out' told → IsStep f s old new line out out' told
     step_told {mid} {out'} (Refused refusal) (Ok done) performed is = record {
-      does = λ before at.
+      does = λ before at fit.
           record {
             text = ended (refusal_text refusal);
             leaves = leaves_as (λ after. DoesRequest s.functions s.honest (languages_of old.engine.pool) before (request_of line) (refusal_text refusal) after
                 × MayHaveCalled s.functions s.honest (languages_of old.engine.pool) before (request_of line) after)
                 (Does s.functions s.honest (languages_of old.engine.pool) before line (ended (refusal_text refusal)))
-                (λ after both. does_text s.functions s.honest (languages_of old.engine.pool) before line (ended (refusal_text refusal)) after some (refusal_text refusal, both.0, refl)) (performed.does before at);
+                (λ after both. does_text s.functions s.honest (languages_of old.engine.pool) before line (ended (refusal_text refusal)) after some (refusal_text refusal, both.0, refl)) (performed.does before at fit);
             appended = is.0 ∙ ap (λ (o : List ℕ). o ++ ended (refusal_text refusal)) performed.silent;
           };
       prints = record { none = λ none. absurd (some none); some = λ filled. (refusal_text refusal, refusal_line refusal, is.0 ∙ ap (λ (o : List ℕ). o ++ ended (refusal_text refusal)) performed.silent) };
@@ -169,16 +169,16 @@ module _ {F C : Type 0} {f : Folders F} {s : Servers C} where
       idle = λ none. absurd (some none);
       disk = disk_ends (λ never. absurd never) (λ goes. tt) performed.disk;
       cleared = λ filled. clears_ends f old.engine.docs old.folder new.folder (request_of line) (λ done. tt) (λ wants. tt) performed.cleared;
-      filled = λ before at name length never. absurd cc;
+      filled = λ before at fit name length never. absurd cc;
       why = tt;
       stays = performed.stays;
     }
     step_told {mid} {out'} (Refused refusal) (Err fault) performed is =
         subst (λ (e : StepFault). IsStep f s old new line out out' (Err e)) (sym is.2) (record {
-          does = λ before at.
+          does = λ before at fit.
               leaves_as (λ after. DoesRequest s.functions s.honest (languages_of old.engine.pool) before (request_of line) (refusal_text refusal) after
               × MayHaveCalled s.functions s.honest (languages_of old.engine.pool) before (request_of line) after)
-              (MayHaveCalled s.functions s.honest (languages_of old.engine.pool) before (request_of line)) (λ after both. both.1) (performed.does before at);
+              (MayHaveCalled s.functions s.honest (languages_of old.engine.pool) before (request_of line)) (λ after both. both.1) (performed.does before at fit);
           prints = tt;
           silent = is.1 ∙ performed.silent;
           blames = tt;
@@ -190,13 +190,13 @@ module _ {F C : Type 0} {f : Folders F} {s : Servers C} where
           idle = λ none. absurd (some none);
           disk = disk_ends (λ given. tt) (λ goes. tt) performed.disk;
           cleared = λ filled. clears_ends f old.engine.docs old.folder new.folder (request_of line) (λ done. tt) (λ wants. tt) performed.cleared;
-          filled = λ before at name length never. absurd cc;
+          filled = λ before at fit name length never. absurd cc;
           why = inl tt;
           stays = performed.stays;
         })
     step_told {mid} {out'} (Stopped fault) told performed is =
         subst (λ (r : Result (Unit {0}) StepFault). IsStep f s old new line out out' r) (sym is.0) (record {
-          does = λ before at. steps_by f s old new before line out mid out' fault (performed.does before at);
+          does = λ before at fit. steps_by f s old new before line out mid out' fault (performed.does before at fit);
           prints = tt;
           silent = is.1 ∙ performed.silent;
           blames = tt;
@@ -209,7 +209,7 @@ module _ {F C : Type 0} {f : Folders F} {s : Servers C} where
           disk = disk_ends (λ left. left) (λ goes. goes) performed.disk;
           cleared = λ filled. clears_ends f old.engine.docs old.folder new.folder (request_of line) (λ done. let no : ⊥ = cc in no)
               (λ wants. let same : fault ≡ NoMemory = cc in subst (λ (e : StepFault). MayWant (Err (Stopped e))) (sym same) tt) performed.cleared;
-          filled = λ before at name length is view. performed.filled before at name length (let same : fault ≡ Full name length = cc in ap (λ (e : StepFault). Err (Stopped e)) same) view;
+          filled = λ before at fit name length is view. performed.filled before at fit name length (let same : fault ≡ Full name length = cc in ap (λ (e : StepFault). Err (Stopped e)) same) view;
           why = performed.why;
           stays = performed.stays;
         })
@@ -238,13 +238,12 @@ stopped_by f s old new before line out out' (Damaged name at) other does = does
 stopped_by f s old new before line out out' (Full name length) other does = does
 stopped_by f s old new before line out out' NoMemory other does = absurd (other refl)
 
--- a damaged place is none of the documents, where these are at a world, but one of an index, and the world's pictures have not the shape of
--- their designs
-told_sound : (told : Option (Disk FileName)) (Documents Whole : Disk FileName → Type 0) (Shaped : Type 0) (P : FileName → ℕ → Type 0)
-    → ((name : FileName) (at : ℕ) → P name at → IfTold told (λ d. Documents d → ⊥) ⊎ IfTold told (λ d. IsIndexFile name × (Whole d → Shaped → ⊥))) → IfTold told Documents → IfTold told Whole
-    → IfTold told (λ d. (name : FileName) (at : ℕ) → P name at → IsIndexFile name × (Shaped → ⊥))
-told_sound None Documents Whole Shaped P met documents whole = tt
-told_sound (Some a) Documents Whole Shaped P met documents whole = λ name at is. elim (met name at is) [
+-- a damaged place is none of the documents, where these are at a world, but one of an index, and of no world that is fit
+told_sound : (told : Option (Disk FileName)) (Documents Whole : Disk FileName → Type 0) (Fits : Type 0) (P : FileName → ℕ → Type 0)
+    → ((name : FileName) (at : ℕ) → P name at → IfTold told (λ d. Documents d → ⊥) ⊎ IfTold told (λ d. IsIndexFile name × (Whole d → Fits → ⊥))) → IfTold told Documents → IfTold told Whole
+    → IfTold told (λ d. (name : FileName) (at : ℕ) → P name at → IsIndexFile name × (Fits → ⊥))
+told_sound None Documents Whole Fits P met documents whole = tt
+told_sound (Some a) Documents Whole Fits P met documents whole = λ name at is. elim (met name at is) [
   | inl never ↦ absurd (never documents)
   | inr of_index ↦ (of_index.0, of_index.1 whole)
 ]
@@ -271,15 +270,22 @@ told_room : (disk : Option (Disk FileName)) (docs : Docs) (world : World) (reque
 told_room disk docs world request A fits known = told_now disk (λ d. AreAt docs d.now world.history) (λ d. A → HasRoomAt d.now world request) (λ d at is. record { docs = docs; at = at; fits = fits is }) known
 
 -- why a request met a fault, by its kind
-module _ {F : Type 0} (f : Folders F) (engine : Engine) (old new : F) (request : Result Request Refusal) where
+module _ {F : Type 0} (f : Folders F) (engine engine' : Engine) (old new : F) (request : Result Request Refusal) where
   abbrev Why : StepFault → Type 0
-  Why = IsReasonOf f engine old new request
+  Why = IsReasonOf f engine engine' old new request
 
   -- what is damaged of an index is a file of it
-  of_index : (request : Result Request Refusal) (name : FileName) (at : ℕ) (files : FileName → File) → MeetsIndexDamage engine.docs files request name at → IsIndexFile name
-  of_index (Ok (View view limits)) name at files damage = (_, damage.own)
-  of_index (Ok Cleanup) name at files damage = (damage.sig, first_damage_own (ViewStem damage.sig) files name at damage.damage)
-  of_index other name at files damage = absurd damage
+  of_index : (request : Result Request Refusal) (name : FileName) (at : ℕ) (files files' : FileName → File) → MeetsIndexDamage engine.docs engine'.groups files files' request name at → IsIndexFile name
+  of_index (Ok (View view limits)) name at files files' (inl damage) = (_, damage.own)
+  of_index (Ok (View view limits)) name at files files' (inr damage) = (_, ap (λ (n : FileName). n.stem) damage.own ∙ (damage.group).named)
+  of_index (Ok Cleanup) name at files files' damage = (damage.sig, first_damage_own (ViewStem damage.sig) files name at damage.damage)
+  of_index other name at files files' damage = absurd damage
+
+  -- and so it is of the files before
+  index_before : (name : FileName) (at : ℕ) (x y : Option (Disk FileName)) (P : Disk FileName → Type 0) → Tells x y (λ a b. MeetsIndexDamage engine.docs engine'.groups a.now b.now request name at) → IfTold x P → IfTold x (λ d. IsIndexFile name × P d)
+  index_before name at None y P damage told = tt
+  index_before name at (Some a) None P damage told = absurd damage
+  index_before name at (Some a) (Some b) P damage told = (of_index request name at a.now b.now damage, told)
 
   why_failed : Why DiskFault → FitsFor engine.docs request
   why_failed (inl why) = why.1
@@ -289,48 +295,48 @@ module _ {F : Type 0} (f : Folders F) (engine : Engine) (old new : F) (request :
   why_full name length why = why
 
   why_unsound : (world : World) (name : FileName) (at : ℕ) → Why (Damaged name at)
-      → IfTold (f.disk old) (λ d. AreAt engine.docs d.now world.history → ⊥) ⊎ IfTold (f.disk old) (λ d. IsIndexFile name × (IsAtWorld engine d.now world → IsShapedFor request world → ⊥))
+      → IfTold (f.disk old) (λ d. AreAt engine.docs d.now world.history → ⊥) ⊎ IfTold (f.disk old) (λ d. IsIndexFile name × (IsAtWorld engine d.now world → IsFitFor request world → ⊥))
   why_unsound world name at (inl why) = inl ((why.1).1 world)
-  why_unsound world name at (inr why) = inr (told_pair (f.disk old) (λ d. MeetsIndexDamage engine.docs d.now request name at) _ _ (λ d damage never. (of_index request name at d.now damage, never)) why.1 (why.2 world))
+  why_unsound world name at (inr why) = inr (index_before name at (f.disk old) (f.disk new) (λ d. IsAtWorld engine d.now world → IsFitFor request world → ⊥) why.1 (why.2 world))
 
-  why_damaged : (name : FileName) (at : ℕ) → Why (Damaged name at) → (ReadsDocuments request × IfTold (f.disk old) (λ d. IsDamage engine.docs d.now name at)) ⊎ (IsOnIndexes request × IfTold (f.disk old) (λ d. MeetsIndexDamage engine.docs d.now request name at))
+  why_damaged : (name : FileName) (at : ℕ) → Why (Damaged name at) → (ReadsDocuments request × IfTold (f.disk old) (λ d. IsDamage engine.docs d.now name at)) ⊎ (IsOnIndexes request × Tells (f.disk old) (f.disk new) (λ a b. MeetsIndexDamage engine.docs engine'.groups a.now b.now request name at))
   why_damaged name at (inl why) = inl (why.0, (why.1).0)
   why_damaged name at (inr why) = inr (why.0, why.1)
 
 module _ {F C : Type 0} {f : Folders F} {s : Servers C} {old new : Scene F C} {line out out' : List ℕ} {fault : StepFault} (step : IsStep f s old new line out out' (Err fault)) where
-  met : {other : StepFault} → fault ≡ other → IsReasonOf f old.engine old.folder new.folder (request_of line) other
-  met is = subst (IsReasonOf f old.engine old.folder new.folder (request_of line)) is step.why
+  met : {other : StepFault} → fault ≡ other → IsReasonOf f old.engine new.engine old.folder new.folder (request_of line) other
+  met is = subst (IsReasonOf f old.engine new.engine old.folder new.folder (request_of line)) is step.why
 
-  module _ (before : Moment) (at : StandsAt f s old before) where
+  module _ (before : Moment) (at : StandsAt f s old before) (fit : IfTold (f.disk old.folder) (λ d. IsFitFor (request_of line) before.world)) where
     -- a crash left the world before the line or the one that it makes, and the engine keeps the children that its calls left
     pub step_stopped : fault ≢ NoMemory → CrashesAround f s old new before (request_of line) × LeavesChild f s old new (MayHaveCalled s.functions s.honest (languages_of old.engine.pool) before (request_of line))
-    step_stopped other = stopped_by f s old new before line out out' fault other (step.does before at)
+    step_stopped other = stopped_by f s old new before line out out' fault other (step.does before at fit)
 
-    -- a damaged place is one of an index, and the world's pictures have not the shape of their designs
-    pub step_sound : IfTold (f.disk old.folder) (λ d. (name : FileName) (at : ℕ) → fault ≡ Damaged name at → IsIndexFile name × (IsShapedFor (request_of line) before.world → ⊥))
+    -- a damaged place is one of an index, and in no world that is fit
+    pub step_sound : IfTold (f.disk old.folder) (λ d. (name : FileName) (at : ℕ) → fault ≡ Damaged name at → IsIndexFile name × (IsFitFor (request_of line) before.world → ⊥))
     step_sound =
-        told_sound (f.disk old.folder) (λ d. AreAt old.engine.docs d.now before.world.history) (λ d. IsAtWorld old.engine d.now before.world) (IsShapedFor (request_of line) before.world) (λ name at. fault ≡ Damaged name at)
-        (λ name at is. why_unsound f old.engine old.folder new.folder (request_of line) before.world name at (met is)) (documents_at _ _ before.world at.documents) at.documents
+        told_sound (f.disk old.folder) (λ d. AreAt old.engine.docs d.now before.world.history) (λ d. IsAtWorld old.engine d.now before.world) (IsFitFor (request_of line) before.world) (λ name at. fault ≡ Damaged name at)
+        (λ name at is. why_unsound f old.engine new.engine old.folder new.folder (request_of line) before.world name at (met is)) (documents_at _ _ before.world at.documents) at.documents
 
     -- where the disk failed there was room for what the line writes
     pub step_room_left : IfTold (f.disk old.folder) (λ d. fault ≡ DiskFault → HasRoomAt d.now before.world (request_of line))
     step_room_left =
         told_room (f.disk old.folder) old.engine.docs before.world (request_of line) (fault ≡ DiskFault)
-        (λ is. why_failed f old.engine old.folder new.folder (request_of line) (met is)) (documents_at _ _ before.world at.documents)
+        (λ is. why_failed f old.engine new.engine old.folder new.folder (request_of line) (met is)) (documents_at _ _ before.world at.documents)
 
     -- a full file is one with the write of the line, or one of an index
     pub step_full : IfTold (f.disk old.folder) (λ d. (name : FileName) (length : Option ℕ) → fault ≡ Full name length → IsFullAt d.now before.world (request_of line) name length ⊎ IsOfIndex (request_of line) name)
     step_full =
         told_full (f.disk old.folder) old.engine.docs before.world (request_of line) (λ name length. fault ≡ Full name length)
-        (λ name length is. why_full f old.engine old.folder new.folder (request_of line) name length (met is)) (documents_at _ _ before.world at.documents)
+        (λ name length is. why_full f old.engine new.engine old.folder new.folder (request_of line) name length (met is)) (documents_at _ _ before.world at.documents)
 
     -- where it is one of an index, it would be full with the next picture of the view's design
     pub step_filled : IfTold (f.disk new.folder) (λ d. (name : FileName) (length : Option ℕ) → fault ≡ Full name length → IsView (request_of line)
-        → IsIndexFullFor s.functions s.honest (languages_of old.engine.pool) d.now before.world (request_of line) name length)
+        → IsIndexFullFor s.functions s.honest (languages_of old.engine.pool) old.engine.cache new.engine.cache d.now before.world (request_of line) name length)
     step_filled =
         told_filled (f.disk new.folder) (λ name length. fault ≡ Full name length) (IsView (request_of line))
-        (λ d name length. IsIndexFullFor s.functions s.honest (languages_of old.engine.pool) d.now before.world (request_of line) name length)
-        (λ name length is view. step.filled before at name length (ap Err is) view)
+        (λ d name length. IsIndexFullFor s.functions s.honest (languages_of old.engine.pool) old.engine.cache new.engine.cache d.now before.world (request_of line) name length)
+        (λ name length is view. step.filled before at fit name length (ap Err is) view)
 
 left_files : (fault : StepFault) → fault ≢ DiskFault → LeavesFiles (Stopped fault)
 left_files DiskFault other = other refl
@@ -377,13 +383,13 @@ module _ {F C : Type 0} {f : Folders F} {s : Servers C} {old new : Scene F C} {l
   module _ (is_open : LiesOpen f old.engine old.folder) (step : IsStep f s old new line out out' (Err fault)) where
     -- damage is met by a request that reads documents, in one of these, or else in an index
     pub step_damaged : (name : FileName) (at : ℕ) → fault ≡ Damaged name at
-        → (ReadsDocuments (request_of line) × IfTold (f.disk new.folder) (λ d. HasBodyDamage d.now name at)) ⊎ (IsOnIndexes (request_of line) × IfTold (f.disk old.folder) (λ d. MeetsIndexDamageIn d.now (request_of line) name at))
-    step_damaged name at is = elim (why_damaged f old.engine old.folder new.folder (request_of line) name at (met step is)) [
+        → (ReadsDocuments (request_of line) × IfTold (f.disk new.folder) (λ d. HasBodyDamage d.now name at)) ⊎ (IsOnIndexes (request_of line) × Tells (f.disk old.folder) (f.disk new.folder) (λ a b. MeetsIndexDamageIn a.now b.now (request_of line) name at))
+    step_damaged name at is = elim (why_damaged f old.engine new.engine old.folder new.folder (request_of line) name at (met step is)) [
       | inl damage ↦ inl (damage.0, by_kind damage.1 (reads_either (request_of line) damage.0))
       | inr of_index ↦ inr (
         of_index.0,
-        told_pair (f.disk old.folder) (λ d. IsOpen old.engine.docs d.now) (λ d. MeetsIndexDamage old.engine.docs d.now (request_of line) name at) _
-            (λ d here damage. record { docs = old.engine.docs; is_open = here; damage = damage }) opened of_index.1,
+        told_given (f.disk old.folder) (f.disk new.folder) (λ d. IsOpen old.engine.docs d.now) (λ a b. MeetsIndexDamage old.engine.docs new.engine.groups a.now b.now (request_of line) name at)
+            (λ a b. MeetsIndexDamageIn a.now b.now (request_of line) name at) (λ a b here damage. record { docs = old.engine.docs; groups = new.engine.groups; is_open = here; damage = damage }) opened of_index.1,
       )
     ]
       where
@@ -399,7 +405,7 @@ module _ {F C : Type 0} {f : Folders F} {s : Servers C} {old new : Scene F C} {l
     -- and a full file by one that writes a document, as it would be with that, or else one of an index
     pub step_full_in : (name : FileName) (length : Option ℕ) → fault ≡ Full name length
         → (Writes (request_of line) × IfTold (f.disk new.folder) (λ d. IsFullIn d.now (request_of line) name length)) ⊎ IsOfIndex (request_of line) name
-    step_full_in name length is = elim (why_full f old.engine old.folder new.folder (request_of line) name length (met step is)) [
+    step_full_in name length is = elim (why_full f old.engine new.engine old.folder new.folder (request_of line) name length (met step is)) [
       | inl full ↦
           (let writes : Writes (request_of line) = full_writes old.engine.docs (request_of line) name length full.0 in
           let none = step_kept step (λ failed. let never : DiskFault ≡ Full name length = sym failed ∙ is in cc) (write_no_index (request_of line) writes) in

@@ -7,8 +7,9 @@ use Rattle.view_ports.specs.declared.file_name.Stem.TheVariants.{Docs as DocsSte
 use Rattle.view_ports.proofs.Images.{IsImage-settled}
 use Rattle.gate_file.proofs.Beside.{stands_beside}
 use Rattle.doc_file.specs.Held.{HoldsWrites}
-use Rattle.view_groups.proofs.Standing.{images_stand}
+use Rattle.tree_groups.proofs.Standing.{images_stand}
 use Rattle.view_engine.specs.Openings.{IsMovedByOpening}
+use Rattle.view_engine.specs.Signatures.{kinds_of}
 use Rattle.view_engine.specs.World.{World}
 use Rattle.view_engine.specs.Worlds.{Holds, StandsFor}
 
@@ -17,8 +18,9 @@ held_image : (files : FileName → File) (world : World) → Holds files world �
 held_image files world held image is = record {
   documents = stands_beside DocsStem HoldsWrites image (λ name. (files name).seen) world.history (held.documents).stands
       (λ name own. IsImage-settled (files name).seen (image name) (subst (λ (f : File). IsImage f (image name)) ((held.documents).whole name own) (is name)));
-  indexes = images_stand files world.pictures image held.indexes is;
+  indexes = images_stand (kinds_of world.history) files world.pictures image held.indexes is;
   within = held.within;
+  owned = held.owned;
 }
 
 pub still_stands : (disk : Option (Disk FileName)) (world : World) → IfTold disk (λ d. Holds d.now world) → Tells disk disk (LeavesOnly (λ image. StandsFor image world))

@@ -21,7 +21,7 @@ use Rattle.query_args.specs.declared.query.Query.{Query}
 use Rattle.view_engine.specs.ViewQuery.{asked_sources, source_for}
 use Rattle.view_model.specs.Groups.{picked_groups}
 use Rattle.view_model.proofs.NoGroups.{none_picked}
-use Rattle.view_updater.proofs.Tried.{fails_in_place}
+use Rattle.tree_updater.proofs.Spoiled.{fails_in_place}
 use Rattle.raw_collation.specs.Sorting.{sorted_rows}
 use Rattle.child_pool.specs.Sessions.{AllCompile}
 use Rattle.design_docs.specs.History.{Write, last_write, live_document, mapped, mapped_after}
@@ -173,6 +173,23 @@ module _ (functions : List ℕ → Functions) (honest : List ℕ → Type 0) (la
       by_picture : (picture : Option Picture) → world.pictures (signature_of document) ≡ picture → IsTrueOf own views world.history (picture_or_none views picture)
       by_picture None is = no_picture_is_true own views world.history
       by_picture (Some picture) is = (sound fit).are_true (signature_of document) picture document path is stored refl known is_honest
+
+  -- so no reduce is wanted of it whose source doesn't compile
+  pub not_spoiled_before : some_reduce_fails own views (picture_in world document).rows ≡ true → ⊥
+  not_spoiled_before fails =
+      let count = (picture_in world document).seq in
+      let there : some_reduce_fails own views (rows_of own views (first count world.history)) ≡ true = ap (some_reduce_fails own views) (sym true_before.rows) ∙ fails in
+      let clash : true ≡ false = sym (spoiled_by_reduce own views (first count world.history) there) ∙ true_before.sound in
+      let no : ⊥ = cc in
+      no
+
+  -- nor of one that is spoiled only where it is
+  pub not_spoiled : (rows : List (List Row)) → (some_reduce_fails own views rows ≡ true → some_reduce_fails own views (picture_in world document).rows ≡ true) → some_reduce_fails own views rows ≡ false
+  not_spoiled rows only = by_test (some_reduce_fails own views rows) refl
+    where
+      by_test : (b : Bool) → some_reduce_fails own views rows ≡ b → some_reduce_fails own views rows ≡ false
+      by_test true is = absurd (not_spoiled_before (only is))
+      by_test false is = is
 
   abbrev mapped_now : List (List ℕ × Json)
   mapped_now = mapped_after (picture_in world document).seq world.history

@@ -1,5 +1,5 @@
 -- A view, as its servers answered it.
-use Rattle.std.specs.Prelude.{slice_index_or}
+use Rattle.std.specs.Prelude.{replicate, slice_index_or}
 use Rattle.std.proofs.Common.{◌≡◌, ◌≢◌, ◌⊎◌, ◌<◌, ◌≤◌, ◌∙◌, ◌++◌, ℕ, max, min, List, [], ◌∷◌, Bool, true, false, length, map, Option, None, Some, Result, Ok, Err, refl, sym, ap, subst, inl, inr, eq-eqb, ne_eqb}
 use Rattle.std.specs.Prelude.{if◌then◌else◌}
 use Rattle.std.specs.List.{AllByRecursion}
@@ -25,7 +25,7 @@ use Rattle.child_pool.specs.Jobs.{Job, job_of}
 use Rattle.child_pool.specs.Mapping.{IsPart}
 use Rattle.child_pool.specs.Pools.{IsKeptOf, kept_of}
 use Rattle.child_pool.specs.Prompts.{update_prompts}
-use Rattle.child_pool.specs.ReduceTalk.{reduce_in}
+use Rattle.child_pool.specs.ReduceTalk.{reduce_in, reduce_sources}
 use Rattle.child_pool.specs.Honesty.{SomeSourceFails}
 use Rattle.child_pool.specs.Sessions.{AllCompile}
 use Rattle.child_pool.specs.Talk.{AreCutShortIn, AreTurns, talk_of}
@@ -36,29 +36,29 @@ use Rattle.child_pool.proofs.Remembered.{kept_is}
 use Rattle.child_pool.proofs.Honesty.{maps_complain_rightly, no_bad_reply}
 use Rattle.design_docs.specs.History.{AreStored, mapped_after}
 use Rattle.doc_file.proofs.CanBeStored.{mapped_are_stored}
-use Rattle.view_index.specs.Held.{empty_views, or_empty}
 use Rattle.view_model.specs.Picture.{Picture, picture_or_none}
 use Rattle.view_model.specs.Rows.{some_reduce_fails, spoiled, view_rows}
 use Rattle.view_model.specs.Since.{first}
 use Rattle.view_model.specs.Standing.{AreSetAt}
 use Rattle.view_model.specs.Update.{IsUpdated}
-use Rattle.view_groups.specs.Reached.{picture_for, sig_of}
+use Rattle.tree_index.specs.Held.{or_empty}
+use Rattle.tree_groups.specs.Reached.{picture_for, sig_of}
 use Rattle.view_signature.specs.Signature.{digest_of, signature_of}
-use Rattle.view_updater.specs.Checking.{tried_sources}
-use Rattle.view_updater.specs.Updates.{documents_since, IsSpoiled}
-use Rattle.view_updater.proofs.Nexts.{all_mappable}
+use Rattle.change_mapper.specs.Written.{documents_since}
+use Rattle.tree_updater.specs.Made.{IsRefused as IsUpdateRefused}
+use Rattle.tree_updater.proofs.Nexts.{all_mappable}
 use Rattle.view_engine.specs.declared.refusal.Refusal.{Refusal}
 use Rattle.view_engine.specs.declared.refusal.Refusal.TheVariants as refusal
 use Rattle.view_engine.specs.declared.halt.Halt.TheVariants.{Refused}
 use Rattle.view_engine.specs.Moments.{Called, Moment}
 use Rattle.view_engine.specs.Reducing.{Reduced, ReducedSomehow}
 use Rattle.view_engine.specs.Refusals.{refusal_text}
-use Rattle.view_engine.specs.Steps.{AskedBy, EndsMapping, EndsShowing, EndsTrying, MayHaveCalled, StopsMapping}
+use Rattle.view_engine.specs.Steps.{AskedBy, EndsMapping, EndsShowing, EndsWriting, MayHaveCalled, StopsMapping}
 use Rattle.view_engine.specs.Updating.{picture_in, AreFit, IsBrought, IsSound}
-use Rattle.view_engine.specs.View.{design_id, or_no_rows, own_reduces, rows_in, shown_rows, sources_tried, DoesUpdatedView, IsAnswerOf, IsBroughtUp, IsBrokenOff, IsGivenUp, IsJobOf, IsMet, IsRefusedTrying, IsServed, PrintsRows, fault_of, prompts_of}
+use Rattle.view_engine.specs.View.{design_id, or_no_rows, own_reduces, rows_in, shown_rows, due_reduces, DoesUpdatedView, IsAnswerOf, IsBroughtUp, IsBrokenOff, IsGivenUp, IsJobOf, IsMet, IsRefusedWriting, IsServed, PrintsRows, fault_of, prompts_of}
 use Rattle.view_engine.specs.ViewPlan.{IsPlan, met_by_pool, source_at}
 use Rattle.view_engine.specs.World.{World}
-use Rattle.view_engine.proofs.Updated.{all_first, are_spoiled, are_spoiled_by_reduce, can_be_answered, rows_are_afresh, rows_at_place}
+use Rattle.view_engine.proofs.Updated.{all_first, are_spoiled, are_spoiled_by_reduce, can_be_answered, not_spoiled, not_spoiled_before, rows_are_afresh, rows_at_place}
 use Rattle.query_args.specs.declared.query.Query.{Query}
 use Rattle.view_engine.specs.ViewQuery.{ViewQuery, asked_sources, query_for, reduce_named, view_request}
 
@@ -77,7 +77,7 @@ told_by id fault.UnknownLanguage r is = absurd (let clash : ⊥ = cc in clash)
 
 -- ---- the picture of a design, in the words of the indexes and in those of the world
 
-empty_rows : (views : List View) → empty_views (length views) ≡ map (λ view. []) views
+empty_rows : (views : List View) → replicate {A = List Row} (length views) [] ≡ map (λ view. []) views
 empty_rows [] = refl
 empty_rows (view ∷ views) = ap (λ rows. [] ∷ rows) (empty_rows views)
 
@@ -139,7 +139,7 @@ module _ (languages : List (List ℕ × List ℕ)) (before : Moment) (name : Vie
 pub record IsNextOf (functions : List ℕ → Functions) (honest : List ℕ → Type 0) (before : World) (design : Design) (path : List ℕ) (documents : List (List (List ℕ × Json))) (next : Picture) (after : World) : Type 0 where
   pub updated : IsUpdated (functions path) (honest path × (length design.views ≤ source_limit)) design.views before.history (picture_for design before.pictures) next
   pub compile : honest path → documents ≢ [] → AllCompile (functions path) (map_sources design.views)
-  pub reduces : honest path → (picture_for design before.pictures).seq ≢ length before.history → some_reduce_fails (functions path) design.views next.rows ≡ false
+  pub reduces : honest path → some_reduce_fails (functions path) design.views next.rows ≡ true → some_reduce_fails (functions path) design.views (picture_for design before.pictures).rows ≡ true
   pub history : after.history ≡ before.history
   pub set : AreSetAt (sig_of design) (Some next) before.pictures after.pictures
 
@@ -179,17 +179,17 @@ module _ (functions : List ℕ → Functions) (honest : List ℕ → Type 0) (la
   same_seq : (known : Known) → (picture_for design before.world.pictures).seq ≡ (picture_in before.world known.plan.document).seq
   same_seq known = ap (λ (p : Picture). p.seq) (same_picture languages before name id design place path documents known)
 
-  -- those that are tried where something was written since the picture
-  pub tried_are : (known : Known) (next : Picture) → (picture_for design before.world.pictures).seq ≢ length before.world.history → tried_sources design.views next.rows ≡ sources_tried known.plan.document before.world next
-  tried_are known next differs =
-      ap (λ (views : List View). tried_sources views next.rows) known.plan.views
-      ∙ sym (ap (λ (b : Bool). if b then [] else tried_sources (views_of known.plan.document) next.rows)
+  -- those of its reduces, where something was written since the picture
+  pub reduces_are : (known : Known) → (picture_for design before.world.pictures).seq ≢ length before.world.history → reduce_sources design.views ≡ due_reduces known.plan.document before.world
+  reduces_are known differs =
+      ap reduce_sources known.plan.views
+      ∙ sym (ap (λ (b : Bool). if b then [] else reduce_sources (views_of known.plan.document))
       (ne_eqb (picture_in before.world known.plan.document).seq (length before.world.history) (λ same. differs (same_seq known ∙ same))))
 
   -- and none where nothing was
-  pub none_tried : (known : Known) (next : Picture) → (picture_for design before.world.pictures).seq ≡ length before.world.history → [] ≡ sources_tried known.plan.document before.world next
-  none_tried known next same =
-      sym (ap (λ (b : Bool). if b then [] else tried_sources (views_of known.plan.document) next.rows)
+  pub none_due : (known : Known) → (picture_for design before.world.pictures).seq ≡ length before.world.history → [] ≡ due_reduces known.plan.document before.world
+  none_due known same =
+      sym (ap (λ (b : Bool). if b then [] else reduce_sources (views_of known.plan.document))
       (eq-eqb (picture_in before.world known.plan.document).seq (length before.world.history) (sym (same_seq known) ∙ same)))
 
   -- that by which the answer is asked for
@@ -200,7 +200,7 @@ module _ (functions : List ℕ → Functions) (honest : List ℕ → Type 0) (la
 
   -- the design was asked for
   asked_to : (known : Known) (now : Moment)
-      → EndsMapping functions honest languages job before now ⊎ EndsTrying functions honest languages known.plan.document job before now ⊎ EndsShowing functions honest languages name known.plan.document job before now
+      → EndsMapping functions honest languages job before now ⊎ EndsWriting functions honest languages known.plan.document job before now ⊎ EndsShowing functions honest languages name known.plan.document job before now
       → MayHaveCalled functions honest languages before (Ok (view_request name)) now
   asked_to known now ends = inr (
     known.plan.accepted,
@@ -225,6 +225,13 @@ module _ (functions : List ℕ → Functions) (honest : List ℕ → Type 0) (la
       (subst (λ views. IsUpdated (functions path) (honest path) views before.world.history (picture_for design before.world.pictures) next) known.plan.views
       (narrower (λ is. (is, known.plan.few)) updated))
 
+  -- a picture that is spoiled is so in the words of the design document
+  spoiled_old : (known : Known) → some_reduce_fails (functions path) design.views (picture_for design before.world.pictures).rows ≡ true
+      → some_reduce_fails (functions path) (views_of known.plan.document) (picture_in before.world known.plan.document).rows ≡ true
+  spoiled_old known fails =
+      subst (λ (p : Picture). some_reduce_fails (functions path) (views_of known.plan.document) p.rows ≡ true) (same_picture languages before name id design place path documents known)
+      (subst (λ views. some_reduce_fails (functions path) views (picture_for design before.world.pictures).rows ≡ true) known.plan.views fails)
+
   module _ (next : Picture) (left : World) (known : Known) (made : IsNextOf functions honest before.world design path documents next left) where
     updated_there : IsUpdated (functions path) (honest path) (views_of known.plan.document) before.world.history (picture_in before.world known.plan.document) next
     updated_there = updated_with known next made.updated
@@ -241,8 +248,8 @@ module _ (functions : List ℕ → Functions) (honest : List ℕ → Type 0) (la
       answerable = λ is_honest sound fit.
           can_be_answered functions honest languages before.world (design_id name.design) known.plan.document path refl known.plan.live known.plan.path_is is_honest sound fit next updated_there
           (λ some. subst (λ views. AllCompile (functions path) (map_sources views)) known.plan.views (made.compile is_honest (none_mapped languages before name id design place path documents known some)))
-          (λ later. subst (λ views. some_reduce_fails (functions path) views next.rows ≡ false) known.plan.views
-          (made.reduces is_honest (λ same. later (ap (λ (p : Picture). p.seq) (sym (same_picture languages before name id design place path documents known)) ∙ same))));
+          (λ later. not_spoiled functions honest languages before.world (design_id name.design) known.plan.document path refl known.plan.live known.plan.path_is is_honest sound fit next.rows
+          (λ fails. spoiled_old known (made.reduces is_honest (subst (λ views. some_reduce_fails (functions path) views next.rows ≡ true) (sym known.plan.views) fails))));
     }
 
     abbrev rows_there : List Row
@@ -283,13 +290,15 @@ module _ (functions : List ℕ → Functions) (honest : List ℕ → Type 0) (la
 
   -- ---- a complaint
 
-  pub spoiled_there : (known : Known) → honest path → IsSound functions honest languages before.world → AreFit before.world.history → IsSpoiled functions honest design path before.world.history (picture_for design before.world.pictures)
+  pub spoiled_there : (known : Known) → honest path → IsSound functions honest languages before.world → AreFit before.world.history → IsUpdateRefused functions honest design path before.world.history (picture_for design before.world.pictures)
       → spoiled (functions path) (views_of known.plan.document) before.world.history ≡ true
   spoiled_there known is_honest sound fit (inl fails) =
       are_spoiled functions honest languages before.world (design_id name.design) known.plan.document path refl known.plan.live known.plan.path_is is_honest sound fit
       (subst (λ views. SomeSourceFails (functions path) (map_sources views)) known.plan.views fails.1)
       (some_mapped languages before name id design place path documents known (λ none. fails.0 (sym known.documents_are ∙ none)))
-  spoiled_there known is_honest sound fit (inr made) =
+  spoiled_there known is_honest sound fit (inr (inl was)) =
+      absurd (not_spoiled_before functions honest languages before.world (design_id name.design) known.plan.document path refl known.plan.live known.plan.path_is is_honest sound fit (spoiled_old known was))
+  spoiled_there known is_honest sound fit (inr (inr made)) =
       are_spoiled_by_reduce functions honest languages before.world (design_id name.design) known.plan.document path refl known.plan.live known.plan.path_is is_honest sound fit made.0
       (updated_with known made.0 made.1.updated)
       (subst (λ views. some_reduce_fails (functions path) views made.0.rows ≡ true) known.plan.views made.2)
@@ -398,20 +407,20 @@ module _ (functions : List ℕ → Functions) (honest : List ℕ → Type 0) (la
         same = refl;
       }))
 
-      -- the reduces were tried of the picture that they make
-      pub tried_then : (known : Known) (now : Moment) (next : Picture) → IsUpdated (functions path) (honest path) (views_of known.plan.document) before.world.history (picture_in before.world known.plan.document) next
-          → ReducedSomehow path (sources_tried known.plan.document before.world next) mapped now → now.world ≡ before.world → MayHaveCalled functions honest languages before (Ok (view_request name)) now
-      tried_then known now next updated tried same = asked_to known now (inr (inl (record { mapped = mapped; served = served_there; next = next; updated = updated; tried = tried; same = same })))
+      -- values of what was to be written were asked for
+      pub asked_then : (known : Known) (now : Moment) → ReducedSomehow path (due_reduces known.plan.document before.world) mapped now → now.world ≡ before.world
+          → MayHaveCalled functions honest languages before (Ok (view_request name)) now
+      asked_then known now asked same = asked_to known now (inr (inl (record { mapped = mapped; served = served_there; asked = asked; same = same })))
 
       -- the world has it, and values of the view were asked for
-      pub shown_then : (known : Known) (between now : Moment) → Reduced path (sources_tried known.plan.document before.world (picture_in now.world known.plan.document)) mapped between
+      pub shown_then : (known : Known) (between now : Moment) → Reduced path (due_reduces known.plan.document before.world) mapped between
           → IsBrought functions honest languages known.plan.document path before.world now.world → ReducedSomehow path (own_reduces name known.plan.document now.world) between now
           → MayHaveCalled functions honest languages before (Ok (view_request name)) now
-      shown_then known between now tried brought reduced =
-          asked_to known now (inr (inr (record { mapped = mapped; served = served_there; between = between; tried = tried; brought = brought; reduced = reduced })))
+      shown_then known between now had brought reduced =
+          asked_to known now (inr (inr (record { mapped = mapped; served = served_there; between = between; had = had; brought = brought; reduced = reduced })))
 
       pub mapped_then : (known : Known) (now : Moment) (reply : List ℕ)
-          → IsRefusedTrying functions honest languages name known.plan.document path before.world mapped now reply ⊎ IsBroughtUp functions honest languages name known.plan.document path source before.world mapped now reply
+          → IsRefusedWriting functions honest languages name known.plan.document path before.world mapped now reply ⊎ IsBroughtUp functions honest languages name known.plan.document path source before.world mapped now reply
           → DoesUpdatedView functions honest languages before name reply now
       mapped_then known now reply ends = record {
         updates = known.plan.updates;

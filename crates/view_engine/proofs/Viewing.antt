@@ -16,9 +16,9 @@ use Rattle.doc_file.specs.Accepted.{State}
 use Rattle.doc_file.specs.Accepted.State.{known, unseen}
 use Rattle.query_args.specs.declared.fault.QueryFault.{QueryFault}
 use Rattle.query_args.specs.Faults.{query_fault}
-use Rattle.view_index.specs.declared.fault.IndexFault.TheVariants as index
-use Rattle.view_updater.specs.declared.fault.UpdateFault.{UpdateFault}
-use Rattle.view_updater.specs.declared.fault.UpdateFault.TheVariants as update
+use Rattle.tree_index.specs.declared.fault.IndexFault.TheVariants as index
+use Rattle.tree_updater.specs.declared.fault.UpdateFault.{UpdateFault}
+use Rattle.tree_updater.specs.declared.fault.UpdateFault.TheVariants as update
 use Rattle.view_engine.specs.declared.halt.Halt.{Halt}
 use Rattle.view_engine.specs.declared.halt.Halt.TheVariants.{Refused, Stopped}
 use Rattle.view_engine.specs.declared.halt.StepFault.{StepFault}
@@ -35,6 +35,7 @@ use Rattle.view_engine.specs.Moments.{Moment}
 use Rattle.view_engine.specs.Get.{not_live}
 use Rattle.view_engine.specs.Refusals.{first_of, refusal_text}
 use Rattle.view_engine.specs.Steps.{DoesRequest, MayHaveCalled}
+use Rattle.view_engine.specs.Updating.{AreFit}
 use Rattle.view_engine.specs.View.{design_id, no_path, no_view}
 use Rattle.view_engine.specs.ViewPlan.{met_by, met_by_pool}
 use Rattle.view_engine.specs.ViewQuery.{parameters_of, target_for, ViewQuery, view_request}
@@ -51,16 +52,20 @@ module _ {F C : Type 0} (f : Folders F) (s : Servers C) (old new : Scene F C) (n
   Halts before halt after = ((r : Refusal) → halt ≡ Refused r → DoesRequest s.functions s.honest (languages_of old.engine.pool) before request (refusal_text r) after)
       × MayHaveCalled s.functions s.honest (languages_of old.engine.pool) before request after
 
+  -- designs that differ have different signatures
+  abbrev pub IsFit : Moment → Type 0
+  IsFit before = IfTold (f.disk old.folder) (λ d. AreFit before.world.history)
+
   abbrev pub LeavesHalted : Halt → Type 0
-  LeavesHalted halt = GoesOn halt → (before : Moment) → StandsAt f s old before → LeavesMoment f s old new before (Halts before halt)
+  LeavesHalted halt = GoesOn halt → (before : Moment) → StandsAt f s old before → IsFit before → LeavesMoment f s old new before (Halts before halt)
 
   abbrev pub LeavesStopped : Halt → Type 0
-  LeavesStopped halt = (fault : StepFault) → halt ≡ Stopped fault → fault ≢ NoMemory → (before : Moment) → StandsAt f s old before
+  LeavesStopped halt = (fault : StepFault) → halt ≡ Stopped fault → fault ≢ NoMemory → (before : Moment) → StandsAt f s old before → IsFit before
       → CrashesAround f s old new before request × LeavesChild f s old new (MayHaveCalled s.functions s.honest (languages_of old.engine.pool) before request)
 
-  pub does_halted : (out out' : List ℕ) (halt : Halt) → LeavesHalted halt → LeavesStopped halt → (before : Moment) → StandsAt f s old before → DoesBy f s old new before request out out' (Err halt)
-  does_halted out out' (Refused refusal) leaves stopped before at =
-      let left = leaves tt before at in
+  pub does_halted : (out out' : List ℕ) (halt : Halt) → LeavesHalted halt → LeavesStopped halt → (before : Moment) → StandsAt f s old before → IsFit before → DoesBy f s old new before request out out' (Err halt)
+  does_halted out out' (Refused refusal) leaves stopped before at fit =
+      let left = leaves tt before at fit in
       record {
         after = left.after;
         is_at = left.is_at;
@@ -69,17 +74,17 @@ module _ {F C : Type 0} (f : Folders F) (s : Servers C) (old new : Scene F C) (n
             (λ d. DoesRequest s.functions s.honest (languages_of old.engine.pool) before request (refusal_text refusal) left.after × MayHaveCalled s.functions s.honest (languages_of old.engine.pool) before request left.after)
             (λ d both. (both.0 refusal refl, both.1)) left.allowed;
       }
-  does_halted out out' (Stopped NoMemory) leaves stopped before at =
-      let left = leaves tt before at in
+  does_halted out out' (Stopped NoMemory) leaves stopped before at fit =
+      let left = leaves tt before at fit in
       record {
         after = left.after;
         is_at = left.is_at;
         moments = left.moments;
         allowed = told_now (f.disk old.folder) (λ d. Halts before (Stopped NoMemory) left.after) (λ d. MayHaveCalled s.functions s.honest (languages_of old.engine.pool) before request left.after) (λ d both. both.1) left.allowed;
       }
-  does_halted out out' (Stopped DiskFault) leaves stopped before at = stopped DiskFault refl (λ is. cc) before at
-  does_halted out out' (Stopped (Damaged name at_place)) leaves stopped before at = stopped (Damaged name at_place) refl (λ is. cc) before at
-  does_halted out out' (Stopped (Full name length)) leaves stopped before at = stopped (Full name length) refl (λ is. cc) before at
+  does_halted out out' (Stopped DiskFault) leaves stopped before at fit = stopped DiskFault refl (λ is. cc) before at fit
+  does_halted out out' (Stopped (Damaged name at_place)) leaves stopped before at fit = stopped (Damaged name at_place) refl (λ is. cc) before at fit
+  does_halted out out' (Stopped (Full name length)) leaves stopped before at fit = stopped (Full name length) refl (λ is. cc) before at fit
 
   -- a view that is refused before any server is asked, so by none of the refusals that they tell
   -- query servers have no part in it
@@ -134,14 +139,14 @@ module _ {F C : Type 0} (f : Folders F) (s : Servers C) (old new : Scene F C) (n
 
   -- where a file of the index is full
   abbrev pub FillsIndex : Result (Unit {0}) Halt → Type 0
-  FillsIndex result = (before : Moment) → StandsAt f s old before → (file : FileName) (limit : Option ℕ) → result ≡ Err (Stopped (Full file limit))
-      → IfTold (f.disk new.folder) (λ d. IsIndexFull s.functions s.honest (languages_of old.engine.pool) d.now before.world name file limit)
+  FillsIndex result = (before : Moment) → StandsAt f s old before → IsFit before → (file : FileName) (limit : Option ℕ) → result ≡ Err (Stopped (Full file limit))
+      → IfTold (f.disk new.folder) (λ d. IsIndexFull s.functions s.honest (languages_of old.engine.pool) old.engine.cache new.engine.cache d.now before.world name file limit)
 
   -- a view is performed as these parts say
-  pub viewed : {out out' : List ℕ} {result : Result (Unit {0}) Halt} → ((before : Moment) → StandsAt f s old before → DoesBy f s old new before request out out' result) → OnOk result (AppendsReplyTo request out out') → OnErr result (out' ≡ out)
+  pub viewed : {out out' : List ℕ} {result : Result (Unit {0}) Halt} → ((before : Moment) → StandsAt f s old before → IsFit before → DoesBy f s old new before request out out' result) → OnOk result (AppendsReplyTo request out out') → OnErr result (out' ≡ out)
       → (result ≡ Err (Refused ServerFault) → RoseBy 2 (s.faults old.servers) (s.faults new.servers)) → FollowsDocuments f old.engine.docs new.engine.docs old.folder new.folder out out' (view_request name) result
       → OnOk result (FitsView f s old new name None) → ((refusal : Refusal) → result ≡ Err (Refused refusal) → FitsView f s old new name (Some refusal)) → Tells (f.disk old.folder) (f.disk new.folder) (MovesIndexOf old.engine name)
-      → (MayGoOn result → LiesOpen f new.engine new.folder) → FillsIndex result → IfErr result (IfStopped (IsReasonOf f old.engine old.folder new.folder request)) → Stays f s old new → Performed f s old new request out out' result
+      → (MayGoOn result → LiesOpen f new.engine new.folder) → FillsIndex result → IfErr result (IfStopped (IsReasonOf f old.engine new.engine old.folder new.folder request)) → Stays f s old new → Performed f s old new request out out' result
   viewed {result = result} does prints silent blames follows designed unasked moved is_open filled why stays = record {
     does = does;
     prints = prints;
@@ -151,11 +156,11 @@ module _ {F C : Type 0} (f : Folders F) (s : Servers C) (old new : Scene F C) (n
     follows = follows;
     designed = designed;
     unasked = unasked;
-    leaves = record { servers = λ other. absurd (other tt); pool = λ other. absurd (other tt); groups = λ other. absurd (other tt); wanting = λ wants other. absurd (other tt); all = tt };
+    leaves = record { servers = λ other. absurd (other tt); pool = λ other. absurd (other tt); cache = λ other. absurd (other tt); groups = λ other. absurd (other tt); wanting = λ wants other. absurd (other tt); all = tt };
     fits = fits_always result;
     disk = record { documents = λ no. absurd (no tt); indexes = moved; is_open = is_open };
     cleared = tt;
-    filled = λ before at file limit is view. filled before at file limit is;
+    filled = λ before at fit file limit is view. filled before at fit file limit is;
     why = why;
     stays = stays;
   }

@@ -1,5 +1,5 @@
 -- What is kept of the documents is kept of the world, where no file of an index changes.
-use Rattle.std.proofs.Common.{◌≡◌, ◌⊎◌, ◌∙◌, ℕ, List, Option, None, Result, Ok, inl, inr, ⊎_elim, sym, subst, arith}
+use Rattle.std.proofs.Common.{◌≡◌, ◌⊎◌, ◌∙◌, ℕ, List, [], Option, None, Result, Ok, inl, inr, ⊎_elim, sym, subst, arith}
 use Rattle.view_ports.specs.Disk.{Disk, Framed, IfTold, IsImageOf, LeavesOnly, Moves, MovesNone, Tells}
 use Rattle.view_ports.specs.File.{File}
 use Rattle.view_ports.specs.declared.file_name.FileName.{FileName}
@@ -12,21 +12,23 @@ use Rattle.doc_file.specs.declared.docs.Docs.{Docs}
 use Rattle.doc_file.specs.Docs.{IsAt as AreAt, IsDocsFile, IsOpen as AreDocumentsOpen}
 use Rattle.design_docs.specs.History.{Write}
 use Rattle.doc_file.proofs.Stores.{image_now}
-use Rattle.view_groups.specs.declared.groups.Groups.{Groups}
-use Rattle.view_groups.specs.Cleans.{IsIndexFile}
-use Rattle.view_groups.specs.Groups.{AreAt as AreIndexesAt, AreOpen as AreIndexesOpen}
-use Rattle.view_groups.specs.Pictures.{AreHeld, Pictures, StandFor}
-use Rattle.view_groups.proofs.Standing.{images_stand, others_matter_not, settled_stand}
+use Rattle.tree_groups.specs.declared.groups.Groups.{Groups}
+use Rattle.tree_groups.specs.Cleans.{IsIndexFile}
+use Rattle.tree_groups.specs.Groups.{AreAt as AreIndexesAt, AreOpen as AreIndexesOpen}
+use Rattle.tree_groups.specs.Pictures.{AreHeld, Kinds, Pictures, StandFor}
+use Rattle.tree_groups.proofs.Standing.{held_stands, images_stand, others_matter_not}
 use Rattle.view_engine.specs.declared.engine.Engine.{Engine}
 use Rattle.view_engine.specs.declared.refusal.Refusal.{Refusal}
 use Rattle.view_engine.specs.declared.request.Request.{Request}
 use Rattle.view_engine.specs.declared.request.Request.TheVariants.{Cleanup, View as ViewRequest}
 use Rattle.view_engine.specs.Disks.{IsOnIndexes, KeepsDisk, KeepsDocuments, LiesOpen, MovesIndexes, MovesIndexOf}
 use Rattle.view_engine.specs.Halts.{DocumentsStandAround, MovesDocuments, Writes}
+use Rattle.view_engine.specs.Signatures.{kinds_of, AreOpenOwned, AreOwned}
 use Rattle.view_engine.specs.Steps.{IsWrite}
 use Rattle.view_engine.specs.World.{World, NoneIsNewer, written}
 use Rattle.view_engine.specs.Worlds.{IsAtWorld, IsOpen, StandsEither, StandsFor}
 use Rattle.view_engine.proofs.Between.{stands_first}
+use Rattle.view_engine.proofs.Signatures.{owned_later, stand_later}
 use Rattle.view_engine.specs.ViewQuery.{ViewQuery, view_query}
 
 -- a file of an index is none of the documents
@@ -38,39 +40,50 @@ module _ (a b : Disk FileName) (moves : MovesDocuments (λ image. Unit {0}) a b)
   same_files : (name : FileName) → IsIndexFile name → b.now name ≡ a.now name
   same_files name is = moves.others name (apart name is)
 
-  pub indexes_at : (groups : Groups) (pictures : Pictures) → AreIndexesAt groups a.now pictures → AreIndexesAt groups b.now pictures
-  indexes_at groups pictures at = (others_matter_not groups a.now b.now pictures same_files).0 at
+  pub indexes_at : (kinds : Kinds) (groups : Groups) (pictures : Pictures) → AreIndexesAt kinds groups a.now pictures → AreIndexesAt kinds groups b.now pictures
+  indexes_at kinds groups pictures at = (others_matter_not kinds groups a.now b.now pictures same_files).0 at
 
   pub indexes_open : (groups : Groups) → AreIndexesOpen groups a.now → AreIndexesOpen groups b.now
-  indexes_open groups is_open = (others_matter_not groups a.now b.now (λ sig. None) same_files).1 is_open
+  indexes_open groups is_open = (others_matter_not (kinds_of []) groups a.now b.now (λ sig. None) same_files).1 is_open
 
 -- an image in which only files of the documents may be others
-module _ (files : FileName → File) (pictures : Pictures) (held : AreHeld files pictures) (P : (FileName → List ℕ) → Type 0) (image : FileName → List ℕ) (framed : Framed IsDocsFile files P image) where
-  pub pictures_stand : StandFor image pictures
-  pictures_stand = λ sig. let here = held sig in (here.0, settled_stand sig here.0 files image (pictures sig) here.1 (λ n of_view. framed.outside n (apart n (sig, of_view))))
+module _ (kinds : Kinds) (files : FileName → File) (pictures : Pictures) (held : AreHeld kinds files pictures) (P : (FileName → List ℕ) → Type 0) (image : FileName → List ℕ) (framed : Framed IsDocsFile files P image) where
+  pub pictures_stand : StandFor kinds image pictures
+  pictures_stand = λ sig. held_stands kinds sig files image (pictures sig) (held sig) (λ n of_view. framed.outside n (apart n (sig, of_view)))
 
 -- with one more write no picture is newer either
 pub within_longer : (world : World) (write : Write) → NoneIsNewer world → NoneIsNewer (written world write)
 within_longer world write within = λ sig picture has. let low = within sig picture has in omega arith
 
 -- an image that stands for the documents around a write stands for the world around it
-around : (world : World) (request : Result Request Refusal) (files : FileName → File) → AreHeld files world.pictures → NoneIsNewer world → (image : FileName → List ℕ) → Framed IsDocsFile files (DocumentsStandAround world request) image
+around : (world : World) (request : Result Request Refusal) (files : FileName → File) → AreHeld (kinds_of world.history) files world.pictures → NoneIsNewer world → AreOwned world.history world.pictures → (image : FileName → List ℕ)
+    → Framed IsDocsFile files (DocumentsStandAround world request) image
     → StandsFor image world ⊎ ((write : Write) × IsWrite world request write × StandsFor image (written world write))
-around world request files held within image framed = by_side framed.inside
+around world request files held within owned image framed = by_side framed.inside
   where
-    indexes : StandFor image world.pictures
-    indexes = pictures_stand files world.pictures held (DocumentsStandAround world request) image framed
+    indexes : StandFor (kinds_of world.history) image world.pictures
+    indexes = pictures_stand (kinds_of world.history) files world.pictures held (DocumentsStandAround world request) image framed
 
     by_side : DocumentsStandAround world request image → StandsFor image world ⊎ ((write : Write) × IsWrite world request write × StandsFor image (written world write))
-    by_side (inl before) = inl (record { documents = before; indexes = indexes; within = within })
-    by_side (inr (write, is, after)) = inr (write, is, record { documents = after; indexes = indexes; within = within_longer world write within })
+    by_side (inl before) = inl (record { documents = before; indexes = indexes; within = within; owned = owned })
+    by_side (inr (write, is, after)) = inr (
+      write,
+      is,
+      record {
+        documents = after;
+        indexes = stand_later write world.history world.pictures owned image indexes;
+        within = within_longer world write within;
+        owned = owned_later write world.history world.pictures owned;
+      },
+    )
 
 -- each image that a crash may leave now
 pub image_stands : (engine : Engine) (files : FileName → File) (world : World) → IsAtWorld engine files world → (image : FileName → List ℕ) → IsImageOf files image → StandsFor image world
 image_stands engine files world at image is = record {
   documents = image_now engine.docs files at.documents.is_open world.history at.documents image is;
-  indexes = images_stand files world.pictures image at.indexes.held is;
+  indexes = images_stand (kinds_of world.history) files world.pictures image at.indexes.held is;
   within = at.within;
+  owned = at.owned;
 }
 
 -- ---- what a crash leaves
@@ -96,7 +109,7 @@ module _ (engine : Engine) (world : World) (request : Result Request Refusal) wh
       → ((image : FileName → List ℕ) (write : Write) → IsWrite world request write → StandsFor image (written world write) → P image) → IsAtWorld engine a.now world
       → MovesDocuments (DocumentsStandAround world request) a b → LeavesOnly P a b
   leaves_around P a b before made at moves = weaker (Framed IsDocsFile a.now (DocumentsStandAround world request)) P a b
-      (λ image framed. by_side image (around world request a.now at.indexes.held at.within image framed)) moves.moments
+      (λ image framed. by_side image (around world request a.now at.indexes.held at.within at.owned image framed)) moves.moments
     where
       by_side : (image : FileName → List ℕ) → StandsFor image world ⊎ ((write : Write) × IsWrite world request write × StandsFor image (written world write)) → P image
       by_side image (inl stands) = before image stands
@@ -154,6 +167,8 @@ world_none engine engine' old new docs groups moves world told =
     let files : b.now ≡ a.now = λ i. λ name. none_same a b none name i in
     subst (λ (fs : FileName → File). IsAtWorld engine' fs world) (sym files) (record {
       documents = subst (λ (d : Docs). AreAt d a.now world.history) (sym docs) here.documents;
-      indexes = subst (λ (g : Groups). AreIndexesAt g a.now world.pictures) (sym groups) here.indexes;
+      indexes = subst (λ (g : Groups). AreIndexesAt (kinds_of world.history) g a.now world.pictures) (sym groups) here.indexes;
       within = here.within;
+      owned = here.owned;
+      opened = subst (AreOpenOwned world.history) (sym groups) here.opened;
     })) told moves

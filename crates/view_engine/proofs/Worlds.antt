@@ -77,7 +77,7 @@ image_at = image_stands
 
 -- nothing is pending in its files, and they hold the world
 pub world_held : (engine : Engine) (files : FileName → File) (world : World) → IsAtWorld engine files world → Holds files world
-world_held engine files world at = record { documents = at_holds engine.docs files at.documents.is_open world.history at.documents; indexes = at.indexes.held; within = at.within }
+world_held engine files world at = record { documents = at_holds engine.docs files at.documents.is_open world.history at.documents; indexes = at.indexes.held; within = at.within; owned = at.owned }
 
 module _ (disk : Option (Disk FileName)) (may_follow : List Call → Type 0) (faults : ℕ) (engine : Engine) where
   -- an engine without a child is at the start of its world, where no call was made on the servers

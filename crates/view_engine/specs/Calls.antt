@@ -21,7 +21,7 @@ use Rattle.view_engine.specs.declared.request.Request.{Request}
 use Rattle.view_engine.specs.declared.request.Request.TheVariants.{Put, Delete, Get, Info, View}
 use Rattle.view_engine.specs.Accepted.{is_ok}
 use Rattle.view_engine.specs.Delete.{DoesDelete, IsDeleteRefused}
-use Rattle.view_engine.specs.Disks.{Clears, HasGivenUp, HasReply, IfStopped, IsReason, IsReasonOf, KeepsDisk, KeepsDocuments, IsOnIndexes, IsView, MayGoOn, MayWant, OverWorld}
+use Rattle.view_engine.specs.Disks.{Clears, HasGivenUp, HasReply, IfStopped, IsFitFor, IsReason, IsReasonOf, KeepsDisk, KeepsDocuments, IsOnIndexes, IsView, MayGoOn, MayWant, OverWorld}
 use Rattle.view_engine.specs.FullIndex.{IsIndexFullFor}
 use Rattle.view_engine.specs.Engine.{Appends, HasChild, IsAt, Leaves}
 use Rattle.view_engine.specs.Get.{get_refusal, DoesGet, DoesInfo}
@@ -145,6 +145,7 @@ scene engine folder servers = record { engine = engine; folder = folder; servers
 pub record LeavesAlone {F C : Type 0} (request : Result Request Refusal) (Wants : Type 0) (old new : Scene F C) : Type 0 where
   pub servers : (IsView request → ⊥) → new.servers ≡ old.servers
   pub pool : (IsView request → ⊥) → new.engine.pool ≡ old.engine.pool
+  pub cache : (IsView request → ⊥) → new.engine.cache ≡ old.engine.cache
   pub groups : (IsOnIndexes request → ⊥) → new.engine.groups ≡ old.engine.groups
   pub wanting : Wants → (IsView request → ⊥) → new.engine.groups ≡ old.engine.groups
   pub all : IfErr request (λ refusal. new ≡ old)
@@ -171,6 +172,7 @@ module _ {F C : Type 0} (f : Folders F) (s : Servers C) where
     pub record IsUnasked : Type 0 where
       pub servers : new.servers ≡ old.servers
       pub pool : new.engine.pool ≡ old.engine.pool
+      pub cache : new.engine.cache ≡ old.engine.cache
       pub groups : new.engine.groups ≡ old.engine.groups
       pub files : Tells (f.disk old.folder) (f.disk new.folder) MovesNone
 
@@ -220,7 +222,8 @@ module _ {F C : Type 0} (f : Folders F) (s : Servers C) where
 
     -- a request, done or not
     pub record Performed (request : Result Request Refusal) (out out' : List ℕ) (result : Result (Unit {0}) Halt) : Type 0 where
-      pub does : (before : Moment) → StandsAt old before → DoesBy before request out out' result
+      -- a view is done so where designs that differ have different signatures
+      pub does : (before : Moment) → StandsAt old before → IfTold (f.disk old.folder) (λ d. IsFitFor request before.world) → DoesBy before request out out' result
       -- where it is done a reply line is appended, and else nothing
       pub prints : OnOk result (AppendsReplyTo request out out')
       pub silent : OnErr result (out' ≡ out)
@@ -240,9 +243,9 @@ module _ {F C : Type 0} (f : Folders F) (s : Servers C) where
       -- a cleanup removes the files of indexes that no live design has, and no others
       pub cleared : Clears f old.engine.docs old.folder new.folder request (HasReply result) (MayWant result)
       -- a file of an index is full only where it would be with the next picture of the view's design
-      pub filled : (before : Moment) → StandsAt old before → (name : FileName) (length : Option ℕ) → result ≡ Err (Stopped (Full name length)) → IsView request
-          → IfTold (f.disk new.folder) (λ d. IsIndexFullFor s.functions s.honest Languages d.now before.world request name length)
-      pub why : IfErr result (IfStopped (IsReasonOf f old.engine old.folder new.folder request))
+      pub filled : (before : Moment) → StandsAt old before → IfTold (f.disk old.folder) (λ d. IsFitFor request before.world) → (name : FileName) (length : Option ℕ) → result ≡ Err (Stopped (Full name length)) → IsView request
+          → IfTold (f.disk new.folder) (λ d. IsIndexFullFor s.functions s.honest Languages old.engine.cache new.engine.cache d.now before.world request name length)
+      pub why : IfErr result (IfStopped (IsReasonOf f old.engine new.engine old.folder new.folder request))
       pub stays : Stays old new
 
     -- what a line does
@@ -253,7 +256,8 @@ module _ {F C : Type 0} (f : Folders F) (s : Servers C) where
 
     -- a line, answered or not
     pub record IsStep (line out out' : List ℕ) (result : Result (Unit {0}) StepFault) : Type 0 where
-      pub does : (before : Moment) → StandsAt old before → StepsBy before line out out' result
+      -- a view is done so where designs that differ have different signatures
+      pub does : (before : Moment) → StandsAt old before → IfTold (f.disk old.folder) (λ d. IsFitFor (request_of line) before.world) → StepsBy before line out out' result
       pub prints : OnOk result (AnswersLine line out out')
       pub silent : OnErr result (out' ≡ out)
       -- where the reply line is `server_fault` the count of the query servers' faults rose by two, whatever the folder holds
@@ -272,9 +276,9 @@ module _ {F C : Type 0} (f : Folders F) (s : Servers C) where
       -- a cleanup removes the files of indexes that no live design has, and no others
       pub cleared : line ≢ [] → Clears f old.engine.docs old.folder new.folder (request_of line) (result ≡ Ok tt) (result ≡ Err NoMemory)
       -- a file of an index is full only where it would be with the next picture of the view's design
-      pub filled : (before : Moment) → StandsAt old before → (name : FileName) (length : Option ℕ) → result ≡ Err (Full name length) → IsView (request_of line)
-          → IfTold (f.disk new.folder) (λ d. IsIndexFullFor s.functions s.honest Languages d.now before.world (request_of line) name length)
-      pub why : IfErr result (IsReasonOf f old.engine old.folder new.folder (request_of line))
+      pub filled : (before : Moment) → StandsAt old before → IfTold (f.disk old.folder) (λ d. IsFitFor (request_of line) before.world) → (name : FileName) (length : Option ℕ) → result ≡ Err (Full name length)
+          → IsView (request_of line) → IfTold (f.disk new.folder) (λ d. IsIndexFullFor s.functions s.honest Languages old.engine.cache new.engine.cache d.now before.world (request_of line) name length)
+      pub why : IfErr result (IsReasonOf f old.engine new.engine old.folder new.folder (request_of line))
       pub stays : Stays old new
 
 -- ---- what is told of a halt

@@ -13,13 +13,13 @@ use Rattle.doc_file.specs.Docs.{IsAt as AreAt}
 use Rattle.doc_file.specs.declared.fault.DocFault.TheVariants as doc
 use Rattle.design_docs.specs.History.{Write, live_document}
 use Rattle.gate_file.specs.declared.fault.GateFault.TheVariants as gate
-use Rattle.view_index.specs.declared.fault.IndexFault.{IndexFault}
-use Rattle.view_index.specs.declared.fault.IndexFault.TheVariants as index
-use Rattle.view_index.specs.Calls.{stem_of}
-use Rattle.view_groups.specs.declared.groups.Groups.{Groups}
-use Rattle.view_groups.specs.Cleans.{IsIndexFile}
-use Rattle.view_groups.specs.Groups.{open_of, AreAt as AreIndexesAt, AreOpen as AreIndexesOpen}
-use Rattle.view_groups.specs.Pictures.{StandFor}
+use Rattle.tree_index.specs.declared.fault.IndexFault.{IndexFault}
+use Rattle.tree_index.specs.declared.fault.IndexFault.TheVariants as index
+use Rattle.tree_index.specs.Index.{stem_of}
+use Rattle.tree_groups.specs.declared.groups.Groups.{Groups}
+use Rattle.tree_groups.specs.Cleans.{IsIndexFile}
+use Rattle.tree_groups.specs.Groups.{open_of, AreAt as AreIndexesAt, AreOpen as AreIndexesOpen}
+use Rattle.tree_groups.specs.Pictures.{StandFor}
 use Rattle.view_engine.specs.declared.halt.Halt.{Halt}
 use Rattle.view_engine.specs.declared.halt.Halt.TheVariants.{Refused, Stopped}
 use Rattle.view_engine.specs.declared.halt.StepFault.{StepFault}
@@ -30,6 +30,7 @@ use Rattle.view_engine.specs.declared.halt.StepFault.TheVariants.{Damaged, NoMem
 use Rattle.view_engine.specs.Cleanup.{done_text, IsCleaned, IsLiveSignature, IsPartlyCleaned}
 use Rattle.view_engine.specs.Disks.{ClearsUnheld, HasSlotDamage, IfStopped, IsOfNone, IsReadReason, MayGoOn}
 use Rattle.view_engine.specs.Halts.{halted_as}
+use Rattle.view_engine.specs.Signatures.{kinds_of}
 use Rattle.view_engine.specs.World.{World}
 
 -- these are the signatures of the live designs of a history
@@ -56,11 +57,11 @@ IsStopped (Stopped fault) = Unit {0}
 
 -- an image of the files of indexes stands for what is left of the pictures by a part of a cleanup
 abbrev pub StandsCleaned : World → (FileName → List ℕ) → Type 0
-StandsCleaned world image = (mid : World) × IsPartlyCleaned world mid × StandFor image mid.pictures
+StandsCleaned world image = (mid : World) × IsPartlyCleaned world mid × StandFor (kinds_of world.history) image mid.pictures
 
 -- the indexes are left at the pictures of a cleaned world
 abbrev pub EndsCleaned : Groups → World → Result (Unit {0}) Halt → (FileName → File) → Type 0
-EndsCleaned groups world (Ok done) files = (after : World) × IsCleaned world after × AreIndexesAt groups files after.pictures
+EndsCleaned groups world (Ok done) files = (after : World) × IsCleaned world after × AreIndexesAt (kinds_of world.history) groups files after.pictures
 EndsCleaned groups world (Err halt) files = Unit {0}
 
 -- over documents at a history each open index of a live signature stays open
@@ -72,12 +73,12 @@ module _ {F : Type 0} (f : Folders F) (docs : Docs) (groups groups' : Groups) (o
   -- why it is stopped: as reading documents is, or by a file of an index that is damaged, which there is in no world
   abbrev pub IsCleanupReason : StepFault → Type 0
   IsCleanupReason (Damaged name at) = IsReadReason f docs old new (Damaged name at)
-      ⊎ (IfTold (f.disk old) (λ d. HasSlotDamage docs d.now name at) × ((world : World) → IfTold (f.disk old) (λ d. AreIndexesAt groups d.now world.pictures → ⊥)))
+      ⊎ (IfTold (f.disk old) (λ d. HasSlotDamage docs d.now name at) × ((world : World) → IfTold (f.disk old) (λ d. AreIndexesAt (kinds_of world.history) groups d.now world.pictures → ⊥)))
   IsCleanupReason fault = IsReadReason f docs old new fault
 
   pub record CleansUp (out out' : List ℕ) (result : Result (Unit {0}) Halt) : Type 0 where
     -- a crash leaves at each moment what a part of a cleanup leaves, and of each file of no index what it might have left before
-    pub stands : (world : World) → IfTold (f.disk old) (λ d. AreAt docs d.now world.history × AreIndexesAt groups d.now world.pictures)
+    pub stands : (world : World) → IfTold (f.disk old) (λ d. AreAt docs d.now world.history × AreIndexesAt (kinds_of world.history) groups d.now world.pictures)
         → Tells (f.disk old) (f.disk new) (Moves IsIndexFile (StandsCleaned world) (EndsCleaned groups' world result))
     -- whatever the folder holds, only files of indexes change, and none for want of memory; where it may go on, the indexes are open
     pub others : Tells (f.disk old) (f.disk new) (Moves IsIndexFile (λ image. Unit {0}) (λ files. Unit {0}))
@@ -87,6 +88,8 @@ module _ {F : Type 0} (f : Folders F) (docs : Docs) (groups groups' : Groups) (o
     pub spared : (history : List Write) → IfTold (f.disk old) (λ d. AreAt docs d.now history) → Tells (f.disk old) (f.disk new) (Moves (IsOfNone history) (λ image. Unit {0}) (λ files. Unit {0}))
     pub empty : OnOk result ((history : List Write) → IfTold (f.disk old) (λ d. AreAt docs d.now history) → IfTold (f.disk new) (λ d. (name : FileName) → IsOfNone history name → (d.now name).seen ≡ []))
     pub held : ClearsUnheld f docs old new (result ≡ Ok tt)
+    -- nothing is opened
+    pub closes : All (Contains (open_of groups)) (open_of groups')
     pub prints : OnOk result (out' ≡ out ++ ended done_text)
     pub silent : OnErr result (out' ≡ out)
     pub stopped : IfErr result IsStopped

@@ -1,5 +1,5 @@
 -- What a request promises of the files and their disk, and why it meets a fault.
-use Rattle.std.specs.Prelude.{◌≡◌, ◌≢◌, ◌⊎◌, ◌≤◌, ℕ, List, [], length, true, false, Some, Result, Ok, Err, IfErr}
+use Rattle.std.specs.Prelude.{◌≡◌, ◌≢◌, ◌⊎◌, ◌≤◌, ℕ, List, [], length, true, false, None, Some, Result, Ok, Err, IfErr}
 use Rattle.json_terms.specs.Json.{Json}
 use Rattle.design_docs.specs.Design.{views_of}
 use Rattle.gate_file.specs.Open.{IsFirstDamage}
@@ -24,13 +24,23 @@ use Rattle.design_docs.specs.History.{Write}
 use Rattle.view_engine.specs.declared.request.Request.TheVariants.{Cleanup, Get, View as ViewRequest}
 use Rattle.view_ports.specs.File.{File}
 use Rattle.view_ports.specs.declared.file_name.Stem.TheVariants.{View}
-use Rattle.view_index.specs.declared.index.Index.{Index}
-use Rattle.view_index.specs.Held.{IsDamagedAt, IsFileOf}
-use Rattle.view_index.specs.Index.{seq_of}
+use Rattle.gate_file.specs.GateFile.{name_of}
+use Rattle.tree_laws.specs.Reaching.{IsUnfit}
+use Rattle.tree_laws.specs.Stores.{Places}
+use Rattle.node_file.specs.Records.{node_at}
+use Rattle.index_trees.specs.Exchanges.{IsFaultyIn}
+use Rattle.index_trees.specs.Trees.{row_items}
+use Rattle.design_docs.specs.declared.design.View.{View as DesignView}
+use Rattle.tree_index.specs.declared.index.Index.{Index}
+use Rattle.tree_index.specs.Calls.{IsOpen as IsIndexOpenOver}
+use Rattle.tree_index.specs.Held.{IsDamagedAt, IsFileOf}
+use Rattle.tree_index.specs.Index.{file_of, last_of as last_commit, seq_of}
+use Rattle.tree_index.specs.RowsRead.{tree_of}
 use Rattle.view_engine.specs.declared.engine.Engine.{Engine}
-use Rattle.view_groups.specs.Cleans.{IsIndexFile}
-use Rattle.view_groups.specs.Groups.{IsGroup}
-use Rattle.view_engine.specs.Updating.{AreShaped}
+use Rattle.tree_groups.specs.declared.groups.Groups.{Groups}
+use Rattle.tree_groups.specs.Cleans.{IsIndexFile}
+use Rattle.tree_groups.specs.Groups.{IsGroup}
+use Rattle.view_engine.specs.Updating.{AreFit}
 use Rattle.view_engine.specs.Worlds.{IsAtWorld, IsOpen as IsEngineOpen}
 use Rattle.view_engine.specs.Halts.{DocumentsStandAround, FitsFor, GoesOn, IsDamage, IsFullFor, IsStill, LeavesFiles, MovesDocuments, WouldWrite, Writes}
 use Rattle.view_engine.specs.World.{World, of_history}
@@ -109,6 +119,22 @@ pub record HasIndexDamage (docs : Docs) (files : FileName → File) (view : View
   pub own : IsFileOf (View (signature_of document)) name
   pub damage : IsDamagedAt (View (signature_of document)) (length (views_of document)) files name at
 
+-- no node stands at this place, or one that fits none of the index's trees there
+abbrev pub IsNoNode : Places → List DesignView → Index → ℕ → Type 0
+IsNoNode there views index at =
+    (there at ≡ None) ⊎ IsFaultyIn there views (last_commit index) at ⊎ ((view : ℕ) × IsUnfit row_items there (tree_of index view) at)
+
+-- the index of the design that a view asks for is open now, and so it is at this place of its file, at which a node was to stand
+pub record HasNodeDamage (docs : Docs) (groups : Groups) (old new : FileName → File) (view : ViewQuery) (name : FileName) (at : ℕ) : Type 0 where
+  pub document : Json
+  pub asked : IsAskedFor docs old view document
+  pub place : ℕ
+  pub index : Index
+  pub group : IsGroup groups place (signature_of document) (length (views_of document)) index
+  pub is_open : IsIndexOpenOver index new
+  pub own : name ≡ name_of (file_of index)
+  pub bad : IsNoNode (node_at (new name).seen) (views_of document) index at
+
 -- at this place a slot of an index is damaged that no live design has, where the documents are at a history: a cleanup opens it to
 -- remove it
 pub record HasSlotDamage (docs : Docs) (files : FileName → File) (name : FileName) (at : ℕ) : Type 0 where
@@ -120,11 +146,12 @@ pub record HasSlotDamage (docs : Docs) (files : FileName → File) (name : FileN
 abbrev pub IsOfNone : List Write → FileName → Type 0
 IsOfNone history name = (sig : List ℕ) × (name.stem ≡ View sig) × (IsLiveSignature history sig → ⊥)
 
--- what a request may meet as damaged of an index
-abbrev pub MeetsIndexDamage : Docs → (FileName → File) → Result Request Refusal → FileName → ℕ → Type 0
-MeetsIndexDamage docs files (Ok (ViewRequest view query)) name at = HasIndexDamage docs files (view_query view query) name at
-MeetsIndexDamage docs files (Ok Cleanup) name at = HasSlotDamage docs files name at
-MeetsIndexDamage docs files other name at = ⊥
+-- what a request may meet as damaged of an index, which is open then with these others, of the files before and after
+abbrev pub MeetsIndexDamage : Docs → Groups → (FileName → File) → (FileName → File) → Result Request Refusal → FileName → ℕ → Type 0
+MeetsIndexDamage docs groups old new (Ok (ViewRequest view query)) name at =
+    HasIndexDamage docs old (view_query view query) name at ⊎ HasNodeDamage docs groups old new (view_query view query) name at
+MeetsIndexDamage docs groups old new (Ok Cleanup) name at = HasSlotDamage docs old name at
+MeetsIndexDamage docs groups old new other name at = ⊥
 
 -- a view that brings the index of its design up to date
 abbrev pub IsUpdate : Result Request Refusal → Type 0
@@ -136,15 +163,17 @@ abbrev pub IsOfIndex : Result Request Refusal → FileName → Type 0
 IsOfIndex request name = IsUpdate request × IsIndexFile name
 
 -- an engine that is open over the files meets it at this place
-pub record MeetsIndexDamageIn (files : FileName → File) (request : Result Request Refusal) (name : FileName) (at : ℕ) : Type 0 where
+pub record MeetsIndexDamageIn (old new : FileName → File) (request : Result Request Refusal) (name : FileName) (at : ℕ) : Type 0 where
   pub docs : Docs
-  pub is_open : IsOpen docs files
-  pub damage : MeetsIndexDamage docs files request name at
+  pub groups : Groups
+  pub is_open : IsOpen docs old
+  pub damage : MeetsIndexDamage docs groups old new request name at
 
--- the shape that a view asks of the pictures of a world, which is that of their designs; a cleanup asks for none
-abbrev pub IsShapedFor : Result Request Refusal → World → Type 0
-IsShapedFor (Ok Cleanup) world = Unit {0}
-IsShapedFor other world = AreShaped world
+-- what is supposed of the designs of a world where a view is asked for: those that differ have different signatures. Of other requests
+-- nothing is
+abbrev pub IsFitFor : Result Request Refusal → World → Type 0
+IsFitFor (Ok (ViewRequest view query)) world = AreFit world.history
+IsFitFor other world = Unit {0}
 
 -- A view changes no file, or only those of the index of the design that it asks for; none where this is open and nothing was written
 -- since, or is read as it stands; and none where it is refused before any server is asked.
@@ -234,17 +263,18 @@ module _ {F : Type 0} (f : Folders F) where
   IsReason docs old new request (Damaged name at) = ReadsDocuments request × IsReadReason docs old new (Damaged name at)
   IsReason docs old new request NoMemory = Unit {0}
 
-  -- the same of a view or a cleanup, which meet it in a file of an index: it is full, or damaged, and this in no world whose pictures
-  -- have the shape that is asked
-  abbrev pub IsIndexReason : Engine → F → Result Request Refusal → StepFault → Type 0
-  IsIndexReason engine old request (Full name length) = IsOfIndex request name
-  IsIndexReason engine old request (Damaged name at) =
-      IsOnIndexes request × IfTold (f.disk old) (λ d. MeetsIndexDamage engine.docs d.now request name at) × ((world : World) → IfTold (f.disk old) (λ d. IsAtWorld engine d.now world → IsShapedFor request world → ⊥))
-  IsIndexReason engine old request other = ⊥
+  -- the same of a view or a cleanup, which meet it in a file of an index: it is full, or damaged, and this in no world that is fit
+  abbrev pub IsIndexReason : Engine → Engine → F → F → Result Request Refusal → StepFault → Type 0
+  IsIndexReason engine engine' old new request (Full name length) = IsOfIndex request name
+  IsIndexReason engine engine' old new request (Damaged name at) =
+      IsOnIndexes request
+      × Tells (f.disk old) (f.disk new) (λ a b. MeetsIndexDamage engine.docs engine'.groups a.now b.now request name at)
+      × ((world : World) → IfTold (f.disk old) (λ d. IsAtWorld engine d.now world → IsFitFor request world → ⊥))
+  IsIndexReason engine engine' old new request other = ⊥
 
   -- of the documents or of an index
-  abbrev pub IsReasonOf : Engine → F → F → Result Request Refusal → StepFault → Type 0
-  IsReasonOf engine old new request fault = IsReason engine.docs old new request fault ⊎ IsIndexReason engine old request fault
+  abbrev pub IsReasonOf : Engine → Engine → F → F → Result Request Refusal → StepFault → Type 0
+  IsReasonOf engine engine' old new request fault = IsReason engine.docs old new request fault ⊎ IsIndexReason engine engine' old new request fault
 
   -- a request that isn't ended by a fault of the disk counts none
   abbrev pub Spares : {T : Type 0} → F → F → Result T Halt → Type 0

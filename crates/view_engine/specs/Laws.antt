@@ -15,7 +15,7 @@ use Rattle.view_engine.specs.Disks.{IsView}
 use Rattle.view_engine.specs.InMemory.{IsAcceptedBy, IsRefusedBy}
 use Rattle.view_engine.specs.Moments.{Moment}
 use Rattle.view_engine.specs.Steps.{Answers, IsRefusedAs, Makes, Performs}
-use Rattle.view_engine.specs.Updating.{AreFit, AreShaped, IsSound}
+use Rattle.view_engine.specs.Updating.{IsSound}
 use Rattle.view_engine.specs.World.{World}
 use Rattle.view_engine.specs.Worlds.{IsBetween}
 
@@ -64,7 +64,3 @@ module _ (functions : List ℕ → Functions) (honest : List ℕ → Type 0) (la
   -- and so is a world between a sound one and another
   abbrev pub WorldsBetweenAreSound : Type 0
   WorldsBetweenAreSound = (before after mid : World) → IsBetween before after mid → IsSound functions honest languages before → IsSound functions honest languages mid
-
-  -- in a sound world each picture has the rows of as many views as its design
-  abbrev pub SoundWorldsAreShaped : Type 0
-  SoundWorldsAreShaped = (world : World) → IsSound functions honest languages world → AreFit world.history → AreShaped world

@@ -1,3 +1,4 @@
+pub mod Signatures
 pub mod World
 pub mod Updating
 pub mod Kinds

@@ -14,8 +14,6 @@ use Rattle.view_engine.specs.declared.request.Request.{Request}
 use Rattle.view_engine.specs.declared.request.Request.TheVariants.{Put, Delete, Get, View, Info, Cleanup}
 use Rattle.view_engine.specs.declared.refusal.Refusal.{Refusal}
 use Rattle.view_engine.specs.declared.refusal.Refusal.TheVariants.{NotBuiltYet, NoMemory}
-use Rattle.view_model.specs.Picture.{Picture}
-use Rattle.view_model.specs.Update.{IsUpdated}
 use Rattle.view_engine.specs.World.{World, written}
 use Rattle.view_engine.specs.Updating.{picture_in, IsBrought}
 use Rattle.view_engine.specs.Moments.{Called, Moment, with_world}
@@ -25,7 +23,7 @@ use Rattle.view_engine.specs.Delete.{DoesDelete, IsDeleteRefused, delete_write}
 use Rattle.view_engine.specs.Get.{DoesGet, DoesInfo, get_refusal}
 use Rattle.view_engine.specs.Cleanup.{DoesCleanup, IsPartlyCleaned}
 use Rattle.view_engine.specs.Reducing.{Reduced, ReducedSomehow}
-use Rattle.view_engine.specs.View.{design_id, own_reduces, sources_tried, view_refusal, DoesView, IsBrokenOff, IsGivenUp, IsJobOf, IsServed}
+use Rattle.view_engine.specs.View.{design_id, own_reduces, due_reduces, view_refusal, DoesView, IsBrokenOff, IsGivenUp, IsJobOf, IsServed}
 use Rattle.view_engine.specs.ViewQuery.{ViewQuery, parameters_in, view_query}
 use Rattle.query_args.specs.Query.{is_updated}
 
@@ -59,13 +57,11 @@ module _ (functions : List ℕ → Functions) (honest : List ℕ → Type 0) (la
     pub called : Called job before after (λ added. IsServed job before after added ⊎ StopsMapping job before after added)
     pub same : after.world ≡ before.world
 
-  -- all were mapped, and the sources of reduces tried over the picture that was made; the world is as it was
-  pub record EndsTrying (design : Json) (job : Job) (before after : Moment) : Type 0 where
+  -- all were mapped, and values of what was to be written asked for; the world is as it was
+  pub record EndsWriting (design : Json) (job : Job) (before after : Moment) : Type 0 where
     pub mapped : Moment
     pub served : Called job before mapped (IsServed job before mapped)
-    pub next : Picture
-    pub updated : IsUpdated (functions job.path) (honest job.path) (views_of design) before.world.history (picture_in before.world design) next
-    pub tried : ReducedSomehow job.path (sources_tried design before.world next) mapped after
+    pub asked : ReducedSomehow job.path (due_reduces design before.world) mapped after
     pub same : after.world ≡ before.world
 
   -- all were had, the world has that picture, wholly, and values of the view were asked for
@@ -73,7 +69,7 @@ module _ (functions : List ℕ → Functions) (honest : List ℕ → Type 0) (la
     pub mapped : Moment
     pub served : Called job before mapped (IsServed job before mapped)
     pub between : Moment
-    pub tried : Reduced job.path (sources_tried design before.world (picture_in after.world design)) mapped between
+    pub had : Reduced job.path (due_reduces design before.world) mapped between
     pub brought : IsBrought functions honest languages design job.path before.world after.world
     pub reduced : ReducedSomehow job.path (own_reduces name design after.world) between after
 
@@ -83,7 +79,7 @@ module _ (functions : List ℕ → Functions) (honest : List ℕ → Type 0) (la
     pub job : Job
     pub source : List ℕ
     pub is_job : IsJobOf languages before.world name design job source
-    pub ends : EndsMapping job before after ⊎ EndsTrying design job before after ⊎ EndsShowing name design job before after
+    pub ends : EndsMapping job before after ⊎ EndsWriting design job before after ⊎ EndsShowing name design job before after
 
   -- values of a view were asked for, with lawful calls, from its index as it stands
   pub record AskedForValues (before : Moment) (name : ViewQuery) (after : Moment) : Type 0 where

@@ -1,5 +1,5 @@
 -- What bringing the index of a design up to date makes of a world, and which pictures of a world must be true.
-use Rattle.std.specs.Prelude.{◌≡◌, ℕ, List, length, false, Some}
+use Rattle.std.specs.Prelude.{◌≡◌, ◌≢◌, ℕ, List, length, false, Some}
 use Rattle.json_terms.specs.Json.{Json}
 use Rattle.design_docs.specs.Design.{design_term, language_of, views_of}
 use Rattle.view_ports.specs.Functions.{Functions}
@@ -20,10 +20,14 @@ picture_in world design = picture_or_none (views_of design) (world.pictures (sig
 pub record AreFit (history : List Write) : Type 0 where
   pub apart : (one other : Json) → IsDesignIn history one → IsDesignIn history other → signature_of one ≡ signature_of other → design_term one ≡ design_term other
 
--- the picture of each design has the rows of as many views
-abbrev pub AreShaped : World → Type 0
-AreShaped world = (sig : List ℕ) (picture : Picture) (document : Json) → world.pictures sig ≡ Some picture → IsDesignIn world.history document → signature_of document ≡ sig
-    → length picture.rows ≡ length (views_of document)
+-- two designs of a history have one signature, and yet they differ
+pub record HasClash (history : List Write) : Type 0 where
+  pub one : Json
+  pub other : Json
+  pub first : IsDesignIn history one
+  pub second : IsDesignIn history other
+  pub signed : signature_of one ≡ signature_of other
+  pub differ : design_term one ≢ design_term other
 
 module _ (functions : List ℕ → Functions) (honest : List ℕ → Type 0) (languages : List (List ℕ × List ℕ)) where
   -- Where the designs are fit, each picture of the world is that of a design which was stored by its sequence, none is newer than the

@@ -18,6 +18,7 @@ use Rattle.child_pool.specs.Mapping.{IsPart}
 use Rattle.child_pool.specs.Outcomes.{IsCaused}
 use Rattle.child_pool.specs.Pools.{NoneIsLeft, kept_of}
 use Rattle.child_pool.specs.Prompts.{update_prompts}
+use Rattle.child_pool.specs.ReduceTalk.{reduce_sources}
 use Rattle.child_pool.specs.Talk.{AreCutShortIn, AreTurns, talk_of}
 use Rattle.child_pool.specs.Tries.{AllAnswered, Prompt, StopsAt}
 use Rattle.view_engine.specs.declared.refusal.Refusal.{Refusal}
@@ -34,10 +35,7 @@ use Rattle.json_terms.specs.Seen.{json}
 use Rattle.json_terms.specs.declared.term.Row.{Row}
 use Rattle.design_docs.specs.declared.design.View.{View}
 use Rattle.view_model.specs.Answer.{IsAnswer}
-use Rattle.view_model.specs.Picture.{Picture}
-use Rattle.view_model.specs.Update.{IsUpdated}
 use Rattle.view_model.specs.Values.{IsValueText}
-use Rattle.view_updater.specs.Checking.{tried_sources}
 use Rattle.query_args.specs.Faults.{query_fault}
 use Rattle.query_args.specs.Query.{is_updated}
 use Rattle.view_engine.specs.ViewQuery.{ViewQuery, asked_sources, parameters_of, query_for, reduce_named, target_for}
@@ -103,9 +101,9 @@ or_no_rows (Some rows) = rows
 abbrev pub shown_rows : ViewQuery → Json → World → List Row
 shown_rows name design world = or_no_rows (rows_in (views_of design) (picture_in world design).rows name.view)
 
--- the sources that an update to a next picture tries: those of views that have rows in it; none where nothing was written since
-abbrev pub sources_tried : Json → World → Picture → List (List ℕ)
-sources_tried design world next = if nat_eq (picture_in world design).seq (length world.history) then [] else tried_sources (views_of design) next.rows
+-- the sources by which an update may ask for the values of what it writes: those of the design's reduces; none where nothing was written since
+abbrev pub due_reduces : Json → World → List (List ℕ)
+due_reduces design world = if nat_eq (picture_in world design).seq (length world.history) then [] else reduce_sources (views_of design)
 
 -- and those that the answer to a query asks for values by, in a world with the design's picture
 abbrev pub own_reduces : ViewQuery → Json → World → List (List ℕ)
@@ -210,17 +208,15 @@ module _ (functions : List ℕ → Functions) (honest : List ℕ → Type 0) whe
       (Reduced path (own_reduces name design after.world) before after × PrintsRows languages name design path source world after.world reply)
       ⊎ CalledReducing path (own_reduces name design after.world) before after (IsRefusedReducing name path (own_reduces name design after.world) (IsNever languages path world) before after reply)
 
-  -- the sources of reduces were tried over a picture that was made, and the update is refused: the world is as it was
-  pub record IsRefusedTrying (languages : List (List ℕ × List ℕ)) (name : ViewQuery) (design : Json) (path : List ℕ) (world : World) (before after : Moment) (reply : List ℕ) : Type 0 where
+  -- values of what was to be written were asked for, and the update is refused: the world is as it was
+  pub record IsRefusedWriting (languages : List (List ℕ × List ℕ)) (name : ViewQuery) (design : Json) (path : List ℕ) (world : World) (before after : Moment) (reply : List ℕ) : Type 0 where
     pub same : after.world ≡ world
-    pub next : Picture
-    pub updated : IsUpdated (functions path) (honest path) (views_of design) world.history (picture_in world design) next
-    pub called : CalledReducing path (sources_tried design world next) before after (IsRefusedReducing name path (sources_tried design world next) (IsRightly languages design path world) before after reply)
+    pub called : CalledReducing path (due_reduces design world) before after (IsRefusedReducing name path (due_reduces design world) (IsRightly languages design path world) before after reply)
 
-  -- they were tried, and the index of the design is up to date; then the view is answered
+  -- they were had, and the index of the design is up to date; then the view is answered
   pub record IsBroughtUp (languages : List (List ℕ × List ℕ)) (name : ViewQuery) (design : Json) (path source : List ℕ) (world : World) (before after : Moment) (reply : List ℕ) : Type 0 where
     pub between : Moment
-    pub tried : Reduced path (sources_tried design world (picture_in after.world design)) before between
+    pub had : Reduced path (due_reduces design world) before between
     pub brought : IsBrought functions honest languages design path world after.world
     pub answered : IsAnswered languages name design path source world between after reply
 
@@ -228,7 +224,7 @@ module _ (functions : List ℕ → Functions) (honest : List ℕ → Type 0) whe
   pub record IsMappedThen (languages : List (List ℕ × List ℕ)) (name : ViewQuery) (design : Json) (job : Job) (source : List ℕ) (before after : Moment) (reply : List ℕ) : Type 0 where
     pub mapped : Moment
     pub served : Called job before mapped (IsServed job before mapped)
-    pub ends : IsRefusedTrying languages name design job.path before.world mapped after reply ⊎ IsBroughtUp languages name design job.path source before.world mapped after reply
+    pub ends : IsRefusedWriting languages name design job.path before.world mapped after reply ⊎ IsBroughtUp languages name design job.path source before.world mapped after reply
 
   -- a view that isn't refused before any server is asked, and whose index is brought up to date
   pub record DoesUpdatedView (languages : List (List ℕ × List ℕ)) (before : Moment) (name : ViewQuery) (reply : List ℕ) (after : Moment) : Type 0 where

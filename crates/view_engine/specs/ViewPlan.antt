@@ -19,10 +19,10 @@ use Rattle.view_engine.specs.declared.halt.StepFault.TheVariants.{NoMemory}
 use Rattle.view_engine.specs.declared.refusal.Refusal.TheVariants as refusal
 use Rattle.doc_file.specs.declared.fault.DocFault.TheVariants as doc
 use Rattle.design_docs.specs.History.{Write, live_document}
-use Rattle.view_index.specs.declared.fault.IndexFault.TheVariants as index
-use Rattle.view_updater.specs.declared.fault.UpdateFault.{UpdateFault}
-use Rattle.view_updater.specs.declared.fault.UpdateFault.TheVariants as update
-use Rattle.view_groups.specs.Brings.{IsGroupFault}
+use Rattle.tree_index.specs.declared.fault.IndexFault.TheVariants as index
+use Rattle.tree_updater.specs.declared.fault.UpdateFault.{UpdateFault}
+use Rattle.tree_updater.specs.declared.fault.UpdateFault.TheVariants as update
+use Rattle.tree_updater.specs.Follows.{IsFileFault}
 use Rattle.view_engine.specs.Halts.{halted_as}
 use Rattle.view_engine.specs.World.{of_history}
 use Rattle.view_engine.specs.View.{design_id, rows_in, view_refusal}
@@ -81,4 +81,4 @@ met_by id update.NoMemory = Stopped NoMemory
 
 -- how the update of a view may end, whose language is known
 abbrev pub IsUpdateFault : UpdateFault → Type 0
-IsUpdateFault f = IsGroupFault f × (f ≢ update.Pool fault.UnknownLanguage)
+IsUpdateFault f = IsFileFault f × (f ≢ update.Pool fault.UnknownLanguage)

@@ -6,16 +6,16 @@ use Rattle.view_ports.specs.declared.servers.Servers.{Ghosts as Servers}
 use Rattle.design_docs.specs.declared.design.Design.{Design}
 use Rattle.child_pool.specs.declared.pool.Pool.{Pool}
 use Rattle.query_args.specs.declared.query.Query.{Query}
-use Rattle.view_index.specs.declared.fault.IndexFault.{IndexFault}
-use Rattle.view_index.specs.declared.index.Index.{Index}
-use Rattle.view_index.specs.Index.{picture_of}
-use Rattle.view_updater.specs.declared.fault.UpdateFault.{UpdateFault}
-use Rattle.view_updater.specs.Faults.{by_index}
-use Rattle.view_groups.specs.Brings.{Brings}
-use Rattle.view_groups.specs.Groups.{IsGroup}
-use Rattle.view_groups.specs.Openings.{OpensDesign}
-use Rattle.view_groups.specs.Reached.{sig_of, views_in}
-use Rattle.view_groups.specs.Sides.{side}
+use Rattle.view_engine.specs.declared.engine.Engine.{Engine}
+use Rattle.tree_index.specs.declared.fault.IndexFault.{IndexFault}
+use Rattle.tree_index.specs.declared.index.Index.{Index}
+use Rattle.tree_updater.specs.declared.fault.UpdateFault.{UpdateFault}
+use Rattle.tree_updater.specs.Faults.{by_index}
+use Rattle.tree_groups.specs.Brings.{Brings}
+use Rattle.tree_groups.specs.Groups.{IsGroup}
+use Rattle.tree_groups.specs.Openings.{OpensDesign}
+use Rattle.tree_groups.specs.Reached.{sig_of, views_in}
+use Rattle.tree_groups.specs.Sides.{side}
 use Rattle.view_engine.specs.declared.halt.Halt.{Halt}
 use Rattle.view_engine.specs.declared.halt.Halt.TheVariants.{Refused}
 use Rattle.view_engine.specs.declared.halt.StepFault.{StepFault}
@@ -23,7 +23,7 @@ use Rattle.view_engine.specs.declared.refusal.Refusal.{Refusal}
 use Rattle.view_engine.specs.declared.refusal.Refusal.TheVariants.{CompilationError, ServerFault, ServerReply}
 use Rattle.view_engine.specs.declared.request.Request.{Request}
 use Rattle.view_engine.specs.declared.request.Request.TheVariants.{View}
-use Rattle.view_engine.specs.Answering.{ShowsView}
+use Rattle.view_engine.specs.Answering.{lent, Lent, ShowsView}
 use Rattle.view_engine.specs.Calls.{IsToldAs, IsUnasked, Scene}
 use Rattle.view_engine.specs.Disks.{IfStopped, IsReadReason}
 use Rattle.view_engine.specs.Planning.{IsReadOf}
@@ -49,6 +49,11 @@ abbrev pub IsEndTold : Result (Unit {0}) Halt → List ℕ → List ℕ → Resu
 IsEndTold (Ok done) printed out' result = (result ≡ Ok tt) × (out' ≡ printed)
 IsEndTold (Err halt) printed out' result = IsToldAs halt printed out' result
 
+-- the index of a design is brought up to date by an engine, in some steps
+pub record BringsSomehow {F C : Type 0} (f : Folders F) (s : Servers C) (old new : Engine) (design : Design) (folder folder' : F) (servers servers' : C) (result : Result ℕ UpdateFault) : Type 0 where
+  pub steps : ℕ
+  pub brings : Brings f s old.docs design (side folder servers old.pool old.groups old.cache 0) (side folder' servers' new.pool new.groups new.cache steps) result
+
 module _ {F C : Type 0} (f : Folders F) (s : Servers C) (old new : Scene F C) (name : ViewQuery) (out out' : List ℕ) where
   -- what the view is about: the design of its document, its place there, and its query
   pub record IsAbout (design : Design) (place : ℕ) (query : Query) : Type 0 where
@@ -58,26 +63,28 @@ module _ {F C : Type 0} (f : Folders F) (s : Servers C) (old new : Scene F C) (n
     pub is_query : query ≡ query_for design.views name
 
   -- where its index is had, in a place, the reply is printed from it; else the view ends as that did
-  abbrev pub EndsAfter : Design → ℕ → Query → C → Pool → Result ℕ UpdateFault → Result (Unit {0}) Halt → Type 0
-  EndsAfter design place query servers pool (Ok slot) result =
+  abbrev pub EndsAfter : Design → ℕ → Query → Lent F C → Result ℕ UpdateFault → Result (Unit {0}) Halt → Type 0
+  EndsAfter design place query between (Ok slot) result =
       (index : Index) × IsGroup new.engine.groups slot (sig_of design) (views_in design) index
-      × ShowsView s servers new.servers pool new.engine.pool design place query (picture_of index) (design_id name.design) out out' result
-  EndsAfter design place query servers pool (Err fault) result =
-      (result ≡ Err (met_by (design_id name.design) fault)) × (new.servers ≡ servers) × (new.engine.pool ≡ pool) × (out' ≡ out)
+      × ShowsView f s between (lent new.folder new.servers new.engine.pool new.engine.cache) design place query index (design_id name.design) out out' result
+  EndsAfter design place query between (Err fault) result =
+      (result ≡ Err (met_by (design_id name.design) fault)) × (lent new.folder new.servers new.engine.pool new.engine.cache ≡ between) × (out' ≡ out)
 
   -- the index is brought up to date, behind the reading of the design document, and then shown
   pub record IsUpdated (result : Result (Unit {0}) Halt) (read : F) (design : Design) (place : ℕ) (query : Query) : Type 0 where
-    pub servers : C
-    pub pool : Pool
+    pub between : Lent F C
+    pub steps : ℕ
     pub brought : Result ℕ UpdateFault
-    pub brings : Brings f s old.engine.docs design (side read old.servers old.engine.pool old.engine.groups) (side new.folder servers pool new.engine.groups) brought
-    pub ends : EndsAfter design place query servers pool brought result
+    pub brings : Brings f s old.engine.docs design (side read old.servers old.engine.pool old.engine.groups old.engine.cache 0)
+        (side between.folder between.servers between.pool new.engine.groups between.cache steps) brought
+    pub ends : EndsAfter design place query between brought result
 
   -- or it is opened as it stands, and then shown
   pub record IsKept (result : Result (Unit {0}) Halt) (read : F) (design : Design) (place : ℕ) (query : Query) : Type 0 where
+    pub folder : F
     pub opened : Result ℕ IndexFault
-    pub opens : OpensDesign f old.engine.docs design old.engine.groups new.engine.groups read new.folder opened
-    pub ends : EndsAfter design place query old.servers old.engine.pool (by_opening opened) result
+    pub opens : OpensDesign f old.engine.docs design old.engine.groups new.engine.groups read folder opened
+    pub ends : EndsAfter design place query (lent folder old.servers old.engine.pool old.engine.cache) (by_opening opened) result
 
   -- by whether the query brings it up to date
   pub record IsViewed (result : Result (Unit {0}) Halt) : Type 0 where

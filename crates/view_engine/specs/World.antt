@@ -1,7 +1,7 @@
 -- The world that requests act on.
 use Rattle.std.specs.Prelude.{◌≡◌, ◌≤◌, ℕ, List, ◌∷◌, length, Some, None}
 use Rattle.design_docs.specs.History.{Write}
-use Rattle.view_groups.specs.Pictures.{Pictures}
+use Rattle.tree_groups.specs.Pictures.{Pictures}
 use Rattle.view_model.specs.Picture.{Picture}
 
 pub record World : Type 0 where

@@ -9,13 +9,14 @@ use Rattle.doc_file.specs.declared.docs.Docs.{Docs}
 use Rattle.doc_file.specs.Docs.{seq_of, HoldsHistory, IsAt as AreAt, IsDamagedAt, IsOpen as AreOpen}
 use Rattle.doc_file.specs.Held.{Stands}
 use Rattle.design_docs.specs.History.{Write}
-use Rattle.view_groups.specs.Groups.{AreAt as AreIndexesAt, AreOpen as AreIndexesOpen}
-use Rattle.view_groups.specs.Pictures.{AreHeld, StandFor}
+use Rattle.tree_groups.specs.Groups.{AreAt as AreIndexesAt, AreOpen as AreIndexesOpen}
+use Rattle.tree_groups.specs.Pictures.{AreHeld, StandFor}
 use Rattle.view_engine.specs.declared.engine.Engine.{Engine}
 use Rattle.view_engine.specs.declared.refusal.Refusal.{Refusal}
 use Rattle.view_engine.specs.declared.request.Request.{Request}
 use Rattle.view_engine.specs.Halts.{FitsFor, IsDamage, IsFullFor}
 use Rattle.view_engine.specs.Moments.{Moment}
+use Rattle.view_engine.specs.Signatures.{kinds_of, AreOpenOwned, AreOwned}
 use Rattle.view_engine.specs.Steps.{IsWrite, Makes}
 use Rattle.view_engine.specs.World.{World, NoneIsNewer}
 
@@ -31,17 +32,20 @@ at_start world width faults = record { world = world; width = width; started = N
 
 -- ---- files, and what a crash leaves of them
 
--- nothing is pending in the files, and they hold this world: its history, and the picture of each index, of which none is newer
+-- the files hold this world: its history, of which nothing is pending, and the picture of each index, which is that of a design document and
+-- no newer
 pub record Holds (files : FileName → File) (world : World) : Type 0 where
   pub documents : HoldsHistory files world.history
-  pub indexes : AreHeld files world.pictures
+  pub indexes : AreHeld (kinds_of world.history) files world.pictures
   pub within : NoneIsNewer world
+  pub owned : AreOwned world.history world.pictures
 
 -- an image of the disk, as a crash leaves it, stands for this world
 pub record StandsFor (image : FileName → List ℕ) (world : World) : Type 0 where
   pub documents : Stands image world.history
-  pub indexes : StandFor image world.pictures
+  pub indexes : StandFor (kinds_of world.history) image world.pictures
   pub within : NoneIsNewer world
+  pub owned : AreOwned world.history world.pictures
 
 -- a world between two: its history is that of the first, and so are its pictures, but for some that are gone in the second too
 pub record IsBetween (before after mid : World) : Type 0 where
@@ -116,11 +120,13 @@ pub record IsOpen (engine : Engine) (files : FileName → File) : Type 0 where
   pub documents : AreOpen engine.docs files
   pub indexes : AreIndexesOpen engine.groups files
 
--- an engine and the folder are at this world
+-- an engine and the folder are at this world, and each index that is open is that of a design document
 pub record IsAtWorld (engine : Engine) (files : FileName → File) (world : World) : Type 0 where
   pub documents : AreAt engine.docs files world.history
-  pub indexes : AreIndexesAt engine.groups files world.pictures
+  pub indexes : AreIndexesAt (kinds_of world.history) engine.groups files world.pictures
   pub within : NoneIsNewer world
+  pub owned : AreOwned world.history world.pictures
+  pub opened : AreOpenOwned world.history engine.groups
 
 -- an engine keeps no child
 abbrev pub IsChildless : Engine → Type 0

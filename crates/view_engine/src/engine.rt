@@ -27,8 +27,9 @@ use crate::writes::{delete, put};
 use child_pool::Pool;
 use doc_file::{DocFault, Docs};
 use json_terms::NoMemory;
+use node_file::NodeCache;
 use std::alloc::Global;
-use view_groups::Groups;
+use tree_groups::Groups;
 use view_model::Reply;
 use view_ports::{Folder, Servers};
 
@@ -38,7 +39,11 @@ pub struct Engine {
     docs: Docs,
     pool: Pool,
     groups: Groups,
+    cache: NodeCache,
 }
+
+/// How many nodes of indexes the cache has room for.
+const NODES_KEPT: u32 = 256;
 
 impl Engine {
     /// Opens the documents of a folder, with query servers of which `width` map documents. There are no children yet. The words
@@ -67,14 +72,12 @@ impl Engine {
         ensures cause { FailsByDisk F.Folder folder.old folder.new result }
     {
         match Docs::open(alloc, folder) {
-            Ok(docs) => match Pool::new(alloc, width, words) {
-                Ok(pool) => Ok(Engine {
-                    docs,
-                    pool,
-                    groups: Groups::new(alloc),
-                }),
-                Err(NoMemory) => Err(StepFault::NoMemory),
-            },
+            Ok(docs) => Ok(Engine {
+                docs,
+                pool: Pool::new(alloc, width, words)?,
+                groups: Groups::new(alloc),
+                cache: NodeCache::new(alloc, NODES_KEPT)?,
+            }),
             Err(fault) => Err(open_fault(fault)),
         }
     }

@@ -3,7 +3,7 @@
 ghost use Rattle.std.specs.Prelude.{List, ℕ};
 ghost use Rattle.design_docs.specs.History.{Write};
 ghost use Rattle.view_engine.specs.Fresh.{RepliesAreFresh, StepsAreFresh};
-ghost use Rattle.view_engine.specs.Laws.{HasLastWrites, HasLiveDocuments, IsAcceptedInTurn, IsInOrderOfId, IsNotRefusedAndAccepted, IsNotRefusedAndDone, IsRefusedOnce, IsRefusedOnceBy, MadeWorldsAreSound, SoundWorldsAreShaped, StepsKeepSound, WorldsBetweenAreSound};
+ghost use Rattle.view_engine.specs.Laws.{HasLastWrites, HasLiveDocuments, IsAcceptedInTurn, IsInOrderOfId, IsNotRefusedAndAccepted, IsNotRefusedAndDone, IsRefusedOnce, IsRefusedOnceBy, MadeWorldsAreSound, StepsKeepSound, WorldsBetweenAreSound};
 
 use view_ports::Servers;
 
@@ -30,8 +30,8 @@ pub fn writes_are_accepted_in_turn()
     ensures { IsAcceptedInTurn }
 {}
 
-/// A line that is answered leads from a sound world to a sound one, and so does what a request makes; a world between a sound one and
-/// another is sound; and in a sound world each picture has as many views as its design.
+/// A line that is answered leads from a sound world to a sound one, and so does what a request makes, and a world between a sound one
+/// and another is sound.
 pub fn worlds_stay_sound<C: Servers>()
     ensures steps { (languages : List (List ℕ × List ℕ))
         → StepsKeepSound C.functions C.honest languages }
@@ -39,8 +39,6 @@ pub fn worlds_stay_sound<C: Servers>()
         → MadeWorldsAreSound C.functions C.honest languages }
     ensures between { (languages : List (List ℕ × List ℕ))
         → WorldsBetweenAreSound C.functions C.honest languages }
-    ensures shaped { (languages : List (List ℕ × List ℕ))
-        → SoundWorldsAreShaped C.functions C.honest languages }
 {}
 
 /// The reply to a view is what mapping all documents afresh gives, where the path of its language is honest and the pictures stand; or it

@@ -1,18 +1,22 @@
 //! The request `view`.
 
-ghost use Rattle.std.specs.Prelude.{◌≡◌, ◌≢◌, ◌<◌, true, ◌≤◌, bytes_eq, Err, IfErr, IfOk, Ok, IfSome, None, option_map, map, length};
+ghost use Rattle.std.specs.Prelude.{◌≡◌, ◌≢◌, ◌<◌, true, ◌≤◌, bytes_eq, Err, IfErr, IfOk, IsSorted, Ok, IfSome, None, option_map, map, length};
 ghost use Rattle.std.specs.Map.{lookup};
 ghost use Rattle.design_docs.specs.Laws.{entry_of as named};
 ghost use Rattle.json_terms.specs.Seen.{json};
 ghost use Rattle.child_pool.specs.Languages.{path_in};
 ghost use Rattle.child_pool.specs.Pools.{languages_of};
 ghost use Rattle.child_pool.specs.ReduceTalk.{reduce_in};
-ghost use Rattle.view_index.specs.Index.{picture_of, views_of};
-ghost use Rattle.view_engine.specs.Answering.{Shows, ShowsView, fault_of_answer};
+ghost use Rattle.raw_collation.specs.Collation.{rows_cmp};
+ghost use Rattle.tree_groups.specs.Groups.{AreOpen as AreIndexesOpen};
+ghost use Rattle.tree_groups.specs.Reached.{views_in};
+ghost use Rattle.tree_index.specs.Index.{views_of};
+ghost use Rattle.view_engine.specs.Answering.{lent, Shows, ShowsView, fault_of_answer};
 ghost use Rattle.view_engine.specs.Calls.{scene, Performed};
 ghost use Rattle.view_engine.specs.Disks.{LiesOpen, Reads, Spares};
 ghost use Rattle.view_engine.specs.View as spec;
-ghost use Rattle.view_engine.specs.Viewed.{IsTurnedAway, Views};
+ghost use Rattle.view_engine.specs.Viewed.{BringsSomehow, IsTurnedAway, Views};
+ghost use Rattle.view_ports.specs.Disk.{IfTold};
 ghost use Rattle.view_engine.specs.Planning.{IsPlanned, PlansView, RefusesAsKept, RefusesByDesign, RefusesView, StopsLive};
 ghost use Rattle.view_engine.specs.ViewQuery as query;
 ghost use Rattle.view_engine.specs.ViewQuery.{parameters_in, view_query};
@@ -26,14 +30,18 @@ use crate::request::{Request, ViewName};
 use child_pool::{Pool, PoolFault, ReduceSlot, Summers};
 use design_docs::{DESIGN_PREFIX, Design, Reduce, View};
 use doc_file::DocFault;
-use json_terms::{Chars, Members, NoMemory, Term};
+use json_terms::{Chars, Members, NoMemory, Row, Term};
+use node_file::NodeCache;
 use query_args::{Query, QueryFault, Target, read_query};
 use range_query::{AnswerFault, answer};
 use std::alloc::Global;
-use view_index::{Index, IndexFault};
+use std::marker::Brand;
+use std::sync::ledger::{Blank, Ledger};
+use tree_index::{Index, IndexFault};
+use tree_laws::Steps;
+use tree_updater::UpdateFault;
 use view_model::Reply;
 use view_ports::{Folder, Servers};
-use view_updater::UpdateFault;
 
 /// What a view request is about: the id of the design document, its design, the place of the view, and the query.
 #[derive(Drop)]
@@ -75,22 +83,66 @@ impl Engine {
                 Err(fault) => return Err(halt_of(UpdateFault::from(fault), plan.id)),
             };
             let kept = self.groups.index(slot);
-            return show(alloc, servers, &mut self.pool, plan, kept, out);
+            return show::<F, C, Brand>(
+                alloc,
+                folder,
+                servers,
+                &mut self.pool,
+                &mut self.cache,
+                plan,
+                kept,
+                out,
+                Blank::new(1),
+            );
         }
-        match self.groups.update(
-            alloc,
-            folder,
-            servers,
-            &mut self.pool,
-            &self.docs,
-            &plan.design,
-        ) {
+        match self.bring::<F, C, Brand>(alloc, folder, servers, &plan.design, Blank::new(1)) {
             Ok(slot) => {
                 let index = self.groups.index(slot);
-                show(alloc, servers, &mut self.pool, plan, index, out)
+                show::<F, C, Brand>(
+                    alloc,
+                    folder,
+                    servers,
+                    &mut self.pool,
+                    &mut self.cache,
+                    plan,
+                    index,
+                    out,
+                    Blank::new(1),
+                )
             }
             Err(fault) => Err(halt_of(fault, plan.id)),
         }
+    }
+
+    /// Brings the index of a design up to date, and answers its place. The steps that it takes are counted for contracts alone.
+    fn bring<F: Folder, C: Servers, L: Ledger>(
+        &mut self,
+        alloc: Global,
+        folder: &mut F,
+        servers: &mut C,
+        design: &Design,
+        blank: Blank,
+    ) -> Result<usize, UpdateFault>
+        requires few { views_in design.now ≤ 32 }
+        requires open { IfTold (F.disk folder.old) (λ d. AreIndexesOpen self.old.groups d.now) }
+        requires name { blank.name ≡ L.name }
+        requires parts { blank.parts ≡ L.parts }
+        requires some { 0 < L.parts }
+        ensures brings { BringsSomehow F.Folder C.Servers self.old self.new design.now
+            folder.old folder.new servers.old servers.new result }
+        ensures documents { self.new.docs ≡ self.old.docs }
+    {
+        let mut steps = Steps::<L>::new(blank);
+        self.groups.update(
+            alloc,
+            folder,
+            &mut self.cache,
+            servers,
+            &mut self.pool,
+            &self.docs,
+            design,
+            &mut steps,
+        )
     }
 
     /// What a view request is about, or why it is refused before any server is asked.
@@ -209,44 +261,65 @@ fn parameters_of(alloc: Global, query: Option<Members>) -> Term
     }
 }
 
-/// Answers a planned view from an index, or tells why its values can't be had.
-fn show<C: Servers>(
+/// Answers a planned view from an index, whose rows are read, or tells why they or their values can't be had.
+fn show<F: Folder, C: Servers, L: Ledger>(
     alloc: Global,
+    folder: &mut F,
     servers: &mut C,
     pool: &mut Pool,
+    cache: &mut NodeCache,
     plan: Plan,
     index: &Index,
     out: &mut Vec<u8>,
+    blank: Blank,
 ) -> Result<(), Halt>
     requires within { plan.place < views_of index.now }
     requires views { views_of index.now ≤ 32 }
     requires reduced { plan.query.reduced ≡ true → query.has_reduce (reduce_in plan.design.views plan.place) ≡ true }
     requires known { path_in (languages_of pool.old) plan.design.language ≢ None }
-    ensures { ShowsView C.Servers servers.old servers.new pool.old pool.new
-        plan.design plan.place plan.query (picture_of index.now)
+    requires name { blank.name ≡ L.name }
+    requires parts { blank.parts ≡ L.parts }
+    requires some { 0 < L.parts }
+    ensures { ShowsView F.Folder C.Servers (lent folder.old servers.old pool.old cache.old)
+        (lent folder.new servers.new pool.new cache.new) plan.design plan.place plan.query index.now
         plan.id out.old.items out.new.items result }
 {
-    match append_answer(alloc, servers, pool, &plan, index, out) {
-        Ok(()) => Ok(()),
-        Err(fault) => Err(halt_of_pool(fault, plan.id)),
+    let mut steps = Steps::<L>::new(blank);
+    match index.rows(alloc, folder, cache, plan.place as u32, &mut steps) {
+        Ok(rows) => {
+            match append_answer(
+                alloc,
+                servers,
+                pool,
+                &plan,
+                index.seq(),
+                rows.as_slice(),
+                out,
+            ) {
+                Ok(()) => Ok(()),
+                Err(fault) => Err(halt_of_pool(fault, plan.id)),
+            }
+        }
+        Err(fault) => Err(halt_of(UpdateFault::from(fault), plan.id)),
     }
 }
 
-/// Appends the reply line that answers a planned view from an index. The values of its groups are had by the view's reduce, through
-/// the children of the pool where a query server runs it.
+/// Appends the reply line that answers a planned view from its rows at a sequence. The values of its groups are had by the view's
+/// reduce, through the children of the pool where a query server runs it.
 fn append_answer<C: Servers>(
     alloc: Global,
     servers: &mut C,
     pool: &mut Pool,
     plan: &Plan,
-    index: &Index,
+    seq: u64,
+    rows: &[Row],
     out: &mut Vec<u8>,
 ) -> Result<(), PoolFault>
-    requires within { plan.now.place < views_of index.now }
-    requires views { views_of index.now ≤ 32 }
+    requires within { plan.now.place < 32 }
+    requires sorted { IsSorted rows_cmp rows.now }
     requires reduced { plan.now.query.reduced ≡ true → query.has_reduce (reduce_in plan.now.design.views plan.now.place) ≡ true }
     ensures { Shows C.Servers servers.old servers.new pool.old pool.new
-        plan.now.design plan.now.place plan.now.query (picture_of index.now)
+        plan.now.design plan.now.place plan.now.query seq rows.now
         out.old.items out.new.items result }
 {
     let view = plan.place as u32;
@@ -256,14 +329,7 @@ fn append_answer<C: Servers>(
         view,
     };
     let mut reply = Reply::behind(alloc, out);
-    match answer(
-        alloc,
-        index.rows(view),
-        &mut summers,
-        index.seq(),
-        &plan.query,
-        &mut reply,
-    ) {
+    match answer(alloc, rows, &mut summers, seq, &plan.query, &mut reply) {
         Ok(()) => match reply.end(Ok(()), out) {
             Ok(()) => Ok(()),
             Err(NoMemory) => Err(PoolFault::NoMemory),

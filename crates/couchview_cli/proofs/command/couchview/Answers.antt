@@ -1,7 +1,7 @@
 -- What a command says, of the words that ask for it.
 use Rattle.std.specs.Prelude.{String, map, string_bytes}
 use Rattle.std.specs.declared.alloc.Global.{Global}
-use Rattle.std.proofs.Common.{◌≡◌, ◌∙◌, ℕ, List, [], inr, sym, ap, subst}
+use Rattle.std.proofs.Common.{◌≡◌, ◌∙◌, ℕ, List, [], inl, inr, sym, ap, subst}
 use Rattle.child_pool.specs.Languages.{languages_in}
 use Rattle.command_words.specs.declared.command.Command.TheVariants.{Load, Serve}
 use Rattle.couchview_cli.specs.Command.{languages_named}
@@ -15,13 +15,13 @@ use Rattle.couchview_cli.proofs.NoWords.{unread_folder, unread_lines, unread_not
 use Rattle.couchview_cli.proofs.command.couchview.Goals as goal
 
 pub returns-in-Ok-None-clause-complete : goal.returns-in-Ok-None-clause-complete
-returns-in-Ok-None-clause-complete g c = λ kept asks opening holds short source_stays sink_stays disk_stays roomy. absurd (c.to_do.ensures.none (cc) (Serve 1 kept, asks))
+returns-in-Ok-None-clause-complete g c = λ kept asks opening holds short source_stays sink_stays disk_stays roomy apart. absurd (c.to_do.ensures.none (cc) (Serve 1 kept, asks))
 
 pub returns-in-Err-clause-serves : goal.returns-in-Err-clause-serves
 returns-in-Err-clause-serves g c = λ kept asks opening holds.
     let ports = outside g.S.Source g.K.Sink g.F.Folder g.C.Servers c.args.source.now c.args.sink.now c.args.folder.now c.args.servers.now in
     subst (Serves g.C.Servers.functions g.C.Servers.honest (languages_named kept) opening ports ports (AreLeft (g.C.Servers.may_follow c.args.servers.now))) (sym c.status.ensures)
-    (inr (inr (unread_folder g.C.Servers.functions g.C.Servers.honest (languages_named kept) opening ports (g.C.Servers.may_follow c.args.servers.now) c.requires holds)))
+    (inr (inr (inl (unread_folder g.C.Servers.functions g.C.Servers.honest (languages_named kept) opening ports (g.C.Servers.may_follow c.args.servers.now) c.requires holds))))
 
 pub returns-in-Err-clause-loads : goal.returns-in-Err-clause-loads
 returns-in-Err-clause-loads g c = λ docs number asks opening holds.
@@ -64,13 +64,13 @@ returns-in-Serve-clause-limit g c = λ serve.
     limited (ports c.args.source.now c.args.sink.now c.args.folder.now c.args.servers.now) (ports c.serve.new.source c.serve.new.sink c.serve.new.folder c.serve.new.servers) c.serve.result c.serve.ensures.lines
 
 pub returns-in-Serve-clause-complete : goal.returns-in-Serve-clause-complete
-returns-in-Serve-clause-complete g c = λ kept asks opening holds short source_stays sink_stays disk_stays roomy.
+returns-in-Serve-clause-complete g c = λ kept asks opening holds short source_stays sink_stays disk_stays roomy apart.
     let ports = outside g.S.Source g.K.Sink g.F.Folder g.C.Servers in
     let words = c.args.words.now in
     let own = found_as words c.in-Ok-Some.field-0 c.in-Ok-Some.command (Serve c.in-Serve.width c.in-Serve.words) c.in-Ok-Some.field-0-is c.in-Serve.is c.in-Ok-Some.ensures.some in
     let same : languages_in (map string_bytes c.deref.result.now) ≡ languages_named kept = ap (λ (named : List (String Global)). languages_in (map string_bytes named)) c.deref.ensures.value ∙ languages_of words c.in-Serve.width c.in-Serve.words kept own asks in
     Serves-complete (ports c.args.source.now c.args.sink.now c.args.folder.now c.args.servers.now) (ports c.serve.new.source c.serve.new.sink c.serve.new.folder c.serve.new.servers) c.serve.result same (c.serve.ensures.serves opening holds)
-    short (λ three. disk_stays (c.serve.ensures.disk_failed three)) (λ four. sink_stays (c.serve.ensures.sink_failed four)) (λ five. source_stays (c.serve.ensures.source_failed five)) roomy
+    short (λ three. disk_stays (c.serve.ensures.disk_failed three)) (λ four. sink_stays (c.serve.ensures.sink_failed four)) (λ five. source_stays (c.serve.ensures.source_failed five)) roomy apart
 
 pub returns-in-Serve-clause-loads : goal.returns-in-Serve-clause-loads
 returns-in-Serve-clause-loads g c = λ docs number asks opening holds.

@@ -1,6 +1,6 @@
 -- Serving is what its session came to.
 use Rattle.std.specs.Prelude.{map, string_bytes}
-use Rattle.std.proofs.Common.{◌≡◌, ◌∙◌, ℕ, [], Err, Result, inl, inr, refl, sym, ap, subst}
+use Rattle.std.proofs.Common.{◌≡◌, ◌∙◌, ℕ, [], length, Err, Result, inl, inr, refl, sym, ap, subst}
 use Rattle.view_ports.specs.Faults.{CountsFor}
 use Rattle.view_ports.specs.declared.file_name.FileName.{FileName}
 use Rattle.view_ports.proofs.Counting.{Rose-earlier}
@@ -18,6 +18,7 @@ use Rattle.couchview_cli.specs.Ends.{Comes}
 use Rattle.couchview_cli.specs.Reading.{HasReplied}
 use Rattle.couchview_cli.specs.Serving.{outside, AreLeft, Outside, Serves}
 use Rattle.couchview_cli.specs.Session.{IsAtOrigin, Origin}
+use Rattle.couchview_cli.proofs.Clashing.{read_within}
 use Rattle.couchview_cli.proofs.Coming.{come_opened}
 use Rattle.couchview_cli.proofs.Replying.{is_cut_off, reads_on}
 use Rattle.couchview_cli.proofs.Served.{cut_short, finishes, origin_of, unopened}
@@ -28,11 +29,11 @@ pub returns-in-Err-clause-serves : goal.returns-in-Err-clause-serves
 returns-in-Err-clause-serves g c = λ opening holds.
     let disk = g.F.Folder.disk c.args.folder.now in
     let before : Outside = record { left = g.S.Source.left c.args.source.now; held = g.K.Sink.held c.args.sink.now; disk = disk; disk_faults = g.F.Folder.faults c.args.folder.now; faults = g.C.Servers.faults c.args.servers.now } in
-    inr (inr (unopened g.C.Servers.functions g.C.Servers.honest (languages_in (map string_bytes c.args.words.now)) opening before (g.K.Sink.held c.close.new.sink) (g.F.Folder.disk c.open.new.folder) (g.F.Folder.faults c.open.new.folder)
+    inr (inr (inl (unopened g.C.Servers.functions g.C.Servers.honest (languages_in (map string_bytes c.args.words.now)) opening before (g.K.Sink.held c.close.new.sink) (g.F.Folder.disk c.open.new.folder) (g.F.Folder.faults c.open.new.folder)
     (g.C.Servers.may_follow c.args.servers.now) c.requires (c.in-Err.ensures.moments opening holds) c.in-Err.fault c.close.result c.close.ensures.closes (subst (λ (opened : Result Engine StepFault). CountsFor DiskFault (g.F.Folder.faults c.args.folder.now) (g.F.Folder.faults c.open.new.folder) opened) c.in-Err.is c.open.ensures.cause).failed
     (told_pair disk (λ d. Holds d.now opening) (λ d. Holds d.now opening → (name : FileName) (at : ℕ) → c.open.result ≡ Err (Damaged name at) → ⊥) (λ d. (name : FileName) (at : ℕ) → c.in-Err.fault ≡ Damaged name at → ⊥)
     (λ d held never name at is. never held name at (c.in-Err.is ∙ ap Err is)) holds (c.open.ensures.sound opening))
-    (λ name size is. c.open.ensures.room name size (c.in-Err.is ∙ ap Err is))))
+    (λ name size is. c.open.ensures.room name size (c.in-Err.is ∙ ap Err is)))))
 
 pub returns-in-Run-clause-no_usage : goal.returns-in-Run-clause-no_usage
 returns-in-Run-clause-no_usage g c = λ two. end_no_usage c.in-Run.end (sym c.status.ensures ∙ two)
@@ -66,7 +67,10 @@ returns-in-Run-clause-serves g c = λ opening holds.
     let end = subst (λ (e : LoopEnd StepFault). Comes f s begun last before.left left before.held held e) c.in-Run.is come in
     let after : Outside = record { left = left; held = held; disk = f.disk ran.folder; disk_faults = f.faults ran.folder; faults = s.faults c.finish.new.servers } in
     subst (λ (status : ℕ). Serves s.functions s.honest languages opening before after (AreLeft (s.may_follow c.finish.new.servers)) status) (sym c.status.ensures)
-    (inl (finishes languages opening f s before left held last stopped c.finish.ensures.stopped (c.finish.ensures.width ∙ c.run-end.ensures.wide ∙ made.width) c.finish.ensures.faults refl end.bytes c.in-Run.end end.reads end.counts end.ends))
+    (elim end.ends [
+      | inl ended ↦ inl (finishes languages opening f s before left held last stopped c.finish.ensures.stopped (c.finish.ensures.width ∙ c.run-end.ensures.wide ∙ made.width) c.finish.ensures.faults refl end.bytes c.in-Run.end end.reads end.counts ended)
+      | inr met ↦ inr (inr (inr (record { bytes = end.bytes; reads = end.reads; counts = read_within c.in-Run.end (length end.bytes) end.counts; meets = met })))
+    ])
 
 pub returns-clause-serves : goal.returns-clause-serves
 returns-clause-serves g c = λ opening holds.
@@ -87,10 +91,13 @@ returns-clause-serves g c = λ opening holds.
     let come : Comes f s begun last before.left left before.held held c.run-end.result = c.run-end.ensures.comes begun start in
     let fault = c.in-Stopped.fault in
     let end = subst (λ (e : LoopEnd StepFault). Comes f s begun last before.left left before.held held e) c.in-Stopped.is come in
-    inr (inl (cut_short languages opening f s before left (g.K.Sink.held c.close-in-Stopped.new.sink) last stopped c.finish.ensures.stopped (c.finish.ensures.width ∙ c.run-end.ensures.wide ∙ made.width) c.finish.ensures.faults refl
-    held end.bytes fault c.close-in-Stopped.result end.reads end.counts
-    (λ is. Rose-earlier (f.faults c.args.folder.now) (f.faults c.open.new.folder) (f.faults ran.folder) c.open.ensures.cause.later (c.run-end.ensures.disk_failed (c.in-Stopped.is ∙ ap Stopped is)))
-    end.ends c.close-in-Stopped.ensures.closes))
+    elim end.ends [
+      | inl off ↦ inr (inl (cut_short languages opening f s before left (g.K.Sink.held c.close-in-Stopped.new.sink) last stopped c.finish.ensures.stopped (c.finish.ensures.width ∙ c.run-end.ensures.wide ∙ made.width) c.finish.ensures.faults refl
+          held end.bytes fault c.close-in-Stopped.result end.reads end.counts
+          (λ is. Rose-earlier (f.faults c.args.folder.now) (f.faults c.open.new.folder) (f.faults ran.folder) c.open.ensures.cause.later (c.run-end.ensures.disk_failed (c.in-Stopped.is ∙ ap Stopped is)))
+          off c.close-in-Stopped.ensures.closes))
+      | inr met ↦ inr (inr (inr (record { bytes = end.bytes; reads = end.reads; counts = end.counts; meets = met })))
+    ]
 
 -- ---- lines, whatever the folder holds
 

@@ -8,6 +8,7 @@ use Rattle.index_trees.specs.Edited.{EditsBack}
 use Rattle.index_trees.specs.Trees.{back_items, no_summaries}
 use Rattle.index_trees.proofs.EditedBack.{edited_back, entry_edits_of}
 use Rattle.index_trees.proofs.Found.{takes_found}
+use Rattle.index_trees.proofs.Got.{found_good}
 use Rattle.index_trees.proofs.OneEdit.{few_inserted, found_bad, store_ran}
 use Rattle.index_trees.proofs.Sequences.{StoreLaws}
 use Rattle.index_trees.proofs.exchanging.edit_back.Goals as goal
@@ -38,6 +39,7 @@ returns-in-Ok g c =
       sound = λ there items told. e.sound s there items told refl;
     })
     tt
+    (found_good back_items n _ s c.args.tree (n.puts old) old new {X = Tree} (Ok c.in-Ok.after) e.met)
 
 pub returns : goal.returns
 returns g c =
@@ -65,4 +67,5 @@ returns g c =
       sound = λ there items told. e.sound s there items told refl;
     })
     (found_bad {X = Tree} back_items n _ s c.args.tree (n.puts old) old new (Err fault) e.met)
+    tt
     )

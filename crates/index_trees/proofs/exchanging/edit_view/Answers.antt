@@ -14,6 +14,7 @@ use Rattle.index_trees.specs.Edits.{view_edits}
 use Rattle.index_trees.specs.Trees.{row_items}
 use Rattle.index_trees.proofs.EditedView.{Called, edited_last, nothing_edited, wants_memory}
 use Rattle.index_trees.proofs.Found.{takes_found}
+use Rattle.index_trees.proofs.Got.{found_good}
 use Rattle.index_trees.proofs.OneEdit.{Applies, few_inserted, found_bad, store_ran, sum_did}
 use Rattle.index_trees.proofs.RowsExchanged.{edit_cmp}
 use Rattle.index_trees.proofs.Sequences.{StoreLaws}
@@ -69,6 +70,7 @@ returns g c =
       ran = sum_did {X = Tree} row_items n _ old new u c.apply.new.summer c.apply.result e.ran;
       usable = e.usable;
       found = found_bad {X = Tree} row_items n _ u c.args.tree (n.puts old) old new c.apply.result e.met;
+      good = found_good row_items n _ u c.args.tree (n.puts old) old new {X = Tree} c.apply.result e.met;
     } in
     edited_last n laws g.C.Servers c.args.changes.now c.args.olds.now old new c.args.summers.now c.args.steps.now c.apply.new.steps c.args.view c.args.tree edits c.apply.result u c.apply.new.summer _ (search rules)
     c.summer.ensures.slot c.summer.ensures.design c.summer.ensures.view applies called

@@ -2,7 +2,7 @@
 use Rattle.std.proofs.Common.{◌≡◌, ◌∙◌, ℕ, List, Ok, Err, sym, ap, subst, arith}
 use Rattle.std.proofs.lemmas.Grind.{common_steps}
 use Rattle.view_ports.proofs.Told.{told_now}
-use Rattle.view_updater.proofs.OnlyReading.{failed_as}
+use Rattle.change_mapper.proofs.OnlyReading.{failed_as}
 use Rattle.doc_file.specs.Docs.{bytes_in, IsAt}
 use Rattle.view_engine.specs.Cleaning.{AreLiveSignatures, CleansUp}
 use Rattle.view_engine.specs.HeldDesigns.{AreHeldSignatures}

@@ -1,7 +1,7 @@
 -- Id by id.
 use Rattle.std.proofs.Common.{take, take_all, ◌≡◌, ◌∙◌, ◌+◌, List, [], Err, refl, sym, ap, subst}
 use Rattle.view_ports.proofs.Told.{told_all, told_now, told_pair}
-use Rattle.view_updater.proofs.OnlyReading.{failed_as}
+use Rattle.change_mapper.proofs.OnlyReading.{failed_as}
 use Rattle.doc_file.specs.Docs.{bytes_in, IsAt}
 use Rattle.view_engine.specs.Cleaning.{IsSignatureOf}
 use Rattle.doc_file.specs.Designs.{AreDesignIds, AreDesignsOf}

@@ -1,4 +1,4 @@
-use Rattle.view_engine.proofs.Sound.{answers_sound, between_sound, made_sound, sound_shaped}
+use Rattle.view_engine.proofs.Sound.{answers_sound, between_sound, made_sound}
 use Rattle.view_engine.proofs.laws.worlds_stay_sound.Goals as goal
 
 pub returns-clause-steps : goal.returns-clause-steps
@@ -9,6 +9,3 @@ returns-clause-made g c = λ languages. made_sound g.C.Servers.functions g.C.Ser
 
 pub returns-clause-between : goal.returns-clause-between
 returns-clause-between g c = λ languages. between_sound g.C.Servers.functions g.C.Servers.honest languages
-
-pub returns-clause-shaped : goal.returns-clause-shaped
-returns-clause-shaped g c = λ languages. sound_shaped g.C.Servers.functions g.C.Servers.honest languages

@@ -23,7 +23,8 @@ use Rattle.tree_index.specs.Held.{HoldsIndex, HoldsPicture, IsDamagedAt, IsFileO
 use Rattle.tree_index.specs.Opens.{said_in, FindsDamage, IsLoaded, Says}
 use Rattle.tree_index.specs.Sizes.{are_sizes}
 use Rattle.tree_index.proofs.Carried.{picture_of_root}
-use Rattle.tree_index.proofs.Opening.{at_stood, finds_none, is_loaded, left_after, others_stay, stands_after, stands_failed, then_none, told_rows, undamaged_slots}
+use Rattle.tree_index.proofs.Opened.{opening_only}
+use Rattle.tree_index.proofs.Opening.{at_stood, finds_none, is_loaded, left_after, stands_after, stands_failed, then_none, told_rows, undamaged_slots}
 use Rattle.tree_index.proofs.index.Index.load.Goals as goal
 
 pub returns-in_err-file : goal.returns-in_err-file
@@ -41,7 +42,7 @@ returns-in_err-file g c =
       sound = λ functions views picture number. told_now old _ _
           (λ d damaged holds n at failed. let was : c.open.result ≡ Err (Damaged n at) = search rules in undamaged_seen stem (HoldsPicture functions views) d.now picture n at holds.seen (damaged n at was)) c.open.ensures.damaged;
       damaged = told_now old _ _ (λ d damaged n at failed. let was : c.open.result ≡ Err (Damaged n at) = search rules in inl (damaged n at was)) c.open.ensures.damaged;
-      others = others_stay stem old new (λ old image. WhileOpening stem old image) ends c.open.ensures.disk;
+      files = opening_only stem (λ files. ⊥) old new ends c.open.ensures.disk;
       left = told_given old new (λ d. IsDamageOf (IsFirstDamage stem d.now) c.open.result) (λ a b. Moves (IsFileOf stem) (WhileOpening stem a.now) (ends a.now) a b) _
           (λ a b damaged moved n at failed fit. let was : c.open.result ≡ Err (Damaged n at) = search rules in absurd (undamaged_slots stem a.now n at fit (damaged n at was))) c.open.ensures.damaged c.open.ensures.disk;
       faults = search rules;
@@ -95,7 +96,7 @@ returns-in_err-root g c =
           let is = subst (λ r. IfOk r (λ gate. IsOpened gate a.now b.now)) c.in_ok-file.was opens.ended in
           inr (fit, opened_damaged stem file a.now b.now file_is is (SpellsRoot count) n at (damaged n at was)))
           c.open.ensures.disk c.load_root.ensures.damaged));
-      others = others_stay stem old new (λ old image. WhileOpening stem old image) ends moved;
+      files = opening_only stem (λ files. ⊥) old new ends moved;
       left = left_after stem c.from_residual-in_err-root.result file old new c.in_ok-file.ensures.opened moved;
       faults = search rules;
       cause = search rules;
@@ -120,7 +121,7 @@ returns-in_err-next g c =
       wanting = λ functions views picture holds wanted. stands_after stem functions views file old new picture c.in_ok-file.ensures.opened moved holds;
       sound = λ functions views picture number. told_all old _ (λ d holds n at failed. let no : ⊥ = search rules in no);
       damaged = told_all old _ (λ d n at failed. let no : ⊥ = search rules in absurd no);
-      others = others_stay stem old new (λ old image. WhileOpening stem old image) ends moved;
+      files = opening_only stem (λ files. ⊥) old new ends moved;
       left = left_after stem c.from_residual-in_err-next.result file old new c.in_ok-file.ensures.opened moved;
       faults = search rules;
       cause = search rules;
@@ -175,7 +176,7 @@ returns g c =
       wanting = λ functions views picture holds wanted. let no : ⊥ = search rules in absurd no;
       sound = λ functions views picture number. told_all old _ (λ d holds n at failed. let no : ⊥ = search rules in no);
       damaged = told_all old _ (λ d n at failed. let no : ⊥ = search rules in absurd no);
-      others = others_stay stem old new (λ old image. WhileOpening stem old image) ends moved;
+      files = opening_only stem (λ files. ⊥) old new ends moved;
       left = left_after stem _ file old new c.in_ok-file.ensures.opened moved;
       faults = search rules;
       cause = search rules;

@@ -1,0 +1,12 @@
+pub mod Places
+pub mod Kept
+pub mod Standing
+pub mod Telling
+pub mod Closing
+pub mod Damages
+pub mod Removing
+pub mod Cleaning
+pub mod Opening
+pub mod Staying
+pub mod Bringing
+pub mod Follows

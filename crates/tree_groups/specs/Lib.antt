@@ -1,0 +1,11 @@
+pub mod Pictures
+pub mod Groups
+pub mod Reached
+pub mod Openings
+pub mod Sides
+pub mod Updating
+pub mod Brings
+pub mod Follows
+pub mod Cleans
+pub mod Removing
+pub mod Laws

@@ -1,0 +1,9 @@
+mod Rolled
+pub mod Spoiled
+mod Talking
+mod Written
+pub mod Nexts
+mod Mapped
+mod Updated
+mod Asked
+pub mod Follows

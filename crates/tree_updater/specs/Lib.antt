@@ -1,0 +1,10 @@
+pub mod Faults
+pub mod Sides
+pub mod Paths
+pub mod Replacing
+pub mod Filled
+pub mod Asking
+pub mod Writes
+pub mod Made
+pub mod Updates
+pub mod Follows
