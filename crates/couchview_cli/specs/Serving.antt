@@ -122,9 +122,10 @@ module _ (functions : List ℕ → Functions) (honest : List ℕ → Type 0) (la
   -- A run that a fault of the folder cut short: some first lines were answered, each wholly, and then the line in hand was
   -- not. Its request took effect wholly or not at all. The last line that is written names the fault, unless the sink fails.
   -- Want of memory doesn't cut a run short: such a line is answered. `mid` is the disk before the line in hand: nothing of
-  -- the documents is pending there, its files hold the world, and a file that is full is one of them. No file changes since but in a view or a cleanup, or where the
-  -- disk failed, and there the line's write would have passed no limit. A file of an index is full only where it would be with the next
-  -- picture of the view's design. No file is damaged. `last` is how the query servers were left.
+  -- the documents is pending there, its files hold the world, and a file that is full is one of them. No file changes since but in a
+  -- view or a cleanup, or where the disk failed, and there the line's write would have passed no limit. A file of an index is full only
+  -- in a view that brings its design's index up to date; which nodes filled it isn't said here. No file is damaged. `last` is how the
+  -- query servers were left.
   pub record IsCutShort (before after : Outside) (AtEnd : List Call → Type 0) (status : ℕ) : Type 0 where
     pub bytes : List ℕ
     pub exchanges : List Exchange

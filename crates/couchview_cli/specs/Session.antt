@@ -52,8 +52,8 @@ module _ (functions : List ℕ → Functions) (honest : List ℕ → Type 0) whe
   abbrev pub StepsOf : Origin → Moment → Exchange → Moment → Type 0
   StepsOf origin = Steps functions honest origin.languages origin.opening origin.disk
 
-  -- a line was not answered, since the folder failed, or a file is damaged or full: the request took effect wholly or not at all, and
-  -- may have called query servers. No file was damaged.
+  -- a line was not answered, since the folder failed or a file is full: the request took effect wholly or not at all, and may have
+  -- called query servers. No file is damaged, where the files hold a world.
   pub record IsHalted (languages : List (List ℕ × List ℕ)) (fault : StepFault) (old new : Option (Disk FileName)) (before : Moment) (line : List ℕ) (HasLeft : Moment → Type 0) : Type 0 where
     pub moments : Tells old new (LeavesOnly (StandsAround functions honest languages before.world (request_of line)))
     pub whole : IfTold old (λ d. (name : FileName) (at : ℕ) → fault ≡ Damaged name at → ⊥)

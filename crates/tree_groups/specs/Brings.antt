@@ -35,7 +35,7 @@ abbrev pub placed : ℕ → Result (Unit {0}) UpdateFault → Result ℕ UpdateF
 placed place (Ok done) = Ok place
 placed place (Err fault) = Err fault
 
--- the disk failed in a file of the index, or one was damaged as it was opened
+-- the disk failed in a file of the index, or one is damaged, as it was opened or in a node that the update got
 abbrev pub IsLost : UpdateFault → Type 0
 IsLost (OfIndex (Store DiskFault)) = Unit {0}
 IsLost (OfIndex (Store (Damaged name at))) = Unit {0}

@@ -140,8 +140,8 @@ pub record Scene (F C : Type 0) : Type 0 where
 abbrev pub scene : {F C : Type 0} → Engine → F → C → Scene F C
 scene engine folder servers = record { engine = engine; folder = folder; servers = servers }
 
--- What a request leaves as it was, however it ends: one that is no view the query servers and their pool, one that is no cleanup either
--- the open indexes too, as does a cleanup that wants memory, and a line that is no request all.
+-- What a request leaves as it was, however it ends: one that is no view the query servers, their pool and the cache of nodes, one that
+-- is no cleanup either the open indexes too, as does a cleanup that wants memory, and a line that is no request all.
 pub record LeavesAlone {F C : Type 0} (request : Result Request Refusal) (Wants : Type 0) (old new : Scene F C) : Type 0 where
   pub servers : (IsView request → ⊥) → new.servers ≡ old.servers
   pub pool : (IsView request → ⊥) → new.engine.pool ≡ old.engine.pool
@@ -168,7 +168,7 @@ module _ {F C : Type 0} (f : Folders F) (s : Servers C) where
     abbrev Languages : List (List ℕ × List ℕ)
     Languages = languages_of old.engine.pool
 
-    -- no query server was asked: they, their pool and the open indexes are as they were, and so is each file
+    -- no query server was asked: they, their pool, the cache of nodes and the open indexes are as they were, and so is each file
     pub record IsUnasked : Type 0 where
       pub servers : new.servers ≡ old.servers
       pub pool : new.engine.pool ≡ old.engine.pool
@@ -242,7 +242,7 @@ module _ {F C : Type 0} (f : Folders F) (s : Servers C) where
       pub disk : KeepsDisk f old.engine new.engine old.folder new.folder request (HasGivenUp result) (MayGoOn result)
       -- a cleanup removes the files of indexes that no live design has, and no others
       pub cleared : Clears f old.engine.docs old.folder new.folder request (HasReply result) (MayWant result)
-      -- a file of an index is full only where it would be with the next picture of the view's design
+      -- a file of an index is full only where documents were mapped, by the node that was put last, by the root record or by its commits
       pub filled : (before : Moment) → StandsAt old before → IfTold (f.disk old.folder) (λ d. IsFitFor request before.world) → (name : FileName) (length : Option ℕ) → result ≡ Err (Stopped (Full name length)) → IsView request
           → IfTold (f.disk new.folder) (λ d. IsIndexFullFor s.functions s.honest Languages old.engine.cache new.engine.cache d.now before.world request name length)
       pub why : IfErr result (IfStopped (IsReasonOf f old.engine new.engine old.folder new.folder request))
@@ -275,7 +275,7 @@ module _ {F C : Type 0} (f : Folders F) (s : Servers C) where
       pub disk : KeepsDisk f old.engine new.engine old.folder new.folder (request_of line) (HasLeftFiles result) (HasGoneOn result)
       -- a cleanup removes the files of indexes that no live design has, and no others
       pub cleared : line ≢ [] → Clears f old.engine.docs old.folder new.folder (request_of line) (result ≡ Ok tt) (result ≡ Err NoMemory)
-      -- a file of an index is full only where it would be with the next picture of the view's design
+      -- a file of an index is full only where documents were mapped, by the node that was put last, by the root record or by its commits
       pub filled : (before : Moment) → StandsAt old before → IfTold (f.disk old.folder) (λ d. IsFitFor (request_of line) before.world) → (name : FileName) (length : Option ℕ) → result ≡ Err (Full name length)
           → IsView (request_of line) → IfTold (f.disk new.folder) (λ d. IsIndexFullFor s.functions s.honest Languages old.engine.cache new.engine.cache d.now before.world (request_of line) name length)
       pub why : IfErr result (IsReasonOf f old.engine new.engine old.folder new.folder (request_of line))

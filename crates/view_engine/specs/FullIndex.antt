@@ -48,7 +48,7 @@ module _ (functions : List ℕ → Functions) (honest : List ℕ → Type 0) (la
   IsIndexFullFor files world (Ok (View view query)) name size = IsIndexFull files world (view_query view query) name size
   IsIndexFullFor files world other name size = ⊥
 
--- the same, whatever an engine that was at the world keeps of nodes
+-- the same by some notes of the nodes that were put, so which nodes filled the file is left open here
 abbrev pub IsIndexFullOf : (List ℕ → Functions) → (List ℕ → Type 0) → List (List ℕ × List ℕ) → (FileName → File) → World → Result Request Refusal → FileName → Option ℕ → Type 0
 IsIndexFullOf functions honest languages files world request name size =
     (cache : NodeCache) × (cache' : NodeCache) × IsIndexFullFor functions honest languages cache cache' files world request name size

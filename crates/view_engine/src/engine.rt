@@ -91,7 +91,8 @@ impl Engine {
     /// the engine is not to be used again. The folder counts a fault only where the step ends by `DiskFault`.
     ///
     /// Whatever the folder tells, a request is done only where the documents in memory accept it, and refused as they say; and a view
-    /// has its index opened or brought up to date as `Groups` does it, and then shown.
+    /// has its index opened or brought up to date as `Groups` does it, and then shown. What is said of a view over documents at a
+    /// history, and of a crash in it, is said where designs that differ have different signatures.
     pub fn step<F: Folder, C: Servers>(
         &mut self,
         alloc: Global,
