@@ -1,6 +1,5 @@
-//! Tests of the public calls of the crates `json_terms`, `raw_collation`, `term_codec`, `index_record`, `view_ports` (query
-//! servers), `design_docs`, `tree_laws`, `view_signature`, `builtin_reduces`, `query_protocol`, `view_model` and `index_items`;
-//! nothing else.
+//! Tests of the public calls of the crates `json_terms`, `raw_collation`, `term_codec`, `view_ports` (query servers),
+//! `design_docs`, `tree_laws`, `view_signature`, `builtin_reduces`, `query_protocol`, `view_model` and `index_items`; nothing else.
 #![tactic(auto)]
 
 #[cfg(test)]
@@ -9,8 +8,6 @@ mod builtin_reduces_tests;
 mod design_docs_tests;
 #[cfg(test)]
 mod index_items_tests;
-#[cfg(test)]
-mod index_record_tests;
 #[cfg(test)]
 mod json_terms_tests;
 #[cfg(test)]

@@ -1,10 +1,16 @@
 //! Updates of more documents than are mapped at once.
 
+ghost use Rattle.std.specs.Prelude.{◌≡◌, ◌<◌};
+
 use crate::benches::{Bench, Doc, is_refused};
 use crash_disk::MemoryFolder;
 use doc_file::Rev;
+use node_file::NodeCache;
 use std::alloc::Global;
+use std::marker::Brand;
+use std::sync::ledger::{Blank, Ledger};
 use std::test::Fail;
+use tree_laws::Steps;
 
 /// How many documents are put at first, two calls on the servers that fail, and the number of writes before each update that is
 /// refused.
@@ -40,7 +46,7 @@ pub fn put(
 }
 
 /// What an index shows of so many documents, each of which has its number as its key, but the last has another.
-fn shown_of(alloc: Global, seq: u64, count: u64, last: u64) -> Result<String, Fail> {
+pub fn shown_of(alloc: Global, seq: u64, count: u64, last: u64) -> Result<String, Fail> {
     let mut text = format!(in alloc; "{seq}[")?;
     let before = count.saturating_sub(1);
     for number in 0..before {
@@ -53,16 +59,23 @@ fn shown_of(alloc: Global, seq: u64, count: u64, last: u64) -> Result<String, Fa
 }
 
 /// The number of writes before each update that is refused.
-fn refused_with(alloc: Global, count: u64, fail: &[u64; 2]) -> Result<Vec<u64>, Fail> {
+fn refused_with<L: Ledger>(
+    alloc: Global,
+    count: u64,
+    fail: &[u64; 2],
+    steps: &mut Steps<L>,
+) -> Result<Vec<u64>, Fail> {
     let folder = MemoryFolder::new(alloc, Vec::new(alloc), false)?;
     let mut bench = Bench::new(alloc, folder, fail)?;
+    let mut cache = NodeCache::new(alloc, 16)?;
     let mut refused = Vec::new(alloc);
     for number in 0..count {
         put(alloc, &mut bench, number, number, None)?;
     }
     let last = count.saturating_sub(1);
     let first = shown_of(alloc, count, count, last)?;
-    if is_refused(alloc, &mut bench, "0[][]", first.as_str())? {
+    let texts = ["0[][]", first.as_str()];
+    if is_refused(alloc, &mut bench, &mut cache, steps, texts)? {
         refused.push(count)?;
     }
     let over = Some(Rev {
@@ -72,17 +85,29 @@ fn refused_with(alloc: Global, count: u64, fail: &[u64; 2]) -> Result<Vec<u64>, 
     put(alloc, &mut bench, last, 1000, over)?;
     let next = count.saturating_add(1);
     let second = shown_of(alloc, next, count, 1000)?;
-    if is_refused(alloc, &mut bench, first.as_str(), second.as_str())? {
+    let texts = [first.as_str(), second.as_str()];
+    if is_refused(alloc, &mut bench, &mut cache, steps, texts)? {
         refused.push(next)?;
     }
     Ok(refused)
 }
 
-#[test]
-fn batches_are_mapped_once(rt: HostRuntime) -> Result<(), Fail> {
+fn map_batches<L: Ledger>(alloc: Global, blank: Blank) -> Result<(), Fail>
+    requires name { blank.name ≡ L.name }
+    requires parts { blank.parts ≡ L.parts }
+    requires some { 0 < L.parts }
+{
+    let mut steps = Steps::<L>::new(blank);
     for &(count, fail, want) in FAILING {
-        let refused = refused_with(rt.alloc(), count, &fail)?;
-        assert!(rt; refused.as_slice() == want, "{count}, {fail:?}");
+        let refused = refused_with(alloc, count, &fail, &mut steps)?;
+        if refused.as_slice() != want {
+            return Err(Fail::new(format_args!("{count}, {fail:?}: {refused:?} are refused")));
+        }
     }
     Ok(())
+}
+
+#[test]
+fn batches_are_mapped_once(rt: HostRuntime) -> Result<(), Fail> {
+    map_batches::<Brand>(rt.alloc(), Blank::new(1))
 }

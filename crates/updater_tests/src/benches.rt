@@ -12,13 +12,11 @@ use std::sync::ledger::Ledger;
 use std::test::Fail;
 use test_tools::same_text;
 use tree_groups::Groups;
+use tree_index::{Index, IndexFault};
 use tree_laws::Steps;
-use view_index::Index;
+use tree_updater::{UpdateFault, update};
 use view_ports::FieldServers;
 use view_signature::signature;
-use view_updater::{UpdateFault, update};
-
-const SIG: [u8; 32] = *b"0123456789abcdef0123456789abcdef";
 
 /// Two views, of the members `a` and `b`.
 const DESIGN: &str =
@@ -84,25 +82,13 @@ fn put_rows(alloc: Global, rows: &[Row], text: &mut Vec<u8>) -> Result<(), NoMem
 }
 
 /// The sequence of an index, and the rows of its views.
-fn text_shown(alloc: Global, index: &Index) -> Result<Vec<u8>, NoMemory> {
-    let mut text = Vec::new(alloc);
-    text.extend_from_slice(index.seq().to_string(alloc)?.as_bytes())?;
-    for view in 0..index.views() {
-        if view < MANY {
-            put_rows(alloc, index.rows(view as u32), &mut text)?;
-        }
-    }
-    Ok(text)
-}
-
-/// The sequence of an index over trees, and the rows of its views.
-fn text_of_trees<L: Ledger>(
+fn text_shown<L: Ledger>(
     alloc: Global,
     folder: &mut MemoryFolder,
     cache: &mut NodeCache,
-    index: &tree_index::Index,
+    index: &Index,
     steps: &mut Steps<L>,
-) -> Result<Vec<u8>, tree_index::IndexFault> {
+) -> Result<Vec<u8>, IndexFault> {
     let mut text = Vec::new(alloc);
     text.extend_from_slice(index.seq().to_string(alloc)?.as_bytes())?;
     for view in 0..index.views() {
@@ -140,51 +126,29 @@ impl Bench {
         Ok(docs.info().update_seq)
     }
 
-    /// Opens the documents and the index, and updates it. What it shows then is in `shown`, also where the update is refused.
-    pub fn update(&mut self, alloc: Global, shown: &mut Vec<u8>) -> Result<(), UpdateFault> {
-        let docs = Docs::open(alloc, &mut self.folder)?;
-        let views = self.design.views.len();
-        if views > MANY {
-            return Err(UpdateFault::NoMemory);
-        }
-        let newest = docs.info().update_seq;
-        let mut index = Index::open(alloc, &mut self.folder, SIG, views as u32, newest)?;
-        let done = update(
-            alloc,
-            &mut self.folder,
-            &mut self.servers,
-            &mut self.pool,
-            &docs,
-            &self.design,
-            &mut index,
-        );
-        *shown = text_shown(alloc, &index)?;
-        done
-    }
-
-    /// Opens the documents and an index over trees, and updates it. What it shows then is in `shown`, also where the servers' fault
-    /// refuses the update, which is answered.
-    pub fn update_trees<L: Ledger>(
+    /// Opens the documents and the index of the design, and updates it. What it shows then is in `shown`, also where the query servers
+    /// refuse the update.
+    pub fn update<L: Ledger>(
         &mut self,
         alloc: Global,
         cache: &mut NodeCache,
         steps: &mut Steps<L>,
         shown: &mut Vec<u8>,
-    ) -> Result<bool, Fail> {
-        let docs = Docs::open(alloc, &mut self.folder)?;
+    ) -> Result<(), UpdateFault> {
+        let docs = match Docs::open(alloc, &mut self.folder) {
+            Ok(docs) => docs,
+            Err(fault) => return Err(UpdateFault::from(MappingFault::from(fault))),
+        };
+        let Ok(sig) = self.signature(alloc) else {
+            return Err(UpdateFault::NoMemory);
+        };
         let views = self.design.views.len();
         if views > MANY {
-            return Err(Fail::from(NoMemory));
+            return Err(UpdateFault::NoMemory);
         }
         let newest = docs.info().update_seq;
-        let mut index = tree_index::Index::open(
-            alloc,
-            &mut self.folder,
-            SIG,
-            views as u32,
-            newest,
-        )?;
-        let done = tree_updater::update(
+        let mut index = Index::open(alloc, &mut self.folder, sig, views as u32, newest)?;
+        let done = update(
             alloc,
             &mut self.folder,
             cache,
@@ -195,12 +159,8 @@ impl Bench {
             &mut index,
             steps,
         );
-        *shown = text_of_trees(alloc, &mut self.folder, cache, &index, steps)?;
-        match done {
-            Ok(()) => Ok(false),
-            Err(tree_updater::UpdateFault::Pool(PoolFault::ServerFault)) => Ok(true),
-            Err(fault) => Err(Fail::from(fault)),
-        }
+        *shown = text_shown(alloc, &mut self.folder, cache, &index, steps)?;
+        done
     }
 
     /// The signature of the design.
@@ -231,7 +191,7 @@ impl Bench {
             steps,
         )?;
         let index = groups.index(place);
-        Ok(text_of_trees(alloc, &mut self.folder, cache, index, steps)?)
+        Ok(text_shown(alloc, &mut self.folder, cache, index, steps)?)
     }
 
     /// What the index of the design shows as it is opened.
@@ -248,7 +208,7 @@ impl Bench {
         let mut groups = Groups::new(alloc);
         let place = groups.open(alloc, &mut self.folder, &docs, &self.design)?;
         let index = groups.index(place);
-        Ok(text_of_trees(alloc, &mut self.folder, cache, index, steps)?)
+        Ok(text_shown(alloc, &mut self.folder, cache, index, steps)?)
     }
 
     /// Removes the indexes of all signatures but these.
@@ -280,15 +240,18 @@ impl Bench {
     }
 }
 
-/// Whether the servers' fault refuses an update. Then the index shows what it did before, and a further update isn't refused.
-pub fn is_refused(
+/// Updates the index, and answers whether the servers' fault refuses that. Then it shows what it did before, and a further update isn't
+/// refused.
+pub fn is_refused<L: Ledger>(
     alloc: Global,
     bench: &mut Bench,
-    before: &str,
-    after: &str,
+    cache: &mut NodeCache,
+    steps: &mut Steps<L>,
+    texts: [&str; 2],
 ) -> Result<bool, Fail> {
+    let [before, after] = texts;
     let mut shown = Vec::new(alloc);
-    let refused = match bench.update(alloc, &mut shown) {
+    let refused = match bench.update(alloc, cache, steps, &mut shown) {
         Ok(()) => false,
         Err(UpdateFault::Pool(PoolFault::ServerFault)) => true,
         Err(fault) => return Err(Fail::from(fault)),
@@ -296,7 +259,7 @@ pub fn is_refused(
     if refused {
         same_text(Ok(String::from_utf8(shown)?), before, "refused")?;
         shown = Vec::new(alloc);
-        bench.update(alloc, &mut shown)?;
+        bench.update(alloc, cache, steps, &mut shown)?;
     }
     same_text(Ok(String::from_utf8(shown)?), after, "updated")?;
     Ok(refused)

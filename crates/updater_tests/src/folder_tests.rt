@@ -1,17 +1,20 @@
-//! Updates that meet a failing call of the folder, and those that come after a stop.
+//! Updates that meet a failing call of the folder.
 
-ghost use Rattle.std.specs.Prelude.{◌<◌};
-ghost use Rattle.crash_disk.specs.State.{calls_told, told};
+ghost use Rattle.std.specs.Prelude.{◌≡◌, ◌<◌};
 
 use crate::benches::Bench;
 use crate::scripts::{TURNS, put_next, shown_behind};
 use crash_disk::MemoryFolder;
 use gate_file::GateFault;
+use node_file::NodeCache;
 use std::alloc::Global;
+use std::marker::Brand;
+use std::sync::ledger::{Blank, Ledger};
 use std::test::Fail;
 use test_tools::same_text;
-use view_index::IndexFault;
-use view_updater::UpdateFault;
+use tree_index::IndexFault;
+use tree_laws::Steps;
+use tree_updater::UpdateFault;
 
 /// Where a failing call was met.
 #[derive(Clone, Copy, PartialEq, Eq)]
@@ -30,15 +33,21 @@ fn is_disk_fault(fault: &UpdateFault) -> bool {
 }
 
 /// Updates the index, and where a call on the folder fails, once more. What it shows then is what is behind so many writes.
-fn update_to(alloc: Global, bench: &mut Bench, count: usize) -> Result<Met, Fail> {
+fn update_to<L: Ledger>(
+    alloc: Global,
+    bench: &mut Bench,
+    cache: &mut NodeCache,
+    steps: &mut Steps<L>,
+    count: usize,
+) -> Result<Met, Fail> {
     let mut shown = Vec::new(alloc);
     let mut met = Met::Nowhere;
-    if let Err(fault) = bench.update(alloc, &mut shown) {
+    if let Err(fault) = bench.update(alloc, cache, steps, &mut shown) {
         if !is_disk_fault(&fault) {
             return Err(Fail::from(fault));
         }
         met = Met::Updating;
-        bench.update(alloc, &mut shown)?;
+        bench.update(alloc, cache, steps, &mut shown)?;
     }
     same_text(
         Ok(String::from_utf8(shown)?),
@@ -48,15 +57,18 @@ fn update_to(alloc: Global, bench: &mut Bench, count: usize) -> Result<Met, Fail
     Ok(met)
 }
 
-/// Plays the turns up to the one that meets a failing call.
-fn play(alloc: Global, bench: &mut Bench) -> Result<Met, Fail> {
+/// Plays the turns up to the one that meets the failing call, which has this number.
+fn play<L: Ledger>(alloc: Global, call: u64, steps: &mut Steps<L>) -> Result<Met, Fail> {
+    let folder = MemoryFolder::new(alloc, Vec::from_slice(alloc, &[call])?, false)?;
+    let mut bench = Bench::new(alloc, folder, &[])?;
+    let mut cache = NodeCache::new(alloc, 16)?;
     let mut before = 0_usize;
     for count in TURNS {
-        if put_next(alloc, bench, before, count).is_err() {
+        if put_next(alloc, &mut bench, before, count).is_err() {
             return Ok(Met::Writing);
         }
         before = before.saturating_add(count);
-        let met = update_to(alloc, bench, before)?;
+        let met = update_to(alloc, &mut bench, &mut cache, steps, before)?;
         if met == Met::Updating {
             return Ok(met);
         }
@@ -64,50 +76,27 @@ fn play(alloc: Global, bench: &mut Bench) -> Result<Met, Fail> {
     Ok(Met::Nowhere)
 }
 
-#[test]
-fn an_update_that_met_a_failing_call_is_made_good(rt: HostRuntime) -> Result<(), Fail> {
-    let alloc = rt.alloc();
+/// How many calls of updates there are. Each fails once.
+fn fail_in_turn<L: Ledger>(alloc: Global, blank: Blank) -> Result<u64, Fail>
+    requires name { blank.name ≡ L.name }
+    requires parts { blank.parts ≡ L.parts }
+    requires some { 0 < L.parts }
+{
+    let mut steps = Steps::<L>::new(blank);
     let mut updates = 0_u64;
     for call in 0..u64::MAX {
-        let folder = MemoryFolder::new(alloc, Vec::from_slice(alloc, &[call])?, false)?;
-        let mut bench = Bench::new(alloc, folder, &[])?;
-        match play(alloc, &mut bench)? {
+        match play(alloc, call, &mut steps)? {
             Met::Nowhere => break,
             Met::Writing => {}
             Met::Updating => updates = updates.saturating_add(1),
         }
     }
-    assert!(rt; updates > 100, "{updates}");
-    Ok(())
+    Ok(updates)
 }
 
-/// How many choices of what a stop leaves are tried in each call: nothing that wasn't synced, all of it, 255 in each place that was
-/// written, and mixtures.
-const CHOICES: u64 = 12;
-
-/// An update behind a stop within a call shows what the documents have that are left.
-fn update_behind(alloc: Global, whole: &MemoryFolder, call: u64, choice: u64) -> Result<(), Fail>
-    requires { call < calls_told (told whole.now) }
-{
-    let image = whole.image_at(alloc, call, choice)?;
-    let mut bench = Bench::new(alloc, image, &[])?;
-    let count = bench.written(alloc)?;
-    update_to(alloc, &mut bench, count as usize)?;
-    Ok(())
-}
-
-/// A stop within each call of the script.
 #[test]
-fn a_stop_leaves_what_can_be_updated(rt: HostRuntime) -> Result<(), Fail> {
-    let alloc = rt.alloc();
-    let folder = MemoryFolder::new(alloc, Vec::new(alloc), true)?;
-    let mut bench = Bench::new(alloc, folder, &[])?;
-    let met = play(alloc, &mut bench)?;
-    assert!(rt; met == Met::Nowhere);
-    for call in 0..bench.folder.calls_noted() {
-        for choice in 0..CHOICES {
-            update_behind(alloc, &bench.folder, call, choice)?;
-        }
-    }
+fn an_update_that_met_a_failing_call_is_made_good(rt: HostRuntime) -> Result<(), Fail> {
+    let updates = fail_in_turn::<Brand>(rt.alloc(), Blank::new(1))?;
+    assert!(rt; updates > 100, "{updates}");
     Ok(())
 }

@@ -1,4 +1,4 @@
-//! The indexes over trees of a database, brought up to date and removed.
+//! The indexes of a database, brought up to date and removed.
 
 ghost use Rattle.std.specs.Prelude.{◌≡◌, ◌<◌};
 

@@ -1,4 +1,4 @@
-//! Tests of the public calls of the crates `view_updater`, `change_mapper`, `tree_updater` and `tree_groups`; nothing else.
+//! Tests of the public calls of the crates `change_mapper`, `tree_updater` and `tree_groups`; nothing else.
 #![tactic(auto)]
 
 #[cfg(test)]
@@ -14,6 +14,6 @@ mod group_tests;
 #[cfg(test)]
 mod scripts;
 #[cfg(test)]
-mod tree_tests;
+mod stop_tests;
 #[cfg(test)]
 mod update_tests;

@@ -60,6 +60,15 @@ pub fn shown_behind(count: usize) -> &'static str {
     }
 }
 
+/// What an index shows that was updated in each of so many turns.
+pub fn shown_after(turns: usize) -> &'static str {
+    let mut writes = 0_usize;
+    for count in TURNS.iter().take(turns) {
+        writes = writes.saturating_add(*count);
+    }
+    shown_behind(writes)
+}
+
 /// Puts the next writes behind so many.
 pub fn put_next(
     alloc: Global,

@@ -1,5 +1,0 @@
-use Rattle.view_groups.proofs.Standing.{files_stand}
-use Rattle.view_groups.proofs.laws.files_stand_for_pictures.Goals as goal
-
-pub returns : goal.returns
-returns c = files_stand

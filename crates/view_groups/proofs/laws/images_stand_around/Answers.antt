@@ -1,5 +1,0 @@
-use Rattle.view_groups.proofs.Standing.{images_stand_around}
-use Rattle.view_groups.proofs.laws.images_stand_around.Goals as goal
-
-pub returns : goal.returns
-returns c = images_stand_around

@@ -1,5 +1,0 @@
-use Rattle.view_groups.proofs.Standing.{images_stand}
-use Rattle.view_groups.proofs.laws.images_stand_for_pictures.Goals as goal
-
-pub returns : goal.returns
-returns c = images_stand

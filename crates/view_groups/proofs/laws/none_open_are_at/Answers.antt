@@ -1,5 +1,0 @@
-use Rattle.view_groups.proofs.Standing.{none_open_are_at}
-use Rattle.view_groups.proofs.laws.none_open_are_at.Goals as goal
-
-pub returns : goal.returns
-returns c = none_open_are_at
