@@ -7,6 +7,7 @@ import json
 import os
 import shutil
 import stat
+import struct
 import subprocess
 import sys
 import threading
@@ -207,6 +208,58 @@ def foreign_files():
                 fail(kind, "it is said %r" % error)
 
 
+# The name of the index of the design below, as docs/FILE_FORMAT.md has it, and the record of an index of an earlier version: it holds
+# the rows themselves. The design's view has two rows, of the documents a and b, each of the key 1 and without a value.
+TAGS = {"_id": "_design/s", "language": "pick", "views": {"tag": {"map": "emit doc.tag, null"}}}
+TAG_INDEX = "e5b78415a03837e6413803f747b1f174"
+KEY = struct.pack("<Bq", 1, 1)
+NAMES = [struct.pack("<I", 1) + name for name in (b"a", b"b")]
+EARLIER_ROWS = [KEY + name + struct.pack("<I", 0) + b"\x03" for name in NAMES]
+EARLIER_BACK = [name + struct.pack("<IH", 1, 0) + KEY + struct.pack("<I", 0) for name in NAMES]
+
+
+def earlier_list(items):
+    return struct.pack("<Q", len(items)) + b"".join(struct.pack("<Q", len(item)) + item for item in items)
+
+
+EARLIER_RECORD = struct.pack("<QH", 3, 1) + earlier_list(EARLIER_ROWS) + earlier_list(EARLIER_BACK)
+
+
+def earlier_index():
+    """The file of an index of an earlier version, of one commit."""
+    slot = (b"CVIEW001" + struct.pack("<QQQ", 1, 8192, len(EARLIER_RECORD))).ljust(64, b"\0") + b"\1"
+    return bytes(4096) + slot.ljust(4096, b"\0") + EARLIER_RECORD
+
+
+def earlier_version():
+    """An index of an earlier version is named and left as it is, and no document is touched; without its files it is built anew."""
+    folder = new_folder("earlier")
+    texts = [TAGS, {"_id": "a", "tag": 1}, {"_id": "b", "tag": 1}]
+    run(folder, b"".join(json.dumps({"put": text}).encode() + b"\n" for text in texts))
+    path = os.path.join(folder, TAG_INDEX + ".0")
+    with open(path, "wb") as file:
+        file.write(earlier_index())
+    before = bytes_of(folder)
+    refusal = b'{"error":"damaged","reason":"%s.0 8192"}\n' % TAG_INDEX.encode()
+    for query in ({}, {"update": False}):
+        view = json.dumps({"view": ["s", "tag"], "query": query}).encode() + b"\n"
+        status, output, _ = run(folder, b'{"get":"a"}\n' + view)
+        want("an index of an earlier version", (status, output.split(b"\n", 1)[1]), (7, refusal))
+        want("a document beside it", json.loads(output.split(b"\n", 1)[0])["tag"], 1)
+        want("an index of an earlier version", bytes_of(folder), before)
+    os.remove(path)
+    status, output, _ = run(folder, view.replace(b'{"update": false}', b"{}"))
+    rows = [row["id"] for row in json.loads(output)["rows"]]
+    want("an index that is built anew", (status, rows), (0, ["a", "b"]))
+    with open(path, "wb") as file:
+        file.write(earlier_index())
+    design = json.loads(run(folder, b'{"get":"_design/s"}\n')[1])["_rev"]
+    status, output, _ = run(folder, json.dumps({"delete": "_design/s", "rev": design}).encode() + b'\n{"cleanup":true}\n')
+    want("a cleanup of an index of an earlier version", (status, output.endswith(b'{"ok":true}\n')), (0, True))
+    left = [name for name, content in bytes_of(folder).items() if content and name.startswith(TAG_INDEX)]
+    want("a cleanup of an index of an earlier version", left, [])
+
+
 def in_the_way():
     """Directories, links and files without rights."""
     folder = new_folder("directory")
@@ -340,6 +393,7 @@ streams()
 without_locks()
 foreign_files()
 damaged_gates()
+earlier_version()
 in_the_way()
 killed_programs()
 stops()

@@ -1,11 +1,10 @@
 -- A line that asks for a view of designs that clash, among the lines of a run.
-use Rattle.std.specs.Prelude.{◌≡◌, ◌⊎◌, ◌++◌, ◌≤◌, ℕ, List, [], ◌∷◌, length, Option, Some, None, Result, Ok}
+use Rattle.std.specs.Prelude.{◌≡◌, ◌≢◌, ◌⊎◌, ◌++◌, ◌≤◌, ℕ, List, [], ◌∷◌, Option, Some, None, Result, Ok}
 use Rattle.std.proofs.Common.{refl, sym, ap, ◌∙◌, subst, inl, inr, arith, append_assoc, append-nil}
 use Rattle.view_ports.specs.Disk.{Disk, IfTold, Tells}
-use Rattle.view_ports.specs.Exchanges.{Exchange, IsPrefixOf, LeadsTo, lines_of}
-use Rattle.view_ports.specs.Functions.{Functions}
-use Rattle.view_ports.specs.Lines.{last_line, IsCut}
-use Rattle.view_ports.specs.Runs.{input_limit, AreLines, HasRead, IsAnswered}
+use Rattle.view_ports.specs.Exchanges.{Exchange, IsPrefixOf, lines_of, text_of}
+use Rattle.view_ports.specs.Lines.{last_line}
+use Rattle.view_ports.specs.Runs.{input_limit, AreFirst, AreLines, HasRead, IsAnswered, IsWritten}
 use Rattle.view_ports.specs.declared.file_name.FileName.{FileName}
 use Rattle.view_ports.specs.declared.run_end.RunEnd.{RunEnd}
 use Rattle.view_ports.specs.declared.run_end.RunEnd.TheVariants.{InputEnded, InputTooLong, OutOfMemory, SinkFailed, SourceFailed}
@@ -13,14 +12,9 @@ use Rattle.view_engine.specs.declared.refusal.Refusal.{Refusal}
 use Rattle.view_engine.specs.declared.request.Request.{Request}
 use Rattle.view_engine.specs.declared.request.Request.TheVariants.{View}
 use Rattle.view_engine.specs.Disks.{IsFitFor, IsView}
-use Rattle.view_engine.specs.Moments.{Moment}
-use Rattle.view_engine.specs.Refusals.{request_of}
 use Rattle.view_engine.specs.Updating.{HasClash}
 use Rattle.view_engine.specs.World.{World}
-use Rattle.view_engine.specs.Worlds.{at_start}
 use Rattle.view_engine.proofs.Fits.{fit_or_clash}
-use Rattle.couchview_cli.specs.Serving.{width, MeetsClash}
-use Rattle.couchview_cli.specs.Session.{Origin, StepsOf}
 
 abbrev Told : Type 0
 Told = Option (Disk FileName)
@@ -78,52 +72,55 @@ read_within SourceFailed count read = omega (arith, read)
 read_within OutOfMemory count read = read
 read_within InputTooLong count read = omega (arith, read)
 
-lines_until : (first : List Exchange) (e : Exchange) (more : List Exchange) → IsPrefixOf (lines_of first ++ e.line ∷ []) (lines_of (first ++ e ∷ more))
+pub lines_until : (first : List Exchange) (e : Exchange) (more : List Exchange) → IsPrefixOf (lines_of first ++ e.line ∷ []) (lines_of (first ++ e ∷ more))
 lines_until [] e more = (lines_of more, refl)
 lines_until (x ∷ first) e more = let rest = lines_until first e more in (rest.0, ap (λ (l : List (List ℕ)). x.line ∷ l) rest.1)
 
--- ---- lines that were answered
+-- ---- what was written
 
-module _ (functions : List ℕ → Functions) (honest : List ℕ → Type 0) (origin : Origin) where
-  -- some first ones of them were answered, and then one asks for a view of designs that clash
-  pub record HasMet (before : Moment) (es : List Exchange) : Type 0 where
-    pub first : List Exchange
-    pub e : Exchange
-    pub more : List Exchange
-    pub is : es ≡ first ++ e ∷ more
-    pub moment : Moment
-    pub leads : LeadsTo (StepsOf functions honest origin) before first moment
-    pub on : IsClashOn origin.disk (request_of e.line) moment.world
+pub text_until : (first : List Exchange) (e : Exchange) (more : List Exchange) → IsPrefixOf (text_of first) (text_of (first ++ e ∷ more))
+text_until [] e more = (text_of (e ∷ more), refl)
+text_until (x ∷ first) e more =
+    let rest = text_until first e more in
+    (rest.0, ap (λ (l : List ℕ). x.text ++ l) rest.1 ∙ sym (append_assoc x.text (text_of first) rest.0))
 
-  pub met_now : (before : Moment) (e : Exchange) (es : List Exchange) → IsClashOn origin.disk (request_of e.line) before.world → HasMet before (e ∷ es)
-  met_now before e es on = record { first = []; e = e; more = es; is = refl; moment = before; leads = refl; on = on }
+-- of two first parts of one text the one is a first part of the other
+comparable : (a b text : List ℕ) → IsPrefixOf a text → IsPrefixOf b text → IsPrefixOf a b ⊎ IsPrefixOf b a
+comparable [] b text one other = inl (b, refl)
+comparable (x ∷ a) [] text one other = inr (x ∷ a, refl)
+comparable (x ∷ a) (y ∷ b) [] one other = let clash : [] ≡ x ∷ (a ++ one.0) = one.1 in let no : ⊥ = cc in absurd no
+comparable (x ∷ a) (y ∷ b) (z ∷ text) one other =
+    let first : z ∷ text ≡ x ∷ (a ++ one.0) = one.1 in
+    let second : z ∷ text ≡ y ∷ (b ++ other.0) = other.1 in
+    let heads : x ≡ y = cc in
+    let mine : text ≡ a ++ one.0 = cc in
+    let others : text ≡ b ++ other.0 = cc in
+    elim (comparable a b text (one.0, mine) (other.0, others)) [
+      | inl is ↦ inl (is.0, ap (λ (n : ℕ). n ∷ b) (sym heads) ∙ ap (λ (l : List ℕ). x ∷ l) is.1)
+      | inr is ↦ inr (is.0, ap (λ (n : ℕ). n ∷ a) heads ∙ ap (λ (l : List ℕ). y ∷ l) is.1)
+    ]
 
-  pub met_later : (before : Moment) (e : Exchange) (es : List Exchange) (after : Moment) → StepsOf functions honest origin before e after → HasMet after es → HasMet before (e ∷ es)
-  met_later before e es after step met = record {
-    first = e ∷ met.first;
-    e = met.e;
-    more = met.more;
-    is = ap (λ (l : List Exchange). e ∷ l) met.is;
-    moment = met.moment;
-    leads = (after, step, met.leads);
-    on = met.on;
-  }
+-- what a run wrote begins with a first part of the text of its replies, unless the sink failed in that
+pub begins_with : (end : RunEnd) (front text gained : List ℕ) → IsPrefixOf front text → IsWritten end text gained → IsPrefixOf front gained ⊎ ((end ≡ SinkFailed) × IsPrefixOf gained front)
+begins_with InputEnded front text gained part is = inl (part.0, is ∙ part.1)
+begins_with SinkFailed front text gained part is = elim (comparable front gained text part is) [
+  | inl begins ↦ inl begins
+  | inr failed ↦ inr (refl, failed)
+]
+begins_with SourceFailed front text gained part is = inl (part.0, is ∙ part.1)
+begins_with OutOfMemory front text gained part is = inl (part.0, is ∙ part.1)
+begins_with InputTooLong front text gained part is = inl (part.0, is ∙ part.1)
 
-  -- so does the run over the bytes of which they are first lines
-  pub meets : (es : List Exchange) (bytes : List ℕ) (lines : List (List ℕ)) (rest : List ℕ) → IsCut bytes lines rest → IsPrefixOf (lines_of es) (lines ++ last_line rest) → HasMet (at_start origin.opening width origin.faults) es
-      → MeetsClash functions honest origin.languages origin.opening origin.disk origin.faults bytes
-  meets es bytes lines rest cut first met = record {
-    told = met.on.told;
-    is_told = met.on.is_told;
-    exchanges = met.first;
-    lines = lines;
-    rest = rest;
-    line = (met.e).line;
-    moment = met.moment;
-    cut = cut;
-    first = prefix_then (lines_of met.first ++ (met.e).line ∷ []) (lines_of es) (lines ++ last_line rest)
-        (subst (λ (l : List Exchange). IsPrefixOf (lines_of met.first ++ (met.e).line ∷ []) (lines_of l)) (sym met.is) (lines_until met.first met.e met.more)) first;
-    leads = met.leads;
-    asks = met.on.asks;
-    clash = met.on.clash;
-  }
+-- what is written behind it changes nothing of that
+pub longer : (front gained more : List ℕ) → IsPrefixOf front gained → IsPrefixOf front (gained ++ more)
+longer front gained more part = (part.0 ++ more, ap (λ (l : List ℕ). l ++ more) part.1 ∙ append_assoc front part.0 more)
+
+-- ---- which lines were answered
+
+-- unless the input ended, a first part of what was answered is one of the lines that ended, or the input did
+pub first_unless_ended : (IsOver : Type 0) (end : RunEnd) (lines : List (List ℕ)) (rest : List ℕ) (answered front : List (List ℕ)) → IsAnswered IsOver end lines rest answered → IsPrefixOf front answered → end ≢ InputEnded → AreFirst IsOver lines rest front
+first_unless_ended IsOver InputEnded lines rest answered front is part never = absurd (never refl)
+first_unless_ended IsOver SinkFailed lines rest answered front is part never = (is.0, is.1, prefix_then front answered is.0 part is.2)
+first_unless_ended IsOver SourceFailed lines rest answered front is part never = (lines, inl refl, subst (λ (l : List (List ℕ)). IsPrefixOf front l) is part)
+first_unless_ended IsOver OutOfMemory lines rest answered front is part never = (is.0, is.1, prefix_then front answered is.0 part is.2)
+first_unless_ended IsOver InputTooLong lines rest answered front is part never = (lines, inl refl, subst (λ (l : List (List ℕ)). IsPrefixOf front l) is part)

@@ -1,10 +1,11 @@
 -- A session goes on by the lines that it answers, and comes to an end.
 use Rattle.std.specs.Prelude.{◌≡◌, ◌≢◌, ◌⊎◌, ◌+◌, ◌++◌, ◌*◌, ℕ, List, [], ◌∷◌, true, cond, Option, Result}
-use Rattle.std.proofs.Common.{refl, sym, ap, ◌∙◌, subst, inl, inr, arith}
+use Rattle.std.proofs.Common.{refl, sym, ap, ◌∙◌, subst, inl, inr, arith, append-nil}
 use Rattle.view_ports.specs.declared.folder.Folder.{Ghosts as Folders}
 use Rattle.view_ports.specs.declared.servers.Servers.{Ghosts as Servers}
 use Rattle.view_ports.specs.Disk.{IfTold, LeavesOnly, MovesNone, Tells}
-use Rattle.view_ports.specs.Exchanges.{Exchange, LeadsTo, lines_of}
+use Rattle.view_ports.specs.Exchanges.{Exchange, IsPrefixOf, LeadsTo, lines_of, text_of}
+use Rattle.view_ports.specs.Lines.{last_line, IsCut}
 use Rattle.view_ports.specs.Faults.{Rose, RoseBy}
 use Rattle.view_ports.proofs.Counting.{Rose-earlier}
 use Rattle.view_ports.proofs.Moments.{joined, started}
@@ -41,11 +42,11 @@ use Rattle.couchview_cli.specs.declared.session.Session.{Session}
 use Rattle.couchview_cli.specs.Ends.{Comes}
 use Rattle.couchview_cli.specs.Reading.{says_written, writes_in, ComesTo, HasReplied, IsOpenAt, MovesOwn, NoneChanges, NoneOnIndexes, Replies, Told}
 use Rattle.couchview_cli.specs.Replied.{IsReplied}
-use Rattle.couchview_cli.specs.Serving.{width, HadRoom}
+use Rattle.couchview_cli.specs.Serving.{width, HadRoom, MeetsClash}
 use Rattle.couchview_cli.specs.Session.{HasCome, IsAnswered, IsUnanswered, KeepsPorts, Origin, StepsOf, scene_of}
 use Rattle.couchview_cli.proofs.Counting.{writes_more}
 use Rattle.couchview_cli.proofs.Keeping.{Answered-of}
-use Rattle.couchview_cli.proofs.Clashing.{first_of_lines, first_of_run, fit_or_met, meets, met_later, met_now, on_origin, one_of, prefix_then, HasMet}
+use Rattle.couchview_cli.proofs.Clashing.{begins_with, first_of_lines, first_of_run, first_unless_ended, fit_or_met, lines_until, on_origin, one_of, prefix_then, text_until, IsClashOn}
 use Rattle.couchview_cli.proofs.Moving.{GoesSoundly, moved_line, moved_start, told_first, went_before, went_nowhere, WentOn}
 
 module _ {F C : Type 0} (f : Folders F) (s : Servers C) (origin : Origin) where
@@ -132,12 +133,84 @@ module _ {F C : Type 0} (f : Folders F) (s : Servers C) (origin : Origin) where
             (gone.step).1 rest.fits;
       }
 
+  -- ---- a line that asks for a view of designs that clash
+
+  -- some first ones of these lines were answered, and then one asks for such a view
+  pub record HasMet (start last : Scene F C) (before : Moment) (es : List Exchange) : Type 0 where
+    pub first : List Exchange
+    pub e : Exchange
+    pub more : List Exchange
+    pub is : es ≡ first ++ e ∷ more
+    pub mid : Scene F C
+    pub run : HasRun start mid before first
+    pub on : IsClashOn origin.disk (request_of e.line) (run.after).world
+    pub since : ComesTo (f.disk mid.folder) (f.disk last.folder)
+
+  pub met_now : (start last : Scene F C) (before : Moment) (e : Exchange) (es : List Exchange) → HasCome f s origin start before → IsClashOn origin.disk (request_of e.line) before.world → ComesTo (f.disk start.folder) (f.disk last.folder)
+      → HasMet start last before (e ∷ es)
+  unfolding run_none
+  met_now start last before e es come on since = record { first = []; e = e; more = es; is = refl; mid = start; run = run_none start before come; on = on; since = since }
+
+  pub met_later : (start mid last : Scene F C) (before : Moment) (e : Exchange) (es : List Exchange) → HasCome f s origin start before → IsAnswered f s start mid e.line e.text
+      → (gone : HasGone start mid before e) → HasMet mid last gone.after es → HasMet start last before (e ∷ es)
+  unfolding run_line
+  met_later start mid last before e es come answered gone met = record {
+    first = e ∷ met.first;
+    e = met.e;
+    more = met.more;
+    is = ap (λ (l : List Exchange). e ∷ l) met.is;
+    mid = met.mid;
+    run = run_line start mid met.mid before e met.first come answered gone met.run;
+    on = met.on;
+    since = met.since;
+  }
+
+  module _ (start last : Scene F C) (es : List Exchange) (met : HasMet start last (at_start origin.opening width origin.faults) es) where
+    -- these lines and the one behind them are a first part of all
+    pub lines_met : IsPrefixOf (lines_of met.first ++ (met.e).line ∷ []) (lines_of es)
+    lines_met = subst (λ (l : List Exchange). IsPrefixOf (lines_of met.first ++ (met.e).line ∷ []) (lines_of l)) (sym met.is) (lines_until met.first met.e met.more)
+
+    -- and their replies one of what was answered
+    pub text_met : IsPrefixOf (text_of met.first) (text_of es)
+    text_met = subst (λ (l : List Exchange). IsPrefixOf (text_of met.first) (text_of l)) (sym met.is) (text_until met.first met.e met.more)
+
+    pub meets : (bytes : List ℕ) (lines : List (List ℕ)) (rest : List ℕ) → IsCut bytes lines rest → IsPrefixOf (lines_of es) (lines ++ last_line rest)
+        → MeetsClash s.functions s.honest origin.languages origin.opening origin.disk origin.faults bytes
+    meets bytes lines rest cut first =
+        let come = (met.run).come in
+        record {
+          told = met.on.told;
+          is_told = met.on.is_told;
+          exchanges = met.first;
+          lines = lines;
+          rest = rest;
+          line = (met.e).line;
+          moment = (met.run).after;
+          cut = cut;
+          first = prefix_then (lines_of met.first ++ (met.e).line ∷ []) (lines_of es) (lines ++ last_line rest) lines_met first;
+          leads = (met.run).leads;
+          asks = met.on.asks;
+          clash = met.on.clash;
+          mid = f.disk (met.mid).folder;
+          until = come.moved.moments;
+          holds = holds_at (f.disk (met.mid).folder) (s.may_follow (met.mid).servers) (s.faults (met.mid).servers) (met.mid).engine (met.run).after come.stands;
+          fits = (met.run).fits;
+        }
+
 module _ {F C : Type 0} (f : Folders F) (s : Servers C) (r : Responds (Session F C) StepFault)
     (answers : (old new : Session F C) (line : List ℕ) → r.answers old line new → KeepsPorts old new × IsAnswered f s (scene_of old) (scene_of new) line (r.text new))
     (stops : (old new : Session F C) (line : List ℕ) (fault : StepFault) → r.stops old line fault new → KeepsPorts old new × IsUnanswered f s (scene_of old) (scene_of new) line fault) where
+  -- the disk comes behind the one before, line by line
+  on_lines : (start now : Session F C) (es : List Exchange) → LeadsTo (Steps r) start es now → ComesTo (f.disk start.folder.now) (f.disk now.folder.now)
+  on_lines start now [] leads = subst (λ (session : Session F C). ComesTo (f.disk start.folder.now) (f.disk session.folder.now)) (sym leads)
+      (told_refl (f.disk start.folder.now) (LeavesOnly (λ image. Unit {0})) (λ d. started (λ image. Unit {0}) d (λ image is. tt)))
+  on_lines start now (e ∷ es) leads =
+      told_then (f.disk start.folder.now) (f.disk (leads.0).folder.now) (f.disk now.folder.now) (LeavesOnly (λ image. Unit {0})) (LeavesOnly (λ image. Unit {0})) (LeavesOnly (λ image. Unit {0}))
+      (λ a b c early late. joined (λ image. Unit {0}) a b c early late) ((answers start leads.0 e.line leads.1.0).1).on (on_lines leads.0 now es leads.2)
+
   -- lines that were answered lead on, or one of them asks for a view of designs that clash
   runs : (origin : Origin) (start last : Session F C) (before : Moment) (es : List Exchange) → HasCome f s origin (scene_of start) before → LeadsTo (Steps r) start es last
-      → HasRun f s origin (scene_of start) (scene_of last) before es ⊎ HasMet s.functions s.honest origin before es
+      → HasRun f s origin (scene_of start) (scene_of last) before es ⊎ HasMet f s origin (scene_of start) (scene_of last) before es
   runs origin start last before [] come leads =
       inl (subst (λ (session : Session F C). HasRun f s origin (scene_of start) (scene_of session) before []) (sym leads) (run_none f s origin (scene_of start) before come))
   runs origin start last before (e ∷ es) come leads =
@@ -149,14 +222,16 @@ module _ {F C : Type 0} (f : Folders F) (s : Servers C) (r : Responds (Session F
             (let gone = come_line f s origin (scene_of start) (scene_of mid) before e come fit answered in
             elim (runs origin mid last gone.after es gone.come leads.2) [
               | inl rest ↦ inl (run_line f s origin (scene_of start) (scene_of mid) (scene_of last) before e es come answered gone rest)
-              | inr met ↦ inr (met_later s.functions s.honest origin before e es gone.after gone.step met)
+              | inr met ↦ inr (met_later f s origin (scene_of start) (scene_of mid) (scene_of last) before e es come answered gone met)
             ])
-        | inr clash ↦ inr (met_now s.functions s.honest origin before e es (on_origin _ origin.disk (f.disk start.folder.now) (request_of e.line) before.world come.moved.moments clash))
+        | inr clash ↦ inr (met_now f s origin (scene_of start) (scene_of last) before e es come (on_origin _ origin.disk (f.disk start.folder.now) (request_of e.line) before.world come.moved.moments clash)
+            (on_lines start last (e ∷ es) leads))
       ]
 
   -- what the loop over its lines did, from the origin
   pub comes : (origin : Origin) (start last : Session F C) (left left' held held' : Option (List ℕ)) (end : LoopEnd StepFault) → HasCome f s origin (scene_of start) (at_start origin.opening width origin.faults)
       → Loops r start last left left' held held' end → Comes f s origin (scene_of last) left left' held held' end
+  unfolding meets
   comes origin start last left left' held held' (loop_end.Run end) come loops =
       let run = loops.ends.run in
       record {
@@ -172,7 +247,17 @@ module _ {F C : Type 0} (f : Folders F) (s : Servers C) (r : Responds (Session F
             fits = ran.fits;
             wrote = loops.ends.wrote;
           })
-          | inr met ↦ inr (meets s.functions s.honest origin run.exchanges loops.bytes run.lines run.rest run.cut (first_of_run _ end run.lines run.rest (lines_of run.exchanges) run.answered) met)
+          | inr met ↦ inr (record {
+            gained = loops.ends.gained;
+            wrote = loops.ends.wrote;
+            meets = meets f s origin (scene_of start) (scene_of last) run.exchanges met loops.bytes run.lines run.rest run.cut (first_of_run _ end run.lines run.rest (lines_of run.exchanges) run.answered);
+            replies = elim (begins_with end (text_of met.first) (text_of run.exchanges) loops.ends.gained (text_met f s origin (scene_of start) (scene_of last) run.exchanges met) run.written) [
+              | inl begins ↦ inl begins
+              | inr failed ↦ inr (ap loop_end.Run failed.0, failed.1)
+            ];
+            whole = λ never. first_unless_ended _ end run.lines run.rest (lines_of run.exchanges) _ run.answered (lines_met f s origin (scene_of start) (scene_of last) run.exchanges met) (λ ended. never (ap loop_end.Run ended));
+            since = met.since;
+          })
         ];
       }
   comes origin start last left left' held held' (loop_end.Stopped fault) come loops =
@@ -204,21 +289,44 @@ module _ {F C : Type 0} (f : Folders F) (s : Servers C) (r : Responds (Session F
             | inr clash ↦
                 (let on = on_origin _ origin.disk (f.disk cut.mid.folder.now) (request_of cut.line) (ran.after).world ran.come.moved.moments clash in
                 inr (record {
-                  told = on.told;
-                  is_told = on.is_told;
-                  exchanges = cut.exchanges;
-                  lines = cut.lines;
-                  rest = cut.rest;
-                  line = cut.line;
-                  moment = ran.after;
-                  cut = cut.cut;
-                  first = prefix_then (lines_of cut.exchanges ++ cut.line ∷ []) (lines_of cut.exchanges ++ cut.line ∷ cut.more) _ (one_of (lines_of cut.exchanges) cut.line cut.more) all;
-                  leads = ran.leads;
-                  asks = on.asks;
-                  clash = on.clash;
+                  gained = text_of cut.exchanges;
+                  wrote = cut.wrote;
+                  meets = record {
+                    told = on.told;
+                    is_told = on.is_told;
+                    exchanges = cut.exchanges;
+                    lines = cut.lines;
+                    rest = cut.rest;
+                    line = cut.line;
+                    moment = ran.after;
+                    cut = cut.cut;
+                    first = prefix_then (lines_of cut.exchanges ++ cut.line ∷ []) (lines_of cut.exchanges ++ cut.line ∷ cut.more) _ (one_of (lines_of cut.exchanges) cut.line cut.more) all;
+                    leads = ran.leads;
+                    asks = on.asks;
+                    clash = on.clash;
+                    mid = f.disk cut.mid.folder.now;
+                    until = ran.come.moved.moments;
+                    holds = holds_at (f.disk cut.mid.folder.now) (s.may_follow cut.mid.servers.now) (s.faults cut.mid.servers.now) cut.mid.engine.now ran.after ran.come.stands;
+                    fits = ran.fits;
+                  };
+                  replies = inl ([], sym (append-nil (text_of cut.exchanges)));
+                  whole = λ never. (lines_of cut.exchanges ++ cut.line ∷ cut.more, cut.answered, one_of (lines_of cut.exchanges) cut.line cut.more);
+                  since = (stops cut.mid last cut.line fault cut.stops).1.on;
                 }))
           ]
-          | inr met ↦ inr (meets s.functions s.honest origin cut.exchanges loops.bytes cut.lines cut.rest cut.cut (prefix_then (lines_of cut.exchanges) (lines_of cut.exchanges ++ cut.line ∷ cut.more) _ (cut.line ∷ cut.more, refl) all) met)
+          | inr met ↦ inr (record {
+            gained = text_of cut.exchanges;
+            wrote = cut.wrote;
+            meets = meets f s origin (scene_of start) (scene_of cut.mid) cut.exchanges met loops.bytes cut.lines cut.rest cut.cut (prefix_then (lines_of cut.exchanges) (lines_of cut.exchanges ++ cut.line ∷ cut.more) _ (cut.line ∷ cut.more, refl) all);
+            replies = inl (text_met f s origin (scene_of start) (scene_of cut.mid) cut.exchanges met);
+            whole = λ never. (
+              lines_of cut.exchanges ++ cut.line ∷ cut.more,
+              cut.answered,
+              prefix_then _ (lines_of cut.exchanges) (lines_of cut.exchanges ++ cut.line ∷ cut.more) (lines_met f s origin (scene_of start) (scene_of cut.mid) cut.exchanges met) (cut.line ∷ cut.more, refl),
+            );
+            since = told_then (f.disk (met.mid).folder) (f.disk cut.mid.folder.now) (f.disk last.folder.now) (LeavesOnly (λ image. Unit {0})) (LeavesOnly (λ image. Unit {0})) (LeavesOnly (λ image. Unit {0}))
+                (λ a b c early late. joined (λ image. Unit {0}) a b c early late) met.since (stops cut.mid last cut.line fault cut.stops).1.on;
+          })
         ];
       }
 
@@ -241,14 +349,6 @@ module _ {F C : Type 0} (f : Folders F) (s : Servers C) (r : Responds (Session F
       (λ a b c early late. moves_then IsDocsFile (λ image. Unit {0}) (λ image. Unit {0}) (λ image. Unit {0}) (λ files. Unit {0}) (λ files. Unit {0}) (λ files. Unit {0}) a b c
       (λ image is. tt) (λ ended image is. tt) (λ first_ended second_ended. tt) early late)
       (((answers start leads.0 e.line leads.1.0).1).own none.0) (own leads.0 now es leads.2 none.1)
-
-  -- the disk comes behind the one before, line by line
-  on_lines : (start now : Session F C) (es : List Exchange) → LeadsTo (Steps r) start es now → ComesTo (f.disk start.folder.now) (f.disk now.folder.now)
-  on_lines start now [] leads = subst (λ (session : Session F C). ComesTo (f.disk start.folder.now) (f.disk session.folder.now)) (sym leads)
-      (told_refl (f.disk start.folder.now) (LeavesOnly (λ image. Unit {0})) (λ d. started (λ image. Unit {0}) d (λ image is. tt)))
-  on_lines start now (e ∷ es) leads =
-      told_then (f.disk start.folder.now) (f.disk (leads.0).folder.now) (f.disk now.folder.now) (LeavesOnly (λ image. Unit {0})) (LeavesOnly (λ image. Unit {0})) (LeavesOnly (λ image. Unit {0}))
-      (λ a b c early late. joined (λ image. Unit {0}) a b c early late) ((answers start leads.0 e.line leads.1.0).1).on (on_lines leads.0 now es leads.2)
 
   -- the count of the query servers' faults rises by two for each line that is answered `server_fault`
   twice : (start now : Session F C) (es : List Exchange) → LeadsTo (Steps r) start es now → RoseBy (2 * server_faults es) (s.faults start.servers.now) (s.faults now.servers.now)

@@ -14,7 +14,7 @@ use Rattle.view_ports.specs.Disk.{IfTold, LeavesOnly, Tells}
 use Rattle.view_ports.specs.declared.file_name.FileName.{FileName}
 use Rattle.view_ports.proofs.Told.{told_now}
 use Rattle.view_engine.specs.declared.halt.StepFault.{StepFault}
-use Rattle.view_engine.specs.declared.halt.StepFault.TheVariants.{Damaged, DiskFault, Full}
+use Rattle.view_engine.specs.declared.halt.StepFault.TheVariants.{DiskFault, Full}
 use Rattle.view_engine.specs.World.{World}
 use Rattle.view_engine.specs.Worlds.{update_seq, HasBodyDamage, HasRoomAt, IsFullAt, IsFullIn, StandsAround}
 use Rattle.view_ports.specs.declared.folder.Folder.{Ghosts as Folders}
@@ -22,7 +22,7 @@ use Rattle.view_ports.specs.declared.servers.Servers.{Ghosts as Servers}
 use Rattle.view_engine.specs.Accepted.{is_ok}
 use Rattle.view_engine.specs.Calls.{Scene}
 use Rattle.view_engine.proofs.RequestLimit.{Answers-cut, request_limit-is, request_of-long}
-use Rattle.view_engine.specs.Disks.{ChangesFiles, IsFitFor, IsOfIndex, IsOnIndexes, IsView, MeetsIndexDamageIn, ReadsDocuments}
+use Rattle.view_engine.specs.Disks.{ChangesFiles, IsFitFor, IsOfIndex, IsOfSomeIndex, IsOnIndexes, IsView, MeetsFullIndexIn, MeetsIndexDamageIn, ReadsDocuments}
 use Rattle.view_engine.specs.FullIndex.{IsIndexFullOf}
 use Rattle.view_engine.specs.Halts.{Writes}
 use Rattle.view_engine.specs.ServerFaults.{says_server_fault}
@@ -78,7 +78,7 @@ module _ {functions : List ℕ → Functions} {honest : List ℕ → Type 0} {la
   IsHalted-kept line halted = record {
     moments = subst (λ r. Tells old new (LeavesOnly (StandsAround functions honest languages before.world r))) (request_kept line) halted.moments;
     whole = halted.whole;
-    full = subst (λ r. IfTold old (λ d. (name : FileName) (length : Option ℕ) → fault ≡ Full name length → IsFullAt d.now before.world r name length ⊎ IsOfIndex r name)) (request_kept line) halted.full;
+    full = subst (λ r. IfTold old (λ d. (name : FileName) (length : Option ℕ) → fault ≡ Full name length → IsFullAt d.now before.world r name length ⊎ IsOfIndex d.now r name)) (request_kept line) halted.full;
     filled = subst (λ r. IfTold new (λ d. (name : FileName) (length : Option ℕ) → fault ≡ Full name length → IsView r → IsIndexFullOf functions honest languages d.now before.world r name length)) (request_kept line) halted.filled;
     room = subst (λ r. IfTold old (λ d. fault ≡ DiskFault → HasRoomAt d.now before.world r)) (request_kept line) halted.room;
     last = halted.last;
@@ -104,7 +104,7 @@ found_kept {before = before} {now = now} line found = record {
   halts = found.halts;
   asks = subst (λ request. IfErr request (λ refusal. ⊥)) (request_kept line) found.asks;
   damaged = λ name at is. subst (λ request. (ReadsDocuments request × IfTold now (λ d. HasBodyDamage d.now name at)) ⊎ (IsOnIndexes request × Tells before now (λ a b. MeetsIndexDamageIn a.now b.now request name at))) (request_kept line) (found.damaged name at is);
-  full = λ name length is. subst (λ request. (Writes request × IfTold now (λ d. IsFullIn d.now request name length)) ⊎ IsOfIndex request name) (request_kept line) (found.full name length is);
+  full = λ name length is. subst (λ request. (Writes request × IfTold now (λ d. IsFullIn d.now request name length)) ⊎ (IsOfSomeIndex request name × Tells before now (λ a b. MeetsFullIndexIn a.now b.now request name length))) (request_kept line) (found.full name length is);
 }
 
 -- what is supposed for a line's request is supposed for that of what is kept of it

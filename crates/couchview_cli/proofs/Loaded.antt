@@ -118,7 +118,7 @@ module _ {F C : Type 0} (f : Folders F) (s : Servers C) (docs seed : ℕ) (openi
     ends_of : {now : Scene F C} {end : LoopEnd StepFault} {left held held' : Option (List ℕ)} (came : Comes f s origin now (Some text) left held held' end) → EndsBy f s origin (IsAtEnd left) held held' came.bytes now end
     ends_of {now} {end} {left} {held} {held'} came = elim came.ends [
       | inl ends ↦ ends
-      | inr clash ↦ absurd (never_clashes s.functions s.honest opening before.disk before.faults docs seed low few none left came.bytes came.reads clash)
+      | inr clash ↦ absurd (never_clashes s.functions s.honest opening before.disk before.faults docs seed low few none left came.bytes came.reads clash.meets)
     ]
 
     -- lines were served, and the documents read

@@ -1,14 +1,17 @@
 -- What serving did, from the end of its session.
-use Rattle.std.specs.Prelude.{◌≡◌, ◌≤◌, ℕ, List, [], ◌∷◌, Option, Some, None, length}
-use Rattle.std.proofs.Common.{refl, sym, ◌∙◌, subst, inl, inr}
+use Rattle.std.specs.Prelude.{◌≡◌, ◌≤◌, ◌++◌, ℕ, List, [], ◌∷◌, Option, Some, None, length}
+use Rattle.std.proofs.Common.{refl, sym, ap, ◌∙◌, subst, inl, inr, ⊎_elim}
 use Rattle.std.proofs.KnownBytes.{Appends-trans}
 use Rattle.std.specs.Io.KnownBytes.{Appends, Consumes, IsAtEnd}
 use Rattle.view_ports.specs.declared.file_name.FileName.{FileName}
 use Rattle.view_ports.specs.declared.run_end.RunEnd.{RunEnd}
+use Rattle.view_ports.specs.declared.run_end.RunEnd.TheVariants.{InputEnded, SinkFailed}
+use Rattle.line_loop.specs.declared.loop_end.LoopEnd.{LoopEnd}
+use Rattle.line_loop.specs.declared.loop_end.LoopEnd.TheVariants as loop_end
 use Rattle.view_ports.specs.Calls.{Call}
 use Rattle.view_ports.specs.Disk.{Disk, IfTold, IsImageOf, LeavesOnly, Tells}
 use Rattle.view_ports.specs.Faults.{Rose}
-use Rattle.view_ports.specs.Exchanges.{Exchange, LeadsTo, text_of}
+use Rattle.view_ports.specs.Exchanges.{Exchange, IsPrefixOf, LeadsTo, text_of}
 use Rattle.view_ports.specs.Functions.{Functions}
 use Rattle.view_ports.specs.Runs.{HasRead, status_of, input_limit}
 use Rattle.view_ports.proofs.Moments.{at_end}
@@ -23,14 +26,15 @@ use Rattle.view_engine.specs.World.{World}
 use Rattle.view_engine.specs.Worlds.{at_start, StandsAround, StandsFor, width as width_of}
 use Rattle.view_engine.proofs.AcceptedWrites.{LeadsTo-accepted}
 use Rattle.view_engine.proofs.Worlds.{holds_at, images_at}
-use Rattle.couchview_cli.specs.Closing.{Closes}
-use Rattle.couchview_cli.specs.Serving.{AreLeft, Finishes, IsCutShort, IsUnopened, Outside, Steps, width}
+use Rattle.couchview_cli.specs.Closing.{closing_of, Closes}
+use Rattle.couchview_cli.specs.Serving.{AreLeft, Clashes, Finishes, IsCutShort, IsUnopened, Outside, Steps, width}
 use Rattle.view_ports.specs.declared.folder.Folder.{Ghosts as Folders}
 use Rattle.view_ports.specs.declared.servers.Servers.{Ghosts as Servers}
 use Rattle.view_engine.specs.Calls.{Scene}
 use Rattle.view_engine.specs.Refusals.{request_of}
-use Rattle.couchview_cli.specs.Ends.{CutOff, Ended}
+use Rattle.couchview_cli.specs.Ends.{CutOff, Ended, HasClashed}
 use Rattle.couchview_cli.specs.Session.{Origin}
+use Rattle.couchview_cli.proofs.Clashing.{longer}
 use Rattle.couchview_cli.proofs.Keeping.{IsHalted-of}
 use Rattle.couchview_cli.proofs.Moving.{moved_halted, told_first, Told}
 
@@ -42,6 +46,41 @@ origin_of languages opening before = record { languages = languages; opening = o
 pub closes_after : (before mid after : Option (List ℕ)) (text : List ℕ) (fault : StepFault) (status : ℕ) → Appends before mid text → Closes mid after [] fault status → Closes before after text fault status
 closes_after before mid after text fault status wrote (inl whole) = inl (whole.0, Appends-trans before mid after text _ wrote whole.1)
 closes_after before mid after text fault status wrote (inr failed) = inr (failed.0, ((failed.1).0, (failed.1).1, Appends-trans before mid after text _ wrote (failed.1).2))
+
+abbrev pub ran_to : RunEnd → LoopEnd StepFault
+ran_to end = loop_end.Run end
+
+pub input_ended : (end : RunEnd) → ran_to end ≡ ran_to InputEnded → status_of end ≡ 0
+input_ended end is = let same : end ≡ InputEnded = cc in ap status_of same
+
+pub sink_failed : (end : RunEnd) → ran_to end ≡ ran_to SinkFailed → status_of end ≡ 4
+sink_failed end is = let same : end ≡ SinkFailed = cc in ap status_of same
+
+-- a session that met designs that clash, and then was ended by a fault, which the last line names
+pub clashed_then : {F C : Type 0} (f : Folders F) (s : Servers C) (languages : List (List ℕ × List ℕ)) (opening : World) (before after : Outside) (mid : Option (List ℕ)) (bytes : List ℕ) (now : Scene F C) (fault : StepFault) (status : ℕ)
+    → Consumes before.left after.left bytes → length bytes ≤ input_limit → HasClashed f s (origin_of languages opening before) (IsAtEnd after.left) before.held mid bytes now (loop_end.Stopped fault) → Closes mid after.held [] fault status
+    → after.disk ≡ f.disk now.folder → Clashes s.functions s.honest languages opening before after status
+clashed_then f s languages opening before after mid bytes now fault status reads counts met closes same = by_close closes
+  where
+    begins : IsPrefixOf (text_of (met.meets).exchanges) met.gained
+    begins = ⊎_elim (λ is. is) (λ failed. let stopped : LoopEnd StepFault = loop_end.Stopped fault in let clash : stopped ≡ ran_to SinkFailed = failed.0 in let no : ⊥ = cc in absurd no) met.replies
+
+    closed_with : (more : List ℕ) → Appends mid after.held more → Clashes s.functions s.honest languages opening before after status
+    closed_with more wrote = record {
+      bytes = bytes;
+      gained = met.gained ++ more;
+      reads = reads;
+      counts = counts;
+      writes = Appends-trans before.held mid after.held met.gained more met.wrote wrote;
+      meets = met.meets;
+      replies = inl (longer (text_of (met.meets).exchanges) met.gained more begins);
+      whole = λ other. met.whole (λ ended. let stopped : LoopEnd StepFault = loop_end.Stopped fault in let clash : stopped ≡ ran_to InputEnded = ended in let no : ⊥ = cc in no);
+      since = subst (λ (d : Option (Disk FileName)). Tells (met.meets).mid d (LeavesOnly (λ image. Unit {0}))) (sym same) met.since;
+    }
+
+    by_close : Closes mid after.held [] fault status → Clashes s.functions s.honest languages opening before after status
+    by_close (inl whole) = closed_with (closing_of fault) whole.1
+    by_close (inr failed) = closed_with (failed.1).0 (failed.1).2
 
 module _ (functions : List ℕ → Functions) (honest : List ℕ → Type 0) (languages : List (List ℕ × List ℕ)) where
   leads_answers : (opening : World) (d : Disk FileName) (start : Moment) (exchanges : List Exchange) (moment : Moment) → LeadsTo (Steps functions honest languages opening (Some d)) start exchanges moment

@@ -128,7 +128,7 @@ closed before after text fault status (inr failed) whole room disk sink = absurd
 module _ {functions : List ℕ → Functions} {honest : List ℕ → Type 0} {languages : List (List ℕ × List ℕ)} {opening : World} {AtEnd : List Call → Type 0} (before after : Outside) (status : ℕ) where
   -- input that is short enough is read to its end, unless a port fails, memory runs out, a full file ends the run, or designs clash
   complete_of : Serves functions honest languages opening before after AtEnd status → IsShort before.left → (status ≡ 3 → ⊥) → (status ≡ 4 → ⊥) → (status ≡ 5 → ⊥)
-      → (EndsAtFile functions honest languages opening before after AtEnd status → ⊥) → (Clashes functions honest languages opening before after → ⊥) → IfTold before.disk (λ d. (status ≡ 0) ⊎ (status ≡ 6))
+      → (EndsAtFile functions honest languages opening before after AtEnd status → ⊥) → (Clashes functions honest languages opening before after status → ⊥) → IfTold before.disk (λ d. (status ≡ 0) ⊎ (status ≡ 6))
   complete_of (inl finishes) short disk sink source roomy apart =
       told_all before.disk _ (λ d. complete finishes.end status (length finishes.bytes) finishes.ends finishes.counts (consumed_short before.left after.left finishes.bytes finishes.reads short) sink source)
   complete_of (inr (inl cut)) short disk sink source roomy apart =
@@ -141,10 +141,10 @@ module _ {functions : List ℕ → Functions} {honest : List ℕ → Type 0} {la
 
   -- the same where the languages are named in another way
   pub Serves-complete : {named : List (List ℕ × List ℕ)} → languages ≡ named → Serves functions honest languages opening before after AtEnd status → IsShort before.left → (status ≡ 3 → ⊥) → (status ≡ 4 → ⊥) → (status ≡ 5 → ⊥)
-      → (EndsAtFile functions honest named opening before after AtEnd status → ⊥) → (Clashes functions honest named opening before after → ⊥) → IfTold before.disk (λ d. (status ≡ 0) ⊎ (status ≡ 6))
+      → (EndsAtFile functions honest named opening before after AtEnd status → ⊥) → (Clashes functions honest named opening before after status → ⊥) → IfTold before.disk (λ d. (status ≡ 0) ⊎ (status ≡ 6))
   Serves-complete same serves short disk sink source roomy apart =
       complete_of serves short disk sink source (λ full. roomy (subst (λ (ls : List (List ℕ × List ℕ)). EndsAtFile functions honest ls opening before after AtEnd status) same full))
-      (λ clash. apart (subst (λ (ls : List (List ℕ × List ℕ)). Clashes functions honest ls opening before after) same clash))
+      (λ clash. apart (subst (λ (ls : List (List ℕ × List ℕ)). Clashes functions honest ls opening before after status) same clash))
 
 -- a run that read as many bytes as a run reads at most ends there
 pub limited : (before after : Outside) (status : ℕ) → AnswersLines before after status → StopsAtLimit before.left after.left status

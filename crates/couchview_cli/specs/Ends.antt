@@ -1,13 +1,14 @@
 -- How the run of a session ends.
-use Rattle.std.specs.Prelude.{◌⊎◌, ℕ, List, ◌∷◌, ◌++◌, Option, length}
+use Rattle.std.specs.Prelude.{◌≡◌, ◌≢◌, ◌⊎◌, ℕ, List, [], ◌∷◌, ◌++◌, Option, length}
 use Rattle.std.specs.Io.KnownBytes.{Appends, Consumes, IsAtEnd}
 use Rattle.view_ports.specs.declared.run_end.RunEnd.{RunEnd}
+use Rattle.view_ports.specs.declared.run_end.RunEnd.TheVariants.{InputEnded, SinkFailed}
 use Rattle.view_ports.specs.declared.folder.Folder.{Ghosts as Folders}
 use Rattle.view_ports.specs.declared.servers.Servers.{Ghosts as Servers}
-use Rattle.view_ports.specs.Disk.{IfTold}
-use Rattle.view_ports.specs.Exchanges.{Exchange, LeadsTo, lines_of, text_of}
+use Rattle.view_ports.specs.Disk.{IfTold, LeavesOnly, Tells}
+use Rattle.view_ports.specs.Exchanges.{Exchange, IsPrefixOf, LeadsTo, lines_of, text_of}
 use Rattle.view_ports.specs.Lines.{IsCut}
-use Rattle.view_ports.specs.Runs.{AreLines, Run}
+use Rattle.view_ports.specs.Runs.{AreFirst, AreLines, Run}
 use Rattle.line_loop.specs.declared.loop_end.LoopEnd.{LoopEnd}
 use Rattle.line_loop.specs.declared.loop_end.LoopEnd.TheVariants as loop_end
 use Rattle.line_loop.specs.Loops.{HasReadBy}
@@ -48,6 +49,16 @@ module _ {F C : Type 0} (f : Folders F) (s : Servers C) (origin : Origin) (IsOve
     pub fit : IfTold (f.disk mid.folder) (λ d. IsFitFor (request_of line) (moment.world))
     pub wrote : Appends held now (text_of exchanges)
 
+  -- a session that read these bytes met designs that clash; what the sink gained begins with the replies to the lines before, unless the sink
+  -- failed in one of these
+  pub record HasClashed (end : LoopEnd StepFault) : Type 0 where
+    pub gained : List ℕ
+    pub wrote : Appends held now gained
+    pub meets : MeetsClash s.functions s.honest origin.languages origin.opening origin.disk origin.faults bytes
+    pub replies : IsPrefixOf (text_of meets.exchanges) gained ⊎ ((end ≡ loop_end.Run SinkFailed) × IsPrefixOf gained (text_of meets.exchanges))
+    pub whole : end ≢ loop_end.Run InputEnded → AreFirst IsOver meets.lines meets.rest (lines_of meets.exchanges ++ meets.line ∷ [])
+    pub since : Tells meets.mid (f.disk after.folder) (LeavesOnly (λ image. Unit {0}))
+
   abbrev pub EndsBy : LoopEnd StepFault → Type 0
   EndsBy (loop_end.Run end) = Ended end
   EndsBy (loop_end.Stopped fault) = CutOff fault
@@ -57,4 +68,4 @@ pub record Comes {F C : Type 0} (f : Folders F) (s : Servers C) (origin : Origin
   pub bytes : List ℕ
   pub reads : Consumes left left' bytes
   pub counts : HasReadBy end (length bytes)
-  pub ends : EndsBy f s origin (IsAtEnd left') held held' bytes after end ⊎ MeetsClash s.functions s.honest origin.languages origin.opening origin.disk origin.faults bytes
+  pub ends : EndsBy f s origin (IsAtEnd left') held held' bytes after end ⊎ HasClashed f s origin (IsAtEnd left') held held' bytes after end

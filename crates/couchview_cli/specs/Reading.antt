@@ -20,7 +20,7 @@ use Rattle.view_engine.specs.declared.refusal.Refusal.{Refusal}
 use Rattle.view_engine.specs.declared.request.Request.{Request}
 use Rattle.view_engine.specs.declared.request.Request.TheVariants.{Delete, Put}
 use Rattle.view_engine.specs.Accepted.{is_ok}
-use Rattle.view_engine.specs.Disks.{ChangesFiles, IsOfIndex, IsOnIndexes, MeetsIndexDamageIn, ReadsDocuments}
+use Rattle.view_engine.specs.Disks.{ChangesFiles, IsOfSomeIndex, IsOnIndexes, MeetsFullIndexIn, MeetsIndexDamageIn, ReadsDocuments}
 use Rattle.view_engine.specs.Halts.{MovesDocuments, Writes}
 use Rattle.view_engine.specs.Openings.{IsMovedByOpening}
 use Rattle.view_engine.specs.Refusals.{request_of}
@@ -41,7 +41,7 @@ pub record IsFoundOn (before now : Option (Disk FileName)) (line : List ℕ) (fa
   pub halts : fault ≢ NoMemory
   pub asks : IfErr (request_of line) (λ refusal. ⊥)
   pub damaged : (name : FileName) (at : ℕ) → fault ≡ Damaged name at → (ReadsDocuments (request_of line) × IfTold now (λ d. HasBodyDamage d.now name at)) ⊎ (IsOnIndexes (request_of line) × Tells before now (λ a b. MeetsIndexDamageIn a.now b.now (request_of line) name at))
-  pub full : (name : FileName) (length : Option ℕ) → fault ≡ Full name length → (Writes (request_of line) × IfTold now (λ d. IsFullIn d.now (request_of line) name length)) ⊎ IsOfIndex (request_of line) name
+  pub full : (name : FileName) (length : Option ℕ) → fault ≡ Full name length → (Writes (request_of line) × IfTold now (λ d. IsFullIn d.now (request_of line) name length)) ⊎ (IsOfSomeIndex (request_of line) name × Tells before now (λ a b. MeetsFullIndexIn a.now b.now (request_of line) name length))
 
 -- none of these lines is a request that may change files
 abbrev pub NoneChanges : List Exchange → Type 0

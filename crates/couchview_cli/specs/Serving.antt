@@ -14,7 +14,7 @@ use Rattle.view_ports.specs.Exchanges.{Exchange, IsPrefixOf, LeadsTo, lines_of, 
 use Rattle.view_ports.specs.Functions.{Functions}
 use Rattle.child_pool.specs.Histories.{AllStops}
 use Rattle.view_ports.specs.Lines.{last_line, IsCut}
-use Rattle.view_ports.specs.Runs.{AreLines, Run, HasRead, status_of, input_limit}
+use Rattle.view_ports.specs.Runs.{AreFirst, AreLines, Run, HasRead, status_of, input_limit}
 use Rattle.view_engine.specs.declared.halt.StepFault.{StepFault}
 use Rattle.view_engine.specs.declared.halt.StepFault.TheVariants.{Damaged, DiskFault, Full, NoMemory}
 use Rattle.view_engine.specs.declared.refusal.Refusal.{Refusal}
@@ -124,7 +124,7 @@ module _ (functions : List ℕ → Functions) (honest : List ℕ → Type 0) (la
   -- Want of memory doesn't cut a run short: such a line is answered. `mid` is the disk before the line in hand: nothing of
   -- the documents is pending there, its files hold the world, and a file that is full is one of them. No file changes since but in a
   -- view or a cleanup, or where the disk failed, and there the line's write would have passed no limit. A file of an index is full only
-  -- in a view that brings its design's index up to date; which nodes filled it isn't said here. No file is damaged. `last` is how the
+  -- in a view that brings this index up to date, by a node that its pictures may have or its root record. No file is damaged. `last` is how the
   -- query servers were left.
   pub record IsCutShort (before after : Outside) (AtEnd : List Call → Type 0) (status : ℕ) : Type 0 where
     pub bytes : List ℕ
@@ -150,7 +150,7 @@ module _ (functions : List ℕ → Functions) (honest : List ℕ → Type 0) (la
     pub until : Tells before.disk mid (LeavesOnly (StandsSince functions honest languages opening moment.world))
     pub holds : IfTold mid (λ d. Holds d.now moment.world)
     pub fits : HaveRoom functions honest languages opening moment.world before.disk mid exchanges
-    pub full : IfTold mid (λ d. (name : FileName) (length : Option ℕ) → fault ≡ Full name length → IsFullAt d.now moment.world (request_of line) name length ⊎ IsOfIndex (request_of line) name)
+    pub full : IfTold mid (λ d. (name : FileName) (length : Option ℕ) → fault ≡ Full name length → IsFullAt d.now moment.world (request_of line) name length ⊎ IsOfIndex d.now (request_of line) name)
     pub filled : IfTold after.disk (λ d. (name : FileName) (length : Option ℕ) → fault ≡ Full name length → IsView (request_of line) → IsIndexFullOf functions honest languages d.now moment.world (request_of line) name length)
     pub room : IfTold mid (λ d. fault ≡ DiskFault → HasRoomAt d.now moment.world (request_of line))
     pub kept : fault ≢ DiskFault → (IsOnIndexes (request_of line) → ⊥) → Tells mid after.disk MovesNone
@@ -179,7 +179,8 @@ module _ (functions : List ℕ → Functions) (honest : List ℕ → Type 0) (la
     pub at_end : AtEnd []
 
   -- Of the lines of these bytes some first ones were answered, from this disk on, and then a line asks for a view where two designs
-  -- that differ have one signature, so that one index would be of both.
+  -- that differ have one signature, so that one index would be of both. `mid` is the disk before that line: each image until then stands
+  -- for a first part of the world, which its files hold.
   pub record MeetsClash (disk : Option (Disk FileName)) (faults : ℕ) (bytes : List ℕ) : Type 0 where
     pub told : Disk FileName
     pub is_told : disk ≡ Some told
@@ -193,17 +194,28 @@ module _ (functions : List ℕ → Functions) (honest : List ℕ → Type 0) (la
     pub leads : LeadsTo (Steps functions honest languages opening disk) (at_start opening width faults) exchanges moment
     pub asks : IsView (request_of line)
     pub clash : HasClash (moment.world).history
+    pub mid : Option (Disk FileName)
+    pub until : Tells disk mid (LeavesOnly (StandsSince functions honest languages opening moment.world))
+    pub holds : IfTold mid (λ d. Holds d.now moment.world)
+    pub fits : HaveRoom functions honest languages opening moment.world disk mid exchanges
 
-  -- a run that read the bytes that the source lost, and met that: of what it does from there on only that is said which is said of any folder
-  pub record Clashes (before after : Outside) : Type 0 where
+  -- A run that read the bytes that the source lost, and met that. What it wrote begins with the replies to the lines before; or the sink
+  -- failed, in one of these. The line behind them ended in what was read, or the input did. The disk comes behind the one before that line, and
+  -- of what is done from there on only that is said which is said of any folder.
+  pub record Clashes (before after : Outside) (status : ℕ) : Type 0 where
     pub bytes : List ℕ
+    pub gained : List ℕ
     pub reads : Consumes before.left after.left bytes
     pub counts : length bytes ≤ input_limit
+    pub writes : Appends before.held after.held gained
     pub meets : MeetsClash before.disk before.faults bytes
+    pub replies : IsPrefixOf (text_of meets.exchanges) gained ⊎ ((status ≡ 4) × IsPrefixOf gained (text_of meets.exchanges))
+    pub whole : status ≢ 0 → AreFirst (IsAtEnd after.left) meets.lines meets.rest (lines_of meets.exchanges ++ meets.line ∷ [])
+    pub since : Tells meets.mid after.disk (LeavesOnly (λ image. Unit {0}))
 
   abbrev pub Serves : Outside → Outside → (List Call → Type 0) → ℕ → Type 0
   Serves before after AtEnd status =
-      Finishes before after AtEnd status ⊎ (IsCutShort before after AtEnd status ⊎ (IsUnopened before after AtEnd status ⊎ Clashes before after))
+      Finishes before after AtEnd status ⊎ (IsCutShort before after AtEnd status ⊎ (IsUnopened before after AtEnd status ⊎ Clashes before after status))
 
 -- the status is 8 exactly where as many bytes were read as a run reads at most, unless the run ended in a line of them:
 -- since the folder or the sink failed, a file is damaged or full, or memory ran out

@@ -57,7 +57,7 @@ module _ (functions : List ℕ → Functions) (honest : List ℕ → Type 0) whe
   pub record IsHalted (languages : List (List ℕ × List ℕ)) (fault : StepFault) (old new : Option (Disk FileName)) (before : Moment) (line : List ℕ) (HasLeft : Moment → Type 0) : Type 0 where
     pub moments : Tells old new (LeavesOnly (StandsAround functions honest languages before.world (request_of line)))
     pub whole : IfTold old (λ d. (name : FileName) (at : ℕ) → fault ≡ Damaged name at → ⊥)
-    pub full : IfTold old (λ d. (name : FileName) (length : Option ℕ) → fault ≡ Full name length → IsFullAt d.now before.world (request_of line) name length ⊎ IsOfIndex (request_of line) name)
+    pub full : IfTold old (λ d. (name : FileName) (length : Option ℕ) → fault ≡ Full name length → IsFullAt d.now before.world (request_of line) name length ⊎ IsOfIndex d.now (request_of line) name)
     pub filled : IfTold new (λ d. (name : FileName) (length : Option ℕ) → fault ≡ Full name length → IsView (request_of line) → IsIndexFullOf functions honest languages d.now before.world (request_of line) name length)
     pub room : IfTold old (λ d. fault ≡ DiskFault → HasRoomAt d.now before.world (request_of line))
     pub last : Moment

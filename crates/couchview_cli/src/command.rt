@@ -245,7 +245,7 @@ pub fn couchview<S: Source, K: Sink, F: Folder, C: Servers>(
         (AreLeft (C.may_follow servers.new)) result
         → ¬ Clashes C.functions C.honest (languages_named kept) opening
         (outside S.Source K.Sink F.Folder C.Servers source.old sink.old folder.old servers.old)
-        (outside S.Source K.Sink F.Folder C.Servers source.new sink.new folder.new servers.new)
+        (outside S.Source K.Sink F.Folder C.Servers source.new sink.new folder.new servers.new) result
         → IfTold (F.disk folder.old) (λ d. (result ≡ 0) ⊎ (result ≡ 6)) }
 
     // So is a load done, unless the folder has writes.

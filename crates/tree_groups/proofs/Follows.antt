@@ -43,7 +43,7 @@ use Rattle.tree_updater.specs.declared.fault.UpdateFault.{UpdateFault}
 use Rattle.tree_updater.specs.declared.fault.UpdateFault.TheVariants.{Docs as OfDocuments, Index as OfIndex, NoMemory, Pool as OfPool}
 use Rattle.tree_updater.specs.Asking.{HasAskedFor, IsMetBy, ThenReduces}
 use Rattle.tree_updater.specs.Faults.{by_index, by_pool}
-use Rattle.tree_updater.specs.Filled.{IsFilled}
+use Rattle.tree_updater.specs.Filled.{IsFilled, WasDue}
 use Rattle.tree_updater.specs.Follows.{AsksSince as AsksIndex, FindsNone, Follows as FollowsIndex, IsBadNodeOf, IsFileFault, IsOfDisk, IsSpared}
 use Rattle.tree_updater.specs.Sides.{Side as IndexSide}
 use Rattle.tree_updater.specs.Updates.{IsReached as IsReachedIndex}
@@ -442,7 +442,7 @@ module _ {F C : Type 0} (f : Folders F) (s : Servers C) (docs : Docs) (design : 
         full = λ name size is.
             let filled = its.full name size (unplaced place result (OfIndex (fault_of.Store (Full name size))) is) in
             (ap (λ (n : FileName). n.stem) (filled_own (views_in design) at.after old.cache new.cache name size filled) ∙ of_own, (at.after, (place, left), filled));
-        filled = λ name size is kinds history pictures. before_of kinds history pictures ((next : Picture) × IsMappedTo f s docs design old new history pictures next)
+        filled = λ name size is kinds history pictures. before_of kinds history pictures (WasDue (IsMappedTo f s docs design old new history pictures) old.cache new.cache history (picture_for design pictures))
             (its.filled name size (unplaced place result (OfIndex (fault_of.Store (Full name size))) is) (kinds own).functions history (pictures own));
         cause = rising result its.cause;
         still = λ spared. its.still (spared_by place result spared) ∙ opens.cause.still (λ is. let no : ⊥ = cc in no);

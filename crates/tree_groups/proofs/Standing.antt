@@ -18,9 +18,9 @@ use Rattle.index_trees.specs.declared.trees.IndexTrees.{IndexTrees}
 use Rattle.index_trees.specs.Trees.{HoldRows}
 use Rattle.view_model.specs.Picture.{Picture}
 use Rattle.tree_index.specs.declared.index.Index.{Index}
-use Rattle.tree_index.specs.Calls.{HasTrees, IsAt, IsOpen}
-use Rattle.tree_index.specs.Held.{HoldsIndex, HoldsPicture, Stands}
-use Rattle.tree_index.specs.Index.{file_of, last_of, next_in, next_of, picture_of, stem_of}
+use Rattle.tree_index.specs.Calls.{said_of, HasTrees, IsAt, IsOpen}
+use Rattle.tree_index.specs.Held.{HoldsIndex, HoldsPicture, Says, Stands}
+use Rattle.tree_index.specs.Index.{file_of, last_of, next_in, next_of, picture_of, stem_of, views_of}
 use Rattle.tree_index.proofs.Carried.{empty_stands_none}
 use Rattle.tree_groups.specs.Cleans.{IsIndexFile}
 use Rattle.tree_groups.specs.Groups.{open_of}
@@ -67,6 +67,7 @@ module _ (index : Index) (files files' : FileName → File) (same : (n : FileNam
     keeps = subst (Keeps (file_of index)) (sym own_file) is_open.keeps;
     other = λ n of_pair differs. same n of_pair ∙ is_open.other n of_pair differs;
     commits = is_open.commits;
+    says = subst (λ (file : File). Says (views_of index) (root_of (file_of index)) file.seen (said_of index)) (sym own_file) is_open.says;
     last_room = is_open.last_room;
     next_room = is_open.next_room;
   }

@@ -25,7 +25,7 @@ use Rattle.tree_index.specs.Index.{seq_of}
 use Rattle.tree_updater.specs.declared.fault.UpdateFault.{UpdateFault}
 use Rattle.tree_updater.specs.declared.fault.UpdateFault.TheVariants.{Docs as OfDocuments, Index as OfIndex, NoMemory, Pool as OfPool}
 use Rattle.tree_updater.specs.Asking.{HasAskedFor}
-use Rattle.tree_updater.specs.Filled.{IsFilled}
+use Rattle.tree_updater.specs.Filled.{IsFilled, WasDue}
 use Rattle.tree_updater.specs.Follows.{FindsNone, IsBadNodeOf, IsFileFault, IsOfDisk, IsSpared}
 use Rattle.tree_updater.specs.Made.{IsMapped}
 use Rattle.tree_updater.specs.Paths.{IsPathOf}
@@ -97,11 +97,11 @@ module _ {F C : Type 0} (f : Folders F) (s : Servers C) (docs : Docs) (design : 
     pub body : IfTold (f.disk old.folder) (λ d. IsDocsFile (name_of (file_of docs)) → AreLoaded docs d.now
         → (name : FileName) (at : ℕ) → result ≡ Err (OfDocuments (Damaged name at)) → IsBodyDamaged docs d.now name at)
     pub damaged : Tells (f.disk old.folder) (f.disk new.folder) (λ a b. (name : FileName) (at : ℕ) → result ≡ Err (OfIndex (Store (Damaged name at))) → IsFileOf (View (sig_of design)) name × IsDamaged a b name at)
-    -- the file of the index is full by what was to be written, and then the documents were mapped
+    -- the file of the index is full by what was to be written, and then it was due
     pub full : (name : FileName) (size : Option ℕ) → result ≡ Err (OfIndex (Store (Full name size)))
         → IsFileOf (View (sig_of design)) name × ((index : Index) × IsLeft index × IsFilled (views_in design) index old.cache new.cache name size)
     pub filled : (name : FileName) (size : Option ℕ) → result ≡ Err (OfIndex (Store (Full name size))) → (kinds : Kinds) (history : List Write) (pictures : Pictures)
-        → IfTold (f.disk old.folder) (λ d. Over kinds history pictures d → (next : Picture) × IsMappedTo history pictures next)
+        → IfTold (f.disk old.folder) (λ d. Over kinds history pictures d → WasDue (IsMappedTo history pictures) old.cache new.cache history (picture_for design pictures))
     -- a fault of the disk comes only where the folder counted one, and it counted none for any other answer
     pub cause : IfErr result (λ fault. IsOfDisk fault → Rose (f.faults old.folder) (f.faults new.folder))
     pub still : IsSpared result → f.faults new.folder ≡ f.faults old.folder

@@ -1,16 +1,20 @@
 -- A picture is carried by each image that has all bytes behind the slots, and an open index stands for its own.
-use Rattle.std.proofs.Common.{◌≡◌, ℕ, ◌≤◌, List, [], Option, Some, None, refl, ap, subst}
+use Rattle.std.proofs.Common.{◌≡◌, ◌∙◌, ℕ, ◌≤◌, List, [], Option, Some, None, refl, ap, subst}
 use Rattle.view_ports.specs.File.{File, IsImage, settled}
 use Rattle.view_ports.specs.Functions.{Functions}
 use Rattle.view_ports.specs.declared.file_name.FileName.{FileName}
 use Rattle.view_ports.specs.declared.file_name.Stem.{Stem}
 use Rattle.view_ports.proofs.Images.{IsImage-settled}
+use Rattle.gate_file.specs.declared.gate.GateFile.{GateFile}
 use Rattle.gate_file.specs.declared.root.Root.{Root}
-use Rattle.gate_file.specs.Header.{data_start}
+use Rattle.gate_file.specs.GateFile.{root_of, Keeps}
+use Rattle.gate_file.specs.Header.{data_start, place_of, slot_at}
 use Rattle.gate_file.specs.Pair.{IsOfRoot, IsOpenFile}
 use Rattle.gate_file.specs.Shown.{HasAll}
 use Rattle.gate_file.proofs.FileFacts.{part_carried}
 use Rattle.gate_file.proofs.Images.{empty_stands}
+use Rattle.gate_file.proofs.Looks.{opened_slot}
+use Rattle.gate_file.proofs.SlotFacts.{fit_at}
 use Rattle.gate_file.proofs.Published.{file_stands}
 use Rattle.design_docs.specs.declared.design.View.{View}
 use Rattle.node_file.specs.RecordLaws.{carried}
@@ -20,7 +24,7 @@ use Rattle.index_items.specs.RootRecord.{root_bytes}
 use Rattle.index_trees.proofs.Holding.{trees_stay}
 use Rattle.tree_index.specs.declared.index.Index.{Index}
 use Rattle.tree_index.specs.Calls.{IsAt, IsOpen}
-use Rattle.tree_index.specs.Held.{HoldsIndex, HoldsPicture, HoldsRows, IsFileOf, Said, Spells}
+use Rattle.tree_index.specs.Held.{HoldsIndex, HoldsPicture, HoldsRows, IsFileOf, Said, Says, Spells}
 use Rattle.tree_index.specs.Index.{file_of, stem_of}
 
 -- what a root record says stands in each image that has its bytes
@@ -29,6 +33,24 @@ spells_carried count root bytes image said behind has spells = record {
   part = part_carried bytes image has root.offset root.length (root_bytes said.seq said.views said.back) behind spells.part;
   content = spells.content;
 }
+
+pub says_of_root : (count : ℕ) → IsOfRoot (Says count)
+says_of_root count = record {
+  rootless = λ bytes image said says. says;
+  rooted = λ root bytes image said behind has says. spells_carried count root bytes image said behind has says;
+}
+
+-- and so what an open file's root says
+pub says_carried : (count : ℕ) (gate : GateFile) (file : File) (bytes image : List ℕ) (said : Said) → Keeps gate file → HasAll bytes image → Says count (root_of gate) bytes said → Says count (root_of gate) image said
+says_carried count gate file bytes image said keeps has says = by_root (root_of gate) refl says
+  where
+    by_root : (root : Option Root) → root_of gate ≡ root → Says count root bytes said → Says count root image said
+    by_root None none is = is
+    by_root (Some root) some is =
+        let slot = opened_slot (slot_at file.durable (place_of gate.commits)) root (keeps.last ∙ some) in
+        let sound = fit_at file.durable keeps.low keeps.high gate.commits slot.0 in
+        let behind : data_start ≤ root.offset = subst (λ (r : Root). data_start ≤ r.offset) slot.1 sound.behind_slots in
+        spells_carried count root bytes image said behind has is
 
 module _ (functions : Option Functions) (views : List View) where
   pub rows_carried : (root : Root) (bytes image : List ℕ) (picture : Picture) → data_start ≤ root.offset → HasAll bytes image → HoldsRows functions views root bytes picture → HoldsRows functions views root image picture

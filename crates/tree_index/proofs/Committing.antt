@@ -28,11 +28,11 @@ use Rattle.index_trees.specs.declared.trees.IndexTrees.{IndexTrees}
 use Rattle.index_trees.specs.Trees.{HaveRoom, HoldRows, HoldTrees}
 use Rattle.index_trees.proofs.Holding.{trees_stay}
 use Rattle.tree_index.specs.declared.index.Index.{Index}
-use Rattle.tree_index.specs.Calls.{next_picture, HasTrees, IsAt, IsOpen, IsWhole}
-use Rattle.tree_index.specs.Held.{HoldsPicture, IsFileOf, Stands}
-use Rattle.tree_index.specs.Index.{file_of, last_of, next_in, next_of, picture_of, stem_of}
+use Rattle.tree_index.specs.Calls.{next_picture, said_of, HasTrees, IsAt, IsOpen, IsWhole}
+use Rattle.tree_index.specs.Held.{HoldsPicture, IsFileOf, Said, Says, Stands}
+use Rattle.tree_index.specs.Index.{file_of, last_of, next_in, next_of, picture_of, stem_of, views_of}
 use Rattle.tree_index.specs.Trees.{seen}
-use Rattle.tree_index.proofs.Carried.{index_stands, open_file, picture_of_root}
+use Rattle.tree_index.proofs.Carried.{index_stands, open_file, picture_of_root, says_of_root}
 use Rattle.tree_index.proofs.Rooms.{each_seen, room_more}
 use Rattle.tree_index.proofs.Sizes.{same_number, sizes_of}
 
@@ -105,26 +105,33 @@ module _ (index : Index) (seq : ℕ) (bytes : List ℕ) (bytes_are : bytes ≡ r
   abbrev last : GateFile
   last = published (file_of index) (length bytes) 0
 
-  module _ (functions : Option Functions) (views : List View) (picture : Option Picture) (files : FileName → File) (at : IsAt functions views index files picture) where
+  -- what the record says
+  abbrev said_next : Said
+  said_next = record { seq = seq; views = (next_of index).views.items; back = (next_of index).back }
+
+  module _ (count : ℕ) (number : length (next_of index).views.items ≡ count) (rooms : HaveRoom (start_of gate) (next_of index)) where
     -- the trees fit where the record stands
-    content : (offset : ℕ) → offset ≡ start_of gate → IsContent (length views) offset seq (next_of index).views.items (next_of index).back
+    content : (offset : ℕ) → offset ≡ start_of gate → IsContent count offset seq (next_of index).views.items (next_of index).back
     content offset is =
         let trees = next_of index in
         let sizes = sizes_of trees index.next_sizes in
-        let room : HaveRoom offset trees = subst (λ n. HaveRoom n trees) (sym is) at.is_open.next_room in
-        let number : length trees.views.items ≡ length views = index.same ∙ at.number in
+        let room : HaveRoom offset trees = subst (λ n. HaveRoom n trees) (sym is) rooms in
         let each = fit_trees offset trees.views.items sizes.views room.views in
         subst (λ n. IsContent n offset seq trees.views.items trees.back) number
         (written offset each (record { size = sizes.back; room = room.back })).content
 
+    will_say : (old : List ℕ) → WillHold (Says count) gate old bytes 0 said_next
+    will_say old front long has = record {
+      part = subst (IsPart (front ++ bytes) (start_of gate + 0) (length bytes - 0)) bytes_are
+          (subst (λ n. IsPart (front ++ bytes) n (length bytes - 0) bytes) (omega (arith, long)) (subst (λ n. IsPart (front ++ bytes) (length front) n bytes) (omega arith) (part_last front bytes)));
+      content = content (start_of gate + 0) (omega arith);
+    }
+
+  module _ (functions : Option Functions) (views : List View) (picture : Option Picture) (files : FileName → File) (at : IsAt functions views index files picture) where
     pub will_hold : WillHold (HoldsPicture functions views) gate (own_bytes gate files) bytes 0 (Some (next_picture seq index))
     will_hold front long has = record {
-      said = record { seq = seq; views = (next_of index).views.items; back = (next_of index).back };
-      spells = record {
-        part = subst (IsPart (front ++ bytes) (start_of gate + 0) (length bytes - 0)) bytes_are
-            (subst (λ n. IsPart (front ++ bytes) n (length bytes - 0) bytes) (omega (arith, long)) (subst (λ n. IsPart (front ++ bytes) (length front) n bytes) (omega arith) (part_last front bytes)));
-        content = content (start_of gate + 0) (omega arith);
-      };
+      said = said_next;
+      spells = will_say (length views) (index.same ∙ at.number) at.is_open.next_room (own_bytes gate files) front long has;
       seq = refl;
       rows = trees_kept functions views (own_bytes gate files) (front ++ bytes) (next_of index).views.items (next_of index).back (next_in index) (has_all_more (own_bytes gate files) front bytes has) at.next;
     }
@@ -141,9 +148,26 @@ module _ (index : Index) (seq : ℕ) (bytes : List ℕ) (bytes_are : bytes ≡ r
 
   -- the object once it is published: its last trees are those that were the next
   module _ (now : Index) (file_now : file_of now ≡ last) (last_now : seen (last_of now) ≡ seen (next_of index)) (next_now : seen (next_of now) ≡ seen (next_of index))
-      (a b : Disk FileName) (is_open : IsOpen index a.now) (others : OthersStay (λ n. n ≡ name_of gate) a.now b.now) (done : IsPublished last bytes (a.now (name_of gate)) (b.now (name_of gate))) where
+      (a b : Disk FileName) (is_open : IsOpen index a.now) (others : OthersStay (λ n. n ≡ name_of gate) a.now b.now) (done : IsPublished last bytes (a.now (name_of gate)) (b.now (name_of gate)))
+      (picture_now : picture_of now ≡ next_picture seq index) where
     rooms : HaveRoom (start_of last) (next_of index)
     rooms = room_more (start_of gate) (start_of last) (next_of index) (omega arith) is_open.next_room
+
+    -- its root record says where it stands
+    said_now : said_of now ≡ said_next
+    said_now = λ i. record {
+      seq = ap (λ (p : Picture). p.seq) picture_now i;
+      views = ap (λ (t : List Tree × Tree). t.0) last_now i;
+      back = ap (λ (t : List Tree × Tree). t.1) last_now i;
+    }
+
+    says_now : Says (views_of now) (root_of (file_of now)) (own_bytes (file_of now) b.now) (said_of now)
+    says_now =
+        subst (λ (g : GateFile). Says (views_of now) (root_of g) (own_bytes g b.now) (said_of now)) (sym file_now)
+        (subst (λ (s : Said). Says (views_of now) (root_of last) (own_bytes last b.now) s) (sym said_now)
+        (subst (λ (n : ℕ). Says n (root_of last) (own_bytes last b.now) said_next) (sym (same_number (next_of index) (last_of now) last_now ∙ index.same))
+        (file_holds (stem_of index) gate bytes 0 a.now (open_file index a.now is_open) b.now others done (Says (views_of index)) (says_of_root (views_of index)) said_next
+        (will_say (views_of index) index.same is_open.next_room (own_bytes gate a.now)))))
 
     pub open_published : IsOpen now b.now
     open_published = record {
@@ -151,6 +175,7 @@ module _ (index : Index) (seq : ℕ) (bytes : List ℕ) (bytes_are : bytes ≡ r
       other = subst (λ (g : GateFile). (n : FileName) → IsFileOf (name_of g).stem n → n ≢ name_of g → b.now n ≡ settled []) (sym file_now)
           (λ n of_pair differs. others n differs ∙ is_open.other n of_pair differs);
       commits = subst (λ (g : GateFile). commits_of g ≡ commits_in (root_of g)) (sym file_now) refl;
+      says = says_now;
       last_room = subst (λ (g : GateFile). HaveRoom (start_of g) (last_of now)) (sym file_now) (each_seen (λ tree. 8 * tree.count ≤ start_of last) (next_of index) (last_of now) last_now rooms);
       next_room = subst (λ (g : GateFile). HaveRoom (start_of g) (next_of now)) (sym file_now) (each_seen (λ tree. 8 * tree.count ≤ start_of last) (next_of index) (next_of now) next_now rooms);
     }
@@ -159,7 +184,7 @@ module _ (index : Index) (seq : ℕ) (bytes : List ℕ) (bytes_are : bytes ≡ r
     whole_published = subst (λ (g : GateFile). b.now (name_of g) ≡ settled (own_bytes g b.now)) (sym file_now) done.whole
 
     -- and its rows are those that the next commit made
-    module _ (picture_now : picture_of now ≡ next_picture seq index) (rows_now : next_in now ≡ next_in index)
+    module _ (rows_now : next_in now ≡ next_in index)
         (functions : Option Functions) (views : List View) (picture : Option Picture) (at : IsAt functions views index a.now picture) where
       all_there : HasAll (own_bytes gate a.now) (own_bytes last b.now)
       all_there = all_stays index bytes a b done

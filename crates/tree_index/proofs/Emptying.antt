@@ -26,10 +26,10 @@ use Rattle.gate_file.proofs.Taken.{is_of_pair}
 use Rattle.design_docs.specs.declared.design.View.{View}
 use Rattle.view_model.specs.Picture.{Picture}
 use Rattle.tree_index.specs.declared.index.Index.{Index}
-use Rattle.tree_index.specs.Calls.{IsAt}
-use Rattle.tree_index.specs.Held.{or_empty, up_to, HoldsIndex, HoldsPicture, IsDamagedAt, IsFileOf, Said, Stands}
+use Rattle.tree_index.specs.Calls.{IsAt, said_of}
+use Rattle.tree_index.specs.Held.{or_empty, up_to, HoldsIndex, HoldsPicture, IsDamagedAt, IsFileOf, Said, Stands, Says}
 use Rattle.tree_index.specs.Index.{file_of, seq_of, stem_of}
-use Rattle.tree_index.specs.Opens.{said_of, IsFound, IsLoaded, Says}
+use Rattle.tree_index.specs.Opens.{IsFound, IsLoaded}
 use Rattle.tree_index.proofs.Carried.{empty_stands_none, open_file, picture_of_root}
 use Rattle.tree_index.proofs.Pictures.{one_said}
 

@@ -9,6 +9,7 @@ use Rattle.view_ports.specs.declared.file_name.FileName.{FileName}
 use Rattle.gate_file.specs.declared.gate.GateFile.{GateFile}
 use Rattle.gate_file.specs.declared.root.Root.{Root}
 use Rattle.gate_file.specs.GateFile.{commits_in, commits_of, name_of, root_of, start_of, Keeps}
+use Rattle.gate_file.specs.Pair.{own_bytes}
 use Rattle.gate_file.specs.Shown.{Shows}
 use Rattle.gate_file.proofs.Images.{root_behind}
 use Rattle.gate_file.proofs.Published.{shown_image}
@@ -22,11 +23,11 @@ use Rattle.index_trees.specs.declared.trees.IndexTrees.{IndexTrees}
 use Rattle.index_trees.specs.Trees.{HaveRoom, HoldTrees}
 use Rattle.index_trees.proofs.Holding.{trees_stay}
 use Rattle.tree_index.specs.declared.index.Index.{Index}
-use Rattle.tree_index.specs.Calls.{HasTrees, IsAt, IsOpen}
-use Rattle.tree_index.specs.Held.{HoldsPicture, IsFileOf, Stands}
-use Rattle.tree_index.specs.Index.{file_of, last_of, next_in, next_of, picture_of, stem_of}
+use Rattle.tree_index.specs.Calls.{said_of, HasTrees, IsAt, IsOpen}
+use Rattle.tree_index.specs.Held.{HoldsPicture, IsFileOf, Said, Says, Stands}
+use Rattle.tree_index.specs.Index.{file_of, last_of, next_in, next_of, picture_of, stem_of, views_of}
 use Rattle.tree_index.specs.Trees.{seen}
-use Rattle.tree_index.proofs.Carried.{open_file, picture_of_root}
+use Rattle.tree_index.proofs.Carried.{open_file, picture_of_root, says_carried}
 use Rattle.tree_index.proofs.Rooms.{each_seen, room_more}
 use Rattle.tree_index.proofs.Sizes.{same_number}
 
@@ -75,7 +76,21 @@ module _ (index index' : Index) (same : KeepsLast index index') where
         (subst (λ (t : List Tree × Tree). HoldTrees functions views (node_at now.seen) t.0 t.1 rows') (sym are)
         (subst (λ rs. HoldTrees functions views (node_at now.seen) trees.views.items trees.back rs) (sym same_rows) here))
 
-    module _ (others : OthersStay (λ n. n ≡ name_of gate) a.now b.now) (kept : IsKept gate gate' file now) (room : HaveRoom (start_of gate') (next_of index')) where
+    -- the root record says where the index stood, and it stands there
+    said_kept : said_of index' ≡ said_of index
+    said_kept = λ i. record {
+      seq = ap (λ (p : Picture). p.seq) same.picture i;
+      views = ap (λ (t : List Tree × Tree). t.0) same.last i;
+      back = ap (λ (t : List Tree × Tree). t.1) same.last i;
+    }
+
+    says_kept : Keeps gate file → Stays gate a b → Says (views_of index) (root_of gate) file.seen (said_of index) → Says (views_of index') (root_of gate') (own_bytes gate' b.now) (said_of index')
+    says_kept keeps stays says =
+        subst (λ (g : GateFile). Says (views_of index') (root_of g) (own_bytes g b.now) (said_of index')) (sym (same.longer).same)
+        (subst (λ (n : ℕ). Says n (root_of gate) now.seen (said_of index')) (sym (same_number (last_of index) (last_of index') same.last))
+        (subst (λ (s : Said). Says (views_of index) (root_of gate) now.seen s) (sym said_kept) (says_carried (views_of index) gate file file.seen now.seen (said_of index) keeps stays says)))
+
+    module _ (others : OthersStay (λ n. n ≡ name_of gate) a.now b.now) (kept : IsKept gate gate' file now) (room : HaveRoom (start_of gate') (next_of index')) (stays : Stays gate a b) where
       -- the object is of its files
       pub open_kept : IsOpen index a.now → IsOpen index' b.now
       open_kept is_open = record {
@@ -83,14 +98,15 @@ module _ (index index' : Index) (same : KeepsLast index index') where
         other = subst (λ (own : FileName). (n : FileName) → IsFileOf own.stem n → n ≢ own → b.now n ≡ settled []) (sym name_kept)
             (λ n of_pair differs. others n differs ∙ is_open.other n of_pair differs);
         commits = subst (λ (g : GateFile). commits_of g ≡ commits_in (root_of g)) (sym (same.longer).same) is_open.commits;
+        says = says_kept is_open.keeps stays is_open.says;
         last_room = room_kept (last_of index) (last_of index') same.last is_open.last_room;
         next_room = room;
       }
 
       -- and at the picture that it was at
-      pub at_kept : (functions : Option Functions) (views : List View) (picture : Option Picture) → Stays gate a b → HasTrees functions views index' b.now (next_of index') (next_in index')
+      pub at_kept : (functions : Option Functions) (views : List View) (picture : Option Picture) → HasTrees functions views index' b.now (next_of index') (next_in index')
           → IsAt functions views index a.now picture → IsAt functions views index' b.now picture
-      at_kept functions views picture stays next at = record {
+      at_kept functions views picture next at = record {
         is_open = open_kept at.is_open;
         number = same_number (last_of index) (last_of index') same.last ∙ at.number;
         holds = subst (λ (g : GateFile). HoldsPicture functions views (root_of g) (b.now (name_of g)).durable picture) (sym (same.longer).same)

@@ -22,7 +22,8 @@ use Rattle.gate_file.proofs.Taken.{is_of_pair, whole_length}
 use Rattle.tree_index.specs.declared.index.Index.{Index}
 use Rattle.tree_index.specs.Held.{IsFileOf, IsGone, OnlyOpens}
 use Rattle.tree_index.specs.Index.{file_of, seq_of, stem_of}
-use Rattle.tree_index.specs.Opens.{said_of, IsLeft, IsLoaded, IsPastWrite}
+use Rattle.tree_index.specs.Calls.{said_of}
+use Rattle.tree_index.specs.Opens.{IsLeft, IsLoaded, IsPastWrite}
 use Rattle.tree_index.proofs.Opening.{is_left}
 
 -- ---- what is left of a side that was opened

@@ -35,10 +35,10 @@ use Rattle.index_trees.specs.Trees.{HaveRoom, HoldTrees}
 use Rattle.index_trees.proofs.NoTrees.{empty_trees_have_room, empty_trees_hold_nothing}
 use Rattle.tree_index.specs.declared.fault.IndexFault.{IndexFault}
 use Rattle.tree_index.specs.declared.index.Index.{Index}
-use Rattle.tree_index.specs.Calls.{HasTrees, IsAt, IsOpen}
-use Rattle.tree_index.specs.Held.{or_empty, HoldsIndex, HoldsPicture, IsFileOf, Said, Stands}
-use Rattle.tree_index.specs.Index.{file_of, last_of, next_in, next_of, picture_of, IsSettled}
-use Rattle.tree_index.specs.Opens.{said_of, FindsDamage, IsLeft, IsLoaded, Says}
+use Rattle.tree_index.specs.Calls.{HasTrees, IsAt, IsOpen, said_of}
+use Rattle.tree_index.specs.Held.{or_empty, HoldsIndex, HoldsPicture, IsFileOf, Said, Stands, Says}
+use Rattle.tree_index.specs.Index.{file_of, last_of, next_in, next_of, picture_of, views_of, IsSettled}
+use Rattle.tree_index.specs.Opens.{FindsDamage, IsLeft, IsLoaded}
 use Rattle.tree_index.proofs.Carried.{picture_of_root}
 use Rattle.tree_index.proofs.Pictures.{one_said, rows_of_said}
 use Rattle.tree_index.proofs.Rooms.{each_seen}
@@ -145,6 +145,8 @@ module _ (stem : Stem) (count : ℕ) (index : Index) (gate : GateFile) (file_is 
     keeps = subst (λ (g : GateFile). Keeps g (new (name_of g))) (sym file_is) pair.keeps;
     other = subst (λ (g : GateFile). (n : FileName) → IsFileOf (name_of g).stem n → (n ≡ name_of g → ⊥) → new n ≡ settled []) (sym file_is) (λ n of_pair differs. pair.other n (of_pair ∙ pair.own) differs);
     commits = subst (λ (g : GateFile). commits_of g ≡ commits_in (root_of g)) (sym file_is) (commits_opened stem gate old gate_is);
+    says = subst (λ (g : GateFile). Says (views_of index) (root_of g) (own_bytes g new) (said_of index)) (sym file_is)
+        (subst (λ n. Says n (root_of gate) (own_bytes gate new) (said_of index)) (sym (said_number count (root_of gate) (own_bytes gate new) (said_of index) says)) says);
     last_room = subst (λ (g : GateFile). HaveRoom (start_of g) (last_of index)) (sym file_is) rooms;
     next_room = subst (λ (g : GateFile). HaveRoom (start_of g) (next_of index)) (sym file_is) (each_seen (λ tree. 8 * tree.count ≤ start_of gate) (last_of index) (next_of index) settled_now.trees rooms);
   }

@@ -150,6 +150,12 @@ module _ {F C : Type 0} (f : Folders F) (s : Servers C) (changes : List DocRows)
   disk_failed : {P : Type 0} → found ≡ Err (tree_fault.Store DiskFault) → UnlessDisk result P
   disk_failed failed unless = absurd (unless (ap (answered own) failed))
 
+  -- what stood behind the slots stands there, and only this file changed
+  stays_and_moves : Adds f (file_of index) (file_of index') old new → Tells (f.disk old) (f.disk new) (λ d e. Stays (file_of index) d e × MovesOn (file_of index) (IsKept (file_of index) (file_of index')) d e)
+  stays_and_moves adds =
+      told_both (f.disk old) (f.disk new) (Stays (file_of index)) (MovesOn (file_of index) (IsKept (file_of index) (file_of index'))) (λ d e. Stays (file_of index) d e × MovesOn (file_of index) (IsKept (file_of index) (file_of index')) d e)
+      (λ d e first second. (first, second)) adds.stays adds.disk
+
   module _ (functions : Option Functions) (picture : Option Picture) where
     abbrev AtEnd : (FileName → File) → Type 0
     AtEnd files = UnlessDisk result (IsAt functions views index' files picture)
@@ -162,10 +168,8 @@ module _ {F C : Type 0} (f : Folders F) (s : Servers C) (changes : List DocRows)
         tells_as (f.disk old) (f.disk new) (Over functions picture) (λ d e. Stays (file_of index) d e × MovesOn (file_of index) (IsKept (file_of index) (file_of index')) d e) Stand
         (λ d e d_is e_is here moved.
         moves_at index d e (IsKept (file_of index) (file_of index')) moved.1 functions views picture AtEnd here.1
-        (λ others kept unless. at_kept index index' keeps_last d e others kept (next_room ((here.1).is_open).next_room) functions views picture moved.0 (next_held functions picture d e d_is e_is here moved.0) here.1))
-        over
-        (told_both (f.disk old) (f.disk new) (Stays (file_of index)) (MovesOn (file_of index) (IsKept (file_of index) (file_of index'))) (λ d e. Stays (file_of index) d e × MovesOn (file_of index) (IsKept (file_of index) (file_of index')) d e)
-        (λ d e first second. (first, second)) adds.stays adds.disk)
+        (λ others kept unless. at_kept index index' keeps_last d e others kept (next_room ((here.1).is_open).next_room) moved.0 functions views picture (next_held functions picture d e d_is e_is here moved.0) here.1))
+        over (stays_and_moves adds)
 
     stand_some : IfTold (f.disk old) (Over functions picture) → (found ≡ Err (tree_fault.Store DiskFault)) × AddsSome f (file_of index) (file_of index') old new → Tells (f.disk old) (f.disk new) Stand
     stand_some over failed =
@@ -186,11 +190,11 @@ module _ {F C : Type 0} (f : Folders F) (s : Servers C) (changes : List DocRows)
   module _ (is_open : IfTold (f.disk old) (λ d. IsOpen index d.now)) where
     open_all : Adds f (file_of index) (file_of index') old new → Tells (f.disk old) (f.disk new) StayOpen
     open_all adds =
-        tells_as (f.disk old) (f.disk new) (λ d. IsOpen index d.now) (MovesOn (file_of index) (IsKept (file_of index) (file_of index'))) StayOpen
+        tells_as (f.disk old) (f.disk new) (λ d. IsOpen index d.now) (λ d e. Stays (file_of index) d e × MovesOn (file_of index) (IsKept (file_of index) (file_of index')) d e) StayOpen
         (λ d e d_is e_is here moved.
-        moves_open index d e (IsKept (file_of index) (file_of index')) moved OpenAtEnd here
-        (λ others kept unless. open_kept index index' keeps_last d e others kept (next_room here.next_room) here))
-        is_open adds.disk
+        moves_open index d e (IsKept (file_of index) (file_of index')) moved.1 OpenAtEnd here
+        (λ others kept unless. open_kept index index' keeps_last d e others kept (next_room here.next_room) moved.0 here))
+        is_open (stays_and_moves adds)
 
     open_some : (found ≡ Err (tree_fault.Store DiskFault)) × AddsSome f (file_of index) (file_of index') old new → Tells (f.disk old) (f.disk new) StayOpen
     open_some failed =

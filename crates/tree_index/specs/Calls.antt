@@ -23,16 +23,21 @@ use Rattle.index_trees.specs.Trees.{HaveRoom, HoldRows}
 use Rattle.tree_index.specs.declared.fault.IndexFault.{IndexFault}
 use Rattle.tree_index.specs.declared.fault.IndexFault.TheVariants.{NoMemory, Store}
 use Rattle.tree_index.specs.declared.index.Index.{Index}
-use Rattle.tree_index.specs.Held.{or_empty, HoldsPicture, IsFileOf, Stands}
+use Rattle.tree_index.specs.Held.{or_empty, HoldsPicture, IsFileOf, Said, Says, Stands}
 use Rattle.tree_index.specs.Trees.{seen}
-use Rattle.tree_index.specs.Index.{file_of, last_of, next_in, next_of, picture_of, stem_of, views_of, GoesOn, IsSame, IsSettled}
+use Rattle.tree_index.specs.Index.{file_of, last_of, next_in, next_of, picture_of, seq_of, stem_of, views_of, GoesOn, IsSame, IsSettled}
+
+-- where the index stands: at the sequence and the trees of its last commit
+abbrev pub said_of : Index → Said
+said_of index = record { seq = seq_of index; views = (last_of index).views.items; back = (last_of index).back }
 
 -- What the object keeps is what the folder holds: its own file, and beside it a side without bytes. As many commits were made as its root
--- says, and none where it has no root; and the file has room for the items of its trees.
+-- says, and none where it has no root; its root record says where the index stands; and the file has room for the items of its trees.
 pub record IsOpen (index : Index) (files : FileName → File) : Type 0 where
   pub keeps : Keeps (file_of index) (files (name_of (file_of index)))
   pub other : (name : FileName) → IsFileOf (stem_of index) name → name ≢ name_of (file_of index) → files name ≡ settled []
   pub commits : commits_of (file_of index) ≡ commits_in (root_of (file_of index))
+  pub says : Says (views_of index) (root_of (file_of index)) (own_bytes (file_of index) files) (said_of index)
   pub last_room : HaveRoom (start_of (file_of index)) (last_of index)
   pub next_room : HaveRoom (start_of (file_of index)) (next_of index)
 

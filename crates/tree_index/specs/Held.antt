@@ -14,6 +14,7 @@ use Rattle.tree_laws.specs.declared.tree.Tree.{Tree}
 use Rattle.node_file.specs.Records.{node_at}
 use Rattle.view_model.specs.Picture.{Picture}
 use Rattle.index_items.specs.RootRecord.{root_bytes, IsContent}
+use Rattle.index_trees.specs.Laws.{no_tree}
 use Rattle.index_trees.specs.Trees.{HoldTrees}
 
 -- what a root record says: the sequence that the index stands at, the tree of each view, and that of the back-index
@@ -30,6 +31,15 @@ pub record Spells (count : ℕ) (root : Root) (bytes : List ℕ) (said : Said) :
 abbrev pub SpellsRoot : ℕ → Option Root → List ℕ → Said → Type 0
 SpellsRoot count None bytes said = ⊥
 SpellsRoot count (Some root) bytes said = Spells count root bytes said
+
+-- what is said without a root record: no write, and no rows
+abbrev pub nothing_said : ℕ → Said
+nothing_said count = record { seq = 0; views = replicate count no_tree; back = no_tree }
+
+-- what the root of a file says, for so many views
+abbrev pub Says : ℕ → Option Root → List ℕ → Said → Type 0
+Says count None bytes said = said ≡ nothing_said count
+Says count (Some root) bytes said = SpellsRoot count (Some root) bytes said
 
 -- what is damaged of the files of an index of so many views as they are opened: their first damaged slot, or else their root record
 abbrev pub IsDamagedAt : Stem → ℕ → (FileName → File) → FileName → ℕ → Type 0

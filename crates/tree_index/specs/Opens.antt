@@ -1,5 +1,5 @@
 -- What opening an index promises.
-use Rattle.std.specs.Prelude.{◌≡◌, ◌⊎◌, ◌<◌, ◌≤◌, ℕ, List, [], map, length, replicate, take, Result, Err, IfErr, IfOk, Option, None, Some}
+use Rattle.std.specs.Prelude.{◌≡◌, ◌⊎◌, ◌<◌, ◌≤◌, ℕ, List, [], map, length, take, Result, Err, IfErr, IfOk, Option, None}
 use Rattle.view_ports.specs.Causes.{RisesBy}
 use Rattle.view_ports.specs.Disk.{IfTold, Moves, Tells}
 use Rattle.view_ports.specs.File.{File, settled}
@@ -8,7 +8,6 @@ use Rattle.view_ports.specs.declared.file_name.FileName.{FileName}
 use Rattle.view_ports.specs.declared.file_name.Stem.{Stem}
 use Rattle.view_ports.specs.declared.folder.Folder.{Ghosts as Folders}
 use Rattle.gate_file.specs.declared.fault.GateFault.TheVariants.{Damaged, DiskFault}
-use Rattle.gate_file.specs.declared.root.Root.{Root}
 use Rattle.gate_file.specs.GateFile.{length_of, name_of, root_of}
 use Rattle.gate_file.specs.Open.{opened, AreFitSlots}
 use Rattle.gate_file.specs.Pair.{own_bytes}
@@ -16,14 +15,13 @@ use Rattle.design_docs.specs.declared.design.View.{View}
 use Rattle.node_file.specs.Records.{node_at}
 use Rattle.view_model.specs.Picture.{Picture}
 use Rattle.index_items.specs.declared.root_record.IndexRoot.{IndexRoot}
-use Rattle.index_trees.specs.Laws.{no_tree}
 use Rattle.index_trees.specs.Reading.{rows_in}
 use Rattle.tree_index.specs.declared.fault.IndexFault.{IndexFault}
 use Rattle.tree_index.specs.declared.fault.IndexFault.TheVariants.{NoMemory, Store}
 use Rattle.tree_index.specs.declared.index.Index.{Index}
-use Rattle.tree_index.specs.Calls.{IsAt, IsCounted, IsOpen}
-use Rattle.tree_index.specs.Held.{up_to, HoldsIndex, HoldsPicture, IsDamagedAt, IsFileOf, OnlyOpens, Said, SpellsRoot, Stands}
-use Rattle.tree_index.specs.Index.{file_of, last_of, picture_of, seq_of, stem_of, views_of, IsSettled}
+use Rattle.tree_index.specs.Calls.{said_of, IsAt, IsCounted, IsOpen}
+use Rattle.tree_index.specs.Held.{up_to, HoldsIndex, HoldsPicture, IsDamagedAt, IsFileOf, OnlyOpens, Said, Says, Stands}
+use Rattle.tree_index.specs.Index.{file_of, last_of, picture_of, stem_of, views_of, IsSettled}
 
 -- damage that is found is of this kind
 abbrev pub FindsDamage : {T : Type 0} → (FileName → ℕ → Type 0) → Result T IndexFault → Type 0
@@ -39,22 +37,9 @@ pub record IsNew (stem : Stem) (count : ℕ) (index : Index) : Type 0 where
   pub number : views_of index ≡ count
   pub settled : IsSettled index
 
--- what is said without a root record: no write, and no rows
-abbrev pub nothing_said : ℕ → Said
-nothing_said count = record { seq = 0; views = replicate count no_tree; back = no_tree }
-
--- what the root of a file says, for so many views
-abbrev pub Says : ℕ → Option Root → List ℕ → Said → Type 0
-Says count None bytes said = said ≡ nothing_said count
-Says count (Some root) bytes said = SpellsRoot count (Some root) bytes said
-
 -- what is read of a root record
 abbrev pub said_in : IndexRoot → Said
 said_in root = record { seq = root.seq; views = root.views.items; back = root.back }
-
--- the index stands at what is said
-abbrev pub said_of : Index → Said
-said_of index = record { seq = seq_of index; views = (last_of index).views.items; back = (last_of index).back }
 
 -- the file of the last commit is as it was, of which nothing is pending now, and bytes that were added behind what is durable may be cut
 abbrev pub IsLeft : Stem → (FileName → File) → (FileName → File) → Type 0

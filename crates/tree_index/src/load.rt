@@ -8,7 +8,8 @@ ghost use Rattle.gate_file.specs.Pair.{own_bytes};
 ghost use Rattle.gate_file.specs.RootPlace.{IsRootDamage};
 ghost use Rattle.tree_index.specs.Calls.{IsCounted};
 ghost use Rattle.tree_index.specs.Held.{SpellsRoot};
-ghost use Rattle.tree_index.specs.Opens.{FindsDamage, IsOpenFault, Says, nothing_said, said_in};
+ghost use Rattle.tree_index.specs.Held.{Says, nothing_said};
+ghost use Rattle.tree_index.specs.Opens.{FindsDamage, IsOpenFault, said_in};
 ghost use Rattle.tree_index.specs.Sizes.{are_sizes};
 
 use crate::fault::IndexFault;

@@ -1,19 +1,21 @@
 -- What an update comes to follows from what its two parts did: mapping the documents, and writing their rows.
-use Rattle.std.specs.Prelude.{◌≡◌, ◌≢◌, ◌⊎◌, ◌≤◌, ◌++◌, ℕ, List, ◌∷◌, None, Result, Ok, Err, OnOk}
+use Rattle.std.specs.Prelude.{◌≡◌, ◌≢◌, ◌⊎◌, ◌≤◌, ◌++◌, ℕ, List, ◌∷◌, length, None, Option, Result, Ok, Err, OnOk}
 use Rattle.std.proofs.Common.{refl, sym, ap, ◌∙◌, subst, inl, inr, arith}
 use Rattle.std.proofs.lemmas.Bool.{cases_eq}
 use Rattle.view_ports.specs.Disk.{Disk, IfTold, Moves, MovesNone, Tells}
 use Rattle.view_ports.specs.Faults.{Rose}
 use Rattle.view_ports.specs.File.{File}
+use Rattle.view_ports.specs.Functions.{Functions}
 use Rattle.view_ports.specs.declared.file_name.FileName.{FileName}
 use Rattle.view_ports.specs.declared.file_name.Stem.{Stem}
 use Rattle.view_ports.specs.declared.folder.Folder.{Ghosts as Folders}
 use Rattle.view_ports.specs.declared.servers.Servers.{Ghosts as Servers}
 use Rattle.view_ports.proofs.DiskRuns.{moves_none, moves_then, none_same, none_wider}
-use Rattle.view_ports.proofs.Told.{told_after, told_all, told_map, told_now, told_refl, told_then}
+use Rattle.view_ports.proofs.Told.{told_after, told_all, told_map, told_now, told_pair, told_refl, told_then}
 use Rattle.gate_file.specs.declared.fault.GateFault.TheVariants.{Damaged, DiskFault, Full}
 use Rattle.gate_file.specs.GateFile.{name_of}
 use Rattle.design_docs.specs.declared.design.Design.{Design}
+use Rattle.design_docs.specs.History.{Write}
 use Rattle.doc_file.specs.declared.docs.Docs.{Docs}
 use Rattle.doc_file.specs.Docs.{seq_of as written, IsAt as AreAt, IsLoaded as AreLoaded}
 use Rattle.child_pool.specs.declared.pool_fault.PoolFault.TheVariants.{ServerFault, UnknownLanguage}
@@ -32,13 +34,14 @@ use Rattle.tree_index.specs.declared.fault.IndexFault.TheVariants.{Store}
 use Rattle.tree_index.specs.declared.index.Index.{Index}
 use Rattle.tree_index.specs.Calls.{IsOpen}
 use Rattle.tree_index.specs.Faults.{UnlessDisk}
-use Rattle.tree_index.specs.Held.{IsFileOf}
+use Rattle.tree_index.specs.Held.{or_empty, IsFileOf}
 use Rattle.tree_index.specs.Index.{file_of, last_of, picture_of, seq_of, stem_of, IsSame}
 use Rattle.tree_index.specs.Opens.{FindsDamage}
 use Rattle.tree_updater.specs.declared.fault.UpdateFault.{UpdateFault}
 use Rattle.tree_updater.specs.declared.fault.UpdateFault.TheVariants.{Docs as OfDocuments, Index as OfIndex, Pool as OfPool}
 use Rattle.tree_updater.specs.Asking.{ThenReduces}
 use Rattle.tree_updater.specs.Faults.{by_mapping}
+use Rattle.tree_updater.specs.Filled.{AreNodesOf, WasDue}
 use Rattle.tree_updater.specs.Follows.{AsksSince, FindsNone, Follows, IsBadNodeOf, IsMappedTo, IsOfDisk}
 use Rattle.tree_updater.specs.Sides.{behind, outer_of, IsRolledBack, Side}
 use Rattle.tree_updater.specs.Updates.{by_writing, IsReached, MapsThenWrites, ThenWrites, Updates}
@@ -46,7 +49,7 @@ use Rattle.tree_updater.specs.Writes.{made_of, IsBadNode, Writes}
 use Rattle.tree_updater.proofs.Asked.{asked_since, asked_some, mapping_of_documents, mapping_of_file, mapping_of_no_index, mapping_of_pool, of_no_documents, of_reduce, of_store, later_then, on_err, path_before, reduced_blames, reduced_keeps, reduced_unknown, rose_since, same_fault, stay_then, then_reduced, writing_of_file, writing_rose, writing_still}
 use Rattle.tree_updater.proofs.Mapped.{mapped_err, mapped_ok}
 use Rattle.tree_updater.proofs.Rolled.{open_back, stem_back}
-use Rattle.tree_updater.proofs.Updated.{failed, was_next, was_sound, well}
+use Rattle.tree_updater.proofs.Updated.{failed, was_next, was_nodes, was_sound, well}
 use Rattle.tree_updater.proofs.Written.{faulty_seen}
 
 module _ {F C : Type 0} (f : Folders F) (s : Servers C) (docs : Docs) (design : Design) (old : Side F C) where
@@ -187,6 +190,21 @@ module _ {F C : Type 0} (f : Folders F) (s : Servers C) (docs : Docs) (design : 
       reduced : StaysAsMade between.pool new.pool × (s.faults between.servers ≤ s.faults new.servers)
       reduced = reduced_keeps f s design rows (written docs) mid new done writes.asks
 
+      -- it was due
+      was_due : (functions : Option Functions) (history : List Write) (picture : Option Picture) → IfTold (f.disk old.folder) (λ d. IsReached f s docs design old new functions history picture d.now
+          → WasDue (IsMappedTo f s docs design old new history picture) old.cache new.cache history (or_empty (length design.views) picture))
+      was_due functions history picture =
+          told_pair (f.disk old.folder) (λ d. IsReached f s docs design old new functions history picture d.now → IsMappedTo f s docs design old new history picture (made_of rows (written docs) rolled))
+          (λ d. IsReached f s docs design old new functions history picture d.now → AreNodesOf old.cache new.cache (or_empty (length design.views) picture) (made_of rows (written docs) rolled))
+          (λ d. IsReached f s docs design old new functions history picture d.now → WasDue (IsMappedTo f s docs design old new history picture) old.cache new.cache history (or_empty (length design.views) picture))
+          (λ d mapped nodes is. record {
+            next = made_of rows (written docs) rolled;
+            since = λ same. differs (ap (λ (p : Picture). p.seq) is.at.last ∙ same ∙ sym is.documents.count);
+            mapped = mapped is;
+            nodes = nodes is;
+          })
+          (was_next f s docs design old rolled back between differs rows maps new done writes functions history picture) (was_nodes f s docs design old rolled back between differs rows maps new done writes functions history picture)
+
       were_written : Follows f s docs design old new result
       were_written = record {
         asks = asked_since f s docs design old between new (mapped_ok rows) result maps then_asked differs;
@@ -207,10 +225,7 @@ module _ {F C : Type 0} (f : Folders F) (s : Servers C) (docs : Docs) (design : 
             (λ d. (name : FileName) (at : ℕ) → result ≡ Err (OfIndex (Store (Damaged name at))) → IsBadNodeOf design new.index d name at)
             (λ d found name at told. let is = of_store done (Damaged name at) told in bad_node d name at is (found name at is)) writes.damaged;
         full = λ name size told. writes.full name size (of_store done (Full name size) told);
-        filled = λ name size told functions history picture.
-            told_now (f.disk old.folder) (λ d. IsReached f s docs design old new functions history picture d.now → IsMappedTo f s docs design old new history picture (made_of rows (written docs) rolled))
-            (λ d. IsReached f s docs design old new functions history picture d.now → (next : Picture) × IsMappedTo f s docs design old new history picture next)
-            (λ d mapped is. (made_of rows (written docs) rolled, mapped is)) (was_next f s docs design old rolled back between differs rows maps new done writes functions history picture);
+        filled = λ name size told functions history picture. was_due functions history picture;
         cause = writing_rose (f.faults old.folder) (f.faults between.folder) (f.faults new.folder) still_between done writes.cause;
         still = writing_still (f.faults old.folder) (f.faults between.folder) (f.faults new.folder) still_between done writes.cause;
         later = (

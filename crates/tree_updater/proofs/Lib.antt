@@ -1,3 +1,4 @@
+pub mod Each
 mod Rolled
 pub mod Spoiled
 mod Talking

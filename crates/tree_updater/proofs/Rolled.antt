@@ -1,5 +1,5 @@
 -- An index that was rolled back to its last commit.
-use Rattle.std.proofs.Common.{◌≡◌, ◌≢◌, ◌*◌, ◌≤◌, List, [], Option, ap, sym, ◌∙◌, subst}
+use Rattle.std.proofs.Common.{◌≡◌, ◌≢◌, ◌*◌, ◌≤◌, ℕ, List, [], Option, ap, sym, ◌∙◌, subst}
 use Rattle.json_terms.specs.declared.term.Row.{Row}
 use Rattle.view_ports.specs.File.{File, settled}
 use Rattle.view_ports.specs.Functions.{Functions}
@@ -14,8 +14,8 @@ use Rattle.view_model.specs.Picture.{Picture}
 use Rattle.index_trees.specs.declared.trees.IndexTrees.{IndexTrees}
 use Rattle.index_trees.specs.Trees.{HaveRoom, HoldTrees}
 use Rattle.tree_index.specs.declared.index.Index.{Index}
-use Rattle.tree_index.specs.Calls.{HasTrees, IsAt, IsOpen}
-use Rattle.tree_index.specs.Held.{HoldsPicture, IsFileOf}
+use Rattle.tree_index.specs.Calls.{said_of, HasTrees, IsAt, IsOpen}
+use Rattle.tree_index.specs.Held.{HoldsPicture, IsFileOf, Said, Says}
 use Rattle.tree_index.specs.Index.{file_of, last_of, next_in, next_of, picture_of, stem_of, views_of}
 use Rattle.tree_index.specs.Trees.{seen}
 use Rattle.tree_index.proofs.Rooms.{each_seen}
@@ -36,12 +36,23 @@ module _ (index now : Index) (back : IsBack index now) where
   room_back trees are room =
       subst (λ (g : GateFile). HaveRoom (start_of g) trees) (sym back.file) (each_seen (λ tree. 8 * tree.count ≤ start_of (file_of index)) (last_of index) trees are room)
 
+  -- it stands where it stood
+  said_back : said_of now ≡ said_of index
+  said_back = λ i. record {
+    seq = ap (λ (p : Picture). p.seq) back.same.picture i;
+    views = ap (λ (t : List Tree × Tree). t.0) back.same.last i;
+    back = ap (λ (t : List Tree × Tree). t.1) back.same.last i;
+  }
+
   module _ (files : FileName → File) where
     pub open_back : IsOpen index files → IsOpen now files
     open_back is_open = record {
       keeps = subst (λ (g : GateFile). Keeps g (files (name_of g))) (sym back.file) is_open.keeps;
       other = subst (λ (g : GateFile). (name : FileName) → IsFileOf (name_of g).stem name → name ≢ name_of g → files name ≡ settled []) (sym back.file) is_open.other;
       commits = subst (λ (g : GateFile). commits_of g ≡ commits_in (root_of g)) (sym back.file) is_open.commits;
+      says = subst (λ (g : GateFile). Says (views_of now) (root_of g) (own_bytes g files) (said_of now)) (sym back.file)
+          (subst (λ (s : Said). Says (views_of now) (root_of (file_of index)) (own_bytes (file_of index) files) s) (sym said_back)
+          (subst (λ (n : ℕ). Says n (root_of (file_of index)) (own_bytes (file_of index) files) (said_of index)) (sym views_back) is_open.says));
       last_room = room_back (last_of now) back.same.last is_open.last_room;
       next_room = room_back (next_of now) next_back is_open.last_room;
     }

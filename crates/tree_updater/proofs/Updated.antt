@@ -18,6 +18,7 @@ use Rattle.design_docs.specs.History.{Write}
 use Rattle.doc_file.specs.declared.docs.Docs.{Docs}
 use Rattle.doc_file.specs.Docs.{seq_of as written, IsAt as AreAt, IsLoaded as AreLoaded}
 use Rattle.child_pool.specs.declared.pool_fault.PoolFault.TheVariants as pool_fault
+use Rattle.reduce_tree.specs.Counts.{node_size}
 use Rattle.view_model.specs.Picture.{Picture}
 use Rattle.view_model.specs.Update.{IsUpdated}
 use Rattle.row_exchange.specs.declared.doc_rows.DocRows.{DocRows}
@@ -25,6 +26,8 @@ use Rattle.change_mapper.specs.declared.fault.MappingFault.{MappingFault}
 use Rattle.change_mapper.specs.Mapped.{BreaksOff, HasMappedAll, MapsChanges, Outer}
 use Rattle.row_exchange.specs.Replaced.{ids_of}
 use Rattle.index_trees.proofs.Holding.{trees_are_in_order}
+use Rattle.index_trees.specs.Exchanges.{AreShort, PutsWithin}
+use Rattle.node_file.specs.Cache.{puts_of}
 use Rattle.node_file.specs.Records.{node_at}
 use Rattle.gate_file.specs.Pair.{own_bytes}
 use Rattle.tree_index.specs.declared.fault.IndexFault.{IndexFault}
@@ -38,10 +41,12 @@ use Rattle.tree_index.proofs.Carried.{index_stands}
 use Rattle.tree_updater.specs.declared.fault.UpdateFault.{UpdateFault}
 use Rattle.tree_updater.specs.declared.fault.UpdateFault.TheVariants.{Pool as OfPool}
 use Rattle.tree_updater.specs.Faults.{by_index, by_mapping}
+use Rattle.tree_updater.specs.Filled.{AreNodesOf}
 use Rattle.tree_updater.specs.Follows.{IsMappedTo}
 use Rattle.tree_updater.specs.Made.{IsMade, IsMapped, IsRefused, IsUpdatedFreely}
 use Rattle.tree_updater.specs.Paths.{IsPathOf, OnHonest}
 use Rattle.tree_updater.specs.Sides.{behind, outer_of, side, IsRolledBack, Side}
+use Rattle.tree_updater.proofs.Each.{told_each}
 use Rattle.tree_updater.proofs.Rolled.{at_back, stem_back}
 use Rattle.tree_updater.specs.Updates.{by_writing, EndsAt, IsNext, IsReached, IsRefusedRightly, MayBeLeft, StandsAround, Updates}
 use Rattle.tree_updater.specs.Writes.{made_of, EndsAt as WritesEnd, IsOver, IsSpoiledBy, IsUsable, StandsAround as WritesAround, Writes}
@@ -251,6 +256,26 @@ module _ {F C : Type 0} (f : Folders F) (s : Servers C) (docs : Docs) (design : 
           told_now (f.disk old.folder) (λ d. AreAt docs d.now history → Told history) (λ d. Reached functions history picture d → IsMappedTo f s docs design old new history picture next)
           (λ d asks is. next_mapped d (known_at functions history picture d is asks)) (maps.asks history)
 
+      -- so many bytes at most has each row and entry of both pictures
+      abbrev ShortBoth : Type 0
+      ShortBoth = (longest : ℕ) × AreShort longest (picture_of old.index).rows × AreShort longest next.rows
+
+      abbrev PutsShort : ShortBoth → Type 0
+      PutsShort both = PutsWithin (node_size both.0) (puts_of old.cache) (puts_of new.cache)
+
+      -- each node that was put is of rows and entries of the two
+      pub written_nodes : IfTold (f.disk old.folder) (λ d. Reached functions history picture d → AreNodesOf old.cache new.cache (or_empty (length design.views) picture) next)
+      written_nodes =
+          told_pair (f.disk old.folder) (λ d. AtFirst d → (both : ShortBoth) → PutsShort both) (λ d. (AreAt docs d.now history → Told history) × (AreLoaded docs d.now → IsDistinct bytes_eq (ids_of rows)))
+          (λ d. Reached functions history picture d → AreNodesOf old.cache new.cache (or_empty (length design.views) picture) next)
+          (λ d nodes told here.
+          let known = known_at functions history picture d here told.0 in
+          subst (λ (p : Picture). AreNodesOf old.cache new.cache p next) (known.is.at).last (λ longest last later. nodes (known, told.1) (longest, last, later)))
+          (told_back (f.disk old.folder) (f.disk between.folder) (λ d. AtFirst d → (both : ShortBoth) → PutsShort both) (λ d. (both : ShortBoth) → IsOver s design rows mid functions picture d → PutsShort both) MovesNone
+          (λ a b none nodes first both. nodes both (over_at a b none first.0 first.1)) maps.reads.disk
+          (told_each (f.disk between.folder) (λ (both : ShortBoth) d. IsOver s design rows mid functions picture d → PutsShort both) (λ both. writes.pieces functions picture both.0 (both.1, both.2))))
+          (told_pair (f.disk old.folder) (λ d. AreAt docs d.now history → Told history) (λ d. AreLoaded docs d.now → IsDistinct bytes_eq (ids_of rows)) _ (λ d asks apart. (asks, apart)) (maps.asks history) maps.apart)
+
       -- no node is found damaged
       pub written_sound : IfTold (f.disk old.folder) (λ d. Reached functions history picture d → FindsDamage (λ name at. ⊥) done)
       written_sound =
@@ -335,6 +360,13 @@ module _ {F C : Type 0} (f : Folders F) (s : Servers C) (docs : Docs) (design : 
       told_now (f.disk old.folder) (λ d. IsReached f s docs design from new functions history picture d.now → IsMappedTo f s docs design old new history picture (made_of rows (written docs) rolled))
       (λ d. IsReached f s docs design old new functions history picture d.now → IsMappedTo f s docs design old new history picture (made_of rows (written docs) rolled))
       (λ d told is. told (reached_from functions history picture d is)) (written_next f s docs design from between rows maps_from new done writes functions history picture)
+
+  pub was_nodes : (functions : Option Functions) (history : List Write) (picture : Option Picture)
+      → IfTold (f.disk old.folder) (λ d. IsReached f s docs design old new functions history picture d.now → AreNodesOf old.cache new.cache (or_empty (length design.views) picture) (made_of rows (written docs) rolled))
+  was_nodes functions history picture =
+      told_now (f.disk old.folder) (λ d. IsReached f s docs design from new functions history picture d.now → AreNodesOf old.cache new.cache (or_empty (length design.views) picture) (made_of rows (written docs) rolled))
+      (λ d. IsReached f s docs design old new functions history picture d.now → AreNodesOf old.cache new.cache (or_empty (length design.views) picture) (made_of rows (written docs) rolled))
+      (λ d told is. told (reached_from functions history picture d is)) (written_nodes f s docs design from between rows maps_from new done writes functions history picture)
 
   pub was_sound : (functions : Option Functions) (history : List Write) (picture : Option Picture)
       → IfTold (f.disk old.folder) (λ d. IsReached f s docs design old new functions history picture d.now → FindsDamage (λ name at. ⊥) done)

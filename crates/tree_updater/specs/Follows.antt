@@ -27,7 +27,7 @@ use Rattle.tree_index.specs.Index.{file_of, last_of, seq_of, stem_of}
 use Rattle.tree_updater.specs.declared.fault.UpdateFault.{UpdateFault}
 use Rattle.tree_updater.specs.declared.fault.UpdateFault.TheVariants.{Docs as OfDocuments, Index as OfIndex, Pool as OfPool}
 use Rattle.tree_updater.specs.Asking.{HasAskedFor}
-use Rattle.tree_updater.specs.Filled.{IsFilled}
+use Rattle.tree_updater.specs.Filled.{IsFilled, WasDue}
 use Rattle.tree_updater.specs.Made.{IsMapped}
 use Rattle.tree_updater.specs.Paths.{IsPathOf}
 use Rattle.tree_updater.specs.Sides.{Side}
@@ -96,10 +96,10 @@ module _ {F C : Type 0} (f : Folders F) (s : Servers C) (docs : Docs) (design : 
     -- what is damaged is the body of a last write, or a node of the index
     pub body : IfTold (f.disk old.folder) (λ d. AreLoaded docs d.now → (name : FileName) (at : ℕ) → result ≡ Err (OfDocuments (Damaged name at)) → IsBodyDamaged docs d.now name at)
     pub node : IfTold (f.disk new.folder) (λ d. (name : FileName) (at : ℕ) → result ≡ Err (OfIndex (Store (Damaged name at))) → IsBadNodeOf design new.index d name at)
-    -- the file of the index is full by what was to be written, and then the documents were mapped
+    -- the file of the index is full by what was to be written, and then it was due
     pub full : (name : FileName) (size : Option ℕ) → result ≡ Err (OfIndex (Store (Full name size))) → IsFilled (length design.views) new.index old.cache new.cache name size
     pub filled : (name : FileName) (size : Option ℕ) → result ≡ Err (OfIndex (Store (Full name size))) → (functions : Option Functions) (history : List Write) (picture : Option Picture)
-        → IfTold (f.disk old.folder) (λ d. IsReached f s docs design old new functions history picture d.now → (next : Picture) × IsMappedTo history picture next)
+        → IfTold (f.disk old.folder) (λ d. IsReached f s docs design old new functions history picture d.now → WasDue (IsMappedTo history picture) old.cache new.cache history (or_empty (length design.views) picture))
     -- a fault of the disk comes only where the folder counted one, and it counted none for any other answer
     pub cause : IfErr result (λ fault. IsOfDisk fault → Rose (f.faults old.folder) (f.faults new.folder))
     pub still : IsSpared result → f.faults new.folder ≡ f.faults old.folder

@@ -115,7 +115,7 @@ module _ {F C : Type 0} (f : Folders F) (s : Servers C) (docs docs' : Docs) (poo
         documents = there;
         indexes = indexes_later write world.history world.pictures here.owned groups b.now here.opened (indexes_at a b moves (kinds_of world.history) groups world.pictures here.indexes);
         within = within_longer world write here.within;
-        owned = owned_later write world.history world.pictures here.owned;
+        owned = owned_later write world.history world.pictures here.owned here.within;
         opened = opened_later write world.history groups here.opened;
       })
 

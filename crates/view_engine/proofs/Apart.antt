@@ -125,6 +125,6 @@ module _ (engine : Engine) (design : Design) (files : FileName → File) (world 
     indexes = subst (λ h. StandFor (kinds_of h) image after.pictures) (sym history)
         (images_stand_around (kinds_of world.history) design files world.pictures after.pictures image (Some next) at.indexes.held (record { inside = stands; outside = framed.outside })
         (own_is_set (sig_of design) (Some next) world.pictures after.pictures set, others_stay (sig_of design) (Some next) world.pictures after.pictures set));
-    owned = subst (λ h. AreOwned h after.pictures) (sym history) (owned_set world.history (sig_of design) next world.pictures after.pictures has at.owned set);
+    owned = subst (λ h. AreOwned h after.pictures) (sym history) (owned_set world.history (sig_of design) next world.pictures after.pictures seq has at.owned set);
     within = none_newer_set (sig_of design) next world after at.within seq history set;
   }

@@ -28,7 +28,7 @@ use Rattle.view_model.specs.GroupValues.{IsCaused}
 use Rattle.range_query.specs.Summed.{IsSummedText}
 use Rattle.view_model.specs.Groups.{picked_groups}
 use Rattle.view_engine.specs.Answering.{fault_of_answer, Answers, AppendsAnswer, HasAll, HasMet, Shows}
-use Rattle.view_engine.specs.ViewQuery.{asked_sources, has_reduce, source_for}
+use Rattle.view_engine.specs.ViewQuery.{has_reduce, source_for}
 use Rattle.view_engine.proofs.Answering.{own_answer}
 use Rattle.view_engine.proofs.Reduced.{nothing_reduced}
 use Rattle.view_engine.proofs.ReplyLines.{answer_line}

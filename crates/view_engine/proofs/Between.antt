@@ -2,6 +2,7 @@
 use Rattle.std.proofs.Common.{◌≡◌, ◌⊎◌, ◌≤◌, ◌∙◌, ℕ, List, length, Option, Some, None, inl, inr, ⊎_elim, refl, sym, subst}
 use Rattle.tree_groups.specs.Pictures.{Pictures, StandFor, StandsOf}
 use Rattle.view_model.specs.Picture.{Picture}
+use Rattle.view_model.specs.Since.{first}
 use Rattle.view_ports.specs.declared.file_name.FileName.{FileName}
 use Rattle.doc_file.specs.Held.{Stands}
 use Rattle.view_engine.specs.Cleanup.{IsCleaned, IsPartlyCleaned}
@@ -23,7 +24,7 @@ stands_alike world other image history pictures stands = record {
   documents = subst (Stands image) (sym history) stands.documents;
   indexes = subst (λ h. StandFor (kinds_of h) image other.pictures) (sym history) (λ sig. subst (StandsOf (kinds_of world.history) sig image) (sym (pictures sig)) (stands.indexes sig));
   within = λ sig picture is. subst (λ (h : List _). picture.seq ≤ length h) (sym history) (stands.within sig picture (sym (pictures sig) ∙ is));
-  owned = λ sig picture is. subst (λ h. HasSignature h sig) (sym history) (stands.owned sig picture (sym (pictures sig) ∙ is));
+  owned = λ sig picture is. subst (λ h. HasSignature (first picture.seq h) sig) (sym history) (stands.owned sig picture (sym (pictures sig) ∙ is));
 }
 
 -- between a world and itself there is no other
@@ -58,7 +59,7 @@ cleaned_fewer before after cleaned = λ sig picture there. left_there (before.pi
 
 -- so each is that of a design document
 pub owned_left : (before mid : World) → mid.history ≡ before.history → AreOfThem before.pictures mid.pictures → AreOwned before.history before.pictures → AreOwned mid.history mid.pictures
-owned_left before mid history fewer owned = λ sig picture there. subst (λ h. HasSignature h sig) (sym history) (owned sig picture (fewer sig picture there))
+owned_left before mid history fewer owned = λ sig picture there. subst (λ h. HasSignature (first picture.seq h) sig) (sym history) (owned sig picture (fewer sig picture there))
 
 -- and none is newer
 pub none_newer_left : (before mid : World) → mid.history ≡ before.history → AreOfThem before.pictures mid.pictures → NoneIsNewer before → NoneIsNewer mid

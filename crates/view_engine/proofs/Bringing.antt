@@ -3,7 +3,6 @@ use Rattle.std.specs.Prelude.{Bool, ◌≡◌, ◌≢◌, ◌⊎◌, ◌<◌, �
 use Rattle.std.proofs.Common.{true, refl, sym, ap, ◌∙◌, subst, inl, inr, ⊎_elim, arith}
 use Rattle.json_terms.specs.Json.{Json}
 use Rattle.design_docs.specs.declared.design.Design.{Design}
-use Rattle.design_docs.specs.declared.design.View.{View as DesignView}
 use Rattle.view_ports.specs.Disk.{Disk, Framed, IfTold, LeavesOnly, Moves, Tells}
 use Rattle.view_ports.specs.File.{File}
 use Rattle.view_ports.specs.declared.file_name.FileName.{FileName}
@@ -254,7 +253,7 @@ module _ {F C : Type 0} (f : Folders F) (s : Servers C) (docs : Docs) (pool pool
                   documents = documents_stay moves.others;
                   indexes = indexes_alike kinds ended.after left.pictures (set_is_alike own (Some shown) world.pictures left.pictures ended.after (λ sig. refl) (ended.set.0 ∙ there) ended.set.1) groups' b.now ended.at;
                   within = none_newer_set own shown world left here.within number refl (λ sig. refl);
-                  owned = owned_set world.history own shown world.pictures left.pictures has here.owned (λ sig. refl);
+                  owned = owned_set world.history own shown world.pictures left.pictures number has here.owned (λ sig. refl);
                   opened = opened_beside world.history own groups groups' has follow.only here.opened;
                 },
                 is_next,

@@ -32,7 +32,6 @@ use Rattle.view_engine.specs.Cleaning.{met_by_index, AreLiveSignatures, CleansUp
 use Rattle.view_engine.specs.Cleanup.{done_text, IsCleaned, IsPartlyCleaned}
 use Rattle.view_engine.specs.Disks.{ClearsUnheld, IfStopped, IsOfNone, IsReadReason}
 use Rattle.view_engine.specs.HeldDesigns.{AreHeldSignatures, IsUnheld}
-use Rattle.view_engine.proofs.Each.{told_each}
 use Rattle.view_engine.specs.Signatures.{kinds_of}
 use Rattle.view_engine.specs.World.{World}
 
@@ -208,9 +207,8 @@ module _ {F : Type 0} (f : Folders F) (docs : Docs) (groups : Groups) (old : F) 
 
     damaged_why : (name : FileName) (at : ℕ) → r ≡ Err (index.Store (gate.Damaged name at)) → Why (index.Store (gate.Damaged name at))
     damaged_why name at is = inr (
-      told_pair (f.disk old) (λ d. (history : List Write) → AreAt docs d.now history → AreLiveSignatures history kept) (λ d. IsDamageOf kept d.now name at) _
-          (λ d lives there. record { sig = there.sig; damage = there.damage; unlived = λ history here lived. there.unkept ((lives history here there.sig).1 lived) })
-          (told_each (f.disk old) (λ history d. AreAt docs d.now history → AreLiveSignatures history kept) live)
+      told_pair (f.disk old) (λ d. AreHeldSignatures docs (bytes_in docs d.now) kept) (λ d. IsDamageOf kept d.now name at) _
+          (λ d holds there. record { sig = there.sig; damage = there.damage; whole = holds.whole; unheld = λ is. there.unkept ((holds.each there.sig).1 is) }) held
           (told_before (λ files. IsDamageOf kept files name at) (told_now (f.disk mid) _ _ (λ d damaged. damaged name at is) cleans.damaged)),
       λ world. told_before (λ files. AreIndexesAt (kinds_of world.history) groups files world.pictures → ⊥) (told_now (f.disk mid) _ _ (λ d never here. never here name at is) (cleans.sound (kinds_of world.history) world.pictures)),
     )

@@ -1,11 +1,11 @@
 -- A view that ends since a file of its design's index is full.
 use Rattle.std.specs.Prelude.{◌≡◌, ◌<◌, ℕ, List, length, Option, Some, None, Err}
-use Rattle.std.proofs.Common.{true, refl, sym, ap, subst}
+use Rattle.std.proofs.Common.{true, refl, ap, ◌∙◌, subst}
 use Rattle.json_terms.specs.Json.{Json}
 use Rattle.design_docs.specs.declared.design.Design.{Design}
 use Rattle.design_docs.specs.declared.design.View.{View as DesignView}
 use Rattle.design_docs.specs.Design.{views_of}
-use Rattle.view_ports.specs.Disk.{Disk, IfTold, Moves, MovesNone, Tells}
+use Rattle.view_ports.specs.Disk.{Disk, IfTold, MovesNone, Tells}
 use Rattle.view_ports.specs.declared.file_name.FileName.{FileName}
 use Rattle.view_ports.specs.declared.file_name.Stem.TheVariants.{View as ViewStem}
 use Rattle.view_ports.specs.declared.folder.Folder.{Ghosts as Folders}
@@ -28,7 +28,7 @@ use Rattle.tree_index.specs.Calls.{IsAt}
 use Rattle.tree_index.specs.Held.{IsFileOf}
 use Rattle.tree_updater.specs.declared.fault.UpdateFault.{UpdateFault}
 use Rattle.tree_updater.specs.declared.fault.UpdateFault.TheVariants as update
-use Rattle.tree_updater.specs.Filled.{IsFilled}
+use Rattle.tree_updater.specs.Filled.{AreNodesOf, IsFilled, WasDue}
 use Rattle.tree_updater.specs.Follows.{IsFileFault}
 use Rattle.tree_groups.specs.declared.groups.Groups.{Groups}
 use Rattle.tree_groups.specs.Brings.{Brings, IsLost}
@@ -49,7 +49,7 @@ use Rattle.view_engine.specs.World.{World}
 use Rattle.view_engine.proofs.Bringing.{moved, of_own_views, reached, IsReady}
 use Rattle.view_engine.proofs.OpenAt.{group_at}
 use Rattle.view_engine.proofs.Planned.{at_mid, ready}
-use Rattle.view_engine.proofs.Viewed.{same_signature, updated_with, IsKnown}
+use Rattle.view_engine.proofs.Viewed.{same_picture, same_signature, updated_with, IsKnown}
 use Rattle.view_engine.specs.ViewQuery.{ViewQuery}
 
 -- what is met as a full file is one of the index
@@ -96,6 +96,9 @@ module _ {F C : Type 0} (f : Folders F) (s : Servers C) (docs : Docs) (pool pool
   abbrev Mapped : Picture → Type 0
   Mapped = IsMappedTo f s docs design (side mid servers pool groups cache 0) (side new servers' pool' groups' cache' steps) world.history world.pictures
 
+  abbrev Due : Type 0
+  Due = WasDue Mapped cache cache' world.history (picture_for design world.pictures)
+
   module _ (n : FileName) (limit : Option ℕ) (of_index : met ≡ update.Index (index.Store (gate.Full n limit))) where
     abbrev left : Index
     left = (follow.full n limit (ap Err of_index)).1.0
@@ -104,7 +107,7 @@ module _ {F C : Type 0} (f : Folders F) (s : Servers C) (docs : Docs) (pool pool
     group = (follow.full n limit (ap Err of_index)).1.1
 
     -- what is known as it ends, of the files before and then
-    full_at : (a b : Disk FileName) → IsReady true engine world name id design place path a × ((next : Picture) × Mapped next) → AreIndexesAt (kinds_of world.history) groups' b.now world.pictures
+    full_at : (a b : Disk FileName) → IsReady true engine world name id design place path a × Due → AreIndexesAt (kinds_of world.history) groups' b.now world.pictures
         → IsIndexFull s.functions s.honest (languages_of pool) cache cache' b.now world name n limit
     full_at a b known indexes =
         let is = known.0 in
@@ -113,17 +116,20 @@ module _ {F C : Type 0} (f : Folders F) (s : Servers C) (docs : Docs) (pool pool
         let signed = same_signature (languages_of pool) before name id design place path documents known_there in
         let there : IsAt None (kinds_of world.history (sig_of design)).views left b.now (world.pictures (sig_of design)) =
         group_at (kinds_of world.history) groups' b.now world.pictures group.0 (sig_of design) (views_in design) left group.1 indexes in
+        let same = same_picture (languages_of pool) before name id design place path documents known_there in
         let own_views = of_own_views (languages_of pool) world name id design place path plan is.fit in
         record {
           design = plan.document;
           path = path;
-          next = known.1.0;
+          next = (known.1).next;
           live = plan.live;
           updates = plan.updates;
           accepted = plan.accepted;
           path_is = plan.path_is;
-          updated = updated_with s.functions s.honest (languages_of pool) before name id design place path within documents known_there known.1.0
-              (known.1.1 path (record { known = path_is; calls = before.calls; follows = at.child.follows; children = at.child.child })).updated;
+          updated = updated_with s.functions s.honest (languages_of pool) before name id design place path within documents known_there (known.1).next
+              ((known.1).mapped path (record { known = path_is; calls = before.calls; follows = at.child.follows; children = at.child.child })).updated;
+          due = λ newest. (known.1).since (ap (λ (p : Picture). p.seq) same ∙ newest);
+          nodes = subst (λ (p : Picture). AreNodesOf cache cache' p (known.1).next) same (known.1).nodes;
           index = left;
           own = subst (λ sig. IsFileOf (ViewStem sig) n) signed (follow.full n limit (ap Err of_index)).0;
           at = subst (λ sig. IsAt None (views_of plan.document) left b.now (world.pictures sig)) signed
@@ -132,13 +138,13 @@ module _ {F C : Type 0} (f : Folders F) (s : Servers C) (docs : Docs) (pool pool
           full = subst (λ (views : List DesignView). IsFilled (length views) left cache cache' n limit) plan.views (follow.full n limit (ap Err of_index)).1.2;
         }
 
-    known_all : IfTold (f.disk mid) (λ d. IsReady true engine world name id design place path d × ((next : Picture) × Mapped next))
+    known_all : IfTold (f.disk mid) (λ d. IsReady true engine world name id design place path d × Due)
     known_all = told_pair (f.disk mid) (IsReady true engine world name id design place path) _ _
-        (λ d is mapped. (is, mapped (reached f s docs pool pool' groups groups' cache cache' steps mid new servers servers' name id design place path within path_is (Err met) brings follow before here d is))) is_ready
+        (λ d is due. (is, due (reached f s docs pool pool' groups groups' cache cache' steps mid new servers servers' name id design place path within path_is (Err met) brings follow before here d is))) is_ready
         (follow.filled n limit (ap Err of_index) (kinds_of world.history) world.history world.pictures)
 
     full_there : IfTold (f.disk new) (λ d. IsIndexFull s.functions s.honest (languages_of pool) cache cache' d.now world name n limit)
-    full_there = told_after (f.disk mid) (f.disk new) (λ d. IsReady true engine world name id design place path d × ((next : Picture) × Mapped next)) _ _
+    full_there = told_after (f.disk mid) (f.disk new) (λ d. IsReady true engine world name id design place path d × Due) _ _
         (λ a b known moves. full_at a b known (moves.ended (λ lost. subst IsLost of_index lost))) known_all
         (moved f s docs pool pool' groups groups' cache cache' steps mid new servers servers' name id design place path within path_is (Err met) brings follow before here is_ready)
 

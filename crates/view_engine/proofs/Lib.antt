@@ -1,6 +1,5 @@
 pub mod LastWrites
 pub mod Signatures
-pub mod Each
 pub mod OpenAt
 pub mod LiveDocuments
 pub mod Places

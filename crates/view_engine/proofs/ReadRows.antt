@@ -1,12 +1,11 @@
 -- Why the rows of a view weren't read, and how the request meets it.
-use Rattle.std.specs.Prelude.{◌≡◌, ◌⊎◌, ◌≤◌, ℕ, List, Option, Result, Ok, Err}
-use Rattle.std.proofs.Common.{Bool, refl, sym, ap, ◌∙◌, subst, inl, inr, ⊎_elim}
+use Rattle.std.specs.Prelude.{◌≡◌, ◌⊎◌, ◌≤◌, ℕ, List, true, Option, Ok, Err}
+use Rattle.std.proofs.Common.{Bool, sym, ap, ◌∙◌, subst, inl, inr, ⊎_elim}
 use Rattle.json_terms.specs.Json.{Json}
 use Rattle.json_terms.specs.declared.term.Row.{Row}
 use Rattle.design_docs.specs.declared.design.Design.{Design}
 use Rattle.design_docs.specs.Design.{IsDesignOf}
 use Rattle.view_ports.specs.Disk.{Disk, IfTold, Moves, MovesNone, Tells}
-use Rattle.view_ports.specs.Faults.{Rose}
 use Rattle.view_ports.specs.declared.file_name.FileName.{FileName}
 use Rattle.view_ports.specs.declared.file_name.Stem.TheVariants.{View}
 use Rattle.view_ports.specs.declared.folder.Folder.{Ghosts as Folders}
@@ -41,7 +40,6 @@ use Rattle.tree_groups.proofs.Telling.{told_before}
 use Rattle.view_engine.specs.declared.engine.Engine.{Engine}
 use Rattle.view_engine.specs.declared.halt.Halt.{Halt}
 use Rattle.view_engine.specs.declared.halt.Halt.TheVariants.{Refused, Stopped}
-use Rattle.view_engine.specs.declared.halt.StepFault.{StepFault}
 use Rattle.view_engine.specs.declared.halt.StepFault.TheVariants.{DiskFault, Damaged, Full, NoMemory}
 use Rattle.view_engine.specs.declared.refusal.Refusal.{Refusal}
 use Rattle.view_engine.specs.Disks.{IfStopped, IsAskedFor, IsNoNode, IsReasonOf, LiesOpen, MeetsIndexDamage}
@@ -50,7 +48,7 @@ use Rattle.view_engine.specs.Updating.{AreFit}
 use Rattle.view_engine.specs.ViewPlan.{met_by, IsPlan}
 use Rattle.view_engine.specs.World.{World}
 use Rattle.view_engine.specs.Worlds.{IsAtWorld}
-use Rattle.view_engine.proofs.Each.{told_each}
+use Rattle.tree_updater.proofs.Each.{told_each}
 use Rattle.view_engine.proofs.OpenAt.{group_at}
 use Rattle.view_engine.proofs.Reasons.{meets_there, never_there, open_in_place}
 use Rattle.query_args.specs.Query.{is_updated}
@@ -111,8 +109,8 @@ module _ {F C : Type 0} (f : Folders F) (s : Servers C) (docs : Docs) (pool pool
     bad_there : IfTold (f.disk last) IsBad
     bad_there = told_pair (f.disk last) (λ d. FindsDamage {T = List Row} (IsBadPlace found (tree_of found place) d) (Err fault)) (λ d. AreIndexesOpen groups' d.now) _ (λ d finds are. (finds n at (ap Err is), are)) reads.damaged are_open
 
-    no_node : (d : Disk FileName) → IsBadPlace found (tree_of found place) d n at → IsNoNode (node_at (d.now n).seen) design.views found at
-    no_node d bad = ⊎_elim (λ none. inl none.0) (λ unfit. inr (inr (place, unfit))) bad.bad
+    no_node : (d : Disk FileName) → IsBadPlace found (tree_of found place) d n at → IsNoNode (node_at (d.now n).seen) design.views found (is_updated (parameters_of name) ≡ true) at
+    no_node d bad = ⊎_elim (λ none. inl (none.0, inr (place, none.1))) (λ unfit. inr (inr (place, unfit))) bad.bad
 
     damage_met : Tells (f.disk old) (f.disk last) (λ a b. MeetsIndexDamage docs groups' a.now b.now (Ok (view_request name)) n at)
     damage_met = meets_there f s docs pool pool' groups groups' cache cache' steps old mid last servers servers' name id design place path updating updates read earlier plans is_open asked n at (λ a b. Moves IsOwn (λ image. Unit {0}) (λ files. Unit {0}) a b × IsBad b)

@@ -1,10 +1,8 @@
 -- Why a view met a fault of a file, and which files it changed.
-use Rattle.std.specs.Prelude.{◌≡◌, ◌≢◌, ◌⊎◌, ◌≤◌, ℕ, List, length, Option, Some, None, Result, Ok, Err, All, slice_get}
-use Rattle.std.proofs.Common.{Bool, true, false, refl, sym, ap, ◌∙◌, subst, inl, inr, ⊎_elim, arith}
-use Rattle.std.proofs.lemmas.List.Elements.{All-get_or}
+use Rattle.std.specs.Prelude.{◌≡◌, ◌≢◌, ◌⊎◌, ◌≤◌, ℕ, List, length, Option, Some, None, Result, Ok, Err}
+use Rattle.std.proofs.Common.{Bool, true, false, refl, sym, ap, ◌∙◌, subst, inl, inr, ⊎_elim}
 use Rattle.std.proofs.lemmas.Option.{get_or_from_slice_get, slice_get_within}
 use Rattle.json_terms.specs.Json.{Json}
-use Rattle.json_terms.specs.declared.term.Row.{Row}
 use Rattle.design_docs.specs.declared.design.Design.{Design}
 use Rattle.design_docs.specs.Design.{views_of, IsDesignOf}
 use Rattle.design_docs.specs.declared.design.View.{View as DesignView}
@@ -17,9 +15,11 @@ use Rattle.view_ports.specs.declared.folder.Folder.{Ghosts as Folders}
 use Rattle.view_ports.specs.declared.servers.Servers.{Ghosts as Servers}
 use Rattle.view_ports.proofs.Counting.{Rose-earlier}
 use Rattle.view_ports.proofs.DiskRuns.{moves_then, none_same, none_wider}
-use Rattle.view_ports.proofs.Told.{told_map, told_after, told_back, told_given, told_now, told_pair, told_then}
+use Rattle.view_ports.proofs.Told.{told_after, told_back, told_given, told_now, told_pair, told_then}
 use Rattle.gate_file.specs.declared.fault.GateFault.TheVariants as gate
+use Rattle.gate_file.specs.Calls.{too_long, used_up}
 use Rattle.gate_file.specs.GateFile.{name_of}
+use Rattle.gate_file.proofs.Stretches.{told_end}
 use Rattle.child_pool.specs.declared.pool.Pool.{Pool}
 use Rattle.child_pool.specs.declared.pool_fault.PoolFault.TheVariants as fault
 use Rattle.child_pool.specs.Pools.{languages_of}
@@ -28,18 +28,16 @@ use Rattle.doc_file.specs.Docs.{file_of, seq_of as update_seq, IsAt as AreAt, Is
 use Rattle.design_docs.specs.History.{Write}
 use Rattle.node_file.specs.declared.cache.NodeCache.{NodeCache}
 use Rattle.node_file.specs.Records.{node_at}
-use Rattle.index_trees.specs.Exchanges.{IsFaultyIn}
 use Rattle.change_mapper.specs.Written.{IsBodyDamaged}
-use Rattle.tree_index.specs.declared.fault.IndexFault.{IndexFault}
 use Rattle.tree_index.specs.declared.fault.IndexFault.TheVariants as index
 use Rattle.tree_index.specs.declared.index.Index.{Index}
 use Rattle.tree_index.specs.Calls.{IsOpen as IsIndexOpen}
 use Rattle.tree_index.specs.Held.{IsDamagedAt, IsFileOf}
-use Rattle.tree_index.specs.Index.{file_of as index_file, last_of, seq_of}
-use Rattle.tree_index.specs.RowsRead.{tree_of, IsBadPlace, ReadsRows}
+use Rattle.tree_index.specs.Index.{file_of as index_file, seq_of}
 use Rattle.tree_updater.specs.declared.fault.UpdateFault.{UpdateFault}
 use Rattle.tree_updater.specs.declared.fault.UpdateFault.TheVariants as update
-use Rattle.tree_updater.specs.Follows.{FindsNone, IsBadNodeOf}
+use Rattle.tree_updater.specs.Filled.{IsFilled}
+use Rattle.tree_updater.specs.Follows.{IsBadNodeOf}
 use Rattle.view_signature.specs.Signature.{digest_of, signature_of}
 use Rattle.tree_groups.specs.declared.groups.Groups.{Groups}
 use Rattle.tree_groups.specs.Follows.{Follows, IsDamaged}
@@ -47,7 +45,7 @@ use Rattle.tree_groups.specs.Sides.{side, Side}
 use Rattle.tree_groups.specs.Groups.{open_of, AreOpen as AreIndexesOpen, IsGroup}
 use Rattle.tree_groups.specs.Reached.{sig_of, views_in, IsReached}
 use Rattle.view_engine.specs.declared.engine.Engine.{Engine}
-use Rattle.view_engine.specs.Disks.{HasIndexDamage, HasNodeDamage, IfStopped, IsAskedFor, IsNoNode, IsReasonOf, LiesOpen, MeetsIndexDamage, MovesIndexOf}
+use Rattle.view_engine.specs.Disks.{HasFullIndex, HasIndexDamage, HasNodeDamage, IfStopped, IsAskedFor, IsNoNode, IsReasonOf, LiesOpen, MeetsFullIndex, MeetsIndexDamage, MovesIndexOf}
 use Rattle.view_engine.specs.Halts.{IsDamage}
 use Rattle.view_engine.specs.Signatures.{kinds_of}
 use Rattle.view_engine.specs.Updating.{AreFit}
@@ -55,7 +53,7 @@ use Rattle.view_engine.specs.ViewPlan.{met_by, IsPlan}
 use Rattle.view_engine.specs.World.{World}
 use Rattle.view_engine.specs.Worlds.{IsAtWorld, IsOpen}
 use Rattle.view_engine.proofs.Beside.{open_beside_indexes}
-use Rattle.view_engine.proofs.Each.{told_each}
+use Rattle.tree_updater.proofs.Each.{told_each}
 use Rattle.view_engine.proofs.HaltedAs.{after_damage}
 use Rattle.view_engine.proofs.Bringing.{of_own_views, within_there}
 use Rattle.query_args.specs.Query.{is_updated}
@@ -166,6 +164,10 @@ module _ {F C : Type 0} (f : Folders F) (s : Servers C) (docs : Docs) (pool pool
   pub open_mid : IfTold (f.disk mid) (λ d. AreIndexesOpen groups d.now)
   open_mid = told_after (f.disk old) (f.disk mid) (λ d. IsOpen engine d.now) (λ d. AreIndexesOpen groups d.now) MovesNone (λ a b here none. subst (AreIndexesOpen groups) (λ i. λ n. sym (none_same a b none n) i) here.indexes) is_open read
 
+  -- the view brings its index up to date
+  abbrev Updates : Type 0
+  Updates = is_updated (parameters_of name) ≡ true
+
   -- ---- what is damaged of the index
   module _ (n : FileName) (at : ℕ) where
     -- at a place where it is damaged as it is opened
@@ -182,7 +184,7 @@ module _ {F C : Type 0} (f : Folders F) (s : Servers C) (docs : Docs) (pool pool
 
     -- or where a node of it is
     node_damage : (files files' : FileName → File) (document : Json) → IsAskedFor docs files name document → IsDesignOf document design → (slot : ℕ) (found : Index) → IsGroup groups' slot own (views_in design) found → IsIndexOpen found files'
-        → n ≡ name_of (index_file found) → IsNoNode (node_at (files' n).seen) design.views found at → HasNodeDamage docs groups' files files' name n at
+        → n ≡ name_of (index_file found) → IsNoNode (node_at (files' n).seen) design.views found Updates at → HasNodeDamage docs groups' files files' name n at
     node_damage files files' document is of slot found group over mine bad = record {
       document = document;
       asked = is;
@@ -191,12 +193,12 @@ module _ {F C : Type 0} (f : Folders F) (s : Servers C) (docs : Docs) (pool pool
       group = subst (λ s. IsGroup groups' slot s (length (views_of document)) found) (ap digest_of of.2) (subst (λ (views : List DesignView). IsGroup groups' slot own (length views) found) of.1 group);
       is_open = over;
       own = mine;
-      bad = subst (λ (views : List DesignView). IsNoNode (node_at (files' n).seen) views found at) of.1 bad;
+      bad = subst (λ (views : List DesignView). IsNoNode (node_at (files' n).seen) views found Updates at) of.1 bad;
     }
 
     -- what an update or an opening meets
     pub meets_there : (Bad : Disk FileName → Disk FileName → Type 0) → ((a b : Disk FileName) → Bad a b → IsOwn n × (IsDamagedAt (View own) (views_in design) a.now n at
-        ⊎ ((slot : ℕ) × (found : Index) × IsGroup groups' slot own (views_in design) found × IsIndexOpen found b.now × (n ≡ name_of (index_file found)) × IsNoNode (node_at (b.now n).seen) design.views found at)))
+        ⊎ ((slot : ℕ) × (found : Index) × IsGroup groups' slot own (views_in design) found × IsIndexOpen found b.now × (n ≡ name_of (index_file found)) × IsNoNode (node_at (b.now n).seen) design.views found Updates at)))
         → Tells (f.disk mid) (f.disk new) Bad → Tells (f.disk old) (f.disk new) (λ a b. MeetsIndexDamage docs groups' a.now b.now (Ok (view_request name)) n at)
     meets_there Bad means bad =
         told_then (f.disk old) (f.disk mid) (f.disk new) (λ a b. ((document : Json) × IsAskedFor docs a.now name document × IsDesignOf document design) × MovesNone a b) Bad _
@@ -258,8 +260,8 @@ module _ {F C : Type 0} (f : Folders F) (s : Servers C) (docs : Docs) (pool pool
       abbrev Bad : Disk FileName → Disk FileName → Type 0
       Bad a b = (IsOwn n × IsDamaged f s docs design (side mid servers pool groups cache 0) (side new servers' pool' groups' cache' steps) a b n at) × AreIndexesOpen groups' b.now
 
-      no_node : (there : Disk FileName) (found : Index) → IsBadNodeOf design found there n at → IsNoNode (node_at (there.now n).seen) design.views found at
-      no_node there found bad = ⊎_elim (λ none. inl none) (λ faulty. inr (inl faulty)) bad.bad
+      no_node : (there : Disk FileName) (found : Index) → IsBadNodeOf design found there n at → IsNoNode (node_at (there.now n).seen) design.views found Updates at
+      no_node there found bad = ⊎_elim (λ none. inl (none, inl (updates ∙ does))) (λ faulty. inr (inl faulty)) bad.bad
 
       bad_there : Tells (f.disk mid) (f.disk new) Bad
       bad_there = told_beside (f.disk mid) (f.disk new) follow.damaged
@@ -289,6 +291,34 @@ module _ {F C : Type 0} (f : Folders F) (s : Servers C) (docs : Docs) (pool pool
       index_never : (world : World) → IfTold (f.disk old) (λ d. IsAtWorld engine d.now world → AreFit world.history → ⊥)
       index_never world = never_there n at world (told_now (f.disk mid) _ _ (λ d finds reached. (finds reached n at).1 (ap Err is)) (follow.sound (kinds_of world.history) world.history world.pictures))
 
+    -- the file of the index is full
+    module _ (n : FileName) (size : Option ℕ) (is : met ≡ update.Index (index.Store (gate.Full n size))) where
+      limit_of : (found : Index) → IsFilled (views_in design) found cache cache' n size → (gate.Full n size ≡ too_long (index_file found)) ⊎ (gate.Full n size ≡ used_up (index_file found))
+      limit_of found (inl node) = inl node.limit
+      limit_of found (inr (inl root)) = inl root.0
+      limit_of found (inr (inr spent)) = inr spent.0
+
+      index_full : Tells (f.disk old) (f.disk new) (λ a b. MeetsFullIndex docs groups' a.now b.now (Ok (view_request name)) n size)
+      index_full =
+          told_given (f.disk old) (f.disk new) (λ d. (document : Json) × IsAskedFor docs d.now name document × IsDesignOf document design)
+          (λ a b. Moves IsOwn (λ image. Unit {0}) (λ files. Unit {0}) a b × AreIndexesOpen groups' b.now) (λ a b. HasFullIndex docs groups' a.now b.now name n size)
+          (λ a b here known.
+          let of = here.2 in
+          let left = (follow.full n size (ap Err is)).1 in
+          record {
+            document = here.0;
+            asked = here.1;
+            place = (left.1).0;
+            index = left.0;
+            group = subst (λ s. IsGroup groups' (left.1).0 s (length (views_of here.0)) left.0) (ap digest_of of.2)
+                (subst (λ (views : List DesignView). IsGroup groups' (left.1).0 own (length views) left.0) of.1 (left.1).1);
+            is_open = open_in_place groups' (left.1).0 own (views_in design) left.0 b.now (left.1).1 known.1;
+            limit = limit_of left.0 left.2;
+          })
+          asked
+          (told_end (f.disk old) (f.disk new) (Moves IsOwn (λ image. Unit {0}) (λ files. Unit {0})) (λ d. AreIndexesOpen groups' d.now) (index_moved follow.moves)
+          (groups_open (Err met) does follow (λ same. let clash : gate.DiskFault ≡ gate.Full n size = (let both : update.Index (index.Store gate.DiskFault) ≡ update.Index (index.Store (gate.Full n size)) = (let one : met ≡ update.Index (index.Store gate.DiskFault) = cc in sym one ∙ is) in cc) in cc)))
+
   -- by the kind of the fault
   pub view_why : updating ≡ true → (met : UpdateFault) → Follows f s docs design (side mid servers pool groups cache 0) (side new servers' pool' groups' cache' steps) (Err met)
       → IfStopped (IsReasonOf f engine engine' old new (Ok (view_request name))) (met_by id met)
@@ -305,7 +335,7 @@ module _ {F C : Type 0} (f : Folders F) (s : Servers C) (docs : Docs) (pool pool
   view_why does (update.Index (index.Store gate.DiskFault)) follow = inl (failed (update.Index (index.Store gate.DiskFault)) does follow (inr refl), tt)
   view_why does (update.Index (index.Store (gate.Damaged n at))) follow =
       inr (tt, index_damaged (update.Index (index.Store (gate.Damaged n at))) does follow n at refl, index_never (update.Index (index.Store (gate.Damaged n at))) does follow n at refl)
-  view_why does (update.Index (index.Store (gate.Full n size))) follow = inr (updates ∙ does, (sig_of design, (follow.full n size refl).0))
+  view_why does (update.Index (index.Store (gate.Full n size))) follow = inr ((updates ∙ does, (sig_of design, (follow.full n size refl).0)), index_full (update.Index (index.Store (gate.Full n size))) does follow n size refl)
   view_why does (update.Index (index.Store gate.NoMemory)) follow = absurd follow.file
   view_why does (update.Index (index.Summer other)) follow = absurd follow.file
   view_why does (update.Index index.NoMemory) follow = absurd follow.file

@@ -1,5 +1,5 @@
 -- Of which views signatures are, as a history goes on, and what is held of a world by them.
-use Rattle.std.specs.Prelude.{◌≡◌, ◌≢◌, ◌⊎◌, ◌<◌, ℕ, zero, suc, List, [], ◌∷◌, Bool, true, false, if◌then◌else◌, length, Option, Some, None, All, Contains, bytes_eq, slice_index_or}
+use Rattle.std.specs.Prelude.{◌≡◌, ◌≢◌, ◌⊎◌, ◌≤◌, ℕ, zero, suc, List, [], ◌∷◌, Bool, true, false, if◌then◌else◌, length, Option, Some, None, All, Contains, bytes_eq, nat_lt, slice_index_or}
 use Rattle.std.proofs.Common.{refl, sym, ap, ◌∙◌, subst, inl, inr, arith}
 use Rattle.std.proofs.lemmas.List.Elements.{Contains-append_right}
 use Rattle.std.proofs.lemmas.Slice.Eq.{bytes_eq-Decides}
@@ -13,14 +13,16 @@ use Rattle.view_ports.specs.declared.file_name.FileName.{FileName}
 use Rattle.view_ports.specs.declared.file_name.Stem.TheVariants.{View as ViewStem}
 use Rattle.child_pool.specs.Languages.{path_in}
 use Rattle.view_model.specs.Picture.{Picture}
+use Rattle.view_model.specs.Since.{first}
 use Rattle.view_model.specs.Standing.{AreSetAt, AreSigned, IsDesignIn}
 use Rattle.view_model.proofs.Designs.{digests_tell_designs}
+use Rattle.view_model.proofs.Firsts.{first_all, first_less}
 use Rattle.view_signature.specs.Signature.{digest_of, signature_of}
 use Rattle.tree_index.specs.Calls.{IsAt as IsIndexAt}
 use Rattle.tree_index.specs.Index.{stem_of}
 use Rattle.tree_groups.specs.declared.groups.Groups.{Groups}
 use Rattle.tree_groups.specs.Groups.{open_of, AreAt as AreIndexesAt, OpensOnly}
-use Rattle.tree_groups.specs.Pictures.{Kind, Kinds, Pictures, AreHeld, StandFor}
+use Rattle.tree_groups.specs.Pictures.{Kind, Pictures, AreHeld, StandFor}
 use Rattle.tree_groups.proofs.Standing.{image_kinds_are_free, kinds_are_free, same_or_not}
 use Rattle.view_engine.specs.Signatures.{design_in, first_or, kinds_of, oldest_views, or_no_views, views_under, AreOpenOwned, AreOwned, HasSignature}
 use Rattle.view_engine.specs.Updating.{AreFit}
@@ -129,6 +131,15 @@ kind_is history fit document is =
     let oldest = oldest_is history (signature_of document) found.0 found.1 in
     ap or_no_views found.1 ∙ sym oldest.has ∙ (fit_signed [] history fit oldest.document document oldest.stored is oldest.signed).1
 
+-- a design document that was stored by some write of the history is one of it
+has_whole : (count : ℕ) (history : List Write) (sig : List ℕ) → HasSignature (first count history) sig → HasSignature history sig
+has_whole count [] sig has = has
+has_whole count (write ∷ older) sig has = by_test (has_whole count older sig) (nat_lt count (length (write ∷ older))) refl
+  where
+    by_test : (HasSignature (first count older) sig → HasSignature older sig) → (t : Bool) → nat_lt count (length (write ∷ older)) ≡ t → HasSignature (write ∷ older) sig
+    by_test before true test = has_later write older sig (before (subst (λ h. HasSignature h sig) (ap (λ b. if b then first count older else write ∷ older) test) has))
+    by_test before false test = subst (λ h. HasSignature h sig) (ap (λ b. if b then first count older else write ∷ older) test) has
+
 -- ---- what is held
 
 free_later : (write : Write) (history : List Write) (pictures : Pictures) → AreOwned history pictures → (sig : List ℕ) → (pictures sig ≡ None) ⊎ (kinds_of (write ∷ history) sig ≡ kinds_of history sig)
@@ -136,11 +147,11 @@ free_later write history pictures owned sig = by_picture (pictures sig) refl
   where
     by_picture : (picture : Option Picture) → pictures sig ≡ picture → (pictures sig ≡ None) ⊎ (kinds_of (write ∷ history) sig ≡ kinds_of history sig)
     by_picture None is = inl is
-    by_picture (Some picture) is = inr (kind_later write history sig (owned sig picture is))
+    by_picture (Some picture) is = inr (kind_later write history sig (has_whole picture.seq history sig (owned sig picture is)))
 
 module _ (write : Write) (history : List Write) (pictures : Pictures) (owned : AreOwned history pictures) where
-  pub owned_later : AreOwned (write ∷ history) pictures
-  owned_later sig picture is = has_later write history sig (owned sig picture is)
+  pub owned_later : ((sig : List ℕ) (picture : Picture) → pictures sig ≡ Some picture → picture.seq ≤ length history) → AreOwned (write ∷ history) pictures
+  owned_later within sig picture is = subst (λ h. HasSignature h sig) (sym (first_less picture.seq write history (within sig picture is))) (owned sig picture is)
 
   pub stand_later : (image : FileName → List ℕ) → StandFor (kinds_of history) image pictures → StandFor (kinds_of (write ∷ history)) image pictures
   stand_later image stand = image_kinds_are_free (kinds_of history) (kinds_of (write ∷ history)) image pictures (free_later write history pictures owned) stand
@@ -180,9 +191,13 @@ opened_beside history own groups groups' has only opened k d within sig named = 
 
 -- ---- pictures that are set, or gone
 
-pub owned_set : (history : List Write) (own : List ℕ) (next : Picture) (before after : Pictures) → HasSignature history own → AreOwned history before → AreSetAt own (Some next) before after → AreOwned history after
-owned_set history own next before after has owned set sig picture is = by_test (bytes_eq sig own) refl
+pub owned_set : (history : List Write) (own : List ℕ) (next : Picture) (before after : Pictures) → next.seq ≡ length history → HasSignature history own → AreOwned history before → AreSetAt own (Some next) before after → AreOwned history after
+owned_set history own next before after seq has owned set sig picture is = by_test (bytes_eq sig own) refl
   where
-    by_test : (t : Bool) → bytes_eq sig own ≡ t → HasSignature history sig
-    by_test true test = subst (HasSignature history) (sym ((bytes_eq-Decides sig own).0 test)) has
+    by_test : (t : Bool) → bytes_eq sig own ≡ t → HasSignature (first picture.seq history) sig
+    by_test true test =
+        let there : Some next ≡ Some picture = sym (set sig ∙ ap (λ b. if b then Some next else before sig) test) ∙ is in
+        let same : next ≡ picture = cc in
+        let number : picture.seq ≡ length history = ap (λ (p : Picture). p.seq) (sym same) ∙ seq in
+        subst (λ h. HasSignature h sig) (sym (first_all picture.seq history (omega (arith, number)))) (subst (HasSignature history) (sym ((bytes_eq-Decides sig own).0 test)) has)
     by_test false test = owned sig picture (sym (set sig ∙ ap (λ b. if b then Some next else before sig) test) ∙ is)

@@ -14,6 +14,12 @@ use Rattle.view_ports.proofs.Told.{told_after, told_all, told_given, told_map, t
 use Rattle.child_pool.specs.Pools.{languages_of}
 use Rattle.doc_file.specs.declared.docs.Docs.{Docs}
 use Rattle.doc_file.specs.Docs.{IsAt as AreAt, IsDocsFile, IsOpen}
+use Rattle.gate_file.specs.declared.fault.GateFault.TheVariants as gate
+use Rattle.gate_file.specs.Calls.{too_long, used_up}
+use Rattle.gate_file.specs.GateFile.{length_of, name_of}
+use Rattle.tree_index.specs.declared.index.Index.{Index}
+use Rattle.tree_index.specs.Index.{file_of as index_file}
+use Rattle.tree_groups.specs.declared.groups.Groups.{Groups}
 use Rattle.tree_groups.specs.Cleans.{IsIndexFile}
 use Rattle.view_ports.specs.declared.file_name.Stem.TheVariants.{View as ViewStem}
 use Rattle.view_engine.specs.declared.engine.Engine.{Engine}
@@ -26,7 +32,7 @@ use Rattle.view_engine.specs.declared.refusal.Refusal.TheVariants as refusal
 use Rattle.view_engine.specs.declared.request.Request.{Request}
 use Rattle.view_engine.specs.declared.request.Request.TheVariants.{Cleanup, Delete, Put, View}
 use Rattle.view_engine.specs.Calls.{CrashesAround, DoesBy, FitsDesign, IsStep, IsToldAs, LeavesChild, Performed, RefusesUnread, Scene, StandsAt, StepsBy}
-use Rattle.view_engine.specs.Disks.{ChangesFiles, IsOfIndex, IsOnIndexes, IsReasonOf, IsFitFor, IsView, LiesOpen, MayWant, MeetsIndexDamage, MeetsIndexDamageIn, MovesIndexes, MovesIndexOf, ReadsDocuments}
+use Rattle.view_engine.specs.Disks.{ChangesFiles, IsOfAskedIndex, IsOfIndex, IsOfSomeIndex, IsOnIndexes, IsReasonOf, IsFitFor, IsView, LiesOpen, MayWant, MeetsFullIndex, MeetsFullIndexIn, MeetsIndexDamage, MeetsIndexDamageIn, MovesIndexes, MovesIndexOf, ReadsDocuments}
 use Rattle.view_engine.specs.FullIndex.{IsIndexFullFor}
 use Rattle.view_engine.specs.Halts.{halted_by, FitsFor, IsDamage, IsFullFor, LeavesFiles, WouldWrite, Writes}
 use Rattle.view_engine.specs.InMemory.{IsRefusedBy}
@@ -248,14 +254,33 @@ told_sound (Some a) Documents Whole Fits P met documents whole = λ name at is. 
   | inr of_index ↦ (of_index.0, of_index.1 whole)
 ]
 
+-- a file of the index of the design that a view asks for, which brings it up to date
+abbrev IsFullIndex : Docs → Groups → Option (Disk FileName) → Option (Disk FileName) → Result Request Refusal → FileName → Option ℕ → Type 0
+IsFullIndex docs groups old new request name size = IsOfSomeIndex request name × Tells old new (λ a b. MeetsFullIndex docs groups a.now b.now request name size)
+
+-- what names a full file names that of the index
+full_named_as : (name : FileName) (size : Option ℕ) (found : Index) → (gate.Full name size ≡ too_long (index_file found)) ⊎ (gate.Full name size ≡ used_up (index_file found)) → name ≡ name_of (index_file found)
+full_named_as name size found (inl long) = let same : gate.Full name size ≡ gate.Full (name_of (index_file found)) (Some (length_of (index_file found))) = long in cc
+full_named_as name size found (inr spent) = let same : gate.Full name size ≡ gate.Full (name_of (index_file found)) None = spent in cc
+
+asked_index : (docs : Docs) (groups : Groups) (request : Result Request Refusal) (name : FileName) (size : Option ℕ) (files files' : FileName → File) → MeetsFullIndex docs groups files files' request name size → IsOfAskedIndex docs files request name
+asked_index docs groups (Ok (View view limits)) name size files files' full =
+    (full.document, full.asked, ap (λ (n : FileName). n.stem) (full_named_as name size full.index full.limit) ∙ (full.group).named)
+asked_index docs groups other name size files files' full = absurd full
+
+asked_before : (docs : Docs) (groups : Groups) (request : Result Request Refusal) (name : FileName) (size : Option ℕ) (x y : Option (Disk FileName)) → Tells x y (λ a b. MeetsFullIndex docs groups a.now b.now request name size) → IfTold x (λ d. IsOfAskedIndex docs d.now request name)
+asked_before docs groups request name size None y full = tt
+asked_before docs groups request name size (Some a) None full = absurd full
+asked_before docs groups request name size (Some a) (Some b) full = asked_index docs groups request name size a.now b.now full
+
 -- a full file is met by a write that is accepted, or is one of an index
-told_full : (disk : Option (Disk FileName)) (docs : Docs) (world : World) (request : Result Request Refusal) (P : FileName → Option ℕ → Type 0)
-    → ((name : FileName) (length : Option ℕ) → P name length → (IsFullFor docs request name length × WouldWrite docs disk request) ⊎ IsOfIndex request name) → IfTold disk (λ d. AreAt docs d.now world.history)
-    → IfTold disk (λ d. (name : FileName) (length : Option ℕ) → P name length → IsFullAt d.now world request name length ⊎ IsOfIndex request name)
-told_full None docs world request P full known = tt
-told_full (Some d) docs world request P full known = λ name length is. elim (full name length is) [
+told_full : (disk after : Option (Disk FileName)) (docs : Docs) (groups : Groups) (world : World) (request : Result Request Refusal) (P : FileName → Option ℕ → Type 0)
+    → ((name : FileName) (length : Option ℕ) → P name length → (IsFullFor docs request name length × WouldWrite docs disk request) ⊎ IsFullIndex docs groups disk after request name length) → IfTold disk (λ d. AreAt docs d.now world.history)
+    → IfTold disk (λ d. (name : FileName) (length : Option ℕ) → P name length → IsFullAt d.now world request name length ⊎ IsOfIndex d.now request name)
+told_full None after docs groups world request P full known = tt
+told_full (Some d) after docs groups world request P full known = λ name length is. elim (full name length is) [
   | inl met ↦ (let made = met.1 world known in inl (record { docs = docs; at = known; full = met.0; write = made.0; accepted = made.1 }))
-  | inr of_index ↦ inr of_index
+  | inr of_index ↦ inr (record { docs = docs; is_open = known.is_open; updates = of_index.0.0; own = asked_before docs groups request name length (Some d) after of_index.1 })
 ]
 
 -- what is told of each full file is told of all
@@ -291,7 +316,7 @@ module _ {F : Type 0} (f : Folders F) (engine engine' : Engine) (old new : F) (r
   why_failed (inl why) = why.1
   why_failed (inr why) = absurd why
 
-  why_full : (name : FileName) (length : Option ℕ) → Why (Full name length) → (IsFullFor engine.docs request name length × WouldWrite engine.docs (f.disk old) request) ⊎ IsOfIndex request name
+  why_full : (name : FileName) (length : Option ℕ) → Why (Full name length) → (IsFullFor engine.docs request name length × WouldWrite engine.docs (f.disk old) request) ⊎ IsFullIndex engine.docs engine'.groups (f.disk old) (f.disk new) request name length
   why_full name length why = why
 
   why_unsound : (world : World) (name : FileName) (at : ℕ) → Why (Damaged name at)
@@ -325,9 +350,9 @@ module _ {F C : Type 0} {f : Folders F} {s : Servers C} {old new : Scene F C} {l
         (λ is. why_failed f old.engine new.engine old.folder new.folder (request_of line) (met is)) (documents_at _ _ before.world at.documents)
 
     -- a full file is one with the write of the line, or one of an index
-    pub step_full : IfTold (f.disk old.folder) (λ d. (name : FileName) (length : Option ℕ) → fault ≡ Full name length → IsFullAt d.now before.world (request_of line) name length ⊎ IsOfIndex (request_of line) name)
+    pub step_full : IfTold (f.disk old.folder) (λ d. (name : FileName) (length : Option ℕ) → fault ≡ Full name length → IsFullAt d.now before.world (request_of line) name length ⊎ IsOfIndex d.now (request_of line) name)
     step_full =
-        told_full (f.disk old.folder) old.engine.docs before.world (request_of line) (λ name length. fault ≡ Full name length)
+        told_full (f.disk old.folder) (f.disk new.folder) old.engine.docs new.engine.groups before.world (request_of line) (λ name length. fault ≡ Full name length)
         (λ name length is. why_full f old.engine new.engine old.folder new.folder (request_of line) name length (met is)) (documents_at _ _ before.world at.documents)
 
     -- where it is one of an index, it would be full with the next picture of the view's design
@@ -404,13 +429,17 @@ module _ {F C : Type 0} {f : Folders F} {s : Servers C} {old new : Scene F C} {l
 
     -- and a full file by one that writes a document, as it would be with that, or else one of an index
     pub step_full_in : (name : FileName) (length : Option ℕ) → fault ≡ Full name length
-        → (Writes (request_of line) × IfTold (f.disk new.folder) (λ d. IsFullIn d.now (request_of line) name length)) ⊎ IsOfIndex (request_of line) name
+        → (Writes (request_of line) × IfTold (f.disk new.folder) (λ d. IsFullIn d.now (request_of line) name length)) ⊎ (IsOfSomeIndex (request_of line) name × Tells (f.disk old.folder) (f.disk new.folder) (λ a b. MeetsFullIndexIn a.now b.now (request_of line) name length))
     step_full_in name length is = elim (why_full f old.engine new.engine old.folder new.folder (request_of line) name length (met step is)) [
       | inl full ↦
           (let writes : Writes (request_of line) = full_writes old.engine.docs (request_of line) name length full.0 in
           let none = step_kept step (λ failed. let never : DiskFault ≡ Full name length = sym failed ∙ is in cc) (write_no_index (request_of line) writes) in
           inl (writes, full_named (f.disk old.folder) (f.disk new.folder) old.engine.docs (request_of line) name length full.0 (documents_open _ _ is_open) none))
-      | inr of_index ↦ inr of_index
+      | inr of_index ↦ inr (
+        of_index.0,
+        told_given (f.disk old.folder) (f.disk new.folder) (λ d. IsOpen old.engine.docs d.now) (λ a b. MeetsFullIndex old.engine.docs new.engine.groups a.now b.now (request_of line) name length)
+            (λ a b. MeetsFullIndexIn a.now b.now (request_of line) name length) (λ a b here full. record { docs = old.engine.docs; groups = new.engine.groups; is_open = here; full = full }) (documents_open _ _ is_open) of_index.1,
+      )
     ]
 
 -- a request that is neither a write nor one on indexes changes no file

@@ -73,7 +73,7 @@ around world request files held within owned image framed = by_side framed.insid
         documents = after;
         indexes = stand_later write world.history world.pictures owned image indexes;
         within = within_longer world write within;
-        owned = owned_later write world.history world.pictures owned;
+        owned = owned_later write world.history world.pictures owned within;
       },
     )
 

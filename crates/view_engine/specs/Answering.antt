@@ -1,6 +1,5 @@
 -- The reply line that answers the query of a view, and what is asked for it.
-use Rattle.std.specs.Prelude.{◌≡◌, ◌≢◌, ◌⊎◌, ◌++◌, ℕ, List, [], Some, Result, Ok, Err, IfErr, OnErr, OnOk}
-use Rattle.std.specs.List.{AllByRecursion}
+use Rattle.std.specs.Prelude.{◌≡◌, ◌≢◌, ◌⊎◌, ◌++◌, ℕ, List, Some, Result, Ok, Err, IfErr, OnErr, OnOk}
 use Rattle.json_terms.specs.declared.term.Row.{Row}
 use Rattle.design_docs.specs.declared.design.Design.{Design}
 use Rattle.design_docs.specs.declared.design.Reduce.{Reduce}
@@ -25,7 +24,7 @@ use Rattle.view_model.specs.Values.{IsValueText}
 use Rattle.tree_index.specs.declared.fault.IndexFault.{IndexFault}
 use Rattle.tree_index.specs.declared.index.Index.{Index}
 use Rattle.tree_index.specs.Index.{seq_of}
-use Rattle.tree_index.specs.RowsRead.{HasParts, ReadsRows}
+use Rattle.tree_index.specs.RowsRead.{ReadsRows}
 use Rattle.tree_updater.specs.Faults.{by_index}
 use Rattle.view_engine.specs.declared.halt.Halt.{Halt}
 use Rattle.view_engine.specs.declared.refusal.Refusal.TheVariants.{ServerFault}

@@ -9,7 +9,7 @@ use Rattle.view_ports.specs.declared.file_name.FileName.{FileName}
 use Rattle.view_ports.specs.declared.file_name.Stem.TheVariants.{View}
 use Rattle.view_ports.specs.declared.folder.Folder.{Ghosts as Folders}
 use Rattle.doc_file.specs.declared.docs.Docs.{Docs}
-use Rattle.doc_file.specs.Docs.{IsAt as AreAt}
+use Rattle.doc_file.specs.Docs.{bytes_in, IsAt as AreAt}
 use Rattle.doc_file.specs.declared.fault.DocFault.TheVariants as doc
 use Rattle.design_docs.specs.History.{Write, live_document}
 use Rattle.gate_file.specs.declared.fault.GateFault.TheVariants as gate
@@ -30,6 +30,7 @@ use Rattle.view_engine.specs.declared.halt.StepFault.TheVariants.{Damaged, NoMem
 use Rattle.view_engine.specs.Cleanup.{done_text, IsCleaned, IsLiveSignature, IsPartlyCleaned}
 use Rattle.view_engine.specs.Disks.{ClearsUnheld, HasSlotDamage, IfStopped, IsOfNone, IsReadReason, MayGoOn}
 use Rattle.view_engine.specs.Halts.{halted_as}
+use Rattle.view_engine.specs.HeldDesigns.{IsHeldSignature}
 use Rattle.view_engine.specs.Signatures.{kinds_of}
 use Rattle.view_engine.specs.World.{World}
 
@@ -64,10 +65,10 @@ abbrev pub EndsCleaned : Groups → World → Result (Unit {0}) Halt → (FileNa
 EndsCleaned groups world (Ok done) files = (after : World) × IsCleaned world after × AreIndexesAt (kinds_of world.history) groups files after.pictures
 EndsCleaned groups world (Err halt) files = Unit {0}
 
--- over documents at a history each open index of a live signature stays open
+-- each open index stays open whose signature is that of a live design document
 abbrev pub LiveStayOpen : {F : Type 0} → Folders F → Docs → Groups → Groups → F → Type 0
-LiveStayOpen f docs groups groups' old = (history : List Write) → IfTold (f.disk old) (λ d. AreAt docs d.now history
-    → All (λ index. (sig : List ℕ) → stem_of index ≡ View sig → IsLiveSignature history sig → Contains (open_of groups') index) (open_of groups))
+LiveStayOpen f docs groups groups' old =
+    IfTold (f.disk old) (λ d. All (λ index. (sig : List ℕ) → stem_of index ≡ View sig → IsHeldSignature docs (bytes_in docs d.now) sig → Contains (open_of groups') index) (open_of groups))
 
 module _ {F : Type 0} (f : Folders F) (docs : Docs) (groups groups' : Groups) (old new : F) where
   -- why it is stopped: as reading documents is, or by a file of an index that is damaged, which there is in no world

@@ -1,5 +1,5 @@
 -- What a request promises of the files and their disk, and why it meets a fault.
-use Rattle.std.specs.Prelude.{◌≡◌, ◌≢◌, ◌⊎◌, ◌≤◌, ℕ, List, [], length, true, false, None, Some, Result, Ok, Err, IfErr}
+use Rattle.std.specs.Prelude.{◌≡◌, ◌≢◌, ◌⊎◌, ◌≤◌, ℕ, List, [], length, true, false, Option, None, Some, Result, Ok, Err, IfErr}
 use Rattle.json_terms.specs.Json.{Json}
 use Rattle.design_docs.specs.Design.{views_of}
 use Rattle.gate_file.specs.Open.{IsFirstDamage}
@@ -19,13 +19,15 @@ use Rattle.view_engine.specs.declared.request.Request.{Request}
 use Rattle.view_engine.specs.View.{design_id, view_refusal}
 use Rattle.child_pool.specs.Pools.{languages_of}
 use Rattle.view_engine.specs.Cleanup.{IsLiveSignature}
-use Rattle.view_engine.specs.HeldDesigns.{AreDesignsWhole, IsUnheld}
+use Rattle.view_engine.specs.HeldDesigns.{AreDesignsWhole, IsHeldSignature, IsUnheld}
 use Rattle.design_docs.specs.History.{Write}
 use Rattle.view_engine.specs.declared.request.Request.TheVariants.{Cleanup, Get, View as ViewRequest}
 use Rattle.view_ports.specs.File.{File}
 use Rattle.view_ports.specs.declared.file_name.Stem.TheVariants.{View}
+use Rattle.gate_file.specs.declared.fault.GateFault.TheVariants as gate
+use Rattle.gate_file.specs.Calls.{too_long, used_up}
 use Rattle.gate_file.specs.GateFile.{name_of}
-use Rattle.tree_laws.specs.Reaching.{IsUnfit}
+use Rattle.tree_laws.specs.Reaching.{IsReached, IsUnfit}
 use Rattle.tree_laws.specs.Stores.{Places}
 use Rattle.node_file.specs.Records.{node_at}
 use Rattle.index_trees.specs.Exchanges.{IsFaultyIn}
@@ -119,10 +121,13 @@ pub record HasIndexDamage (docs : Docs) (files : FileName → File) (view : View
   pub own : IsFileOf (View (signature_of document)) name
   pub damage : IsDamagedAt (View (signature_of document)) (length (views_of document)) files name at
 
--- no node stands at this place, or one that fits none of the index's trees there
-abbrev pub IsNoNode : Places → List DesignView → Index → ℕ → Type 0
-IsNoNode there views index at =
-    (there at ≡ None) ⊎ IsFaultyIn there views (last_commit index) at ⊎ ((view : ℕ) × IsUnfit row_items there (tree_of index view) at)
+-- No node stands at this place, or one that fits none of the index's trees there. Where none stands and nothing is brought up to date, a tree
+-- of rows leads there.
+abbrev pub IsNoNode : Places → List DesignView → Index → Type 0 → ℕ → Type 0
+IsNoNode there views index Updates at =
+    ((there at ≡ None) × (Updates ⊎ ((view : ℕ) × IsReached row_items there (tree_of index view) at)))
+    ⊎ IsFaultyIn there views (last_commit index) at
+    ⊎ ((view : ℕ) × IsUnfit row_items there (tree_of index view) at)
 
 -- the index of the design that a view asks for is open now, and so it is at this place of its file, at which a node was to stand
 pub record HasNodeDamage (docs : Docs) (groups : Groups) (old new : FileName → File) (view : ViewQuery) (name : FileName) (at : ℕ) : Type 0 where
@@ -133,14 +138,15 @@ pub record HasNodeDamage (docs : Docs) (groups : Groups) (old new : FileName →
   pub group : IsGroup groups place (signature_of document) (length (views_of document)) index
   pub is_open : IsIndexOpenOver index new
   pub own : name ≡ name_of (file_of index)
-  pub bad : IsNoNode (node_at (new name).seen) (views_of document) index at
+  pub bad : IsNoNode (node_at (new name).seen) (views_of document) index (is_updated (parameters_of view) ≡ true) at
 
--- at this place a slot of an index is damaged that no live design has, where the documents are at a history: a cleanup opens it to
--- remove it
+-- each live design document can be read, and at this place a slot of an index is damaged that none of them has: a cleanup opens it to remove
+-- it
 pub record HasSlotDamage (docs : Docs) (files : FileName → File) (name : FileName) (at : ℕ) : Type 0 where
   pub sig : List ℕ
   pub damage : IsFirstDamage (View sig) files name at
-  pub unlived : (history : List Write) → AreAt docs files history → IsLiveSignature history sig → ⊥
+  pub whole : AreDesignsWhole docs (bytes_in docs files)
+  pub unheld : IsHeldSignature docs (bytes_in docs files) sig → ⊥
 
 -- a file of an index that no live design of a history has
 abbrev pub IsOfNone : List Write → FileName → Type 0
@@ -159,8 +165,43 @@ IsUpdate (Ok (ViewRequest view query)) = is_updated (parameters_in query) ≡ tr
 IsUpdate other = ⊥
 
 -- the file is one of an index, which the request may have written
-abbrev pub IsOfIndex : Result Request Refusal → FileName → Type 0
-IsOfIndex request name = IsUpdate request × IsIndexFile name
+abbrev pub IsOfSomeIndex : Result Request Refusal → FileName → Type 0
+IsOfSomeIndex request name = IsUpdate request × IsIndexFile name
+
+-- the file is one of the index of the design that a view asks for
+abbrev pub IsOfAskedIndex : Docs → (FileName → File) → Result Request Refusal → FileName → Type 0
+IsOfAskedIndex docs files (Ok (ViewRequest view query)) name = (document : Json) × IsAskedFor docs files (view_query view query) document × IsFileOf (View (signature_of document)) name
+IsOfAskedIndex docs files other name = ⊥
+
+-- The file is one of the index of the design that a view asks for, which is open then: it would be longer than a file may be, or it has all of
+-- its commits.
+pub record HasFullIndex (docs : Docs) (groups : Groups) (old new : FileName → File) (view : ViewQuery) (name : FileName) (size : Option ℕ) : Type 0 where
+  pub document : Json
+  pub asked : IsAskedFor docs old view document
+  pub place : ℕ
+  pub index : Index
+  pub group : IsGroup groups place (signature_of document) (length (views_of document)) index
+  pub is_open : IsIndexOpenOver index new
+  pub limit : (gate.Full name size ≡ too_long (file_of index)) ⊎ (gate.Full name size ≡ used_up (file_of index))
+
+-- what a request may meet as a full file of an index, of the files before and after
+abbrev pub MeetsFullIndex : Docs → Groups → (FileName → File) → (FileName → File) → Result Request Refusal → FileName → Option ℕ → Type 0
+MeetsFullIndex docs groups old new (Ok (ViewRequest view query)) name size = HasFullIndex docs groups old new (view_query view query) name size
+MeetsFullIndex docs groups old new other name size = ⊥
+
+-- an engine that is open over the files meets it
+pub record MeetsFullIndexIn (old new : FileName → File) (request : Result Request Refusal) (name : FileName) (size : Option ℕ) : Type 0 where
+  pub docs : Docs
+  pub groups : Groups
+  pub is_open : IsOpen docs old
+  pub full : MeetsFullIndex docs groups old new request name size
+
+-- to an engine that is open over the files it is of that index, and the view brings this up to date
+pub record IsOfIndex (files : FileName → File) (request : Result Request Refusal) (name : FileName) : Type 0 where
+  pub docs : Docs
+  pub is_open : IsOpen docs files
+  pub updates : IsUpdate request
+  pub own : IsOfAskedIndex docs files request name
 
 -- an engine that is open over the files meets it at this place
 pub record MeetsIndexDamageIn (old new : FileName → File) (request : Result Request Refusal) (name : FileName) (at : ℕ) : Type 0 where
@@ -265,7 +306,8 @@ module _ {F : Type 0} (f : Folders F) where
 
   -- the same of a view or a cleanup, which meet it in a file of an index: it is full, or damaged, and this in no world that is fit
   abbrev pub IsIndexReason : Engine → Engine → F → F → Result Request Refusal → StepFault → Type 0
-  IsIndexReason engine engine' old new request (Full name length) = IsOfIndex request name
+  IsIndexReason engine engine' old new request (Full name size) =
+      IsOfSomeIndex request name × Tells (f.disk old) (f.disk new) (λ a b. MeetsFullIndex engine.docs engine'.groups a.now b.now request name size)
   IsIndexReason engine engine' old new request (Damaged name at) =
       IsOnIndexes request
       × Tells (f.disk old) (f.disk new) (λ a b. MeetsIndexDamage engine.docs engine'.groups a.now b.now request name at)

@@ -1,5 +1,5 @@
 -- When the index of a view's design is full.
-use Rattle.std.specs.Prelude.{◌≡◌, ℕ, List, length, true, Option, Some, None, Result, Ok}
+use Rattle.std.specs.Prelude.{◌≡◌, ◌≢◌, ℕ, List, length, true, Option, Some, None, Result, Ok}
 use Rattle.json_terms.specs.Json.{Json}
 use Rattle.design_docs.specs.Design.{language_of, views_of}
 use Rattle.child_pool.specs.Languages.{path_in}
@@ -15,7 +15,7 @@ use Rattle.view_model.specs.Update.{IsUpdated}
 use Rattle.tree_index.specs.declared.index.Index.{Index}
 use Rattle.tree_index.specs.Calls.{IsAt}
 use Rattle.tree_index.specs.Held.{IsFileOf}
-use Rattle.tree_updater.specs.Filled.{IsFilled}
+use Rattle.tree_updater.specs.Filled.{AreNodesOf, IsFilled}
 use Rattle.view_engine.specs.declared.refusal.Refusal.{Refusal}
 use Rattle.view_engine.specs.declared.request.Request.{Request}
 use Rattle.view_engine.specs.declared.request.Request.TheVariants.{View}
@@ -26,9 +26,9 @@ use Rattle.view_engine.specs.ViewQuery.{ViewQuery, parameters_of, view_query}
 use Rattle.query_args.specs.Query.{is_updated}
 
 module _ (functions : List ℕ → Functions) (honest : List ℕ → Type 0) (languages : List (List ℕ × List ℕ)) (cache cache' : NodeCache) where
-  -- The file is one of the index of the design that a view asks for. The documents were mapped, which makes a next picture; the index is at
-  -- the picture of the world still, and with the node of its trees that was put last, or with the root record, the file would be too long, or
-  -- else it has all of its commits.
+  -- The file is one of the index of the design that a view asks for. Something was written since its picture, which makes a next one; the index is
+  -- at the picture of the world still. With the node of its trees that was put last, or with the root record, the file would be too long, or else
+  -- it has all of its commits. That node is no longer than the two pictures may have. Where the path isn't honest, the next picture may be any.
   pub record IsIndexFull (files : FileName → File) (world : World) (view : ViewQuery) (name : FileName) (size : Option ℕ) : Type 0 where
     pub design : Json
     pub path : List ℕ
@@ -38,6 +38,8 @@ module _ (functions : List ℕ → Functions) (honest : List ℕ → Type 0) (la
     pub accepted : view_refusal languages world view ≡ None
     pub path_is : path_in languages (language_of design) ≡ Some path
     pub updated : IsUpdated (functions path) (honest path) (views_of design) world.history (picture_in world design) next
+    pub due : (picture_in world design).seq ≢ length world.history
+    pub nodes : AreNodesOf cache cache' (picture_in world design) next
     pub index : Index
     pub own : IsFileOf (ViewStem (signature_of design)) name
     pub at : IsAt None (views_of design) index files (world.pictures (signature_of design))
@@ -48,7 +50,7 @@ module _ (functions : List ℕ → Functions) (honest : List ℕ → Type 0) (la
   IsIndexFullFor files world (Ok (View view query)) name size = IsIndexFull files world (view_query view query) name size
   IsIndexFullFor files world other name size = ⊥
 
--- the same by some notes of the nodes that were put, so which nodes filled the file is left open here
+-- the same by some notes of the nodes that were put, so it is left open here which nodes filled the file
 abbrev pub IsIndexFullOf : (List ℕ → Functions) → (List ℕ → Type 0) → List (List ℕ × List ℕ) → (FileName → File) → World → Result Request Refusal → FileName → Option ℕ → Type 0
 IsIndexFullOf functions honest languages files world request name size =
     (cache : NodeCache) × (cache' : NodeCache) × IsIndexFullFor functions honest languages cache cache' files world request name size

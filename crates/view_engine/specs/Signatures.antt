@@ -8,6 +8,7 @@ use Rattle.design_docs.specs.History.{Write}
 use Rattle.view_ports.specs.declared.file_name.Stem.TheVariants.{View as ViewStem}
 use Rattle.view_signature.specs.Signature.{signature_of}
 use Rattle.view_model.specs.Picture.{Picture}
+use Rattle.view_model.specs.Since.{first}
 use Rattle.view_model.specs.Standing.{IsDesignIn}
 use Rattle.tree_index.specs.Index.{stem_of}
 use Rattle.tree_groups.specs.declared.groups.Groups.{Groups}
@@ -48,10 +49,10 @@ pub record HasSignature (history : List Write) (sig : List ℕ) : Type 0 where
   pub stored : IsDesignIn history document
   pub signed : signature_of document ≡ sig
 
--- each picture is that of a design document
+-- each picture is that of a design document which was stored by its sequence
 abbrev pub AreOwned : List Write → Pictures → Type 0
-AreOwned history pictures = (sig : List ℕ) (picture : Picture) → pictures sig ≡ Some picture → HasSignature history sig
+AreOwned history pictures = (sig : List ℕ) (picture : Picture) → pictures sig ≡ Some picture → HasSignature (first picture.seq history) sig
 
--- and so is each open index
+-- and each open index is that of a design document
 abbrev pub AreOpenOwned : List Write → Groups → Type 0
 AreOpenOwned history groups = All (λ index. (sig : List ℕ) → stem_of index ≡ ViewStem sig → HasSignature history sig) (open_of groups)

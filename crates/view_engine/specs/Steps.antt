@@ -1,7 +1,7 @@
 -- What a request line does, and what is answered.
 use Rattle.std.specs.Prelude.{◌≡◌, ◌≢◌, ◌⊎◌, ℕ, List, [], ◌∷◌, Bool, true, false, Some, None, Result, Ok, Err}
 use Rattle.json_terms.specs.Json.{Json, object, members_of}
-use Rattle.design_docs.specs.Design.{language_of, views_of}
+use Rattle.design_docs.specs.Design.{language_of}
 use Rattle.child_pool.specs.Languages.{path_in}
 use Rattle.view_ports.specs.Functions.{Functions}
 use Rattle.view_ports.specs.Lines.{ended}
@@ -15,7 +15,7 @@ use Rattle.view_engine.specs.declared.request.Request.TheVariants.{Put, Delete, 
 use Rattle.view_engine.specs.declared.refusal.Refusal.{Refusal}
 use Rattle.view_engine.specs.declared.refusal.Refusal.TheVariants.{NotBuiltYet, NoMemory}
 use Rattle.view_engine.specs.World.{World, written}
-use Rattle.view_engine.specs.Updating.{picture_in, IsBrought}
+use Rattle.view_engine.specs.Updating.{IsBrought}
 use Rattle.view_engine.specs.Moments.{Called, Moment, with_world}
 use Rattle.view_engine.specs.Refusals.{request_of, refusal_text}
 use Rattle.view_engine.specs.Put.{DoesPut, IsPutRefused, put_write}

@@ -1,5 +1,5 @@
 -- What bringing the index of a design up to date makes of a world, and which pictures of a world must be true.
-use Rattle.std.specs.Prelude.{◌≡◌, ◌≢◌, ℕ, List, length, false, Some}
+use Rattle.std.specs.Prelude.{◌≡◌, ◌≢◌, ℕ, List, false, Some}
 use Rattle.json_terms.specs.Json.{Json}
 use Rattle.design_docs.specs.Design.{design_term, language_of, views_of}
 use Rattle.view_ports.specs.Functions.{Functions}

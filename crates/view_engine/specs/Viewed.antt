@@ -4,7 +4,6 @@ use Rattle.view_ports.specs.Disk.{MovesNone, Tells}
 use Rattle.view_ports.specs.declared.folder.Folder.{Ghosts as Folders}
 use Rattle.view_ports.specs.declared.servers.Servers.{Ghosts as Servers}
 use Rattle.design_docs.specs.declared.design.Design.{Design}
-use Rattle.child_pool.specs.declared.pool.Pool.{Pool}
 use Rattle.query_args.specs.declared.query.Query.{Query}
 use Rattle.view_engine.specs.declared.engine.Engine.{Engine}
 use Rattle.tree_index.specs.declared.fault.IndexFault.{IndexFault}

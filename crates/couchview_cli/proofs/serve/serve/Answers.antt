@@ -21,7 +21,7 @@ use Rattle.couchview_cli.specs.Session.{IsAtOrigin, Origin}
 use Rattle.couchview_cli.proofs.Clashing.{read_within}
 use Rattle.couchview_cli.proofs.Coming.{come_opened}
 use Rattle.couchview_cli.proofs.Replying.{is_cut_off, reads_on}
-use Rattle.couchview_cli.proofs.Served.{cut_short, finishes, origin_of, unopened}
+use Rattle.couchview_cli.proofs.Served.{clashed_then, cut_short, finishes, input_ended, origin_of, sink_failed, unopened}
 use Rattle.couchview_cli.proofs.Statuses.{closed_others, end_no_load, end_no_usage, spared_by}
 use Rattle.couchview_cli.proofs.serve.serve.Goals as goal
 
@@ -69,7 +69,20 @@ returns-in-Run-clause-serves g c = λ opening holds.
     subst (λ (status : ℕ). Serves s.functions s.honest languages opening before after (AreLeft (s.may_follow c.finish.new.servers)) status) (sym c.status.ensures)
     (elim end.ends [
       | inl ended ↦ inl (finishes languages opening f s before left held last stopped c.finish.ensures.stopped (c.finish.ensures.width ∙ c.run-end.ensures.wide ∙ made.width) c.finish.ensures.faults refl end.bytes c.in-Run.end end.reads end.counts ended)
-      | inr met ↦ inr (inr (inr (record { bytes = end.bytes; reads = end.reads; counts = read_within c.in-Run.end (length end.bytes) end.counts; meets = met })))
+      | inr met ↦ inr (inr (inr (record {
+        bytes = end.bytes;
+        gained = met.gained;
+        reads = end.reads;
+        counts = read_within c.in-Run.end (length end.bytes) end.counts;
+        writes = met.wrote;
+        meets = met.meets;
+        replies = elim met.replies [
+          | inl begins ↦ inl begins
+          | inr failed ↦ inr (sink_failed c.in-Run.end failed.0, failed.1)
+        ];
+        whole = λ other. met.whole (λ ended. other (input_ended c.in-Run.end ended));
+        since = met.since;
+      })))
     ])
 
 pub returns-clause-serves : goal.returns-clause-serves
@@ -96,7 +109,7 @@ returns-clause-serves g c = λ opening holds.
           held end.bytes fault c.close-in-Stopped.result end.reads end.counts
           (λ is. Rose-earlier (f.faults c.args.folder.now) (f.faults c.open.new.folder) (f.faults ran.folder) c.open.ensures.cause.later (c.run-end.ensures.disk_failed (c.in-Stopped.is ∙ ap Stopped is)))
           off c.close-in-Stopped.ensures.closes))
-      | inr met ↦ inr (inr (inr (record { bytes = end.bytes; reads = end.reads; counts = end.counts; meets = met })))
+      | inr met ↦ inr (inr (inr (clashed_then f s languages opening before _ held end.bytes last fault c.close-in-Stopped.result end.reads end.counts met c.close-in-Stopped.ensures.closes refl)))
     ]
 
 -- ---- lines, whatever the folder holds

@@ -77,11 +77,13 @@ returns-in_err-append_done-clause-stay g c = stay_open g.F.Folder c.args.docs.no
 pub returns-in-Ok-clause-stay : goal.returns-in-Ok-clause-stay
 returns-in-Ok-clause-stay g c =
     live_stay_open g.F.Folder c.args.docs.now c.args.groups.now c.clean_up.new.self c.args.folder.now c.as_slice.result.now
-    (λ history. told_now (g.F.Folder.disk c.args.folder.now) _ (λ d. IsAt c.args.docs.now d.now history → AreLiveSignatures history c.as_slice.result.now) (λ d live at. subst (AreLiveSignatures history) (sym c.as_slice.ensures.value) (live at)) (c.in_ok-kept.ensures.history history))
+    (told_now (g.F.Folder.disk c.args.folder.now) _ (λ d. AreHeldSignatures c.args.docs.now (bytes_in c.args.docs.now d.now) c.as_slice.result.now)
+    (λ d are. subst (AreHeldSignatures c.args.docs.now (bytes_in c.args.docs.now d.now)) (sym c.as_slice.ensures.value) are) c.in_ok-kept.ensures.held)
     c.in-Ok.ensures.stay
 
 pub returns-clause-stay : goal.returns-clause-stay
 returns-clause-stay g c =
     live_stay_open g.F.Folder c.args.docs.now c.args.groups.now c.clean_up.new.self c.args.folder.now c.as_slice.result.now
-    (λ history. told_now (g.F.Folder.disk c.args.folder.now) _ (λ d. IsAt c.args.docs.now d.now history → AreLiveSignatures history c.as_slice.result.now) (λ d live at. subst (AreLiveSignatures history) (sym c.as_slice.ensures.value) (live at)) (c.in_ok-kept.ensures.history history))
+    (told_now (g.F.Folder.disk c.args.folder.now) _ (λ d. AreHeldSignatures c.args.docs.now (bytes_in c.args.docs.now d.now) c.as_slice.result.now)
+    (λ d are. subst (AreHeldSignatures c.args.docs.now (bytes_in c.args.docs.now d.now)) (sym c.as_slice.ensures.value) are) c.in_ok-kept.ensures.held)
     c.in-Err.ensures.stay

@@ -114,7 +114,7 @@ returns g c =
           (λ a b is_at others ended.
           let done = on_ok c.publish.result c.in_ok-publish.field-0 _ c.in_ok-publish.was ended in (
             at_now index seq c.as_slice-2.result.now bytes_are written now file c.settle.ensures.last (ap seen c.settle.ensures.next) a b is_at.is_open others done c.settle.ensures.picture c.settle.ensures.rows functions views picture is_at,
-            whole_published index seq c.as_slice-2.result.now bytes_are written now file c.settle.ensures.last (ap seen c.settle.ensures.next) a b is_at.is_open others done,
+            whole_published index seq c.as_slice-2.result.now bytes_are written now file c.settle.ensures.last (ap seen c.settle.ensures.next) a b is_at.is_open others done c.settle.ensures.picture,
           )) at c.publish.ensures.disk;
       full = λ is.
           let whole : IsFull (file_of index) (length c.as_slice-2.result.now) = subst (IsFull (file_of index)) (sym size) is in
@@ -122,7 +122,7 @@ returns g c =
       stays = bytes_stay {X = Unit {0}} {Y = IndexFault} index c.as_slice-2.result.now (g.F.Folder.disk c.args.folder.now) (g.F.Folder.disk c.publish.new.folder) c.publish.result (Ok tt)
           (λ P so. on_ok c.publish.result c.in_ok-publish.field-0 P c.in_ok-publish.was so) c.publish.ensures.disk;
       others = others_stay_published index c.as_slice-2.result.now (g.F.Folder.disk c.args.folder.now) (g.F.Folder.disk c.publish.new.folder) c.publish.result _
-          (λ a b is_open others ended. open_published index seq c.as_slice-2.result.now bytes_are written now file c.settle.ensures.last (ap seen c.settle.ensures.next) a b is_open others (on_ok c.publish.result c.in_ok-publish.field-0 _ c.in_ok-publish.was ended)) c.requires.open c.publish.ensures.disk;
+          (λ a b is_open others ended. open_published index seq c.as_slice-2.result.now bytes_are written now file c.settle.ensures.last (ap seen c.settle.ensures.next) a b is_open others (on_ok c.publish.result c.in_ok-publish.field-0 _ c.in_ok-publish.was ended) c.settle.ensures.picture) c.requires.open c.publish.ensures.disk;
       long = record {
         only = search rules;
         always = λ is. absurd (never_full (file_of index) (length c.as_slice-2.result.now) c.publish.result c.in_ok-publish.field-0 c.in_ok-publish.was c.publish.ensures.long.0 c.publish.ensures.spent.0 (inl (subst (IsTooLong (file_of index)) (sym size) is)));

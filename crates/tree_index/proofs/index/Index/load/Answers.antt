@@ -19,8 +19,8 @@ use Rattle.node_file.specs.Records.{node_at}
 use Rattle.index_trees.specs.Reading.{rows_in}
 use Rattle.tree_index.specs.declared.fault.IndexFault.TheVariants.{Store}
 use Rattle.tree_index.specs.Calls.{IsAt}
-use Rattle.tree_index.specs.Held.{HoldsIndex, HoldsPicture, IsDamagedAt, IsFileOf, Said, Spells, SpellsRoot}
-use Rattle.tree_index.specs.Opens.{said_in, FindsDamage, IsLoaded, Says}
+use Rattle.tree_index.specs.Held.{HoldsIndex, HoldsPicture, IsDamagedAt, IsFileOf, Said, Spells, SpellsRoot, Says}
+use Rattle.tree_index.specs.Opens.{said_in, FindsDamage, IsLoaded}
 use Rattle.tree_index.specs.Sizes.{are_sizes}
 use Rattle.tree_index.proofs.Carried.{picture_of_root}
 use Rattle.tree_index.proofs.Opened.{opening_only}
