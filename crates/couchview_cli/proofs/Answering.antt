@@ -42,12 +42,12 @@ use Rattle.view_engine.proofs.ServerFaults.{appended_fault, constant_no_fault}
 
 module _ (functions : List ℕ → Functions) (honest : List ℕ → Type 0) (languages : List (List ℕ × List ℕ)) (before : Moment) (old new : Told) (may_follow : List Call → Type 0) (faults : ℕ) (engine : Engine) where
   -- a line that was done
-  pub answered_done : (line start out : List ℕ) → start ≡ [] → StepAppends old new may_follow faults engine before (Does functions honest languages before line) start out
-      → Answered functions honest languages old new before line out (IsAt new may_follow faults engine)
+  pub answered_done : (line start out : List ℕ) → start ≡ [] → StepAppends functions honest old new may_follow faults engine before (Does functions honest languages before line) start out
+      → Answered functions honest languages old new before line out (IsAt functions honest new may_follow faults engine)
   answered_done line start out empty done =
       let left = done.leaves in
       let same : done.text ≡ out = sym (done.appended ∙ ap (λ (front : List ℕ). front ++ done.text) empty) in
-      subst (λ (text : List ℕ). Answered functions honest languages old new before line text (IsAt new may_follow faults engine)) same
+      subst (λ (text : List ℕ). Answered functions honest languages old new before line text (IsAt functions honest new may_follow faults engine)) same
       (record {
         after = left.after;
         answers = told_now old (λ d. Does functions honest languages before line done.text left.after) (λ d. Answers functions honest languages before (record { line = line; text = done.text }) left.after) (λ d does. inl does) left.allowed;
@@ -56,8 +56,8 @@ module _ (functions : List ℕ → Functions) (honest : List ℕ → Type 0) (la
       })
 
   -- a line for which memory ran out
-  pub answered_spent : (line : List ℕ) → line ≢ [] → Leaves old new may_follow faults engine before (MayHaveCalled functions honest languages before (request_of line))
-      → Answered functions honest languages old new before line (ended (refusal_text NoMemory)) (IsAt new may_follow faults engine)
+  pub answered_spent : (line : List ℕ) → line ≢ [] → Leaves functions honest old new may_follow faults engine before (MayHaveCalled functions honest languages before (request_of line))
+      → Answered functions honest languages old new before line (ended (refusal_text NoMemory)) (IsAt functions honest new may_follow faults engine)
   answered_spent line some left = record {
     after = left.after;
     answers = told_now old (λ d. MayHaveCalled functions honest languages before (request_of line) left.after) (λ d. Answers functions honest languages before (record { line = line; text = ended (refusal_text NoMemory) }) left.after)

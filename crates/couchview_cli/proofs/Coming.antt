@@ -33,7 +33,7 @@ use Rattle.view_engine.specs.ServerFaults.{is_server_fault, server_faults}
 use Rattle.view_engine.proofs.ServerFaults.{none_rose, one_more, rose_on}
 use Rattle.view_engine.specs.Fresh.{IsFreshStep}
 use Rattle.view_engine.specs.Steps.{Answers}
-use Rattle.view_engine.specs.Worlds.{at_start, languages as languages_of, update_seq, HasRoomAt, StandsEither, StandsFor}
+use Rattle.view_engine.specs.Worlds.{at_start, languages as languages_of, update_seq, GoesOnFrom, HasRoomAt, StandsEither, StandsFor}
 use Rattle.view_engine.proofs.AcceptedWrites.{Answers-accepted, each_ok_same}
 use Rattle.view_engine.proofs.Sound.{answers_sound}
 use Rattle.view_engine.proofs.Worlds.{answers_grow, holds_at, images_at, stays_still, stays_still_then}
@@ -101,7 +101,7 @@ module _ {F C : Type 0} (f : Folders F) (s : Servers C) (origin : Origin) where
     after = before;
     leads = refl;
     come = come;
-    went = went_nowhere s.functions s.honest origin.languages (f.disk now.folder) before.world (images_at (f.disk now.folder) (s.may_follow now.servers) (s.faults now.servers) now.engine before come.stands);
+    went = went_nowhere s.functions s.honest origin.languages (f.disk now.folder) before.world (images_at s.functions s.honest (f.disk now.folder) (s.may_follow now.servers) (s.faults now.servers) now.engine before come.stands);
     fits = told_all origin.disk (λ d. Unit {0}) (λ d. tt);
   }
 
@@ -116,7 +116,7 @@ module _ {F C : Type 0} (f : Folders F) (s : Servers C) (origin : Origin) where
         held = before.world;
         history = refl;
         until = come.moved.moments;
-        holds = holds_at disk (s.may_follow start.servers) (s.faults start.servers) start.engine before come.stands;
+        holds = holds_at s.functions s.honest disk (s.may_follow start.servers) (s.faults start.servers) start.engine before come.stands;
         room = told_now disk (λ d. is_ok e.text ≡ true → HasRoomAt d.now before.world (request_of e.line)) (λ d. HasRoomAt d.now before.world (request_of e.line)) (λ d room. room ok) (answered.room before come.stands);
         since = went.moments;
       } in
@@ -191,9 +191,10 @@ module _ {F C : Type 0} (f : Folders F) (s : Servers C) (origin : Origin) where
           leads = (met.run).leads;
           asks = met.on.asks;
           clash = met.on.clash;
+          goes = subst (λ (disk : Told). IfTold disk (λ d. GoesOnFrom origin.opening ((met.run).after).world)) met.on.is_told come.moved.grew;
           mid = f.disk (met.mid).folder;
           until = come.moved.moments;
-          holds = holds_at (f.disk (met.mid).folder) (s.may_follow (met.mid).servers) (s.faults (met.mid).servers) (met.mid).engine (met.run).after come.stands;
+          holds = holds_at s.functions s.honest (f.disk (met.mid).folder) (s.may_follow (met.mid).servers) (s.faults (met.mid).servers) (met.mid).engine (met.run).after come.stands;
           fits = (met.run).fits;
         }
 
@@ -304,9 +305,10 @@ module _ {F C : Type 0} (f : Folders F) (s : Servers C) (r : Responds (Session F
                     leads = ran.leads;
                     asks = on.asks;
                     clash = on.clash;
+                    goes = subst (λ (disk : Told). IfTold disk (λ d. GoesOnFrom origin.opening (ran.after).world)) on.is_told ran.come.moved.grew;
                     mid = f.disk cut.mid.folder.now;
                     until = ran.come.moved.moments;
-                    holds = holds_at (f.disk cut.mid.folder.now) (s.may_follow cut.mid.servers.now) (s.faults cut.mid.servers.now) cut.mid.engine.now ran.after ran.come.stands;
+                    holds = holds_at s.functions s.honest (f.disk cut.mid.folder.now) (s.may_follow cut.mid.servers.now) (s.faults cut.mid.servers.now) cut.mid.engine.now ran.after ran.come.stands;
                     fits = ran.fits;
                   };
                   replies = inl ([], sym (append-nil (text_of cut.exchanges)));

@@ -191,7 +191,7 @@ module _ {F C : Type 0} (f : Folders F) (s : Servers C) (docs seed : ℕ) (openi
           record {
             moments = subst (λ (x : Scene F C). Tells before.disk (f.disk x.folder) (LeavesOnly (λ image. StandsFor image opening))) (sym is) opened;
             holds = subst (λ (x : Scene F C). IfTold (f.disk x.folder) (λ d. Holds d.now opening)) (sym is)
-                (holds_at (f.disk start.folder) (s.may_follow start.servers) (s.faults start.servers) start.engine (at_start opening width before.faults) at.stands);
+                (holds_at s.functions s.honest (f.disk start.folder) (s.may_follow start.servers) (s.faults start.servers) start.engine (at_start opening width before.faults) at.stands);
             faulted = same ∙ ap (λ (x : Scene F C). s.faults x.servers) is ∙ faulted;
             at_end = record { added = left_.added; only = left_.only; follows = left_.follows; stopped = λ slot below. left_.stopped.stopped slot (subst (λ (w : ℕ). slot ≤ w) (sym wide) below) };
           }

@@ -42,10 +42,10 @@ module _ (functions : List ℕ → Functions) (honest : List ℕ → Type 0) (la
 
   -- a world between two goes on from all that the first goes on from, and so does what comes behind them
   goes_between : (opening before after mid : World) → IsBetween before after mid → GoesSoundly opening before → GoesSoundly opening mid
-  goes_between opening before after mid between from = (grown_as opening before mid between.history from.0, λ sound. between_sound functions honest languages before after mid between (from.1 sound))
+  goes_between opening before after mid between from = (grown_as opening before mid between.history between.known from.0, λ sound. between_sound functions honest languages before after mid between (from.1 sound))
 
   between_goes : (before after mid last : World) → IsBetween before after mid → GoesOnFrom before last → GoesOnFrom mid last
-  between_goes before after mid last between more = grows_as before mid last between.history more
+  between_goes before after mid last between more = grows_as before mid last between.history between.known more
 
   either_since : (opening before after : World) (image : FileName → List ℕ) → GoesSoundly opening before → GoesSoundly before after → StandsEither before after image → Since opening after image
   either_since opening before after image from more (inl (mid, between, stands)) =

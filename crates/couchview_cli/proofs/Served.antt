@@ -126,11 +126,12 @@ module _ (languages : List (List ℕ × List ℕ)) (opening : World) where
           writes = ended.wrote;
           runs = ended.run;
           keeps = leads_accepted s.functions s.honest languages opening before.disk (at_start opening width before.faults) ended.run.exchanges ended.moment ended.run.leads;
+          goes = ended.has_come.moved.grew;
           sound = ended.has_come.moved.sound;
           fits = ended.fits;
           moments = ended.has_come.moved.moments;
-          images = images_at (f.disk now.folder) (s.may_follow now.servers) (s.faults now.servers) now.engine ended.moment stands;
-          holds = holds_at (f.disk now.folder) (s.may_follow now.servers) (s.faults now.servers) now.engine ended.moment stands;
+          images = images_at s.functions s.honest (f.disk now.folder) (s.may_follow now.servers) (s.faults now.servers) now.engine ended.moment stands;
+          holds = holds_at s.functions s.honest (f.disk now.folder) (s.may_follow now.servers) (s.faults now.servers) now.engine ended.moment stands;
           faulted = same ∙ stands.child.counts;
           at_end = are_left ended.moment stands.child.follows;
         }
@@ -166,6 +167,7 @@ module _ (languages : List (List ℕ × List ℕ)) (opening : World) where
           answered = off.answered;
           leads = off.leads;
           keeps = leads_accepted s.functions s.honest languages opening before.disk (at_start opening width before.faults) off.exchanges off.moment off.leads;
+          goes = come.moved.grew;
           sound = come.moved.sound;
           closes = closes_after before.held mid held (text_of off.exchanges) fault status off.wrote closes;
           halts = off.halts.found.halts;
@@ -173,7 +175,7 @@ module _ (languages : List (List ℕ × List ℕ)) (opening : World) where
           whole = told_first s.functions s.honest begun old new world come.moved ((name : FileName) (at : ℕ) → fault ≡ Damaged name at → ⊥) halted.whole;
           mid = old;
           until = come.moved.moments;
-          holds = holds_at old (s.may_follow off.mid.servers) (s.faults off.mid.servers) off.mid.engine off.moment come.stands;
+          holds = holds_at s.functions s.honest old (s.may_follow off.mid.servers) (s.faults off.mid.servers) off.mid.engine off.moment come.stands;
           fits = off.fits;
           full = halted.full;
           filled = halted.filled;

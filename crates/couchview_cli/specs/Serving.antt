@@ -25,7 +25,7 @@ use Rattle.view_engine.specs.Disks.{IsOfIndex, IsOnIndexes, IsView}
 use Rattle.view_engine.specs.Fresh.{IsFreshStep}
 use Rattle.view_engine.specs.FullIndex.{IsIndexFullOf}
 use Rattle.view_engine.specs.Updating.{HasClash, IsSound}
-use Rattle.view_engine.specs.Worlds.{at_start, GoesOnFrom, HasRoomAt, Holds, IsFullAt, StandsAround, StandsFor}
+use Rattle.view_engine.specs.Worlds.{at_start, GoesOnFrom, HasRoomAt, Holds, IsFullAt, KnowsPaths, StandsAround, StandsFor}
 use Rattle.view_engine.specs.Refusals.{request_of}
 use Rattle.view_engine.specs.Steps.{Answers, Makes, MayHaveCalled}
 use Rattle.view_engine.specs.Accepted.{accepted, EachOk}
@@ -95,10 +95,15 @@ module _ (functions : List ℕ → Functions) (honest : List ℕ → Type 0) (la
   Steps opening disk before exchange after = IsReplied exchange.line exchange.text
       × IfTold disk (λ d. Answers functions honest languages before exchange after × (Sound opening → Sound before.world) × IsFreshStep functions honest languages before exchange after)
 
+-- a run begins so: the files hold the world, and what it knows are functions of honest paths
+pub record Begins (functions : List ℕ → Functions) (honest : List ℕ → Type 0) (languages : List (List ℕ × List ℕ)) (disk : Option (Disk FileName)) (opening : World) : Type 0 where
+  pub holds : IfTold disk (λ d. Holds d.now opening)
+  pub knows : IfTold disk (λ d. KnowsPaths functions honest languages opening)
+
 module _ (functions : List ℕ → Functions) (honest : List ℕ → Type 0) (languages : List (List ℕ × List ℕ)) (opening : World) where
   -- A run that read the bytes that the source lost, that wrote what the sink gained, and that ended with this status. The
-  -- world at its end has the writes of the opening and exactly those that were answered `ok`, and its pictures stand where those of
-  -- the opening did. Each image since the start stands for a first part of it, and each image now for the whole of it. Nothing of the
+  -- world at its end has the writes of the opening and exactly those that were answered `ok`, it knows the functions that the opening
+  -- knew, and its pictures stand where those of the opening did. Each image since the start stands for a first part of it, and each image now for the whole of it. Nothing of the
   -- documents is pending, and the files hold that world, so a later run begins with it.
   pub record Finishes (before after : Outside) (AtEnd : List Call → Type 0) (status : ℕ) : Type 0 where
     pub bytes : List ℕ
@@ -111,6 +116,7 @@ module _ (functions : List ℕ → Functions) (honest : List ℕ → Type 0) (la
     pub writes : Appends before.held after.held gained
     pub runs : Run (Steps functions honest languages opening before.disk) (IsAtEnd after.left) (at_start opening width before.faults) bytes gained end moment
     pub keeps : IfTold before.disk (λ d. (moment.world).history ≡ (accepted opening runs.exchanges).history)
+    pub goes : IfTold before.disk (λ d. GoesOnFrom opening moment.world)
     pub sound : IfTold before.disk (λ d. IsSound functions honest languages opening → IsSound functions honest languages moment.world)
     pub fits : HaveRoom functions honest languages opening moment.world before.disk after.disk runs.exchanges
     pub moments : Tells before.disk after.disk (LeavesOnly (StandsSince functions honest languages opening moment.world))
@@ -141,6 +147,7 @@ module _ (functions : List ℕ → Functions) (honest : List ℕ → Type 0) (la
     pub answered : AreLines (IsAtEnd after.left) lines rest (lines_of exchanges ++ line ∷ more)
     pub leads : LeadsTo (Steps functions honest languages opening before.disk) (at_start opening width before.faults) exchanges moment
     pub keeps : IfTold before.disk (λ d. (moment.world).history ≡ (accepted opening exchanges).history)
+    pub goes : IfTold before.disk (λ d. GoesOnFrom opening moment.world)
     pub sound : IfTold before.disk (λ d. IsSound functions honest languages opening → IsSound functions honest languages moment.world)
     pub closes : Closes before.held after.held (text_of exchanges) fault status
     pub halts : fault ≢ NoMemory
@@ -194,6 +201,7 @@ module _ (functions : List ℕ → Functions) (honest : List ℕ → Type 0) (la
     pub leads : LeadsTo (Steps functions honest languages opening disk) (at_start opening width faults) exchanges moment
     pub asks : IsView (request_of line)
     pub clash : HasClash (moment.world).history
+    pub goes : GoesOnFrom opening moment.world
     pub mid : Option (Disk FileName)
     pub until : Tells disk mid (LeavesOnly (StandsSince functions honest languages opening moment.world))
     pub holds : IfTold mid (λ d. Holds d.now moment.world)

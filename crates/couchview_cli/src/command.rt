@@ -9,12 +9,11 @@ ghost use Rattle.view_ports.specs.Faults.{Rose};
 ghost use Rattle.command_words.specs.declared.command.Command.TheVariants.{Load};
 ghost use Rattle.child_pool.specs.Languages.{language_in, languages_in};
 ghost use Rattle.view_engine.specs.World.{World};
-ghost use Rattle.view_engine.specs.Worlds.{Holds};
 ghost use Rattle.couchview_cli.specs.Command.{AreLanguages, AskFor, AskToServe, IsApart, IsBuilt, IsLoad, IsServe, IsToDo, RefusesWords, ShowsUsage, languages_named, usage_line};
 ghost use Rattle.couchview_cli.specs.Command as spec;
 ghost use Rattle.couchview_cli.specs.Loading.{AnswersLoad, LoadEndsAtFile, Loads};
 ghost use Rattle.couchview_cli.specs.Reading.{AnswersLines};
-ghost use Rattle.couchview_cli.specs.Serving.{outside, AreLeft, Clashes, EndsAtFile, IsShort, Serves, StopsAtLimit};
+ghost use Rattle.couchview_cli.specs.Serving.{outside, AreLeft, Begins, Clashes, EndsAtFile, IsShort, Serves, StopsAtLimit};
 
 use crate::built_in::is_built_in;
 use crate::load::load;
@@ -180,7 +179,7 @@ pub fn couchview<S: Source, K: Sink, F: Folder, C: Servers>(
 
     // What is read, written, asked and kept, over a folder that tells its disk, where nothing is pending and which holds a world.
     ensures serves { (kept : Vec (String Global) Global) → AskToServe words.now kept
-        → (opening : World) → IfTold (F.disk folder.old) (λ d. Holds d.now opening)
+        → (opening : World) → Begins C.functions C.honest (languages_named kept) (F.disk folder.old) opening
         → Serves C.functions C.honest (languages_named kept) opening
         (outside S.Source K.Sink F.Folder C.Servers source.old sink.old folder.old servers.old)
         (outside S.Source K.Sink F.Folder C.Servers source.new sink.new folder.new servers.new)
@@ -188,7 +187,7 @@ pub fn couchview<S: Source, K: Sink, F: Folder, C: Servers>(
 
     // What is written, asked and kept by a load, over the same, and whatever the folder holds.
     ensures loads { (docs number : ℕ) → AskFor words.now (Load docs number)
-        → (opening : World) → IfTold (F.disk folder.old) (λ d. Holds d.now opening)
+        → (opening : World) → Begins C.functions C.honest [] (F.disk folder.old) opening
         → Loads C.functions C.honest docs number opening
         (outside S.Source K.Sink F.Folder C.Servers source.old sink.old folder.old servers.old)
         (outside S.Source K.Sink F.Folder C.Servers source.new sink.new folder.new servers.new)
@@ -234,7 +233,7 @@ pub fn couchview<S: Source, K: Sink, F: Folder, C: Servers>(
     // Where no port fails, no full file ends the run, and no view is asked for of designs that clash, input that is short enough is read
     // to its end.
     ensures complete { (kept : Vec (String Global) Global) → AskToServe words.now kept
-        → (opening : World) → IfTold (F.disk folder.old) (λ d. Holds d.now opening)
+        → (opening : World) → Begins C.functions C.honest (languages_named kept) (F.disk folder.old) opening
         → IsShort (S.left source.old)
         → ¬ Rose (S.faults source.old) (S.faults source.new)
         → ¬ Rose (K.faults sink.old) (K.faults sink.new)
@@ -250,7 +249,7 @@ pub fn couchview<S: Source, K: Sink, F: Folder, C: Servers>(
 
     // So is a load done, unless the folder has writes.
     ensures whole { (docs number : ℕ) → AskFor words.now (Load docs number)
-        → (opening : World) → IfTold (F.disk folder.old) (λ d. Holds d.now opening)
+        → (opening : World) → Begins C.functions C.honest [] (F.disk folder.old) opening
         → ¬ Rose (K.faults sink.old) (K.faults sink.new)
         → ¬ Rose (F.faults folder.old) (F.faults folder.new)
         → ¬ LoadEndsAtFile C.functions C.honest docs number opening

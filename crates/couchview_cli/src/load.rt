@@ -12,10 +12,10 @@ ghost use Rattle.view_engine.specs.Calls.{scene};
 ghost use Rattle.view_engine.specs.Disks.{IsReadReasonOf, LiesOpen};
 ghost use Rattle.view_engine.specs.Refusals.{refusal_text};
 ghost use Rattle.view_engine.specs.World.{World};
-ghost use Rattle.view_engine.specs.Worlds.{Holds, IsAtWorld, width as width_of};
+ghost use Rattle.view_engine.specs.Worlds.{IsAtWorld, width as width_of};
 ghost use Rattle.couchview_cli.specs.Loading as spec;
 ghost use Rattle.couchview_cli.specs.Loading.{AnswersLoad, HasWant, IsPrinted, Loads, beside};
-ghost use Rattle.couchview_cli.specs.Serving.{AreLeft};
+ghost use Rattle.couchview_cli.specs.Serving.{AreLeft, Begins};
 ghost use Rattle.couchview_cli.specs.Showing.{IsShown, NoneIsWant, ServesText, Shows, reply_at};
 
 use crate::closing::close;
@@ -60,7 +60,7 @@ pub fn load<K: Sink, F: Folder, C: Servers>(
     requires few { docs ≤ 20000 }
     requires low { number < 2 ^ 31 }
     ensures loads { (left : Option (List ℕ)) → (opening : World)
-        → IfTold (F.disk folder.old) (λ d. Holds d.now opening)
+        → Begins C.functions C.honest [] (F.disk folder.old) opening
         → Loads C.functions C.honest docs number opening
         (beside left K.Sink F.Folder C.Servers sink.old folder.old servers.old)
         (beside left K.Sink F.Folder C.Servers sink.new folder.new servers.new)

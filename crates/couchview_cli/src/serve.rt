@@ -8,10 +8,10 @@ ghost use Rattle.view_engine.specs.World.{World};
 ghost use Rattle.line_loop.specs.Loops.{HasEnded, HasSinkFailed, HasSourceFailed};
 ghost use Rattle.view_engine.specs.Calls.{scene};
 ghost use Rattle.view_engine.specs.Disks.{LiesOpen};
-ghost use Rattle.view_engine.specs.Worlds.{update_seq, width as width_of, Holds, IsOpen};
+ghost use Rattle.view_engine.specs.Worlds.{update_seq, width as width_of, IsOpen};
 ghost use Rattle.couchview_cli.specs.Ends.{Comes};
 ghost use Rattle.couchview_cli.specs.Reading.{AnswersLines, HasReplied};
-ghost use Rattle.couchview_cli.specs.Serving.{AreLeft, Serves, outside};
+ghost use Rattle.couchview_cli.specs.Serving.{AreLeft, Begins, Serves, outside};
 ghost use Rattle.couchview_cli.specs.Session.{IsAtOrigin, Origin};
 
 use crate::closing::close;
@@ -35,7 +35,7 @@ pub fn serve<S: Source, K: Sink, F: Folder, C: Servers>(
     servers: &mut C,
 ) -> u8
     requires { C.may_follow servers.old [] }
-    ensures serves { (opening : World) → IfTold (F.disk folder.old) (λ d. Holds d.now opening)
+    ensures serves { (opening : World) → Begins C.functions C.honest (languages_in (map string_bytes words.now)) (F.disk folder.old) opening
         → Serves C.functions C.honest (languages_in (map string_bytes words.now)) opening
         (outside S.Source K.Sink F.Folder C.Servers source.old sink.old folder.old servers.old)
         (outside S.Source K.Sink F.Folder C.Servers source.new sink.new folder.new servers.new)

@@ -5,7 +5,7 @@ use crash_disk::MemoryFolder;
 use map_server::PickServers;
 use std::alloc::Global;
 use std::test::Fail;
-use view_ports::{MemorySink, MemorySource};
+use view_ports::{FieldServers, MemorySink, MemorySource};
 
 mod folder;
 mod ports;
@@ -60,7 +60,7 @@ fn run_in(alloc: Global, folder: &mut MemoryFolder, given: &Given) -> Result<(Ve
     let mut sink = MemorySink::new(alloc, piece, given.writes.to_vec(alloc)?)?;
     let mut servers = PickServers::new(alloc, given.servers.to_vec(alloc)?)?;
     let status = couchview(alloc, &words, &mut source, &mut sink, folder, &mut servers);
-    runs_go_on(&servers, &servers);
+    runs_go_on(&servers, &FieldServers::new(alloc, Vec::new(alloc))?);
     Ok((sink.held().to_vec(alloc)?, status))
 }
 

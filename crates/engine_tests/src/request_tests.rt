@@ -6,13 +6,19 @@ use crash_disk::MemoryFolder;
 use json_terms::{Chars, NoMemory};
 use std::alloc::{AllocError, Global};
 use std::test::Fail;
-use view_engine::{requests_have_one_outcome, worlds_stay_sound};
+use view_engine::{
+    folders_hold_worlds, functions_may_be_told, requests_have_one_outcome, worlds_go_on,
+    worlds_stay_sound,
+};
 use view_ports::{Answer, FieldServers, ScriptServers, Servers};
 
 #[test]
 fn requests_are_answered(rt: HostRuntime) -> Result<(), Fail> {
     requests_have_one_outcome::<FieldServers>();
     worlds_stay_sound::<FieldServers>();
+    worlds_go_on::<FieldServers>();
+    functions_may_be_told();
+    folders_hold_worlds();
     let alloc = rt.alloc();
     for run in RUNS {
         let mut folder = MemoryFolder::new(alloc, Vec::new(alloc), false)?;

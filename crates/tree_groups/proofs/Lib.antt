@@ -1,6 +1,7 @@
 pub mod Places
 pub mod Kept
 pub mod Standing
+pub mod Forgetting
 pub mod Telling
 pub mod Closing
 pub mod Damages

@@ -133,10 +133,10 @@ none_of_any : (functions functions' : Option Functions) (views views' : List Des
 none_of_any functions functions' views views' None bytes holds = tt
 none_of_any functions functions' views views' (Some root) bytes holds = absurd holds
 
-none_stands : (functions functions' : Option Functions) (views views' : List DesignView) (stem : Stem) (image : FileName → List ℕ) → Stands functions views stem image None → Stands functions' views' stem image None
+pub none_stands : (functions functions' : Option Functions) (views views' : List DesignView) (stem : Stem) (image : FileName → List ℕ) → Stands functions views stem image None → Stands functions' views' stem image None
 none_stands functions functions' views views' stem image stands = record { fit = stands.fit; apart = stands.apart; stands = none_of_any functions functions' views views' _ _ stands.stands }
 
-none_holds : (functions functions' : Option Functions) (views views' : List DesignView) (stem : Stem) (files : FileName → File) → HoldsIndex functions views stem files None → HoldsIndex functions' views' stem files None
+pub none_holds : (functions functions' : Option Functions) (views views' : List DesignView) (stem : Stem) (files : FileName → File) → HoldsIndex functions views stem files None → HoldsIndex functions' views' stem files None
 none_holds functions functions' views views' stem files holds = record {
   images = λ image left. none_stands functions functions' views views' stem image (holds.images image left);
   seen = none_stands functions functions' views views' stem (λ n. (files n).seen) holds.seen;

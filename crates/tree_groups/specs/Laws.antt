@@ -11,7 +11,7 @@ use Rattle.view_model.specs.Picture.{Picture}
 use Rattle.tree_groups.specs.declared.groups.Groups.{Groups}
 use Rattle.tree_groups.specs.Cleans.{IsIndexFile}
 use Rattle.tree_groups.specs.Groups.{open_of, AreAt, AreOpen}
-use Rattle.tree_groups.specs.Pictures.{AreHeld, Kinds, Pictures, StandFor, StandsOf}
+use Rattle.tree_groups.specs.Pictures.{forgetting, AreHeld, Kinds, Pictures, StandFor, StandsOf}
 use Rattle.tree_groups.specs.Reached.{sig_of, AreSet}
 
 -- each image that a crash may leave of files that hold pictures stands for them
@@ -56,3 +56,13 @@ ImageKindsAreFree = (kinds kinds' : Kinds) (image : FileName → List ℕ) (pict
 abbrev pub OpenKindsAreFree : Type 0
 OpenKindsAreFree = (kinds kinds' : Kinds) (groups : Groups) (files : FileName → File) (pictures : Pictures)
     → ((sig : List ℕ) → ((pictures sig ≡ None) × All (λ index. stem_of index ≢ View sig) (open_of groups)) ⊎ (kinds' sig ≡ kinds sig)) → AreAt kinds groups files pictures → AreAt kinds' groups files pictures
+
+-- less is said where no functions of query servers are known: of images, of files, and of open indexes
+abbrev pub ImagesMayForget : Type 0
+ImagesMayForget = (kinds : Kinds) (image : FileName → List ℕ) (pictures : Pictures) → StandFor kinds image pictures → StandFor (forgetting kinds) image pictures
+
+abbrev pub FilesMayForget : Type 0
+FilesMayForget = (kinds : Kinds) (files : FileName → File) (pictures : Pictures) → AreHeld kinds files pictures → AreHeld (forgetting kinds) files pictures
+
+abbrev pub OpenMayForget : Type 0
+OpenMayForget = (kinds : Kinds) (groups : Groups) (files : FileName → File) (pictures : Pictures) → AreAt kinds groups files pictures → AreAt (forgetting kinds) groups files pictures

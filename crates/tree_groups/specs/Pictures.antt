@@ -1,5 +1,5 @@
 -- The pictures that the files of all indexes hold, each by the digits of its signature.
-use Rattle.std.specs.Prelude.{ℕ, List, Option}
+use Rattle.std.specs.Prelude.{ℕ, List, Option, None}
 use Rattle.view_ports.specs.File.{File}
 use Rattle.view_ports.specs.Functions.{Functions}
 use Rattle.view_ports.specs.declared.file_name.FileName.{FileName}
@@ -18,6 +18,10 @@ pub record Kind : Type 0 where
 -- for each signature its kind
 abbrev pub Kinds : Type 0
 Kinds = List ℕ → Kind
+
+-- the same kinds, of which no functions are known
+abbrev pub forgetting : Kinds → Kinds
+forgetting kinds = λ sig. record { views = (kinds sig).views; functions = None }
 
 -- for each signature a picture, or none
 abbrev pub Pictures : Type 0

@@ -1,6 +1,6 @@
 //! Laws of pictures in files, and of open indexes. Each holds for all values, and its function does nothing.
 
-ghost use Rattle.tree_groups.specs.Laws.{EmptyFoldersHoldNone, FilesStand, ImageKindsAreFree, ImagesStand, ImagesStandAround, KindsAreFree, NoneOpenAreAt, OpenKindsAreFree, OthersMatterNot, OtherImagesMatterNot};
+ghost use Rattle.tree_groups.specs.Laws.{EmptyFoldersHoldNone, FilesMayForget, FilesStand, ImageKindsAreFree, ImagesMayForget, ImagesStand, ImagesStandAround, KindsAreFree, NoneOpenAreAt, OpenKindsAreFree, OpenMayForget, OthersMatterNot, OtherImagesMatterNot};
 
 /// Each image that a crash may leave of files that hold pictures stands for them.
 pub fn images_stand_for_pictures()
@@ -38,4 +38,11 @@ pub fn kinds_are_free()
     ensures held { KindsAreFree }
     ensures images { ImageKindsAreFree }
     ensures open { OpenKindsAreFree }
+{}
+
+/// Pictures by the values of known functions are pictures of which no functions are known.
+pub fn functions_may_be_forgotten()
+    ensures images { ImagesMayForget }
+    ensures files { FilesMayForget }
+    ensures open { OpenMayForget }
 {}

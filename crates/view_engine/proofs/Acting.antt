@@ -45,6 +45,7 @@ use Rattle.view_engine.proofs.Whole.{documents_at, documents_open, indexes_at, k
 use Rattle.view_engine.proofs.Following.{follows_refused, follows_spent}
 use Rattle.view_engine.proofs.Performing.{none_called}
 use Rattle.view_engine.proofs.ServerFaults.{err_unblamed}
+use Rattle.view_engine.proofs.Known.{known_told}
 use Rattle.view_engine.proofs.Signatures.{indexes_later, opened_later, owned_later}
 
 module _ (functions : List ℕ → Functions) (honest : List ℕ → Type 0) (languages : List (List ℕ × List ℕ)) where
@@ -90,6 +91,11 @@ does_write (Put document) world reply after write does is = ap (written world) (
 does_write (Delete id given) world reply after write does is = ap (written world) (is.1).2 ∙ sym does.wrote
 does_write other world reply after write does is = absurd is
 
+-- such a world knows the same functions
+grown_knows : (world after : World) → GrowsAlone world after → after.functions ≡ world.functions
+grown_knows world after (inl same) = ap (λ (w : World). w.functions) same
+grown_knows world after (inr (write, wrote)) = ap (λ (w : World). w.functions) wrote
+
 module _ {F C : Type 0} (f : Folders F) (s : Servers C) (docs docs' : Docs) (pool : Pool) (groups : Groups) (cache : NodeCache) (old new : F) (servers : C) (out out' : List ℕ) where
   abbrev before_it : Engine
   before_it = record { docs = docs; pool = pool; groups = groups; cache = cache }
@@ -105,7 +111,7 @@ module _ {F C : Type 0} (f : Folders F) (s : Servers C) (docs docs' : Docs) (poo
   grown a b {world} here moves (inl same) =
       subst (λ (w : World). AreAt docs' b.now w.history → IsAtWorld after_it b.now w) (sym same) (λ there. record {
         documents = there;
-        indexes = indexes_at a b moves (kinds_of world.history) groups world.pictures here.indexes;
+        indexes = indexes_at a b moves (kinds_of world) groups world.pictures here.indexes;
         within = here.within;
         owned = here.owned;
         opened = here.opened;
@@ -113,9 +119,9 @@ module _ {F C : Type 0} (f : Folders F) (s : Servers C) (docs docs' : Docs) (poo
   grown a b {world} here moves (inr (write, wrote)) =
       subst (λ (w : World). AreAt docs' b.now w.history → IsAtWorld after_it b.now w) (sym wrote) (λ there. record {
         documents = there;
-        indexes = indexes_later write world.history world.pictures here.owned groups b.now here.opened (indexes_at a b moves (kinds_of world.history) groups world.pictures here.indexes);
+        indexes = indexes_later world.functions write world.history world.pictures here.owned groups b.now here.opened (indexes_at a b moves (kinds_of world) groups world.pictures here.indexes);
         within = within_longer world write here.within;
-        owned = owned_later write world.history world.pictures here.owned here.within;
+        owned = owned_later world.functions write world.history world.pictures here.owned here.within;
         opened = opened_later write world.history groups here.opened;
       })
 
@@ -165,6 +171,8 @@ module _ {F C : Type 0} (f : Folders F) (s : Servers C) (docs docs' : Docs) (poo
       after = with_world before left.after;
       is_at = record {
         documents = whole own before.world left.after at.documents (told_now (f.disk old) (λ d. Known left.after) (λ d. GrowsAlone before.world left.after) (λ d known. inl (allows left.after known).0) left.allowed) left.is_at;
+        known = known_told s.functions s.honest (f.disk old) (f.disk new) MovesNone (languages_of pool) (languages_of pool) before.world left.after none refl
+            (told_now (f.disk old) (λ d. Known left.after) (λ d. left.after.functions ≡ before.world.functions) (λ d known. ap (λ (w : World). w.functions) (allows left.after known).0) left.allowed) at.known;
         child = record { width = at.child.width; started = at.child.started; reducer = at.child.reducer; child = at.child.child; follows = at.child.follows; counts = at.child.counts };
       };
       moments = told_leaves_before before_it before.world left.after (f.disk old) (f.disk new) none at.documents;
@@ -194,6 +202,8 @@ module _ {F C : Type 0} (f : Folders F) (s : Servers C) (docs docs' : Docs) (poo
             is_at = record {
               documents = whole keeps.own before.world left.after at.documents
                   (told_now (f.disk old) (λ d. DoesHere before.world request done.reply left.after) (λ d. GrowsAlone before.world left.after) (λ d does. does_grow request before.world done.reply left.after does) left.allowed) left.is_at;
+              known = known_told s.functions s.honest (f.disk old) (f.disk new) (MovesDocuments (DocumentsStandAround before.world (Ok request))) (languages_of pool) (languages_of pool) before.world left.after (keeps.moved before.world here) refl
+                  (told_now (f.disk old) (λ d. DoesHere before.world request done.reply left.after) (λ d. left.after.functions ≡ before.world.functions) (λ d does. grown_knows before.world left.after (does_grow request before.world done.reply left.after does)) left.allowed) at.known;
               child = record { width = at.child.width; started = at.child.started; reducer = at.child.reducer; child = at.child.child; follows = at.child.follows; counts = at.child.counts };
             };
             moments = moments_done request done.reply before.world left.after at.documents left.allowed (keeps.moved before.world here);

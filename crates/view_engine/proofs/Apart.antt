@@ -24,7 +24,7 @@ use Rattle.tree_groups.specs.Pictures.{AreHeld, HoldsOf, IsAtOf, Kinds, Pictures
 use Rattle.tree_groups.specs.Reached.{sig_of}
 use Rattle.tree_groups.proofs.Standing.{images_stand_around}
 use Rattle.view_engine.specs.declared.engine.Engine.{Engine}
-use Rattle.view_engine.specs.Signatures.{kinds_of, AreOwned, HasSignature}
+use Rattle.view_engine.specs.Signatures.{kinds_by, kinds_of, AreOwned, HasSignature}
 use Rattle.view_engine.specs.World.{World, NoneIsNewer}
 use Rattle.view_engine.specs.Worlds.{IsAtWorld, StandsFor}
 use Rattle.view_engine.proofs.Beside.{open_beside_indexes}
@@ -109,21 +109,21 @@ module _ (engine : Engine) (design : Design) (files : FileName → File) (world 
   documents_there = documents_stand engine.docs files world.history image at.documents (λ n of_docs. framed.outside n (view_is_no_docs (sig_of design) n of_docs))
 
   -- an image of the old picture stands for the world
-  pub old_stands : StandsOf (kinds_of world.history) (sig_of design) image (world.pictures (sig_of design)) → StandsFor image world
+  pub old_stands : StandsOf (kinds_of world) (sig_of design) image (world.pictures (sig_of design)) → StandsFor image world
   old_stands stands = record {
     documents = documents_there;
-    indexes = images_stand_around (kinds_of world.history) design files world.pictures world.pictures image (world.pictures (sig_of design)) at.indexes.held (record { inside = stands; outside = framed.outside }) (refl, λ sig differs. refl);
+    indexes = images_stand_around (kinds_of world) design files world.pictures world.pictures image (world.pictures (sig_of design)) at.indexes.held (record { inside = stands; outside = framed.outside }) (refl, λ sig differs. refl);
     within = at.within;
     owned = at.owned;
   }
 
   -- and one of the next for the world with that
-  pub next_stands : HasSignature world.history (sig_of design) → (next : Picture) (after : World) → StandsOf (kinds_of world.history) (sig_of design) image (Some next) → next.seq ≡ length world.history → after.history ≡ world.history
+  pub next_stands : HasSignature world.history (sig_of design) → (next : Picture) (after : World) → StandsOf (kinds_of world) (sig_of design) image (Some next) → next.seq ≡ length world.history → after.history ≡ world.history → after.functions ≡ world.functions
       → AreSetAt (sig_of design) (Some next) world.pictures after.pictures → StandsFor image after
-  next_stands has next after stands seq history set = record {
+  next_stands has next after stands seq history functions set = record {
     documents = subst (Stands image) (sym history) documents_there;
-    indexes = subst (λ h. StandFor (kinds_of h) image after.pictures) (sym history)
-        (images_stand_around (kinds_of world.history) design files world.pictures after.pictures image (Some next) at.indexes.held (record { inside = stands; outside = framed.outside })
+    indexes = subst (λ (k : Kinds). StandFor k image after.pictures) (λ i. kinds_by (sym functions i) (sym history i))
+        (images_stand_around (kinds_of world) design files world.pictures after.pictures image (Some next) at.indexes.held (record { inside = stands; outside = framed.outside })
         (own_is_set (sig_of design) (Some next) world.pictures after.pictures set, others_stay (sig_of design) (Some next) world.pictures after.pictures set));
     owned = subst (λ h. AreOwned h after.pictures) (sym history) (owned_set world.history (sig_of design) next world.pictures after.pictures seq has at.owned set);
     within = none_newer_set (sig_of design) next world after at.within seq history set;

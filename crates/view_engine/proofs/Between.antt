@@ -1,28 +1,28 @@
 -- Images that a crash leaves of worlds between two, and what a cleanup makes of the pictures of a world.
 use Rattle.std.proofs.Common.{◌≡◌, ◌⊎◌, ◌≤◌, ◌∙◌, ℕ, List, length, Option, Some, None, inl, inr, ⊎_elim, refl, sym, subst}
-use Rattle.tree_groups.specs.Pictures.{Pictures, StandFor, StandsOf}
+use Rattle.tree_groups.specs.Pictures.{Kinds, Pictures, StandFor, StandsOf}
 use Rattle.view_model.specs.Picture.{Picture}
 use Rattle.view_model.specs.Since.{first}
 use Rattle.view_ports.specs.declared.file_name.FileName.{FileName}
 use Rattle.doc_file.specs.Held.{Stands}
 use Rattle.view_engine.specs.Cleanup.{IsCleaned, IsPartlyCleaned}
-use Rattle.view_engine.specs.Signatures.{kinds_of, AreOwned, HasSignature}
+use Rattle.view_engine.specs.Signatures.{kinds_by, kinds_of, AreOwned, HasSignature}
 use Rattle.view_engine.specs.World.{World, NoneIsNewer}
 use Rattle.view_engine.specs.Worlds.{IsBetween, StandsEither, StandsFor}
 
 -- a world is between itself and any other
 pub first_between : (before after : World) → IsBetween before after before
-first_between before after = record { history = refl; pictures = λ sig. inl refl }
+first_between before after = record { history = refl; known = refl; pictures = λ sig. inl refl }
 
 -- an image stands for the first
 pub stands_first : (before after : World) (image : FileName → List ℕ) → StandsFor image before → StandsEither before after image
 stands_first before after image stands = inl (before, first_between before after, stands)
 
 -- with these pictures one by one an image stands for a world too
-pub stands_alike : (world other : World) (image : FileName → List ℕ) → other.history ≡ world.history → ((sig : List ℕ) → other.pictures sig ≡ world.pictures sig) → StandsFor image world → StandsFor image other
-stands_alike world other image history pictures stands = record {
+pub stands_alike : (world other : World) (image : FileName → List ℕ) → other.history ≡ world.history → other.functions ≡ world.functions → ((sig : List ℕ) → other.pictures sig ≡ world.pictures sig) → StandsFor image world → StandsFor image other
+stands_alike world other image history functions pictures stands = record {
   documents = subst (Stands image) (sym history) stands.documents;
-  indexes = subst (λ h. StandFor (kinds_of h) image other.pictures) (sym history) (λ sig. subst (StandsOf (kinds_of world.history) sig image) (sym (pictures sig)) (stands.indexes sig));
+  indexes = subst (λ (k : Kinds). StandFor k image other.pictures) (λ i. kinds_by (sym functions i) (sym history i)) (λ sig. subst (StandsOf (kinds_of world) sig image) (sym (pictures sig)) (stands.indexes sig));
   within = λ sig picture is. subst (λ (h : List _). picture.seq ≤ length h) (sym history) (stands.within sig picture (sym (pictures sig) ∙ is));
   owned = λ sig picture is. subst (λ h. HasSignature (first picture.seq h) sig) (sym history) (stands.owned sig picture (sym (pictures sig) ∙ is));
 }
@@ -31,12 +31,13 @@ stands_alike world other image history pictures stands = record {
 pub stands_same : (world : World) (image : FileName → List ℕ) → StandsEither world world image → StandsFor image world
 stands_same world image (inr stands) = stands
 stands_same world image (inl (mid, between, stands)) =
-    stands_alike mid world image (sym between.history) (λ sig. ⊎_elim (λ same. sym same) (λ gone. gone.1 ∙ sym gone.0) (between.pictures sig)) stands
+    stands_alike mid world image (sym between.history) (sym between.known) (λ sig. ⊎_elim (λ same. sym same) (λ gone. gone.1 ∙ sym gone.0) (between.pictures sig)) stands
 
 -- what a part of a cleanup leaves is between the world before it and the cleaned one
 pub partly_between : (before after mid : World) → IsPartlyCleaned before mid → IsCleaned before after → IsBetween before after mid
 partly_between before after mid partly cleaned = record {
   history = partly.history;
+  known = partly.known;
   pictures = λ sig. ⊎_elim (λ same. inl same) (λ gone. inr (gone.0, ⊎_elim (λ stays. absurd (gone.1 stays.0)) (λ none. none.1) (cleaned.each sig))) (partly.fewer sig);
 }
 

@@ -4,7 +4,9 @@ use Rattle.std.proofs.Common.{true, refl, sym, ap, ◌∙◌, subst, inl, inr, �
 use Rattle.json_terms.specs.Json.{Json}
 use Rattle.design_docs.specs.declared.design.Design.{Design}
 use Rattle.view_ports.specs.Disk.{Disk, Framed, IfTold, LeavesOnly, Moves, Tells}
+use Rattle.view_ports.specs.Calls.{Call}
 use Rattle.view_ports.specs.File.{File}
+use Rattle.view_ports.specs.Functions.{Functions}
 use Rattle.view_ports.specs.declared.file_name.FileName.{FileName}
 use Rattle.view_ports.specs.declared.file_name.Stem.TheVariants.{Docs as DocsStem, View}
 use Rattle.view_ports.specs.declared.folder.Folder.{Ghosts as Folders}
@@ -14,7 +16,7 @@ use Rattle.view_ports.proofs.Told.{told_now, told_pair}
 use Rattle.child_pool.specs.declared.pool.Pool.{Pool}
 use Rattle.child_pool.specs.declared.pool_fault.PoolFault.TheVariants.{Compile}
 use Rattle.child_pool.specs.Languages.{path_in}
-use Rattle.child_pool.specs.Pools.{languages_of}
+use Rattle.child_pool.specs.Pools.{languages_of, HasItsChildren}
 use Rattle.doc_file.specs.declared.docs.Docs.{Docs}
 use Rattle.doc_file.specs.Docs.{IsAt as AreAt}
 use Rattle.design_docs.specs.History.{Write}
@@ -28,7 +30,7 @@ use Rattle.tree_updater.specs.declared.fault.UpdateFault.{UpdateFault}
 use Rattle.tree_updater.specs.declared.fault.UpdateFault.TheVariants.{Pool as OfPool}
 use Rattle.tree_updater.specs.Asking.{HasAskedFor}
 use Rattle.tree_updater.specs.Made.{IsRefused as IsUpdateRefused}
-use Rattle.tree_updater.specs.Paths.{IsPathOf}
+use Rattle.tree_updater.specs.Paths.{AreFunctionsBy, IsPathOf}
 use Rattle.tree_groups.specs.declared.groups.Groups.{Groups}
 use Rattle.tree_groups.specs.Brings.{Brings, EndsAt, IsLost, IsNext, MayLeave}
 use Rattle.tree_groups.specs.Follows.{AsksSince, Follows, IsIdleEnd, IsUnasked}
@@ -44,7 +46,7 @@ use Rattle.view_engine.specs.Updating.{AreFit}
 use Rattle.view_engine.specs.View.{design_id}
 use Rattle.view_engine.specs.ViewPlan.{IsPlan}
 use Rattle.view_engine.specs.World.{World}
-use Rattle.view_engine.specs.Worlds.{IsAtWorld, StandsAround, StandsEither}
+use Rattle.view_engine.specs.Worlds.{IsAtWorld, StandsAround, StandsEither, KnowsPaths}
 use Rattle.view_engine.specs.ViewQuery.{ViewQuery, view_request}
 use Rattle.view_engine.proofs.Between.{stands_first}
 use Rattle.view_engine.proofs.Apart.{documents_beside, indexes_alike, next_stands, none_newer_set, old_stands, set_is_alike}
@@ -54,7 +56,7 @@ use Rattle.view_engine.proofs.Viewed.{is_brought, planned_signature, IsKnown, Is
 
 -- the world in which a design's picture is this one
 abbrev pub with_picture : World → Design → Picture → World
-with_picture world design next = record { history = world.history; pictures = λ sig. if bytes_eq sig (sig_of design) then Some next else world.pictures sig }
+with_picture world design next = record world { pictures = λ sig. if bytes_eq sig (sig_of design) then Some next else world.pictures sig }
 
 -- one place has one index
 pub one_index : (groups : Groups) (place : ℕ) (sig : List ℕ) (views : ℕ) (one other : Index) → IsGroup groups place sig views one → IsGroup groups place sig views other → one ≡ other
@@ -80,18 +82,38 @@ module _ {updating : Bool} (languages : List (List ℕ × List ℕ)) (world : Wo
     signed = sym (planned_signature languages world name id design place path plan);
   }
 
-  -- and its signature is of its views, where designs that differ have different signatures
-  pub of_own_views : AreFit world.history → (kinds_of world.history (sig_of design)).views ≡ design.views
+  -- and its signature is of its views, and of the functions of its language, where designs that differ have different signatures
+  pub of_own_views : AreFit world.history → (kinds_of world (sig_of design)).views ≡ design.views
   of_own_views fit =
-      ap (λ sig. (kinds_of world.history sig).views) (planned_signature languages world name id design place path plan)
-      ∙ kind_is world.history fit plan.document (live_is_design world.history (design_id name.design) plan.document refl plan.live)
+      ap (λ sig. (kinds_of world sig).views) (planned_signature languages world name id design place path plan)
+      ∙ (kind_is world.functions world.history fit plan.document (live_is_design world.history (design_id name.design) plan.document refl plan.live)).0
       ∙ sym plan.views
 
--- what is known as the update begins: the engine is at the world, the view is planned, and designs that differ have different signatures
-pub record IsReady (updating : Bool) (engine : Engine) (world : World) (name : ViewQuery) (id : List ℕ) (design : Design) (place : ℕ) (path : List ℕ) (d : Disk FileName) : Type 0 where
+  pub of_own_functions : AreFit world.history → (kinds_of world (sig_of design)).functions ≡ world.functions (sig_of design) design.language
+  of_own_functions fit =
+      ap (λ sig. (kinds_of world sig).functions) (planned_signature languages world name id design place path plan)
+      ∙ (kind_is world.functions world.history fit plan.document (live_is_design world.history (design_id name.design) plan.document refl plan.live)).1
+      ∙ (λ i. world.functions (sym (planned_signature languages world name id design place path plan) i) (sym plan.language i))
+
+-- the functions that are known of a design's language are those of its path, by calls that may have been made
+pub by_path : {C : Type 0} (s : Servers C) (servers : C) (pool : Pool) (design : Design) (world : World) (calls : List Call) → s.may_follow servers calls → HasItsChildren pool calls → KnowsPaths s.functions s.honest (languages_of pool) world → (path : List ℕ) → path_in (languages_of pool) design.language ≡ Some path
+    → (functions : Option Functions) → functions ≡ world.functions (sig_of design) design.language → AreFunctionsBy s servers pool design functions
+by_path s servers pool design world calls follows children knows path path_is None is = tt
+by_path s servers pool design world calls follows children knows path path_is (Some known) is =
+    let are = knows (sig_of design) design.language known path (sym is) path_is in
+    (path, record { known = path_is; calls = calls; follows = follows; children = children }, are.0, are.1)
+
+-- and where none are known they are those of any path
+pub by_none : {C : Type 0} (s : Servers C) (servers : C) (pool : Pool) (design : Design) (world : World) {functions : Option Functions} → functions ≡ None → AreFunctionsBy s servers pool design functions
+by_none s servers pool design world is = subst (AreFunctionsBy s servers pool design) (sym is) tt
+
+-- what is known as the update begins: the engine is at the world, which knows functions of honest paths alone, the view is planned, and designs
+-- that differ have different signatures
+pub record IsReady (functions : List ℕ → Functions) (honest : List ℕ → Type 0) (updating : Bool) (engine : Engine) (world : World) (name : ViewQuery) (id : List ℕ) (design : Design) (place : ℕ) (path : List ℕ) (d : Disk FileName) : Type 0 where
   pub here : IsAtWorld engine d.now world
   pub plan : IsPlan updating (languages_of engine.pool) world.history name id design place path
   pub fit : AreFit world.history
+  pub knows : KnowsPaths functions honest (languages_of engine.pool) world
 
 module _ {F C : Type 0} (f : Folders F) (s : Servers C) (docs : Docs) (pool pool' : Pool) (groups groups' : Groups) (cache cache' : NodeCache) (steps : ℕ) (mid new : F) (servers servers' : C) (name : ViewQuery) (id : List ℕ) (design : Design) (place : ℕ) (path : List ℕ)
     (within : place < length design.views) (path_is : path_in (languages_of pool) design.language ≡ Some path) (result : Result ℕ UpdateFault)
@@ -120,10 +142,10 @@ module _ {F C : Type 0} (f : Folders F) (s : Servers C) (docs : Docs) (pool pool
     seq = (picture_for design world.pictures).seq
 
     abbrev kinds : Kinds
-    kinds = kinds_of world.history
+    kinds = kinds_of world
 
     abbrev Ready : Disk FileName → Type 0
-    Ready = IsReady true engine world name id design place path
+    Ready = IsReady s.functions s.honest true engine world name id design place path
 
     pub reached : (d : Disk FileName) → Ready d → IsReached s servers pool docs kinds groups design world.history world.pictures d.now
     reached d ready = record {
@@ -131,7 +153,7 @@ module _ {F C : Type 0} (f : Folders F) (s : Servers C) (docs : Docs) (pool pool
       indexes = (ready.here).indexes;
       within = within_there engine d.now world design ready.here;
       own = of_own_views (languages_of pool) world name id design place path ready.plan ready.fit;
-      by = tt;
+      by = by_path s servers pool design world before.calls at.child.follows at.child.child ready.knows path path_is (kinds (sig_of design)).functions (of_own_functions (languages_of pool) world name id design place path ready.plan ready.fit);
     }
 
     -- how the files of the index move
@@ -178,15 +200,16 @@ module _ {F C : Type 0} (f : Folders F) (s : Servers C) (docs : Docs) (pool pool
 
     -- it is that of an update of the documents that were written since
     pub next_is : (next : Picture) (left : World) (documents : List (List (List ℕ × Json))) → Next next
-        → documents ≡ documents_since seq world.history → left.history ≡ world.history → ((sig : List ℕ) → left.pictures sig ≡ (with_picture world design next).pictures sig)
+        → documents ≡ documents_since seq world.history → left.history ≡ world.history → left.functions ≡ world.functions → ((sig : List ℕ) → left.pictures sig ≡ (with_picture world design next).pictures sig)
         → IsNextOf s.functions s.honest world design path documents next left
-    next_is next left documents is_next same history set =
+    next_is next left documents is_next same history functions set =
         let made = is_next path own_path in
         record {
           updated = made.mapped.updated;
           compile = λ is_honest some. made.mapped.compile is_honest (λ none. some (same ∙ none));
           reduces = made.reduces;
           history = history;
+          known = functions;
           set = set;
         }
 
@@ -246,7 +269,7 @@ module _ {F C : Type 0} (f : Folders F) (s : Servers C) (docs : Docs) (pool pool
                   (λ next.
                   let made = next.1.1 in
                   let this : next.0 ≡ shown = made.2 ∙ ap picture_of (one_index groups' slot own (views_in design) made.0 index made.1 group) in
-                  inr (next_stands engine design a.now world here _ image framed has shown left (subst (λ p. StandsOf kinds own image (Some p)) this next.2) number refl (λ sig. refl)))
+                  inr (next_stands engine design a.now world here _ image framed has shown left (subst (λ p. StandsOf kinds own image (Some p)) this next.2) number refl refl (λ sig. refl)))
                   framed.inside) moves.moments,
               (
                 record {
@@ -279,8 +302,8 @@ module _ {F C : Type 0} (f : Folders F) (s : Servers C) (docs : Docs) (pool pool
               plan.accepted,
               plan.live,
               plan.path_is,
-              is_brought s.functions s.honest (languages_of pool) before name id design place path within (documents_since seq world.history) next.0 after known (next_is next.0 after (documents_since seq world.history) is_next refl refl (λ sig. refl)),
+              is_brought s.functions s.honest (languages_of pool) before name id design place path within (documents_since seq world.history) next.0 after known (next_is next.0 after (documents_since seq world.history) is_next refl refl refl (λ sig. refl)),
               plan.updates,
             ),
-            next_stands engine design a.now world here _ image framed has next.0 after next.2 (is_next path own_path).mapped.updated.seq refl (λ sig. refl),
+            next_stands engine design a.now world here _ image framed has next.0 after next.2 (is_next path own_path).mapped.updated.seq refl refl (λ sig. refl),
           )) framed.inside) moves.moments

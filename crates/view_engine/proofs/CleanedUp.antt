@@ -2,7 +2,7 @@
 use Rattle.std.specs.Prelude.{All, Contains, OnOk}
 use Rattle.std.proofs.Common.{◌≡◌, ℕ, List, Option, Some, None, inl, inr, ⊎_elim, Result, Ok, Err, refl, sym, subst, arith}
 use Rattle.std.proofs.lemmas.Result.{IfErr-weaker}
-use Rattle.view_ports.specs.Disk.{Disk, Framed, IfTold, LeavesOnly, Moves, Tells}
+use Rattle.view_ports.specs.Disk.{Disk, Framed, IfTold, LeavesOnly, Moves, MovesNone, Tells}
 use Rattle.view_ports.specs.File.{File}
 use Rattle.view_ports.specs.Lines.{ended}
 use Rattle.view_ports.specs.declared.file_name.FileName.{FileName}
@@ -20,7 +20,7 @@ use Rattle.node_file.specs.declared.cache.NodeCache.{NodeCache}
 use Rattle.tree_groups.specs.declared.groups.Groups.{Groups}
 use Rattle.tree_groups.specs.Cleans.{IsIndexFile}
 use Rattle.tree_groups.specs.Groups.{open_of, AreAt as AreIndexesAt, AreOpen as AreIndexesOpen}
-use Rattle.tree_groups.specs.Pictures.{StandFor}
+use Rattle.tree_groups.specs.Pictures.{Kinds, StandFor}
 use Rattle.view_engine.specs.declared.engine.Engine.{Engine}
 use Rattle.view_engine.specs.declared.halt.Halt.{Halt}
 use Rattle.view_engine.specs.declared.halt.Halt.TheVariants.{Refused, Stopped}
@@ -35,13 +35,14 @@ use Rattle.view_engine.specs.Disks.{ClearsIndexes, ClearsUnheld, HasReply, HasSl
 use Rattle.view_engine.specs.InMemory.{FollowsDocuments, IsUntouchedBy}
 use Rattle.view_engine.specs.Moments.{Moment, with_world}
 use Rattle.view_engine.specs.Steps.{DoesRequestText, MayHaveCalled}
-use Rattle.view_engine.specs.Signatures.{kinds_of, AreOpenOwned}
+use Rattle.view_engine.specs.Signatures.{kinds_by, kinds_of, AreOpenOwned}
 use Rattle.view_engine.specs.World.{World}
 use Rattle.view_engine.specs.Worlds.{IsAtWorld, IsOpen, StandsAround, StandsEither, StandsFor}
 use Rattle.view_engine.proofs.Apart.{documents_beside, documents_stand}
 use Rattle.view_engine.proofs.Beside.{open_beside_indexes}
 use Rattle.view_engine.proofs.Between.{cleaned_fewer, none_newer_left, owned_left, partly_between, partly_fewer}
 use Rattle.view_engine.proofs.Following.{same_docs}
+use Rattle.view_engine.proofs.Known.{known_told, still_known}
 use Rattle.view_engine.proofs.Performing.{none_called}
 use Rattle.view_engine.proofs.ReplyLines.{done_line}
 use Rattle.view_engine.proofs.ServerFaults.{unlike_done}
@@ -54,7 +55,7 @@ partly_stands engine files world at image framed =
     let mid = framed.inside in
     record {
       documents = subst (Stands image) (sym (mid.1).history) (documents_stand engine.docs files world.history image at.documents (λ n of_docs. framed.outside n (λ of_view. apart n of_view of_docs)));
-      indexes = subst (λ h. StandFor (kinds_of h) image (mid.0).pictures) (sym (mid.1).history) mid.2;
+      indexes = subst (λ (k : Kinds). StandFor k image (mid.0).pictures) (λ i. kinds_by (sym (mid.1).known i) (sym (mid.1).history i)) mid.2;
       within = none_newer_left world mid.0 (mid.1).history (partly_fewer world mid.0 mid.1) at.within;
       owned = owned_left world mid.0 (mid.1).history (partly_fewer world mid.0 mid.1) at.owned;
     }
@@ -97,7 +98,7 @@ module _ {F C : Type 0} (f : Folders F) (s : Servers C) (docs : Docs) (pool : Po
         after = ended.0;
         at = record {
           documents = subst (AreAt docs b.now) (sym history) (documents_stay a b world.history moves.others at.documents);
-          indexes = subst (λ h. AreIndexesAt (kinds_of h) groups' b.now (ended.0).pictures) (sym history) ended.2;
+          indexes = subst (λ (k : Kinds). AreIndexesAt k groups' b.now (ended.0).pictures) (λ i. kinds_by (sym (ended.1).known i) (sym history i)) ended.2;
           within = none_newer_left world ended.0 history (cleaned_fewer world ended.0 ended.1) at.within;
           owned = owned_left world ended.0 history (cleaned_fewer world ended.0 ended.1) at.owned;
           opened = subst (λ h. AreOpenOwned h groups') (sym history) (opened_fewer world.history groups groups' closes at.opened);
@@ -140,6 +141,8 @@ module _ {F C : Type 0} (f : Folders F) (s : Servers C) (docs : Docs) (pool : Po
           after = with_world before to.after;
           is_at = record {
             documents = to.at;
+            known = known_told s.functions s.honest (f.disk old) (f.disk new) (LeavesOnly (StandsEither before.world to.after)) (languages_of pool) (languages_of pool) before.world to.after to.moments refl
+                (told_now (f.disk old) (λ d. IsCleaned before.world to.after) (λ d. to.after.functions ≡ before.world.functions) (λ d is. is.known) to.cleaned) at.known;
             child = record { width = at.child.width; started = at.child.started; reducer = at.child.reducer; child = at.child.child; follows = at.child.follows; counts = at.child.counts };
           };
           moments = to.moments;
@@ -153,7 +156,11 @@ module _ {F C : Type 0} (f : Folders F) (s : Servers C) (docs : Docs) (pool : Po
       let same = cleans.unmoved refl in
       record {
         after = before;
-        is_at = record { documents = world_none before_it after_it (f.disk old) (f.disk new) refl same.0 same.1 before.world at.documents; child = children (Err (Stopped NoMemory)) is_open cleans before at };
+        is_at = record {
+          documents = world_none before_it after_it (f.disk old) (f.disk new) refl same.0 same.1 before.world at.documents;
+          child = children (Err (Stopped NoMemory)) is_open cleans before at;
+          known = still_known s.functions s.honest (f.disk old) (f.disk new) MovesNone (languages_of pool) (languages_of pool) before.world same.1 refl at.known;
+        };
         moments = told_leaves_before before_it before.world before.world (f.disk old) (f.disk new) same.1 at.documents;
         allowed = told_all (f.disk old) (λ d. MayHaveCalled s.functions s.honest (languages_of pool) before (Ok Cleanup) before) (λ d. none_called s.functions s.honest (languages_of pool) before (Ok Cleanup));
       }
@@ -190,7 +197,7 @@ module _ {F C : Type 0} (f : Folders F) (s : Servers C) (docs : Docs) (pool : Po
       (λ slot. inr (
         tt,
         told_given (f.disk old) (f.disk new) (λ d. HasSlotDamage docs d.now name at) (Moves IsIndexFile (λ image. Unit {0}) (λ files. Unit {0})) (λ a b. HasSlotDamage docs a.now name at) (λ a b damage moved. damage) slot.0 others,
-        λ world. told_now (f.disk old) (λ d. AreIndexesAt (kinds_of world.history) groups d.now world.pictures → ⊥) _ (λ d never here fit. never here.indexes) (slot.1 world),
+        λ world. told_now (f.disk old) (λ d. AreIndexesAt (kinds_of world) groups d.now world.pictures → ⊥) _ (λ d never here fit. never here.indexes) (slot.1 world),
       )) why
   reason others (Stopped (Full name length)) why = absurd why
   reason others (Stopped NoMemory) why = inl tt

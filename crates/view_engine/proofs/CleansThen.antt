@@ -54,13 +54,13 @@ with_pictures world pictures = record world { pictures = pictures }
 module _ (world : World) (kept : List (List ℕ)) (live : AreLiveSignatures world.history kept) where
   -- what is left by a part of the removals is what a part of a cleanup leaves
   partly : (fewer : Pictures) → AreFewer kept world.pictures fewer → IsPartlyCleaned world (with_pictures world fewer)
-  partly fewer are = record { history = refl; fewer = λ sig. ⊎_elim (λ same. inl same) (λ gone. inr (gone.0, λ lives. gone.1 ((live sig).1 lives))) (are sig) }
+  partly fewer are = record { history = refl; known = refl; fewer = λ sig. ⊎_elim (λ same. inl same) (λ gone. inr (gone.0, λ lives. gone.1 ((live sig).1 lives))) (are sig) }
 
   -- and by all of them a cleaned world
   cleaned : (left : Pictures) → AreKept kept world.pictures left → IsCleaned world (with_pictures world left)
-  cleaned left are = record { history = refl; each = λ sig. ⊎_elim (λ there. inl ((live sig).0 there, are.stay sig there)) (λ none. inr (λ lives. none ((live sig).1 lives), are.gone sig none)) (contains_or_not kept sig) }
+  cleaned left are = record { history = refl; known = refl; each = λ sig. ⊎_elim (λ there. inl ((live sig).0 there, are.stay sig there)) (λ none. inr (λ lives. none ((live sig).1 lives), are.gone sig none)) (contains_or_not kept sig) }
 
-  images_cleaned : (image : FileName → List ℕ) → (fewer : Pictures) × AreFewer kept world.pictures fewer × StandFor (kinds_of world.history) image fewer → StandsCleaned world image
+  images_cleaned : (image : FileName → List ℕ) → (fewer : Pictures) × AreFewer kept world.pictures fewer × StandFor (kinds_of world) image fewer → StandsCleaned world image
   images_cleaned image left = (with_pictures world left.0, partly left.0 left.1, left.2)
 
 -- how a cleanup ends as the removals do
@@ -69,11 +69,11 @@ ended_as (Ok done) = Ok tt
 ended_as (Err fault) = Err (met_by_index fault)
 
 same_world : (world : World) → IsPartlyCleaned world world
-same_world world = record { history = refl; fewer = λ sig. inl refl }
+same_world world = record { history = refl; known = refl; fewer = λ sig. inl refl }
 
 module _ {F : Type 0} (f : Folders F) (docs : Docs) (groups : Groups) (old : F) where
   abbrev Stands : World → Type 0
-  Stands world = IfTold (f.disk old) (λ d. AreAt docs d.now world.history × AreIndexesAt (kinds_of world.history) groups d.now world.pictures)
+  Stands world = IfTold (f.disk old) (λ d. AreAt docs d.now world.history × AreIndexesAt (kinds_of world) groups d.now world.pictures)
 
   -- ---- nothing was removed, since reading failed or memory ran out
   module _ (mid : F) (out : List ℕ) where
@@ -86,8 +86,8 @@ module _ {F : Type 0} (f : Folders F) (docs : Docs) (groups : Groups) (old : F) 
 
     pub cleans_none : (halt : Halt) → IsStopped halt → Tells (f.disk old) (f.disk mid) MovesNone → IfStopped (IsReadReason f docs old mid) halt → f.faults old ≤ f.faults mid → CleansUp f docs groups groups old mid out out (Err halt)
     cleans_none halt is none why later = record {
-      stands = λ world at. told_given (f.disk old) (f.disk mid) (λ d. AreAt docs d.now world.history × AreIndexesAt (kinds_of world.history) groups d.now world.pictures) MovesNone (Moves IsIndexFile (StandsCleaned world) (λ files. Unit {0}))
-          (λ a b here same. none_wider IsIndexFile (StandsCleaned world) (λ files. Unit {0}) a b (λ image of_files. (world, same_world world, images_stand (kinds_of world.history) a.now world.pictures image here.1.held of_files)) (λ kept. tt) same) at none;
+      stands = λ world at. told_given (f.disk old) (f.disk mid) (λ d. AreAt docs d.now world.history × AreIndexesAt (kinds_of world) groups d.now world.pictures) MovesNone (Moves IsIndexFile (StandsCleaned world) (λ files. Unit {0}))
+          (λ a b here same. none_wider IsIndexFile (StandsCleaned world) (λ files. Unit {0}) a b (λ image of_files. (world, same_world world, images_stand (kinds_of world) a.now world.pictures image here.1.held of_files)) (λ kept. tt) same) at none;
       others = told_map (f.disk old) (f.disk mid) MovesNone (Moves IsIndexFile (λ image. Unit {0}) (λ files. Unit {0})) (λ a b same. none_wider IsIndexFile (λ image. Unit {0}) (λ files. Unit {0}) a b (λ image of_files. tt) (λ kept. tt) same) none;
       spared = λ history at. told_map (f.disk old) (f.disk mid) MovesNone _ (λ a b same. none_wider (IsOfNone history) (λ image. Unit {0}) (λ files. Unit {0}) a b (λ image of_files. tt) (λ kept. tt) same) none;
       empty = tt;
@@ -121,22 +121,22 @@ module _ {F : Type 0} (f : Folders F) (docs : Docs) (groups : Groups) (old : F) 
     told_behind P known = told_after (f.disk old) (f.disk mid) (λ d. P d.now) (λ d. P d.now) MovesNone (λ a b is none. subst P (λ i. λ n. sym (none_same a b none n) i) is) known read
 
     abbrev Fewer : World → (FileName → List ℕ) → Type 0
-    Fewer world image = (fewer : Pictures) × AreFewer kept world.pictures fewer × StandFor (kinds_of world.history) image fewer
+    Fewer world image = (fewer : Pictures) × AreFewer kept world.pictures fewer × StandFor (kinds_of world) image fewer
 
-    ends : (world : World) → AreLiveSignatures world.history kept → (files : FileName → File) (some : Result (Unit {0}) IndexFault) → EndsAt kept (kinds_of world.history) groups' world.pictures some files → EndsCleaned groups' world (ended_as some) files
+    ends : (world : World) → AreLiveSignatures world.history kept → (files : FileName → File) (some : Result (Unit {0}) IndexFault) → EndsAt kept (kinds_of world) groups' world.pictures some files → EndsCleaned groups' world (ended_as some) files
     ends world lives files (Ok done) left = (with_pictures world left.0, cleaned world kept lives left.0 left.1, left.2)
     ends world lives files (Err fault) left = tt
 
     stands : (world : World) → Stands world → Tells (f.disk old) (f.disk new) (Moves IsIndexFile (StandsCleaned world) (EndsCleaned groups' world result))
     stands world at =
-        told_then (f.disk old) (f.disk mid) (f.disk new) (λ a b. (AreLiveSignatures world.history kept × AreIndexesAt (kinds_of world.history) groups a.now world.pictures) × MovesNone a b)
-        (Moves IsIndexFile (Fewer world) (EndsAt kept (kinds_of world.history) groups' world.pictures r)) (Moves IsIndexFile (StandsCleaned world) (EndsCleaned groups' world result))
-        (λ a b c known moved. moves_then IsIndexFile (StandsCleaned world) (Fewer world) (StandsCleaned world) (λ files. Unit {0}) (EndsAt kept (kinds_of world.history) groups' world.pictures r) (EndsCleaned groups' world result) a b c
+        told_then (f.disk old) (f.disk mid) (f.disk new) (λ a b. (AreLiveSignatures world.history kept × AreIndexesAt (kinds_of world) groups a.now world.pictures) × MovesNone a b)
+        (Moves IsIndexFile (Fewer world) (EndsAt kept (kinds_of world) groups' world.pictures r)) (Moves IsIndexFile (StandsCleaned world) (EndsCleaned groups' world result))
+        (λ a b c known moved. moves_then IsIndexFile (StandsCleaned world) (Fewer world) (StandsCleaned world) (λ files. Unit {0}) (EndsAt kept (kinds_of world) groups' world.pictures r) (EndsCleaned groups' world result) a b c
         (λ image stands. stands) (λ one image left. images_cleaned world kept known.0.0 image left) (λ one left. ends world known.0.0 c.now r left)
-        (none_wider IsIndexFile (StandsCleaned world) (λ files. Unit {0}) a b (λ image of_files. (world, same_world world, images_stand (kinds_of world.history) a.now world.pictures image known.0.1.held of_files)) (λ same. tt) known.1) moved)
-        (told_given (f.disk old) (f.disk mid) (λ d. AreLiveSignatures world.history kept × AreIndexesAt (kinds_of world.history) groups d.now world.pictures) MovesNone _ (λ a b known none. (known, none))
-        (told_pair (f.disk old) (λ d. AreAt docs d.now world.history × AreIndexesAt (kinds_of world.history) groups d.now world.pictures) (λ d. AreAt docs d.now world.history → AreLiveSignatures world.history kept) _ (λ d here lives. (lives here.0, here.1)) at (live world.history)) read)
-        (cleans.stands (kinds_of world.history) world.pictures (told_behind (λ files. AreIndexesAt (kinds_of world.history) groups files world.pictures) (told_now (f.disk old) _ _ (λ d here. here.1) at)))
+        (none_wider IsIndexFile (StandsCleaned world) (λ files. Unit {0}) a b (λ image of_files. (world, same_world world, images_stand (kinds_of world) a.now world.pictures image known.0.1.held of_files)) (λ same. tt) known.1) moved)
+        (told_given (f.disk old) (f.disk mid) (λ d. AreLiveSignatures world.history kept × AreIndexesAt (kinds_of world) groups d.now world.pictures) MovesNone _ (λ a b known none. (known, none))
+        (told_pair (f.disk old) (λ d. AreAt docs d.now world.history × AreIndexesAt (kinds_of world) groups d.now world.pictures) (λ d. AreAt docs d.now world.history → AreLiveSignatures world.history kept) _ (λ d here lives. (lives here.0, here.1)) at (live world.history)) read)
+        (cleans.stands (kinds_of world) world.pictures (told_behind (λ files. AreIndexesAt (kinds_of world) groups files world.pictures) (told_now (f.disk old) _ _ (λ d here. here.1) at)))
 
     -- only files of indexes change that aren't kept
     unkept_alone : Tells (f.disk old) (f.disk new) (Moves (IsUnkept kept) (λ image. Unit {0}) (λ files. Unit {0}))
@@ -210,7 +210,7 @@ module _ {F : Type 0} (f : Folders F) (docs : Docs) (groups : Groups) (old : F) 
       told_pair (f.disk old) (λ d. AreHeldSignatures docs (bytes_in docs d.now) kept) (λ d. IsDamageOf kept d.now name at) _
           (λ d holds there. record { sig = there.sig; damage = there.damage; whole = holds.whole; unheld = λ is. there.unkept ((holds.each there.sig).1 is) }) held
           (told_before (λ files. IsDamageOf kept files name at) (told_now (f.disk mid) _ _ (λ d damaged. damaged name at is) cleans.damaged)),
-      λ world. told_before (λ files. AreIndexesAt (kinds_of world.history) groups files world.pictures → ⊥) (told_now (f.disk mid) _ _ (λ d never here. never here name at is) (cleans.sound (kinds_of world.history) world.pictures)),
+      λ world. told_before (λ files. AreIndexesAt (kinds_of world) groups files world.pictures → ⊥) (told_now (f.disk mid) _ _ (λ d never here. never here name at is) (cleans.sound (kinds_of world) world.pictures)),
     )
 
     why : (some : Result (Unit {0}) IndexFault) → r ≡ some → IfErr some IsCleanFault → IfErr some (λ e. e ≡ index.Store gate.DiskFault → Rose (f.faults mid) (f.faults new)) → IfErr (ended_as some) (IfStopped (IsCleanupReason f docs groups groups' old new))

@@ -207,9 +207,9 @@ module _ {F C : Type 0} (f : Folders F) (s : Servers C) (docs : Docs) (pool : Po
       -- ---- they couldn't be read
       module _ (steps' : ℕ) (fault : IndexFault) (reads : Rows steps' (Err fault)) (same_servers : servers'' ≡ servers') (same_pool : pool'' ≡ pool') where
         -- over documents and pictures the indexes are at some pictures then
-        at_some : (world : World) → IfTold (f.disk mid) (λ d. IsReached s servers pool docs (kinds_of world.history) groups design world.history world.pictures d.now)
-            → Tells (f.disk mid) (f.disk new) (λ a b. (pictures : Pictures) × AreIndexesAt (kinds_of world.history) groups' b.now pictures)
-        at_some world reached = told_map (f.disk mid) (f.disk new) _ _ (λ a b moves. let ended = moves.ended in (ended.after, ended.at)) (brings.stands (kinds_of world.history) world.history world.pictures reached)
+        at_some : (world : World) → IfTold (f.disk mid) (λ d. IsReached s servers pool docs (kinds_of world) groups design world.history world.pictures d.now)
+            → Tells (f.disk mid) (f.disk new) (λ a b. (pictures : Pictures) × AreIndexesAt (kinds_of world) groups' b.now pictures)
+        at_some world reached = told_map (f.disk mid) (f.disk new) _ _ (λ a b moves. let ended = moves.ended in (ended.after, ended.at)) (brings.stands (kinds_of world) world.history world.pictures reached)
 
         unread_then : Performed f s now last (Ok (view_request name)) out out (Err (met_by id (by_index fault)))
         unread_then =
@@ -238,7 +238,7 @@ module _ {F C : Type 0} (f : Folders F) (s : Servers C) (docs : Docs) (pool : Po
         -- they are those of the picture that is shown
         rows_shown : (before : Moment) (at : StandsAt f s now before) (fit : IfTold (f.disk old) (λ d. AreFit before.world.history)) → IfTold (f.disk new) (λ d. rows ≡ slice_index_or (picture_of shown).rows place [])
         rows_shown before at fit =
-            rows_of_picture f (kinds_of before.world.history) groups' (with_picture before.world design (picture_of shown)).pictures slot (sig_of design) (views_in design) place shown new last_folder cache' cache'' steps' rows brings.place.1 reads
+            rows_of_picture f (kinds_of before.world) groups' (with_picture before.world design (picture_of shown)).pictures slot (sig_of design) (views_in design) place shown new last_folder cache' cache'' steps' rows brings.place.1 reads
             (told_now (f.disk new) _ _ (λ d here. here.indexes)
             (at_new f s docs pool pool' groups groups' cache cache' steps old mid new servers servers' name id design place path within path_is read plans slot brings follow before at fit))
 

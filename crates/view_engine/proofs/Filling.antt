@@ -45,6 +45,7 @@ use Rattle.view_engine.specs.Moments.{Moment}
 use Rattle.view_engine.specs.Signatures.{kinds_of}
 use Rattle.view_engine.specs.Updating.{AreFit}
 use Rattle.view_engine.specs.ViewPlan.{met_by, IsPlan}
+use Rattle.tree_groups.proofs.Forgetting.{at_without}
 use Rattle.view_engine.specs.World.{World}
 use Rattle.view_engine.proofs.Bringing.{moved, of_own_views, reached, IsReady}
 use Rattle.view_engine.proofs.OpenAt.{group_at}
@@ -90,7 +91,7 @@ module _ {F C : Type 0} (f : Folders F) (s : Servers C) (docs : Docs) (pool pool
   here : StandsAt f s (scene engine mid servers) before
   here = at_mid f s docs pool pool' groups groups' cache cache' steps old mid new servers servers' name id design place path within path_is read plans before at
 
-  is_ready : IfTold (f.disk mid) (IsReady true engine world name id design place path)
+  is_ready : IfTold (f.disk mid) (IsReady s.functions s.honest true engine world name id design place path)
   is_ready = ready f s docs pool pool' groups groups' cache cache' steps old mid new servers servers' name id design place path within path_is read plans before at fit
 
   abbrev Mapped : Picture → Type 0
@@ -107,15 +108,16 @@ module _ {F C : Type 0} (f : Folders F) (s : Servers C) (docs : Docs) (pool pool
     group = (follow.full n limit (ap Err of_index)).1.1
 
     -- what is known as it ends, of the files before and then
-    full_at : (a b : Disk FileName) → IsReady true engine world name id design place path a × Due → AreIndexesAt (kinds_of world.history) groups' b.now world.pictures
+    full_at : (a b : Disk FileName) → IsReady s.functions s.honest true engine world name id design place path a × Due → AreIndexesAt (kinds_of world) groups' b.now world.pictures
         → IsIndexFull s.functions s.honest (languages_of pool) cache cache' b.now world name n limit
     full_at a b known indexes =
         let is = known.0 in
         let plan = is.plan in
         let known_there : IsKnown (languages_of pool) before name id design place path documents = record { plan = plan; stored = (is.here).documents.stored; documents_are = refl } in
         let signed = same_signature (languages_of pool) before name id design place path documents known_there in
-        let there : IsAt None (kinds_of world.history (sig_of design)).views left b.now (world.pictures (sig_of design)) =
-        group_at (kinds_of world.history) groups' b.now world.pictures group.0 (sig_of design) (views_in design) left group.1 indexes in
+        let there : IsAt None (kinds_of world (sig_of design)).views left b.now (world.pictures (sig_of design)) =
+        at_without (kinds_of world (sig_of design)).functions (kinds_of world (sig_of design)).views left b.now (world.pictures (sig_of design))
+        (group_at (kinds_of world) groups' b.now world.pictures group.0 (sig_of design) (views_in design) left group.1 indexes) in
         let same = same_picture (languages_of pool) before name id design place path documents known_there in
         let own_views = of_own_views (languages_of pool) world name id design place path plan is.fit in
         record {
@@ -138,13 +140,13 @@ module _ {F C : Type 0} (f : Folders F) (s : Servers C) (docs : Docs) (pool pool
           full = subst (λ (views : List DesignView). IsFilled (length views) left cache cache' n limit) plan.views (follow.full n limit (ap Err of_index)).1.2;
         }
 
-    known_all : IfTold (f.disk mid) (λ d. IsReady true engine world name id design place path d × Due)
-    known_all = told_pair (f.disk mid) (IsReady true engine world name id design place path) _ _
+    known_all : IfTold (f.disk mid) (λ d. IsReady s.functions s.honest true engine world name id design place path d × Due)
+    known_all = told_pair (f.disk mid) (IsReady s.functions s.honest true engine world name id design place path) _ _
         (λ d is due. (is, due (reached f s docs pool pool' groups groups' cache cache' steps mid new servers servers' name id design place path within path_is (Err met) brings follow before here d is))) is_ready
-        (follow.filled n limit (ap Err of_index) (kinds_of world.history) world.history world.pictures)
+        (follow.filled n limit (ap Err of_index) (kinds_of world) world.history world.pictures)
 
     full_there : IfTold (f.disk new) (λ d. IsIndexFull s.functions s.honest (languages_of pool) cache cache' d.now world name n limit)
-    full_there = told_after (f.disk mid) (f.disk new) (λ d. IsReady true engine world name id design place path d × Due) _ _
+    full_there = told_after (f.disk mid) (f.disk new) (λ d. IsReady s.functions s.honest true engine world name id design place path d × Due) _ _
         (λ a b known moves. full_at a b known (moves.ended (λ lost. subst IsLost of_index lost))) known_all
         (moved f s docs pool pool' groups groups' cache cache' steps mid new servers servers' name id design place path within path_is (Err met) brings follow before here is_ready)
 

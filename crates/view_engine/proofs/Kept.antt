@@ -73,11 +73,12 @@ use Rattle.view_engine.specs.View.{design_id, or_no_rows, own_reduces, rows_in, 
 use Rattle.view_engine.specs.ViewPlan.{met_by, met_by_pool, source_at, IsPlan}
 use Rattle.query_args.specs.Query.{is_updated}
 use Rattle.view_engine.specs.ViewQuery.{ViewQuery, asked_sources, parameters_of, query_for, reduce_named, view_request}
-use Rattle.view_engine.specs.World.{World}
-use Rattle.view_engine.specs.Worlds.{IsAtWorld, IsOpen, StandsAround, StandsEither}
+use Rattle.view_engine.specs.World.{forgetting, World}
+use Rattle.view_engine.specs.Worlds.{IsAtWorld, IsOpen, StandsAround, StandsEither, KnowsPaths}
 use Rattle.view_engine.proofs.Apart.{documents_beside, old_stands}
 use Rattle.view_engine.proofs.Between.{stands_first, stands_same}
-use Rattle.view_engine.proofs.Bringing.{has_signature, of_own_views, within_there, IsReady}
+use Rattle.view_engine.proofs.Bringing.{by_path, has_signature, of_own_functions, of_own_views, within_there, IsReady}
+use Rattle.view_engine.proofs.Known.{still_known}
 use Rattle.view_engine.proofs.Ending.{open_still, refused_first}
 use Rattle.view_engine.proofs.Following.{follows_asked, follows_unasked, follows_view, met_of_view, pool_of_view}
 use Rattle.view_engine.proofs.Unasked.{unasked}
@@ -121,8 +122,8 @@ module _ {F C : Type 0} (f : Folders F) (s : Servers C) (docs : Docs) (pool : Po
   Opens result = OpensGroup own (views_in design) (update_seq docs) f groups groups' mid new result
 
   -- the picture of the design reaches no write that isn't there, and its signature is of so many views
-  fit_there : (world : World) (files : FileName → File) → IsReached s servers pool docs (kinds_of world.history) groups design world.history world.pictures files
-      → AreIndexesAt (kinds_of world.history) groups files world.pictures × IsFit own (views_in design) (update_seq docs) (kinds_of world.history) world.pictures
+  fit_there : (world : World) (files : FileName → File) → IsReached s servers pool docs (kinds_of world) groups design world.history world.pictures files
+      → AreIndexesAt (kinds_of world) groups files world.pictures × IsFit own (views_in design) (update_seq docs) (kinds_of world) world.pictures
   fit_there world files is =
       let count = is.documents.count in
       (is.indexes, record { within = omega (arith, is.within, count); number = ap (λ (views : List DesignView). length views) is.own })
@@ -133,13 +134,13 @@ module _ {F C : Type 0} (f : Folders F) (s : Servers C) (docs : Docs) (pool : Po
     world = before.world
 
     abbrev kinds : Kinds
-    kinds = kinds_of world.history
+    kinds = kinds_of world
 
     abbrev IsOpened : Disk FileName → Disk FileName → Type 0
     IsOpened = Moves (IsFileOf (View own)) (λ image. StandsOf kinds own image (world.pictures own)) (EndsOpen own (views_in design) (update_seq docs) kinds groups' world.pictures result)
 
     abbrev Ready : Disk FileName → Type 0
-    Ready = IsReady false engine world name id design place path
+    Ready = IsReady s.functions s.honest false engine world name id design place path
 
     pub at_mid : IfTold (f.disk mid) (λ d. IsAtWorld engine d.now world)
     at_mid = world_none engine engine (f.disk old) (f.disk mid) refl refl read world at.documents
@@ -149,7 +150,10 @@ module _ {F C : Type 0} (f : Folders F) (s : Servers C) (docs : Docs) (pool : Po
 
     pub ready_mid : IfTold (f.disk mid) Ready
     ready_mid =
-        told_pair (f.disk mid) (λ d. IsAtWorld engine d.now world) (λ d. IsPlan false (languages_of pool) world.history name id design place path × AreFit world.history) _ (λ d here both. record { here = here; plan = both.0; fit = both.1 }) at_mid
+        told_pair (f.disk mid) (λ d. IsAtWorld engine d.now world × KnowsPaths s.functions s.honest (languages_of pool) world) (λ d. IsPlan false (languages_of pool) world.history name id design place path × AreFit world.history) _
+        (λ d here both. record { here = here.0; plan = both.0; fit = both.1; knows = here.1 })
+        (told_pair (f.disk mid) (λ d. IsAtWorld engine d.now world) (λ d. KnowsPaths s.functions s.honest (languages_of pool) world) _ (λ d here knows. (here, knows)) at_mid
+        (still_known s.functions s.honest (f.disk old) (f.disk mid) MovesNone (languages_of pool) (languages_of pool) world read refl at.known))
         (told_after (f.disk old) (f.disk mid) (λ d. IsPlan false (languages_of pool) world.history name id design place path × AreFit world.history) _ MovesNone (λ a b both none. both)
         (told_pair (f.disk old) (λ d. IsPlan false (languages_of pool) world.history name id design place path) (λ d. AreFit world.history) _ (λ d plan is. (plan, is)) planned_there fit) read)
 
@@ -159,7 +163,7 @@ module _ {F C : Type 0} (f : Folders F) (s : Servers C) (docs : Docs) (pool : Po
       indexes = is.here.indexes;
       within = within_there engine d.now world design is.here;
       own = of_own_views (languages_of pool) world name id design place path is.plan is.fit;
-      by = tt;
+      by = by_path s servers pool design world before.calls at.child.follows at.child.child is.knows path path_is (kinds (sig_of design)).functions (of_own_functions (languages_of pool) world name id design place path is.plan is.fit);
     }
 
     pub opened : Tells (f.disk mid) (f.disk new) IsOpened
@@ -185,9 +189,12 @@ module _ {F C : Type 0} (f : Folders F) (s : Servers C) (docs : Docs) (pool : Po
           opened = opened_beside world.history own groups groups' (has_signature (languages_of pool) world name id design place path is.plan) opens.only is.here.opened;
         }) ready_mid opened
 
+    known_there : IfTold (f.disk new) (λ d. KnowsPaths s.functions s.honest (languages_of pool) world)
+    known_there = still_known s.functions s.honest (f.disk old) (f.disk new) (LeavesOnly (StandsEither world world)) (languages_of pool) (languages_of pool) world crashes refl at.known
+
     left_before : (Allows : Moment → Type 0) → ((d : Disk FileName) → EndsOpen own (views_in design) (update_seq docs) kinds groups' world.pictures result d.now → AreIndexesAt kinds groups' d.now world.pictures) → IfTold (f.disk old) (λ d. Allows before)
         → LeavesMoment f s now later before Allows
-    left_before Allows ends allowed = record { after = before; is_at = record { documents = at_new ends; child = at.child }; moments = crashes; allowed = allowed }
+    left_before Allows ends allowed = record { after = before; is_at = record { documents = at_new ends; child = at.child; known = known_there }; moments = crashes; allowed = allowed }
 
   -- only files of the index changed
   opening_moved : {result : Result ℕ IndexFault} → Opens result → Tells (f.disk mid) (f.disk new) (Moves (IsFileOf (View own)) (λ image. Unit {0}) (λ files. Unit {0}))
@@ -240,7 +247,7 @@ module _ {F C : Type 0} (f : Folders F) (s : Servers C) (docs : Docs) (pool : Po
 
     damage_never : (world : World) → IfTold (f.disk old) (λ d. IsAtWorld engine d.now world → AreFit world.history → ⊥)
     damage_never world = never_there f s docs pool pool groups groups' cache cache 0 old mid new servers servers name id design place path false keeps read earlier plans is_open asked n k world
-        (told_now (f.disk mid) _ _ (λ d finds is. finds (fit_there world d.now is) n k refl) (opens.sound (kinds_of world.history) world.pictures))
+        (told_now (f.disk mid) _ _ (λ d finds is. finds (fit_there (forgetting world) d.now is) n k refl) (opens.sound (kinds_of (forgetting world)) world.pictures))
 
     damaged : Performed f s now later (Ok (view_request name)) out out (Err (Stopped (Damaged n k)))
     damaged =
@@ -314,7 +321,7 @@ module _ {F C : Type 0} (f : Folders F) (s : Servers C) (docs : Docs) (pool : Po
       here_world = before.world
 
       abbrev here_kinds : Kinds
-      here_kinds = kinds_of here_world.history
+      here_kinds = kinds_of here_world
 
       there_at : IfTold (f.disk new) (λ d. IsAtWorld engine' d.now here_world)
       there_at = at_new (Ok slot) opens before at fit (λ d ends. ends)
@@ -334,12 +341,12 @@ module _ {F C : Type 0} (f : Folders F) (s : Servers C) (docs : Docs) (pool : Po
           let number : length (here_kinds own).views ≡ views_in design = ap (λ (views : List DesignView). length views) own_views in
           record {
             picture = is_at.last ∙ ap (λ (n : ℕ). or_empty n (here_world.pictures own)) number;
-            each = each_view None (here_kinds own).views found d.now (here_world.pictures own) is_at ∙ number;
+            each = each_view (here_kinds own).functions (here_kinds own).views found d.now (here_world.pictures own) is_at ∙ number;
           }
 
       shows : IfTold (f.disk old) (λ d. IsShown)
       shows = told_opened IsShown (told_pair (f.disk new) (λ d. IsAtWorld engine' d.now here_world) (λ d. (here_kinds own).views ≡ design.views) _ shown_at there_at
-          (told_after (f.disk mid) (f.disk new) (IsReady false engine here_world name id design place path) _ (IsOpened (Ok slot) opens before at fit)
+          (told_after (f.disk mid) (f.disk new) (IsReady s.functions s.honest false engine here_world name id design place path) _ (IsOpened (Ok slot) opens before at fit)
           (λ a b is moves. of_own_views (languages_of pool) here_world name id design place path is.plan is.fit) (ready_mid (Ok slot) opens before at fit) (opened (Ok slot) opens before at fit)))
 
       pub record IsPlanned (Known : Type 0) : Type 0 where
@@ -362,10 +369,14 @@ module _ {F C : Type 0} (f : Folders F) (s : Servers C) (docs : Docs) (pool : Po
       abbrev last_it : List Call → Moment
       last_it calls = record { world = here_world; width = before.width; started = pool''.started; reducer = pool''.reducer; calls = calls; faults = s.faults servers'' }
 
-      left_it : (calls : List Call) → HasChild (s.may_follow servers'') (s.faults servers'') pool'' (last_it calls) → (Allows : Moment → Type 0) → IfTold (f.disk old) (λ d. Allows (last_it calls)) → LeavesMoment f s now last before Allows
-      left_it calls child Allows allowed = record {
+      left_it : languages_of pool'' ≡ languages_of pool → (calls : List Call) → HasChild (s.may_follow servers'') (s.faults servers'') pool'' (last_it calls) → (Allows : Moment → Type 0) → IfTold (f.disk old) (λ d. Allows (last_it calls)) → LeavesMoment f s now last before Allows
+      left_it languages calls child Allows allowed = record {
         after = last_it calls;
-        is_at = record { documents = world_none engine' engine'' (f.disk new) (f.disk last_folder) refl refl still here_world there_at; child = child };
+        is_at = record {
+          documents = world_none engine' engine'' (f.disk new) (f.disk last_folder) refl refl still here_world there_at;
+          child = child;
+          known = still_known s.functions s.honest (f.disk old) (f.disk last_folder) (LeavesOnly (StandsEither here_world here_world)) (languages_of pool) (languages_of pool'') here_world crashes_last languages at.known;
+        };
         moments = crashes_last;
         allowed = allowed;
       }
@@ -399,7 +410,7 @@ module _ {F C : Type 0} (f : Folders F) (s : Servers C) (docs : Docs) (pool : Po
         unread_called = told_all (f.disk old) (λ d. MayHaveCalled s.functions s.honest (languages_of pool) before (Ok (view_request name)) unread_it) (λ d. inl same_moment)
 
         unread_leaves : (halt : Halt) → ((r : Refusal) → halt ≡ Refused r → ⊥) → LeavesMoment f s now last before (Halts f s now last name before halt)
-        unread_leaves halt never = left_it before.calls unread_child (Halts f s now last name before halt) (told_now (f.disk old) _ _ (λ d called. (λ r is. absurd (never r is), called)) unread_called)
+        unread_leaves halt never = left_it (ap (λ (p : Pool). languages_of p) same_pool) before.calls unread_child (Halts f s now last name before halt) (told_now (f.disk old) _ _ (λ d called. (λ r is. absurd (never r is), called)) unread_called)
 
         unread_stopped : CrashesAround f s now last before (Ok (view_request name)) × LeavesChild f s now last (MayHaveCalled s.functions s.honest (languages_of pool) before (Ok (view_request name)))
         unread_stopped = (
@@ -519,7 +530,7 @@ module _ {F C : Type 0} (f : Folders F) (s : Servers C) (docs : Docs) (pool : Po
               let had = all_had s servers servers'' pool pool'' before at.child design.language path path_is asked_for all here_world in
               record {
                 text = ended answers.reply;
-                leaves = left_it had.now had.has_child (DoesRequestText s.functions s.honest (languages_of pool) before (Ok (view_request name)) (ended answers.reply))
+                leaves = left_it all.keeps.languages had.now had.has_child (DoesRequestText s.functions s.honest (languages_of pool) before (Ok (view_request name)) (ended answers.reply))
                     (told_now (f.disk old) (λ d. IsPlanned AreShown) _ (λ d known. (
                       answers.reply,
                       does known had.now answers.reply (inl (
@@ -534,7 +545,7 @@ module _ {F C : Type 0} (f : Folders F) (s : Servers C) (docs : Docs) (pool : Po
           halted_leaves : (fault : PoolFault) → HasMet s servers servers'' pool pool'' design place query (picture_of found).seq rows fault → LeavesMoment f s now last before (Halts f s now last name before (met_by_pool id fault))
           halted_leaves fault (inl fails) =
               let met = met_there s servers servers'' pool pool'' before at.child design.language path path_is asked_for fault fails here_world in
-              left_it met.now met.has_child (Halts f s now last name before (met_by_pool id fault))
+              left_it fails.keeps.languages met.now met.has_child (Halts f s now last name before (met_by_pool id fault))
               (told_now (f.disk old) (λ d. IsPlanned AreShown) _ (λ d known. (
                 λ r is. does known met.now (refusal_text r) (inr (
                     subst (λ (l : List (List ℕ)). CalledReducing path l before (last_it met.now) (IsRefusedReducing s.functions s.honest name path l (IsNever s.functions s.honest (languages_of pool) path here_world) before (last_it met.now) (refusal_text r))) (own_is known)
@@ -548,7 +559,7 @@ module _ {F C : Type 0} (f : Folders F) (s : Servers C) (docs : Docs) (pool : Po
               )) all_known)
           halted_leaves fault (inr (spent, all)) =
               let had = all_had s servers servers'' pool pool'' before at.child design.language path path_is asked_for all here_world in
-              left_it had.now had.has_child (Halts f s now last name before (met_by_pool id fault))
+              left_it all.keeps.languages had.now had.has_child (Halts f s now last name before (met_by_pool id fault))
               (told_now (f.disk old) (λ d. IsPlanned AreShown) _ (λ d known. (
                 λ r is. absurd (never_refused id fault r spent is),
                 asked_it known had.now (somehow_had path asked_for before (last_it had.now) had.holds),
@@ -556,9 +567,9 @@ module _ {F C : Type 0} (f : Folders F) (s : Servers C) (docs : Docs) (pool : Po
 
     -- ---- the rows couldn't be read
     module _ (steps : ℕ) (fault : IndexFault) (reads : Rows steps (Err fault)) (same_servers : servers'' ≡ servers) (same_pool : pool'' ≡ pool) where
-      at_some : (world : World) → IfTold (f.disk mid) (λ d. IsReached s servers pool docs (kinds_of world.history) groups design world.history world.pictures d.now)
-          → Tells (f.disk mid) (f.disk new) (λ a b. (pictures : Pictures) × AreIndexesAt (kinds_of world.history) groups' b.now pictures)
-      at_some world is = told_map (f.disk mid) (f.disk new) _ _ (λ a b moved. (world.pictures, moved.ended)) (opens.stands (kinds_of world.history) world.pictures (told_now (f.disk mid) _ _ (λ d there. fit_there world d.now there) is))
+      at_some : (world : World) → IfTold (f.disk mid) (λ d. IsReached s servers pool docs (kinds_of world) groups design world.history world.pictures d.now)
+          → Tells (f.disk mid) (f.disk new) (λ a b. (pictures : Pictures) × AreIndexesAt (kinds_of world) groups' b.now pictures)
+      at_some world is = told_map (f.disk mid) (f.disk new) _ _ (λ a b moved. (world.pictures, moved.ended)) (opens.stands (kinds_of world) world.pictures (told_now (f.disk mid) _ _ (λ d there. fit_there world d.now there) is))
 
       unread_then : Performed f s now last (Ok (view_request name)) out out (Err (met_by id (by_index fault)))
       unread_then =
@@ -580,7 +591,7 @@ module _ {F C : Type 0} (f : Folders F) (s : Servers C) (docs : Docs) (pool : Po
     module _ (steps : ℕ) (rows : List Row) (reads : Rows steps (Ok rows)) where
       rows_shown : (before : Moment) (at : StandsAt f s now before) (fit : IfTold (f.disk old) (λ d. AreFit before.world.history)) → IfTold (f.disk new) (λ d. rows ≡ slice_index_or (picture_of found).rows place [])
       rows_shown before at fit =
-          rows_of_picture f (kinds_of before.world.history) groups' before.world.pictures slot own (views_in design) place found new last_folder cache cache'' steps rows group reads
+          rows_of_picture f (kinds_of before.world) groups' before.world.pictures slot own (views_in design) place found new last_folder cache cache'' steps rows group reads
           (told_now (f.disk new) _ _ (λ d here. here.indexes) (at_new (Ok slot) opens before at fit (λ d ends. ends)))
 
       answered_then : {out' : List ℕ} → AppendsAnswer s servers servers'' pool pool'' design place query (picture_of found).seq rows out out' × HasAll s servers servers'' pool pool'' design place query (picture_of found).seq rows → Performed f s now last (Ok (view_request name)) out out' (Ok tt)

@@ -1,6 +1,7 @@
 pub mod LastWrites
 pub mod Signatures
 pub mod OpenAt
+pub mod Forgetting
 pub mod LiveDocuments
 pub mod Places
 pub mod RequestLimit
@@ -28,6 +29,7 @@ pub mod StayOpen
 pub mod Stages
 pub mod Stepping
 pub mod AcceptedWrites
+pub mod Known
 pub mod Worlds
 pub mod Still
 pub mod OwnFiles

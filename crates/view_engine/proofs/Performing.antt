@@ -27,9 +27,9 @@ none_called functions honest languages before (Ok (View view query)) = inl refl
 none_called functions honest languages before other = refl
 
 -- less is said of what is left
-pub leaves_as : {old disk : Option (Disk FileName)} {may_follow : List Call → Type 0} {faults : ℕ} {engine : Engine} {before : Moment} (P Q : Moment → Type 0) → ((after : Moment) → P after → Q after)
-    → Leaves old disk may_follow faults engine before P → Leaves old disk may_follow faults engine before Q
-leaves_as {old} P Q then left = record {
+pub leaves_as : {functions : List ℕ → Functions} {honest : List ℕ → Type 0} {old disk : Option (Disk FileName)} {may_follow : List Call → Type 0} {faults : ℕ} {engine : Engine} {before : Moment} (P Q : Moment → Type 0) → ((after : Moment) → P after → Q after)
+    → Leaves functions honest old disk may_follow faults engine before P → Leaves functions honest old disk may_follow faults engine before Q
+leaves_as {functions} {honest} {old} P Q then left = record {
   after = left.after;
   is_at = left.is_at;
   moments = left.moments;

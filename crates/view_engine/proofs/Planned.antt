@@ -56,10 +56,11 @@ use Rattle.view_engine.specs.Refusals.{refusal_text}
 use Rattle.view_engine.specs.Steps.{DoesRequest, DoesRequestText, Makes, MayHaveCalled}
 use Rattle.view_engine.specs.ViewPlan.{met_by, met_by_pool, source_at, IsPlan, IsUpdateFault}
 use Rattle.view_engine.specs.World.{World}
-use Rattle.view_engine.specs.Worlds.{IsAtWorld, StandsAround, StandsEither, StandsFor}
+use Rattle.view_engine.specs.Worlds.{IsAtWorld, StandsAround, StandsEither, StandsFor, KnowsPaths}
 use Rattle.view_engine.proofs.Between.{stands_first, stands_same}
 use Rattle.view_engine.proofs.Asking.{all_mapped, had_there, shown_later, does_later, left_there, mapped as mapped_moment, mapped_child, path_still, then, AreMapped, IsLeft}
 use Rattle.view_engine.proofs.Bringing.{asked_there, brought_at, complains_there, failed_at, moved, next_is, of_own_views, refused_at, with_picture, IsReady}
+use Rattle.view_engine.proofs.Known.{known_told, still_known}
 use Rattle.view_engine.proofs.OpenAt.{each_view, group_at}
 use Rattle.view_engine.proofs.Reduced.{HasGone, all_had, complains_of_reduce, met_there, never_refused, reduced_none, refused_reducing, somehow_had, somehow_met}
 use Rattle.view_engine.proofs.Updated.{fails_of_own, rows_are_afresh, spoiled_by_reduce}
@@ -100,7 +101,11 @@ module _ {F C : Type 0} (f : Folders F) (s : Servers C) (docs : Docs) (pool pool
     world = before.world
 
     pub at_mid : StandsAt f s (scene engine mid servers) before
-    at_mid = record { documents = world_none engine engine (f.disk old) (f.disk mid) refl refl read world at.documents; child = at.child }
+    at_mid = record {
+      documents = world_none engine engine (f.disk old) (f.disk mid) refl refl read world at.documents;
+      child = at.child;
+      known = still_known s.functions s.honest (f.disk old) (f.disk mid) MovesNone (languages_of pool) (languages_of pool) world read refl at.known;
+    }
 
     -- what is told of the disk in the middle was told before
     told_first : (P : Type 0) → IfTold (f.disk mid) (λ d. P) → IfTold (f.disk old) (λ d. P)
@@ -110,9 +115,11 @@ module _ {F C : Type 0} (f : Folders F) (s : Servers C) (docs : Docs) (pool pool
     planned = told_pair (f.disk old) (λ d. IsAtWorld engine d.now world) (λ d. AreAt docs d.now world.history → IsPlan true (languages_of pool) world.history name id design place path) _ (λ d here is. (is here.documents, here.documents.stored)) at.documents (plans world.history)
 
     -- what is known as the update begins
-    pub ready : IfTold (f.disk old) (λ d. AreFit world.history) → IfTold (f.disk mid) (IsReady true engine world name id design place path)
+    pub ready : IfTold (f.disk old) (λ d. AreFit world.history) → IfTold (f.disk mid) (IsReady s.functions s.honest true engine world name id design place path)
     ready fit =
-        told_pair (f.disk mid) (λ d. IsAtWorld engine d.now world) (λ d. IsPlan true (languages_of pool) world.history name id design place path × AreFit world.history) _ (λ d here both. record { here = here; plan = both.0; fit = both.1 }) at_mid.documents
+        told_pair (f.disk mid) (λ d. IsAtWorld engine d.now world × KnowsPaths s.functions s.honest (languages_of pool) world) (λ d. IsPlan true (languages_of pool) world.history name id design place path × AreFit world.history) _
+        (λ d here both. record { here = here.0; plan = both.0; fit = both.1; knows = here.1 })
+        (told_pair (f.disk mid) (λ d. IsAtWorld engine d.now world) (λ d. KnowsPaths s.functions s.honest (languages_of pool) world) _ (λ d here knows. (here, knows)) at_mid.documents at_mid.known)
         (told_after (f.disk old) (f.disk mid) (λ d. IsPlan true (languages_of pool) world.history name id design place path × AreFit world.history) _ MovesNone (λ a b both none. both)
         (told_pair (f.disk old) (λ d. IsPlan true (languages_of pool) world.history name id design place path × AreStored world.history) (λ d. AreFit world.history) _ (λ d plan is. (plan.0, is)) planned fit) read)
 
@@ -148,7 +155,7 @@ module _ {F C : Type 0} (f : Folders F) (s : Servers C) (docs : Docs) (pool pool
 
       pub refused_leaves : (IsLost fault → ⊥) → LeavesMoment f s now later before (Halts f s now later name before halt)
       refused_leaves other =
-          let went : Tells (f.disk mid) (f.disk new) HasLeft = told_given (f.disk mid) (f.disk new) (IsReady true engine before.world name id design place path) _ HasLeft
+          let went : Tells (f.disk mid) (f.disk new) HasLeft = told_given (f.disk mid) (f.disk new) (IsReady s.functions s.honest true engine before.world name id design place path) _ HasLeft
           (λ a b there moves. refused_at f s docs pool pool' groups groups' cache cache' steps mid new servers servers' name id design place path within path_is (Err fault) brings follow before found_there a b there fault other moves) (ready before at fit)
           (moved f s docs pool pool' groups groups' cache cache' steps mid new servers servers' name id design place path within path_is (Err fault) brings follow before found_there (ready before at fit)) in
           record {
@@ -156,6 +163,7 @@ module _ {F C : Type 0} (f : Folders F) (s : Servers C) (docs : Docs) (pool pool
             is_at = record {
               documents = told_after (f.disk mid) (f.disk new) (λ d. IsAtWorld engine d.now before.world) (λ d. IsAtWorld engine' d.now before.world) HasLeft (λ a b there both. both.1) found_there.documents went;
               child = left.has_child;
+              known = still_known s.functions s.honest (f.disk mid) (f.disk new) HasLeft (languages_of pool) (languages_of pool') before.world went follow.keeps.languages found_there.known;
             };
             moments = crashes before at (StandsEither before.world before.world) (λ d image stands. stands) (told_map (f.disk mid) (f.disk new) HasLeft (LeavesOnly (StandsEither before.world before.world)) (λ a b both. both.0) went);
             allowed = told_halts (f.disk old) (MayHaveCalled s.functions s.honest (languages_of pool) before (Ok (view_request name)) (then s before name id design place path within pool servers path_is at.child (f.disk old) pool' servers' before.world left.now))
@@ -167,7 +175,7 @@ module _ {F C : Type 0} (f : Folders F) (s : Servers C) (docs : Docs) (pool pool
       pub stopped_leaves : CrashesAround f s now later before (Ok (view_request name)) × LeavesChild f s now later (MayHaveCalled s.functions s.honest (languages_of pool) before (Ok (view_request name)))
       stopped_leaves = (
         crashes before at (StandsAround s.functions s.honest (languages_of pool) before.world (Ok (view_request name))) (λ d image stands. inl (stands_same before.world image stands))
-            (told_given (f.disk mid) (f.disk new) (IsReady true engine before.world name id design place path) _ (LeavesOnly (StandsAround s.functions s.honest (languages_of pool) before.world (Ok (view_request name))))
+            (told_given (f.disk mid) (f.disk new) (IsReady s.functions s.honest true engine before.world name id design place path) _ (LeavesOnly (StandsAround s.functions s.honest (languages_of pool) before.world (Ok (view_request name))))
             (λ a b known moves. failed_at f s docs pool pool' groups groups' cache cache' steps mid new servers servers' name id design place path within path_is (Err fault) brings follow before found_there a b known (Err fault) moves)
             (ready before at fit)
             (moved f s docs pool pool' groups groups' cache cache' steps mid new servers servers' name id design place path within path_is (Err fault) brings follow before found_there (ready before at fit))),
@@ -192,7 +200,7 @@ module _ {F C : Type 0} (f : Folders F) (s : Servers C) (docs : Docs) (pool pool
       abbrev here : StandsAt f s (scene engine mid servers) before
       here = at_mid before at
 
-      abbrev is_ready : IfTold (f.disk mid) (IsReady true engine before.world name id design place path)
+      abbrev is_ready : IfTold (f.disk mid) (IsReady s.functions s.honest true engine before.world name id design place path)
       is_ready = ready before at fit
 
       abbrev after_world : World
@@ -226,14 +234,14 @@ module _ {F C : Type 0} (f : Folders F) (s : Servers C) (docs : Docs) (pool pool
       child_it = gone.has_child
 
       abbrev IsMadeThere : Type 0
-      IsMadeThere = IsNext f s docs design (side mid servers pool groups cache 0) (side new servers' pool' groups' cache' steps) (kinds_of before.world.history) before.world.history before.world.pictures (picture_of index)
+      IsMadeThere = IsNext f s docs design (side mid servers pool groups cache 0) (side new servers' pool' groups' cache' steps) (kinds_of before.world) before.world.history before.world.pictures (picture_of index)
 
       abbrev HasBrought : Disk FileName → Disk FileName → Type 0
       HasBrought a b = LeavesOnly (StandsEither before.world after_world) a b × (IsAtWorld engine' b.now after_world × IsMadeThere)
 
       brought : Tells (f.disk mid) (f.disk new) HasBrought
       brought =
-          told_given (f.disk mid) (f.disk new) (IsReady true engine before.world name id design place path) _ HasBrought
+          told_given (f.disk mid) (f.disk new) (IsReady s.functions s.honest true engine before.world name id design place path) _ HasBrought
           (λ a b there moves. brought_at f s docs pool pool' groups groups' cache cache' steps mid new servers servers' name id design place path within path_is (Ok slot) brings follow before here a b there slot index group
           (written_some before.world.history _ there.plan.document there.plan.live) moves)
           is_ready
@@ -242,6 +250,10 @@ module _ {F C : Type 0} (f : Folders F) (s : Servers C) (docs : Docs) (pool pool
       -- the engine is at the world that was made
       pub at_new : IfTold (f.disk new) (λ d. IsAtWorld engine' d.now after_world)
       at_new = told_after (f.disk mid) (f.disk new) (λ d. IsAtWorld engine d.now before.world) (λ d. IsAtWorld engine' d.now after_world) HasBrought (λ a b there both. both.1.0) here.documents brought
+
+      known_new : IfTold (f.disk new) (λ d. KnowsPaths s.functions s.honest (languages_of pool') after_world)
+      known_new = known_told s.functions s.honest (f.disk mid) (f.disk new) HasBrought (languages_of pool) (languages_of pool') before.world after_world brought follow.keeps.languages
+          (told_all (f.disk mid) (λ d. after_world.functions ≡ before.world.functions) (λ d. refl)) here.known
 
       -- what is told of the disk behind the update was told before
       told_brought : (P : Type 0) → IfTold (f.disk new) (λ d. P) → IfTold (f.disk old) (λ d. P)
@@ -262,10 +274,10 @@ module _ {F C : Type 0} (f : Folders F) (s : Servers C) (docs : Docs) (pool pool
       -- each view has its rows
       each_there : IfTold (f.disk old) (λ d. length (picture_of index).rows ≡ length design.views)
       each_there = told_brought (length (picture_of index).rows ≡ length design.views)
-          (told_pair (f.disk new) (λ d. IsAtWorld engine' d.now after_world) (λ d. (kinds_of before.world.history (sig_of design)).views ≡ design.views) _
-          (λ d there own. each_view None (kinds_of before.world.history (sig_of design)).views index d.now (after_world.pictures (sig_of design))
-          (group_at (kinds_of before.world.history) groups' d.now after_world.pictures slot (sig_of design) (views_in design) index group there.indexes) ∙ ap (λ (views : List View). length views) own) at_new
-          (told_after (f.disk mid) (f.disk new) (IsReady true engine before.world name id design place path) (λ d. (kinds_of before.world.history (sig_of design)).views ≡ design.views) HasBrought
+          (told_pair (f.disk new) (λ d. IsAtWorld engine' d.now after_world) (λ d. (kinds_of before.world (sig_of design)).views ≡ design.views) _
+          (λ d there own. each_view (kinds_of before.world (sig_of design)).functions (kinds_of before.world (sig_of design)).views index d.now (after_world.pictures (sig_of design))
+          (group_at (kinds_of before.world) groups' d.now after_world.pictures slot (sig_of design) (views_in design) index group there.indexes) ∙ ap (λ (views : List View). length views) own) at_new
+          (told_after (f.disk mid) (f.disk new) (IsReady s.functions s.honest true engine before.world name id design place path) (λ d. (kinds_of before.world (sig_of design)).views ≡ design.views) HasBrought
           (λ a b known both. of_own_views (languages_of pool) before.world name id design place path known.plan known.fit) is_ready brought))
 
       known_made : (Shown : Type 0) → IfTold (f.disk old) (λ d. Shown) → IfTold (f.disk old) (λ d. IsKnownMade Shown)
@@ -273,7 +285,7 @@ module _ {F C : Type 0} (f : Folders F) (s : Servers C) (docs : Docs) (pool pool
           told_pair (f.disk old) (λ d. IsKnownThere × IsMadeThere) (λ d. AreDue × (length (picture_of index).rows ≡ length design.views) × Shown) _
           (λ d both more. record {
             known = both.0;
-            made = next_is f s docs pool pool' groups groups' cache cache' steps mid new servers servers' name id design place path within path_is (Ok slot) brings follow before here (picture_of index) after_world mapped.documents both.1 both.0.documents_are refl (λ sig. refl);
+            made = next_is f s docs pool pool' groups groups' cache cache' steps mid new servers servers' name id design place path within path_is (Ok slot) brings follow before here (picture_of index) after_world mapped.documents both.1 both.0.documents_are refl refl (λ sig. refl);
             due = more.0 both.0;
             each = more.1;
             shown = more.2;
@@ -305,12 +317,13 @@ module _ {F C : Type 0} (f : Folders F) (s : Servers C) (docs : Docs) (pool pool
             (λ a b there none. weaker (StandsEither after_world after_world) P a b (λ image stands. there.1 image (stands_same after_world image stands)) (leaves_none engine' after_world a b none there.0))
             (told_pair (f.disk new) (λ d. IsAtWorld engine' d.now after_world) (λ d. (image : FileName → List ℕ) → StandsFor image after_world → P image) _ (λ d here is. (here, is)) at_new made) still)
 
-        left_it : (calls : List Call) → HasChild (s.may_follow servers'') (s.faults servers'') pool'' (last_it calls) → (Allows : Moment → Type 0) → IfTold (f.disk old) (λ d. Allows (last_it calls)) → LeavesMoment f s now last before Allows
-        left_it calls child Allows allowed = record {
+        left_it : languages_of pool'' ≡ languages_of pool' → (calls : List Call) → HasChild (s.may_follow servers'') (s.faults servers'') pool'' (last_it calls) → (Allows : Moment → Type 0) → IfTold (f.disk old) (λ d. Allows (last_it calls)) → LeavesMoment f s now last before Allows
+        left_it languages calls child Allows allowed = record {
           after = last_it calls;
           is_at = record {
             documents = world_none engine' engine'' (f.disk new) (f.disk last_folder) refl refl still after_world at_new;
             child = child;
+            known = still_known s.functions s.honest (f.disk new) (f.disk last_folder) MovesNone (languages_of pool') (languages_of pool'') after_world still languages known_new;
           };
           moments = ends_as (StandsEither before.world after_world) (λ image stands. stands_first before.world after_world image stands)
               (told_all (f.disk new) (λ d. (image : FileName → List ℕ) → StandsFor image after_world → StandsEither before.world after_world image) (λ d image stands. inr stands))
@@ -372,7 +385,7 @@ module _ {F C : Type 0} (f : Folders F) (s : Servers C) (docs : Docs) (pool pool
               (somehow_had path (own_reduces name there.known.plan.document after_world) between_it between_it (reduced_none path (own_reduces name there.known.plan.document after_world) between_it)))) none_known
 
           pub unread_leaves : (halt : Halt) → ((r : Refusal) → halt ≡ Refused r → ⊥) → LeavesMoment f s now last before (Halts f s now last name before halt)
-          unread_leaves halt never = left_it gone.now unread_child (Halts f s now last name before halt)
+          unread_leaves halt never = left_it (ap (λ (p : Pool). languages_of p) same_pool) gone.now unread_child (Halts f s now last name before halt)
               (told_halts (f.disk old) (MayHaveCalled s.functions s.honest (languages_of pool) before (Ok (view_request name)) unread_it) (λ r. halt ≡ Refused r)
               (λ r. DoesRequest s.functions s.honest (languages_of pool) before (Ok (view_request name)) (refusal_text r) unread_it) unread_called (λ r is. absurd (never r is)))
 
@@ -385,7 +398,7 @@ module _ {F C : Type 0} (f : Folders F) (s : Servers C) (docs : Docs) (pool pool
                 (told_after (f.disk old) (f.disk new) (λ d. IsKnownMade (Unit {0})) (λ d. (image : FileName → List ℕ) → StandsFor image after_world → Around image) (LeavesOnly (λ image. Unit {0}))
                 (λ a b there leaves image stands. inr (after_world, makes_it (Unit {0}) there, stands)) none_known
                 (crashes before at (λ image. Unit {0}) (λ d image stands. tt) (told_map (f.disk mid) (f.disk new) HasBrought (LeavesOnly (λ image. Unit {0})) (λ a b both. weaker (StandsEither before.world after_world) (λ image. Unit {0}) a b (λ image stands. tt) both.0) brought)))
-                (told_given (f.disk mid) (f.disk new) (IsReady true engine before.world name id design place path) _ (LeavesOnly Around)
+                (told_given (f.disk mid) (f.disk new) (IsReady s.functions s.honest true engine before.world name id design place path) _ (LeavesOnly Around)
                 (λ a b known moved. failed_at f s docs pool pool' groups groups' cache cache' steps mid new servers servers' name id design place path within path_is (Ok slot) brings follow before here a b known (Ok slot) moved)
                 is_ready
                 (moved f s docs pool pool' groups groups' cache cache' steps mid new servers servers' name id design place path within path_is (Ok slot) brings follow before here is_ready)),
@@ -450,7 +463,7 @@ module _ {F C : Type 0} (f : Folders F) (s : Servers C) (docs : Docs) (pool pool
                 let had = all_had s servers' servers'' pool' pool'' between_it child_it design.language path path_there own all after_world in
                 record {
                   text = ended answers.reply;
-                  leaves = left_it had.now had.has_child (DoesRequestText s.functions s.honest (languages_of pool) before (Ok (view_request name)) (ended answers.reply))
+                  leaves = left_it all.keeps.languages had.now had.has_child (DoesRequestText s.functions s.honest (languages_of pool) before (Ok (view_request name)) (ended answers.reply))
                       (told_now (f.disk old) (λ d. IsKnownMade AreShown) _ (λ d both. (
                         answers.reply,
                         had_it both parts answers.reply (answers.is path gone.now child_it.follows path_there child_it.child) had.now had.holds,
@@ -462,7 +475,7 @@ module _ {F C : Type 0} (f : Folders F) (s : Servers C) (docs : Docs) (pool pool
             pub halted_leaves : (fault : PoolFault) → HasMet s servers' servers'' pool' pool'' design place query (picture_of index).seq rows fault → LeavesMoment f s now last before (Halts f s now last name before (met_by_pool id fault))
             halted_leaves fault (inl fails) =
                 let met = met_there s servers' servers'' pool' pool'' between_it child_it design.language path path_there own fault fails after_world in
-                left_it met.now met.has_child (Halts f s now last name before (met_by_pool id fault))
+                left_it fails.keeps.languages met.now met.has_child (Halts f s now last name before (met_by_pool id fault))
                 (told_now (f.disk old) (λ d. IsKnownMade AreShown) _ (λ d there. (
                   λ r is. does_it AreShown there met.now (refusal_text r) (inr (
                       subst (λ (l : List (List ℕ)). CalledReducing path l between_it (last_it met.now) (IsRefusedReducing s.functions s.honest name path l (IsNever s.functions s.honest (languages_of pool) path before.world) between_it (last_it met.now) (refusal_text r))) (own_is there)
@@ -476,7 +489,7 @@ module _ {F C : Type 0} (f : Folders F) (s : Servers C) (docs : Docs) (pool pool
                 )) all_known)
             halted_leaves fault (inr (spent, all)) =
                 let had = all_had s servers' servers'' pool' pool'' between_it child_it design.language path path_there own all after_world in
-                left_it had.now had.has_child (Halts f s now last name before (met_by_pool id fault))
+                left_it all.keeps.languages had.now had.has_child (Halts f s now last name before (met_by_pool id fault))
                 (told_now (f.disk old) (λ d. IsKnownMade AreShown) _ (λ d there. (
                   λ r is. absurd (never_refused id fault r spent is),
                   somehow_it there had.now (somehow_had path own between_it (last_it had.now) had.holds),

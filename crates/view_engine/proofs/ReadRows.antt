@@ -46,7 +46,7 @@ use Rattle.view_engine.specs.Disks.{IfStopped, IsAskedFor, IsNoNode, IsReasonOf,
 use Rattle.view_engine.specs.Signatures.{kinds_of}
 use Rattle.view_engine.specs.Updating.{AreFit}
 use Rattle.view_engine.specs.ViewPlan.{met_by, IsPlan}
-use Rattle.view_engine.specs.World.{World}
+use Rattle.view_engine.specs.World.{forgetting, World}
 use Rattle.view_engine.specs.Worlds.{IsAtWorld}
 use Rattle.tree_updater.proofs.Each.{told_each}
 use Rattle.view_engine.proofs.OpenAt.{group_at}
@@ -84,8 +84,8 @@ module _ {F C : Type 0} (f : Folders F) (s : Servers C) (docs : Docs) (pool pool
     (counted : f.faults old ≤ f.faults new)
     (slot : ℕ) (found : Index) (group : IsGroup groups' slot (sig_of design) (views_in design) found)
     (are_open : IfTold (f.disk last) (λ d. AreIndexesOpen groups' d.now))
-    (there : (world : World) → IfTold (f.disk mid) (λ d. IsReached s servers pool docs (kinds_of world.history) groups design world.history world.pictures d.now)
-    → Tells (f.disk mid) (f.disk new) (λ a b. (pictures : Pictures) × AreIndexesAt (kinds_of world.history) groups' b.now pictures))
+    (there : (world : World) → IfTold (f.disk mid) (λ d. IsReached s servers pool docs (kinds_of world) groups design world.history world.pictures d.now)
+    → Tells (f.disk mid) (f.disk new) (λ a b. (pictures : Pictures) × AreIndexesAt (kinds_of world) groups' b.now pictures))
     (steps : ℕ) (fault : IndexFault) (reads : ReadsRows f found place new last between cache' 0 steps (Err fault)) where
   abbrev engine : Engine
   engine = record { docs = docs; pool = pool; groups = groups; cache = cache }
@@ -124,13 +124,13 @@ module _ {F C : Type 0} (f : Folders F) (s : Servers C) (docs : Docs) (pool pool
     damage_never : (world : World) → IfTold (f.disk old) (λ d. IsAtWorld engine d.now world → AreFit world.history → ⊥)
     damage_never world =
         never_there f s docs pool pool' groups groups' cache cache' steps old mid last servers servers' name id design place path updating updates read earlier plans is_open asked n at world
-        (told_before (f.disk mid) (f.disk new) (λ d. IsReached s servers pool docs (kinds_of world.history) groups design world.history world.pictures d.now)
-        (λ a b. (pictures : Pictures) × AreIndexesAt (kinds_of world.history) groups' b.now pictures) (λ d. (pictures : Pictures) × AreIndexesAt (kinds_of world.history) groups' d.now pictures) ⊥ (λ a b held. held)
+        (told_before (f.disk mid) (f.disk new) (λ d. IsReached s servers pool docs (kinds_of (forgetting world)) groups design world.history world.pictures d.now)
+        (λ a b. (pictures : Pictures) × AreIndexesAt (kinds_of (forgetting world)) groups' b.now pictures) (λ d. (pictures : Pictures) × AreIndexesAt (kinds_of (forgetting world)) groups' d.now pictures) ⊥ (λ a b held. held)
         (told_now (f.disk new) _ _
-        (λ d each held. each (held.0 (sig_of design)) (group_at (kinds_of world.history) groups' d.now held.0 slot (sig_of design) (views_in design) found group held.1) n at (ap Err is))
-        (told_each (f.disk new) (λ (picture : Option Picture) d. IsAtOf (kinds_of world.history) (sig_of design) found d.now picture → FindsDamage {T = List Row} (λ name at. ⊥) (Err fault))
-        (λ picture. reads.sound (kinds_of world.history (sig_of design)).functions (kinds_of world.history (sig_of design)).views picture)))
-        (there world))
+        (λ d each held. each (held.0 (sig_of design)) (group_at (kinds_of (forgetting world)) groups' d.now held.0 slot (sig_of design) (views_in design) found group held.1) n at (ap Err is))
+        (told_each (f.disk new) (λ (picture : Option Picture) d. IsAtOf (kinds_of (forgetting world)) (sig_of design) found d.now picture → FindsDamage {T = List Row} (λ name at. ⊥) (Err fault))
+        (λ picture. reads.sound (kinds_of (forgetting world) (sig_of design)).functions (kinds_of (forgetting world) (sig_of design)).views picture)))
+        (there (forgetting world)))
 
   abbrev Why : Halt → Type 0
   Why = IfStopped (IsReasonOf f engine engine' old last (Ok (view_request name)))

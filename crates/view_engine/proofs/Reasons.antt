@@ -50,12 +50,13 @@ use Rattle.view_engine.specs.Halts.{IsDamage}
 use Rattle.view_engine.specs.Signatures.{kinds_of}
 use Rattle.view_engine.specs.Updating.{AreFit}
 use Rattle.view_engine.specs.ViewPlan.{met_by, IsPlan}
-use Rattle.view_engine.specs.World.{World}
+use Rattle.view_engine.specs.World.{forgetting, World}
 use Rattle.view_engine.specs.Worlds.{IsAtWorld, IsOpen}
 use Rattle.view_engine.proofs.Beside.{open_beside_indexes}
 use Rattle.tree_updater.proofs.Each.{told_each}
 use Rattle.view_engine.proofs.HaltedAs.{after_damage}
-use Rattle.view_engine.proofs.Bringing.{of_own_views, within_there}
+use Rattle.view_engine.proofs.Bringing.{by_none, of_own_functions, of_own_views, within_there}
+use Rattle.view_engine.proofs.Forgetting.{indexes_forget}
 use Rattle.query_args.specs.Query.{is_updated}
 use Rattle.view_engine.specs.ViewQuery.{ViewQuery, parameters_of, view_request}
 
@@ -211,18 +212,18 @@ module _ {F C : Type 0} (f : Folders F) (s : Servers C) (docs : Docs) (pool pool
         (told_given (f.disk old) (f.disk mid) _ MovesNone _ (λ a b is none. (is, none)) asked read) bad
 
     -- there is none in a world that is fit
-    pub never_there : (world : World) → IfTold (f.disk mid) (λ d. IsReached s servers pool docs (kinds_of world.history) groups design world.history world.pictures d.now → ⊥)
+    pub never_there : (world : World) → IfTold (f.disk mid) (λ d. IsReached s servers pool docs (kinds_of (forgetting world)) groups design world.history world.pictures d.now → ⊥)
         → IfTold (f.disk old) (λ d. IsAtWorld engine d.now world → AreFit world.history → ⊥)
     never_there world sound =
-        told_pair (f.disk old) (λ d. AreAt docs d.now world.history → IsPlan updating (languages_of pool) world.history name id design place path) (λ d. IsReached s servers pool docs (kinds_of world.history) groups design world.history world.pictures d.now → ⊥) _
+        told_pair (f.disk old) (λ d. AreAt docs d.now world.history → IsPlan updating (languages_of pool) world.history name id design place path) (λ d. IsReached s servers pool docs (kinds_of (forgetting world)) groups design world.history world.pictures d.now → ⊥) _
         (λ d plan never here fit. never (record {
           documents = here.documents;
-          indexes = here.indexes;
+          indexes = indexes_forget groups d.now world here.indexes;
           within = within_there engine d.now world design here;
-          own = of_own_views (languages_of pool) world name id design place path (plan here.documents) fit;
-          by = tt;
+          own = of_own_views (languages_of pool) (forgetting world) name id design place path (plan here.documents) fit;
+          by = by_none s servers pool design (forgetting world) (of_own_functions (languages_of pool) (forgetting world) name id design place path (plan here.documents) fit);
         })) (plans world.history)
-        (told_before (λ files. IsReached s servers pool docs (kinds_of world.history) groups design world.history world.pictures files → ⊥) sound)
+        (told_before (λ files. IsReached s servers pool docs (kinds_of (forgetting world)) groups design world.history world.pictures files → ⊥) sound)
 
   module _ (result : Result ℕ UpdateFault) (does : updating ≡ true) (follow : Follows f s docs design (side mid servers pool groups cache 0) (side new servers' pool' groups' cache' steps) result) where
     pub view_moves : Tells (f.disk old) (f.disk new) (MovesIndexOf engine name)
@@ -289,7 +290,7 @@ module _ {F C : Type 0} (f : Folders F) (s : Servers C) (docs : Docs) (pool pool
           )) bad_there
 
       index_never : (world : World) → IfTold (f.disk old) (λ d. IsAtWorld engine d.now world → AreFit world.history → ⊥)
-      index_never world = never_there n at world (told_now (f.disk mid) _ _ (λ d finds reached. (finds reached n at).1 (ap Err is)) (follow.sound (kinds_of world.history) world.history world.pictures))
+      index_never world = never_there n at world (told_now (f.disk mid) _ _ (λ d finds reached. (finds reached n at).1 (ap Err is)) (follow.sound (kinds_of (forgetting world)) world.history world.pictures))
 
     -- the file of the index is full
     module _ (n : FileName) (size : Option ℕ) (is : met ≡ update.Index (index.Store (gate.Full n size))) where

@@ -5,10 +5,10 @@ use Rattle.std.proofs.lemmas.List.Elements.{Contains-append_right}
 use Rattle.std.proofs.lemmas.Slice.Eq.{bytes_eq-Decides}
 use Rattle.json_terms.specs.Json.{Json}
 use Rattle.design_docs.specs.Documents.{is_design_id}
-use Rattle.design_docs.specs.declared.design.View.{View}
 use Rattle.design_docs.specs.Design.{language_of, views_of}
 use Rattle.design_docs.specs.History.{Write}
 use Rattle.view_ports.specs.File.{File}
+use Rattle.view_ports.specs.Functions.{Functions}
 use Rattle.view_ports.specs.declared.file_name.FileName.{FileName}
 use Rattle.view_ports.specs.declared.file_name.Stem.TheVariants.{View as ViewStem}
 use Rattle.child_pool.specs.Languages.{path_in}
@@ -24,7 +24,7 @@ use Rattle.tree_groups.specs.declared.groups.Groups.{Groups}
 use Rattle.tree_groups.specs.Groups.{open_of, AreAt as AreIndexesAt, OpensOnly}
 use Rattle.tree_groups.specs.Pictures.{Kind, Pictures, AreHeld, StandFor}
 use Rattle.tree_groups.proofs.Standing.{image_kinds_are_free, kinds_are_free, same_or_not}
-use Rattle.view_engine.specs.Signatures.{design_in, first_or, kinds_of, oldest_views, or_no_views, views_under, AreOpenOwned, AreOwned, HasSignature}
+use Rattle.view_engine.specs.Signatures.{design_in, first_or, kind_of, kinds_by, oldest_design, signed_so, AreOpenOwned, AreOwned, HasSignature}
 use Rattle.view_engine.specs.Updating.{AreFit}
 
 -- ---- designs of a history that goes on
@@ -49,36 +49,34 @@ in_first : (write : Write) (older : List Write) (x : Write) → Contains (write 
 in_first write older x (zero, below, is) = inl is
 in_first write older x (suc k, below, is) = inr (k, omega (arith, below), is)
 
--- ---- the views of a signature
+-- ---- the oldest design of a signature
 
--- those of a design document with it
-own_views : (sig : List ℕ) (id : List ℕ) (document : Json) → is_design_id id ≡ true → signature_of document ≡ sig → views_under sig (design_in (record { id = id; document = Some document })) ≡ Some (views_of document)
-own_views sig id document design signed =
-    ap (λ (b : Bool). views_under sig (if b then Some document else None)) design
-    ∙ ap (λ (b : Bool). if b then Some (views_of document) else None) ((bytes_eq-Decides (signature_of document) sig).1 signed)
+-- a design document with it
+own_design : (sig : List ℕ) (id : List ℕ) (document : Json) → is_design_id id ≡ true → signature_of document ≡ sig → signed_so sig (design_in (record { id = id; document = Some document })) ≡ Some document
+own_design sig id document design signed =
+    ap (λ (b : Bool). signed_so sig (if b then Some document else None)) design
+    ∙ ap (λ (b : Bool). if b then Some document else None) ((bytes_eq-Decides (signature_of document) sig).1 signed)
 
--- where a design document has the signature, it is of the views of one
-pub found_views : (history : List Write) (sig : List ℕ) → HasSignature history sig → (views : List View) × (oldest_views history sig ≡ Some views)
-found_views history sig has = by_stored history (has.stored).stored
+-- where a design document has the signature, there is an oldest one
+pub found_design : (history : List Write) (sig : List ℕ) → HasSignature history sig → (document : Json) × (oldest_design history sig ≡ Some document)
+found_design history sig has = by_stored history (has.stored).stored
   where
-    by_stored : (h : List Write) → Contains h (record { id = (has.stored).id; document = Some has.document }) → (views : List View) × (oldest_views h sig ≡ Some views)
+    by_stored : (h : List Write) → Contains h (record { id = (has.stored).id; document = Some has.document }) → (document : Json) × (oldest_design h sig ≡ Some document)
     by_stored [] stored = absurd (let below = stored.1 in omega (arith, below))
     by_stored (write ∷ older) stored = elim (in_first write older (record { id = (has.stored).id; document = Some has.document }) stored) [
-      | inl this ↦ by_older (oldest_views older sig) refl
-          (ap (λ (w : Write). views_under sig (design_in w)) this ∙ own_views sig (has.stored).id has.document (has.stored).design has.signed)
-      | inr rest ↦ let found = by_stored older rest in (found.0, ap (λ o. first_or o (views_under sig (design_in write))) found.1)
+      | inl this ↦ by_older (oldest_design older sig) refl
+          (ap (λ (w : Write). signed_so sig (design_in w)) this ∙ own_design sig (has.stored).id has.document (has.stored).design has.signed)
+      | inr rest ↦ let found = by_stored older rest in (found.0, ap (λ o. first_or o (signed_so sig (design_in write))) found.1)
     ]
       where
-        by_older : (o : Option (List View)) → oldest_views older sig ≡ o → views_under sig (design_in write) ≡ Some (views_of has.document) → (views : List View) × (oldest_views (write ∷ older) sig ≡ Some views)
-        by_older None there own = (views_of has.document, ap (λ o. first_or o (views_under sig (design_in write))) there ∙ own)
-        by_older (Some views) there own = (views, ap (λ o. first_or o (views_under sig (design_in write))) there)
+        by_older : (o : Option Json) → oldest_design older sig ≡ o → signed_so sig (design_in write) ≡ Some has.document → (document : Json) × (oldest_design (write ∷ older) sig ≡ Some document)
+        by_older None there own = (has.document, ap (λ o. first_or o (signed_so sig (design_in write))) there ∙ own)
+        by_older (Some document) there own = (document, ap (λ o. first_or o (signed_so sig (design_in write))) there)
 
--- and they are those of a design document that has it
-pub record IsOldest (history : List Write) (sig : List ℕ) (views : List View) : Type 0 where
-  pub document : Json
+-- and it is one of the history that has it
+pub record IsOldest (history : List Write) (sig : List ℕ) (document : Json) : Type 0 where
   pub stored : IsDesignIn history document
   pub signed : signature_of document ≡ sig
-  pub has : views_of document ≡ views
 
 first_stored : (write : Write) (older : List Write) (document : Json) → is_design_id write.id ≡ true → write.document ≡ Some document → IsDesignIn (write ∷ older) document
 first_stored write older document design stored = record {
@@ -87,49 +85,53 @@ first_stored write older document design stored = record {
   stored = (0, omega arith, let same : write ≡ record { id = write.id; document = Some document } = λ i. record { id = write.id; document = stored i } in same);
 }
 
-pub oldest_is : (history : List Write) (sig : List ℕ) (views : List View) → oldest_views history sig ≡ Some views → IsOldest history sig views
-oldest_is [] sig views is = absurd (let clash : ⊥ = cc in clash)
-oldest_is (write ∷ older) sig views is = by_older (λ found there. oldest_is older sig found there) (oldest_views older sig) refl
+pub oldest_is : (history : List Write) (sig : List ℕ) (document : Json) → oldest_design history sig ≡ Some document → IsOldest history sig document
+oldest_is [] sig document is = absurd (let clash : ⊥ = cc in clash)
+oldest_is (write ∷ older) sig document is = by_older (λ found there. oldest_is older sig found there) (oldest_design older sig) refl
   where
-    by_signed : (document : Json) → is_design_id write.id ≡ true → write.document ≡ Some document → (b : Bool) → bytes_eq (signature_of document) sig ≡ b → (if b then Some (views_of document) else None) ≡ Some views
-        → IsOldest (write ∷ older) sig views
-    by_signed document design stored true signed there =
-        record { document = document; stored = first_stored write older document design stored; signed = (bytes_eq-Decides (signature_of document) sig).0 signed; has = cc }
-    by_signed document design stored false signed there = absurd (let clash : ⊥ = cc in clash)
+    by_signed : (own : Json) → is_design_id write.id ≡ true → write.document ≡ Some own → (b : Bool) → bytes_eq (signature_of own) sig ≡ b → (if b then Some own else None) ≡ Some document
+        → IsOldest (write ∷ older) sig document
+    by_signed own design stored true signed there =
+        let same : own ≡ document = cc in
+        subst (IsOldest (write ∷ older) sig) same (record { stored = first_stored write older own design stored; signed = (bytes_eq-Decides (signature_of own) sig).0 signed })
+    by_signed own design stored false signed there = absurd (let clash : ⊥ = cc in clash)
 
-    by_stored : (stored : Option Json) → write.document ≡ stored → is_design_id write.id ≡ true → views_under sig stored ≡ Some views → IsOldest (write ∷ older) sig views
+    by_stored : (stored : Option Json) → write.document ≡ stored → is_design_id write.id ≡ true → signed_so sig stored ≡ Some document → IsOldest (write ∷ older) sig document
     by_stored None stored design there = absurd (let clash : ⊥ = cc in clash)
-    by_stored (Some document) stored design there = by_signed document design stored (bytes_eq (signature_of document) sig) refl there
+    by_stored (Some own) stored design there = by_signed own design stored (bytes_eq (signature_of own) sig) refl there
 
-    by_design : (b : Bool) → is_design_id write.id ≡ b → views_under sig (if b then write.document else None) ≡ Some views → IsOldest (write ∷ older) sig views
+    by_design : (b : Bool) → is_design_id write.id ≡ b → signed_so sig (if b then write.document else None) ≡ Some document → IsOldest (write ∷ older) sig document
     by_design true design there = by_stored write.document refl design there
     by_design false design there = absurd (let clash : ⊥ = cc in clash)
 
-    by_older : ((found : List View) → oldest_views older sig ≡ Some found → IsOldest older sig found) → (o : Option (List View)) → oldest_views older sig ≡ o → IsOldest (write ∷ older) sig views
+    by_older : ((found : Json) → oldest_design older sig ≡ Some found → IsOldest older sig found) → (o : Option Json) → oldest_design older sig ≡ o → IsOldest (write ∷ older) sig document
     by_older before (Some found) there =
         let oldest = before found there in
-        let all : Some found ≡ Some views = ap (λ o. first_or o (views_under sig (design_in write))) (sym there) ∙ is in
-        let same : found ≡ views = cc in
-        record { document = oldest.document; stored = still_stored write older oldest.document oldest.stored; signed = oldest.signed; has = oldest.has ∙ same }
-    by_older before None there = by_design (is_design_id write.id) refl (ap (λ o. first_or o (views_under sig (design_in write))) (sym there) ∙ is)
+        let all : Some found ≡ Some document = ap (λ o. first_or o (signed_so sig (design_in write))) (sym there) ∙ is in
+        let same : found ≡ document = cc in
+        subst (IsOldest (write ∷ older) sig) same (record { stored = still_stored write older found oldest.stored; signed = oldest.signed })
+    by_older before None there = by_design (is_design_id write.id) refl (ap (λ o. first_or o (signed_so sig (design_in write))) (sym there) ∙ is)
 
 -- ---- kinds
 
-abbrev kind : Option (List View) → Kind
-kind found = record { views = or_no_views found; functions = None }
+module _ (functions : List ℕ → List ℕ → Option Functions) where
+  -- a newer write doesn't change of which kind a signature is that a design document has
+  pub kind_later : (write : Write) (history : List Write) (sig : List ℕ) → HasSignature history sig → kinds_by functions (write ∷ history) sig ≡ kinds_by functions history sig
+  kind_later write history sig has =
+      let found = found_design history sig has in
+      ap (kind_of (functions sig)) (ap (λ o. first_or o (signed_so sig (design_in write))) found.1 ∙ sym found.1)
 
--- a newer write doesn't change of which kind a signature is that a design document has
-pub kind_later : (write : Write) (history : List Write) (sig : List ℕ) → HasSignature history sig → kinds_of (write ∷ history) sig ≡ kinds_of history sig
-kind_later write history sig has =
-    let found = found_views history sig has in
-    ap kind (ap (λ o. first_or o (views_under sig (design_in write))) found.1 ∙ sym found.1)
-
--- where designs that differ have different signatures, that of a design is of its views
-pub kind_is : (history : List Write) → AreFit history → (document : Json) → IsDesignIn history document → (kinds_of history (signature_of document)).views ≡ views_of document
-kind_is history fit document is =
-    let found = found_views history (signature_of document) (record { document = document; stored = is; signed = refl }) in
-    let oldest = oldest_is history (signature_of document) found.0 found.1 in
-    ap or_no_views found.1 ∙ sym oldest.has ∙ (fit_signed [] history fit oldest.document document oldest.stored is oldest.signed).1
+  -- where designs that differ have different signatures, that of a design is of its views, and of the functions of its language
+  pub kind_is : (history : List Write) → AreFit history → (document : Json) → IsDesignIn history document
+      → ((kinds_by functions history (signature_of document)).views ≡ views_of document) × ((kinds_by functions history (signature_of document)).functions ≡ functions (signature_of document) (language_of document))
+  kind_is history fit document is =
+      let found = found_design history (signature_of document) (record { document = document; stored = is; signed = refl }) in
+      let oldest = oldest_is history (signature_of document) found.0 found.1 in
+      let kind : kinds_by functions history (signature_of document) ≡ kind_of (functions (signature_of document)) (Some found.0) = ap (kind_of (functions (signature_of document))) found.1 in
+      let signed = digests_tell_designs digest_of (λ language. Some language) history fit.apart found.0 document oldest.stored is oldest.signed in
+      let named : Some (language_of found.0) ≡ Some (language_of document) = signed.0 in
+      let same : language_of found.0 ≡ language_of document = cc in
+      (ap (λ (k : Kind). k.views) kind ∙ signed.1, ap (λ (k : Kind). k.functions) kind ∙ ap (functions (signature_of document)) same)
 
 -- a design document that was stored by some write of the history is one of it
 has_whole : (count : ℕ) (history : List Write) (sig : List ℕ) → HasSignature (first count history) sig → HasSignature history sig
@@ -142,28 +144,28 @@ has_whole count (write ∷ older) sig has = by_test (has_whole count older sig) 
 
 -- ---- what is held
 
-free_later : (write : Write) (history : List Write) (pictures : Pictures) → AreOwned history pictures → (sig : List ℕ) → (pictures sig ≡ None) ⊎ (kinds_of (write ∷ history) sig ≡ kinds_of history sig)
-free_later write history pictures owned sig = by_picture (pictures sig) refl
-  where
-    by_picture : (picture : Option Picture) → pictures sig ≡ picture → (pictures sig ≡ None) ⊎ (kinds_of (write ∷ history) sig ≡ kinds_of history sig)
-    by_picture None is = inl is
-    by_picture (Some picture) is = inr (kind_later write history sig (has_whole picture.seq history sig (owned sig picture is)))
+module _ (functions : List ℕ → List ℕ → Option Functions) (write : Write) (history : List Write) (pictures : Pictures) (owned : AreOwned history pictures) where
+  free_later : (sig : List ℕ) → (pictures sig ≡ None) ⊎ (kinds_by functions (write ∷ history) sig ≡ kinds_by functions history sig)
+  free_later sig = by_picture (pictures sig) refl
+    where
+      by_picture : (picture : Option Picture) → pictures sig ≡ picture → (pictures sig ≡ None) ⊎ (kinds_by functions (write ∷ history) sig ≡ kinds_by functions history sig)
+      by_picture None is = inl is
+      by_picture (Some picture) is = inr (kind_later functions write history sig (has_whole picture.seq history sig (owned sig picture is)))
 
-module _ (write : Write) (history : List Write) (pictures : Pictures) (owned : AreOwned history pictures) where
   pub owned_later : ((sig : List ℕ) (picture : Picture) → pictures sig ≡ Some picture → picture.seq ≤ length history) → AreOwned (write ∷ history) pictures
   owned_later within sig picture is = subst (λ h. HasSignature h sig) (sym (first_less picture.seq write history (within sig picture is))) (owned sig picture is)
 
-  pub stand_later : (image : FileName → List ℕ) → StandFor (kinds_of history) image pictures → StandFor (kinds_of (write ∷ history)) image pictures
-  stand_later image stand = image_kinds_are_free (kinds_of history) (kinds_of (write ∷ history)) image pictures (free_later write history pictures owned) stand
+  pub stand_later : (image : FileName → List ℕ) → StandFor (kinds_by functions history) image pictures → StandFor (kinds_by functions (write ∷ history)) image pictures
+  stand_later image stand = image_kinds_are_free (kinds_by functions history) (kinds_by functions (write ∷ history)) image pictures free_later stand
 
-  pub held_later : (files : FileName → File) → AreHeld (kinds_of history) files pictures → AreHeld (kinds_of (write ∷ history)) files pictures
-  held_later files held = kinds_are_free (kinds_of history) (kinds_of (write ∷ history)) files pictures (free_later write history pictures owned) held
+  pub held_later : (files : FileName → File) → AreHeld (kinds_by functions history) files pictures → AreHeld (kinds_by functions (write ∷ history)) files pictures
+  held_later files held = kinds_are_free (kinds_by functions history) (kinds_by functions (write ∷ history)) files pictures free_later held
 
-  pub indexes_later : (groups : Groups) (files : FileName → File) → AreOpenOwned history groups → AreIndexesAt (kinds_of history) groups files pictures → AreIndexesAt (kinds_of (write ∷ history)) groups files pictures
+  pub indexes_later : (groups : Groups) (files : FileName → File) → AreOpenOwned history groups → AreIndexesAt (kinds_by functions history) groups files pictures → AreIndexesAt (kinds_by functions (write ∷ history)) groups files pictures
   indexes_later groups files opened at = record {
     held = held_later files at.held;
     each = λ k d within sig named.
-        subst (λ (kind : Kind). IsIndexAt kind.functions kind.views (slice_index_or (open_of groups) k d) files (pictures sig)) (sym (kind_later write history sig (opened k d within sig named))) (at.each k d within sig named);
+        subst (λ (kind : Kind). IsIndexAt kind.functions kind.views (slice_index_or (open_of groups) k d) files (pictures sig)) (sym (kind_later functions write history sig (opened k d within sig named))) (at.each k d within sig named);
   }
 
 pub opened_later : (write : Write) (history : List Write) (groups : Groups) → AreOpenOwned history groups → AreOpenOwned (write ∷ history) groups

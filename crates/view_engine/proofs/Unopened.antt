@@ -18,7 +18,7 @@ held_image : (files : FileName → File) (world : World) → Holds files world �
 held_image files world held image is = record {
   documents = stands_beside DocsStem HoldsWrites image (λ name. (files name).seen) world.history (held.documents).stands
       (λ name own. IsImage-settled (files name).seen (image name) (subst (λ (f : File). IsImage f (image name)) ((held.documents).whole name own) (is name)));
-  indexes = images_stand (kinds_of world.history) files world.pictures image held.indexes is;
+  indexes = images_stand (kinds_of world) files world.pictures image held.indexes is;
   within = held.within;
   owned = held.owned;
 }

@@ -141,6 +141,7 @@ pub record IsNextOf (functions : List ℕ → Functions) (honest : List ℕ → 
   pub compile : honest path → documents ≢ [] → AllCompile (functions path) (map_sources design.views)
   pub reduces : honest path → some_reduce_fails (functions path) design.views next.rows ≡ true → some_reduce_fails (functions path) design.views (picture_for design before.pictures).rows ≡ true
   pub history : after.history ≡ before.history
+  pub known : after.functions ≡ before.functions
   pub set : AreSetAt (sig_of design) (Some next) before.pictures after.pictures
 
 narrower : {functions : Functions} {honest wide : Type 0} {views : List View} {history : _} {old next : Picture} → (honest → wide) → IsUpdated functions wide views history old next → IsUpdated functions honest views history old next
@@ -244,6 +245,7 @@ module _ (functions : List ℕ → Functions) (honest : List ℕ → Type 0) (la
       next = next;
       updated = updated_there;
       history = made.history;
+      known = made.known;
       set = signed;
       answerable = λ is_honest sound fit.
           can_be_answered functions honest languages before.world (design_id name.design) known.plan.document path refl known.plan.live known.plan.path_is is_honest sound fit next updated_there

@@ -23,7 +23,7 @@ use Rattle.view_engine.specs.declared.request.Request.{Request}
 use Rattle.view_engine.specs.declared.request.Request.TheVariants.{Cleanup, View as ViewRequest}
 use Rattle.view_engine.specs.Disks.{IsOnIndexes, KeepsDisk, KeepsDocuments, LiesOpen, MovesIndexes, MovesIndexOf}
 use Rattle.view_engine.specs.Halts.{DocumentsStandAround, MovesDocuments, Writes}
-use Rattle.view_engine.specs.Signatures.{kinds_of, AreOpenOwned, AreOwned}
+use Rattle.view_engine.specs.Signatures.{kinds_by, kinds_of, AreOpenOwned, AreOwned}
 use Rattle.view_engine.specs.Steps.{IsWrite}
 use Rattle.view_engine.specs.World.{World, NoneIsNewer, written}
 use Rattle.view_engine.specs.Worlds.{IsAtWorld, IsOpen, StandsEither, StandsFor}
@@ -44,7 +44,7 @@ module _ (a b : Disk FileName) (moves : MovesDocuments (λ image. Unit {0}) a b)
   indexes_at kinds groups pictures at = (others_matter_not kinds groups a.now b.now pictures same_files).0 at
 
   pub indexes_open : (groups : Groups) → AreIndexesOpen groups a.now → AreIndexesOpen groups b.now
-  indexes_open groups is_open = (others_matter_not (kinds_of []) groups a.now b.now (λ sig. None) same_files).1 is_open
+  indexes_open groups is_open = (others_matter_not (kinds_by (λ sig language. None) []) groups a.now b.now (λ sig. None) same_files).1 is_open
 
 -- an image in which only files of the documents may be others
 module _ (kinds : Kinds) (files : FileName → File) (pictures : Pictures) (held : AreHeld kinds files pictures) (P : (FileName → List ℕ) → Type 0) (image : FileName → List ℕ) (framed : Framed IsDocsFile files P image) where
@@ -56,13 +56,13 @@ pub within_longer : (world : World) (write : Write) → NoneIsNewer world → No
 within_longer world write within = λ sig picture has. let low = within sig picture has in omega arith
 
 -- an image that stands for the documents around a write stands for the world around it
-around : (world : World) (request : Result Request Refusal) (files : FileName → File) → AreHeld (kinds_of world.history) files world.pictures → NoneIsNewer world → AreOwned world.history world.pictures → (image : FileName → List ℕ)
+around : (world : World) (request : Result Request Refusal) (files : FileName → File) → AreHeld (kinds_of world) files world.pictures → NoneIsNewer world → AreOwned world.history world.pictures → (image : FileName → List ℕ)
     → Framed IsDocsFile files (DocumentsStandAround world request) image
     → StandsFor image world ⊎ ((write : Write) × IsWrite world request write × StandsFor image (written world write))
 around world request files held within owned image framed = by_side framed.inside
   where
-    indexes : StandFor (kinds_of world.history) image world.pictures
-    indexes = pictures_stand (kinds_of world.history) files world.pictures held (DocumentsStandAround world request) image framed
+    indexes : StandFor (kinds_of world) image world.pictures
+    indexes = pictures_stand (kinds_of world) files world.pictures held (DocumentsStandAround world request) image framed
 
     by_side : DocumentsStandAround world request image → StandsFor image world ⊎ ((write : Write) × IsWrite world request write × StandsFor image (written world write))
     by_side (inl before) = inl (record { documents = before; indexes = indexes; within = within; owned = owned })
@@ -71,9 +71,9 @@ around world request files held within owned image framed = by_side framed.insid
       is,
       record {
         documents = after;
-        indexes = stand_later write world.history world.pictures owned image indexes;
+        indexes = stand_later world.functions write world.history world.pictures owned image indexes;
         within = within_longer world write within;
-        owned = owned_later write world.history world.pictures owned within;
+        owned = owned_later world.functions write world.history world.pictures owned within;
       },
     )
 
@@ -81,7 +81,7 @@ around world request files held within owned image framed = by_side framed.insid
 pub image_stands : (engine : Engine) (files : FileName → File) (world : World) → IsAtWorld engine files world → (image : FileName → List ℕ) → IsImageOf files image → StandsFor image world
 image_stands engine files world at image is = record {
   documents = image_now engine.docs files at.documents.is_open world.history at.documents image is;
-  indexes = images_stand (kinds_of world.history) files world.pictures image at.indexes.held is;
+  indexes = images_stand (kinds_of world) files world.pictures image at.indexes.held is;
   within = at.within;
   owned = at.owned;
 }
@@ -167,7 +167,7 @@ world_none engine engine' old new docs groups moves world told =
     let files : b.now ≡ a.now = λ i. λ name. none_same a b none name i in
     subst (λ (fs : FileName → File). IsAtWorld engine' fs world) (sym files) (record {
       documents = subst (λ (d : Docs). AreAt d a.now world.history) (sym docs) here.documents;
-      indexes = subst (λ (g : Groups). AreIndexesAt (kinds_of world.history) g a.now world.pictures) (sym groups) here.indexes;
+      indexes = subst (λ (g : Groups). AreIndexesAt (kinds_of world) g a.now world.pictures) (sym groups) here.indexes;
       within = here.within;
       owned = here.owned;
       opened = subst (AreOpenOwned world.history) (sym groups) here.opened;

@@ -25,30 +25,35 @@ use Rattle.view_engine.specs.Moments.{Moment}
 use Rattle.view_engine.specs.Refusals.{request_of}
 use Rattle.view_engine.specs.Steps.{Answers, Makes}
 use Rattle.view_engine.specs.World.{World}
-use Rattle.view_engine.specs.Worlds.{at_start, GoesOnFrom, Holds, IsAtWorld, IsChildless, StandsFor, width}
+use Rattle.view_engine.specs.Worlds.{at_start, languages, GoesOnFrom, Holds, IsAtWorld, IsChildless, KnowsPaths, StandsFor, width}
 use Rattle.view_engine.proofs.AcceptedWrites.{Answers-accepted}
+use Rattle.view_engine.proofs.Known.{answers_know}
 use Rattle.view_engine.proofs.Whole.{image_stands}
 
 -- ---- worlds
 
 pub same_world : (world : World) → GoesOnFrom world world
-same_world world = ([], refl)
+same_world world = record { newer = []; history = refl; known = refl }
 
 pub goes_on : (a b c : World) → GoesOnFrom a b → GoesOnFrom b c → GoesOnFrom a c
-goes_on a b c first second = (second.0 ++ first.0, second.1 ∙ ap (λ (h : List Write). second.0 ++ h) first.1 ∙ sym (append_assoc second.0 first.0 a.history))
+goes_on a b c first second = record {
+  newer = second.newer ++ first.newer;
+  history = second.history ∙ ap (λ (h : List Write). second.newer ++ h) first.history ∙ sym (append_assoc second.newer first.newer a.history);
+  known = second.known ∙ first.known;
+}
 
--- a world of another's history goes on from what that goes on from
-pub grown_as : (before here after : World) → after.history ≡ here.history → GoesOnFrom before here → GoesOnFrom before after
-grown_as before here after same grown = (grown.0, same ∙ grown.1)
+-- a world of another's history and functions goes on from what that goes on from
+pub grown_as : (before here after : World) → after.history ≡ here.history → after.functions ≡ here.functions → GoesOnFrom before here → GoesOnFrom before after
+grown_as before here after same known grown = record { newer = grown.newer; history = same ∙ grown.history; known = known ∙ grown.known }
 
--- and what goes on from a world goes on from one of its history
-pub grows_as : (before here after : World) → here.history ≡ before.history → GoesOnFrom before after → GoesOnFrom here after
-grows_as before here after same grown = (grown.0, grown.1 ∙ ap (λ (h : List Write). grown.0 ++ h) (sym same))
+-- and what goes on from a world goes on from one of its history and functions
+pub grows_as : (before here after : World) → here.history ≡ before.history → here.functions ≡ before.functions → GoesOnFrom before after → GoesOnFrom here after
+grows_as before here after same known grown = record { newer = grown.newer; history = grown.history ∙ ap (λ (h : List Write). grown.newer ++ h) (sym same); known = grown.known ∙ sym known }
 
 -- a step adds a write at most
 request_grows : (world : World) (request : Result Request Refusal) → GoesOnFrom world (after_request world request)
-request_grows world (Ok (Put document)) = (_ ∷ [], refl)
-request_grows world (Ok (Delete id given)) = (_ ∷ [], refl)
+request_grows world (Ok (Put document)) = record { newer = _ ∷ []; history = refl; known = refl }
+request_grows world (Ok (Delete id given)) = record { newer = _ ∷ []; history = refl; known = refl }
 request_grows world other = same_world world
 
 exchange_grows : (world : World) (b : Bool) (request : Result Request Refusal) → GoesOnFrom world (if b then after_request world request else world)
@@ -58,14 +63,15 @@ exchange_grows world false request = same_world world
 module _ (functions : List ℕ → Functions) (honest : List ℕ → Type 0) (languages : List (List ℕ × List ℕ)) where
   pub answers_grow : (before : Moment) (e : Exchange) (after : Moment) → Answers functions honest languages before e after → GoesOnFrom before.world after.world
   answers_grow before e after answers =
-      grown_as before.world (after_exchange before.world e) after.world (Answers-accepted functions honest languages before e after answers) (exchange_grows before.world (is_ok e.text) (request_of e.line))
+      let grown = exchange_grows before.world (is_ok e.text) (request_of e.line) in
+      grown_as before.world (after_exchange before.world e) after.world (Answers-accepted functions honest languages before e after answers) (answers_know functions honest languages before e after answers ∙ sym grown.known) grown
 
   -- and so does what a request makes
   pub made_grows : (world : World) (request : Result Request Refusal) (made : World) → Makes functions honest languages world request made → GoesOnFrom world made
-  made_grows world (Ok (View view query)) made makes = ([], (makes.5).history)
-  made_grows world (Ok Cleanup) made makes = ([], makes.history)
-  made_grows world (Ok (Put document)) made makes = (makes.0 ∷ [], ap (λ (w : World). w.history) makes.2)
-  made_grows world (Ok (Delete id given)) made makes = (makes.0 ∷ [], ap (λ (w : World). w.history) makes.2)
+  made_grows world (Ok (View view query)) made makes = record { newer = []; history = (makes.5).history; known = (makes.5).known }
+  made_grows world (Ok Cleanup) made makes = record { newer = []; history = makes.history; known = makes.known }
+  made_grows world (Ok (Put document)) made makes = record { newer = makes.0 ∷ []; history = ap (λ (w : World). w.history) makes.2; known = ap (λ (w : World). w.functions) makes.2 }
+  made_grows world (Ok (Delete id given)) made makes = record { newer = makes.0 ∷ []; history = ap (λ (w : World). w.history) makes.2; known = ap (λ (w : World). w.functions) makes.2 }
   made_grows world (Ok other) made makes = absurd makes.1
   made_grows world (Err refusal) made makes = absurd makes.1
 
@@ -79,11 +85,12 @@ image_at = image_stands
 pub world_held : (engine : Engine) (files : FileName → File) (world : World) → IsAtWorld engine files world → Holds files world
 world_held engine files world at = record { documents = at_holds engine.docs files at.documents.is_open world.history at.documents; indexes = at.indexes.held; within = at.within; owned = at.owned }
 
-module _ (disk : Option (Disk FileName)) (may_follow : List Call → Type 0) (faults : ℕ) (engine : Engine) where
+module _ (functions : List ℕ → Functions) (honest : List ℕ → Type 0) (disk : Option (Disk FileName)) (may_follow : List Call → Type 0) (faults : ℕ) (engine : Engine) where
   -- an engine without a child is at the start of its world, where no call was made on the servers
-  pub starts_at : (world : World) {wide : ℕ} → width engine ≡ wide → IfTold disk (λ d. IsAtWorld engine d.now world) → IsChildless engine → may_follow [] → IsAt disk may_follow faults engine (at_start world wide faults)
-  starts_at world is at childless follows = record {
+  pub starts_at : (world : World) {wide : ℕ} → width engine ≡ wide → IfTold disk (λ d. IsAtWorld engine d.now world) → IsChildless engine → may_follow [] → IfTold disk (λ d. KnowsPaths functions honest (languages engine) world) → IsAt functions honest disk may_follow faults engine (at_start world wide faults)
+  starts_at world is at childless follows knows = record {
     documents = at;
+    known = knows;
     child = record {
       width = is;
       started = childless.0;
@@ -97,12 +104,12 @@ module _ (disk : Option (Disk FileName)) (may_follow : List Call → Type 0) (fa
     };
   }
 
-  pub images_at : (moment : Moment) → IsAt disk may_follow faults engine moment → IfTold disk (λ d. (image : FileName → List ℕ) → IsImageOf d.now image → StandsFor image moment.world)
+  pub images_at : (moment : Moment) → IsAt functions honest disk may_follow faults engine moment → IfTold disk (λ d. (image : FileName → List ℕ) → IsImageOf d.now image → StandsFor image moment.world)
   images_at moment at =
       told_now disk (λ d. IsAtWorld engine d.now moment.world) (λ d. (image : FileName → List ℕ) → IsImageOf d.now image → StandsFor image moment.world)
       (λ d here. image_at engine d.now moment.world here) at.documents
 
-  pub holds_at : (moment : Moment) → IsAt disk may_follow faults engine moment → IfTold disk (λ d. Holds d.now moment.world)
+  pub holds_at : (moment : Moment) → IsAt functions honest disk may_follow faults engine moment → IfTold disk (λ d. Holds d.now moment.world)
   holds_at moment at =
       told_now disk (λ d. IsAtWorld engine d.now moment.world) (λ d. Holds d.now moment.world)
       (λ d here. world_held engine d.now moment.world here) at.documents

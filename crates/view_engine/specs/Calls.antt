@@ -152,7 +152,7 @@ pub record LeavesAlone {F C : Type 0} (request : Result Request Refusal) (Wants 
 
 module _ {F C : Type 0} (f : Folders F) (s : Servers C) where
   abbrev pub StandsAt : Scene F C → Moment → Type 0
-  StandsAt now = IsAt (f.disk now.folder) (s.may_follow now.servers) (s.faults now.servers) now.engine
+  StandsAt now = IsAt s.functions s.honest (f.disk now.folder) (s.may_follow now.servers) (s.faults now.servers) now.engine
 
   abbrev pub KeepsChild : Scene F C → Moment → Type 0
   KeepsChild now = HasChild (s.may_follow now.servers) (s.faults now.servers) now.engine.pool
@@ -196,11 +196,11 @@ module _ {F C : Type 0} (f : Folders F) (s : Servers C) where
 
     -- the engine is left at a moment that the definition allows
     abbrev pub LeavesMoment : Moment → (Moment → Type 0) → Type 0
-    LeavesMoment before = Leaves (f.disk old.folder) (f.disk new.folder) (s.may_follow new.servers) (s.faults new.servers) new.engine before
+    LeavesMoment before = Leaves s.functions s.honest (f.disk old.folder) (f.disk new.folder) (s.may_follow new.servers) (s.faults new.servers) new.engine before
 
     -- and so much text is appended
     abbrev pub AppendsText : Moment → (List ℕ → Moment → Type 0) → List ℕ → List ℕ → Type 0
-    AppendsText before = Appends (f.disk old.folder) (f.disk new.folder) (s.may_follow new.servers) (s.faults new.servers) new.engine before
+    AppendsText before = Appends s.functions s.honest (f.disk old.folder) (f.disk new.folder) (s.may_follow new.servers) (s.faults new.servers) new.engine before
 
     -- its children alone are left as at such a moment
     pub record LeavesChild (Allows : Moment → Type 0) : Type 0 where

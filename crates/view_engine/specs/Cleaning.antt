@@ -58,11 +58,11 @@ IsStopped (Stopped fault) = Unit {0}
 
 -- an image of the files of indexes stands for what is left of the pictures by a part of a cleanup
 abbrev pub StandsCleaned : World → (FileName → List ℕ) → Type 0
-StandsCleaned world image = (mid : World) × IsPartlyCleaned world mid × StandFor (kinds_of world.history) image mid.pictures
+StandsCleaned world image = (mid : World) × IsPartlyCleaned world mid × StandFor (kinds_of world) image mid.pictures
 
 -- the indexes are left at the pictures of a cleaned world
 abbrev pub EndsCleaned : Groups → World → Result (Unit {0}) Halt → (FileName → File) → Type 0
-EndsCleaned groups world (Ok done) files = (after : World) × IsCleaned world after × AreIndexesAt (kinds_of world.history) groups files after.pictures
+EndsCleaned groups world (Ok done) files = (after : World) × IsCleaned world after × AreIndexesAt (kinds_of world) groups files after.pictures
 EndsCleaned groups world (Err halt) files = Unit {0}
 
 -- each open index stays open whose signature is that of a live design document
@@ -74,12 +74,12 @@ module _ {F : Type 0} (f : Folders F) (docs : Docs) (groups groups' : Groups) (o
   -- why it is stopped: as reading documents is, or by a file of an index that is damaged, which there is in no world
   abbrev pub IsCleanupReason : StepFault → Type 0
   IsCleanupReason (Damaged name at) = IsReadReason f docs old new (Damaged name at)
-      ⊎ (IfTold (f.disk old) (λ d. HasSlotDamage docs d.now name at) × ((world : World) → IfTold (f.disk old) (λ d. AreIndexesAt (kinds_of world.history) groups d.now world.pictures → ⊥)))
+      ⊎ (IfTold (f.disk old) (λ d. HasSlotDamage docs d.now name at) × ((world : World) → IfTold (f.disk old) (λ d. AreIndexesAt (kinds_of world) groups d.now world.pictures → ⊥)))
   IsCleanupReason fault = IsReadReason f docs old new fault
 
   pub record CleansUp (out out' : List ℕ) (result : Result (Unit {0}) Halt) : Type 0 where
     -- a crash leaves at each moment what a part of a cleanup leaves, and of each file of no index what it might have left before
-    pub stands : (world : World) → IfTold (f.disk old) (λ d. AreAt docs d.now world.history × AreIndexesAt (kinds_of world.history) groups d.now world.pictures)
+    pub stands : (world : World) → IfTold (f.disk old) (λ d. AreAt docs d.now world.history × AreIndexesAt (kinds_of world) groups d.now world.pictures)
         → Tells (f.disk old) (f.disk new) (Moves IsIndexFile (StandsCleaned world) (EndsCleaned groups' world result))
     -- whatever the folder holds, only files of indexes change, and none for want of memory; where it may go on, the indexes are open
     pub others : Tells (f.disk old) (f.disk new) (Moves IsIndexFile (λ image. Unit {0}) (λ files. Unit {0}))

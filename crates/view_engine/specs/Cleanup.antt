@@ -17,11 +17,13 @@ pub record IsLiveSignature (history : List Write) (sig : List ℕ) : Type 0 wher
 -- each picture is that of a live design and stays, or that of none and is gone
 pub record IsCleaned (before after : World) : Type 0 where
   pub history : after.history ≡ before.history
+  pub known : after.functions ≡ before.functions
   pub each : (sig : List ℕ) → (IsLiveSignature before.history sig × (after.pictures sig ≡ before.pictures sig)) ⊎ ((IsLiveSignature before.history sig → ⊥) × (after.pictures sig ≡ None))
 
 -- some of the pictures are gone, none of which is that of a live design
 pub record IsPartlyCleaned (before after : World) : Type 0 where
   pub history : after.history ≡ before.history
+  pub known : after.functions ≡ before.functions
   pub fewer : (sig : List ℕ) → (after.pictures sig ≡ before.pictures sig) ⊎ ((after.pictures sig ≡ None) × (IsLiveSignature before.history sig → ⊥))
 
 -- the reply to a cleanup

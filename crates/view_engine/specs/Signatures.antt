@@ -1,10 +1,10 @@
--- Of which views the signatures in a history are, and to which of them indexes belong.
+-- Of which kind the signatures in a world are, and to which of them indexes belong.
 use Rattle.std.specs.Prelude.{◌≡◌, ℕ, List, [], ◌∷◌, Option, Some, None, All, bytes_eq, if◌then◌else◌}
 use Rattle.json_terms.specs.Json.{Json}
 use Rattle.design_docs.specs.Documents.{is_design_id}
-use Rattle.design_docs.specs.declared.design.View.{View}
-use Rattle.design_docs.specs.Design.{views_of}
+use Rattle.design_docs.specs.Design.{language_of, views_of}
 use Rattle.design_docs.specs.History.{Write}
+use Rattle.view_ports.specs.Functions.{Functions}
 use Rattle.view_ports.specs.declared.file_name.Stem.TheVariants.{View as ViewStem}
 use Rattle.view_signature.specs.Signature.{signature_of}
 use Rattle.view_model.specs.Picture.{Picture}
@@ -13,35 +13,39 @@ use Rattle.view_model.specs.Standing.{IsDesignIn}
 use Rattle.tree_index.specs.Index.{stem_of}
 use Rattle.tree_groups.specs.declared.groups.Groups.{Groups}
 use Rattle.tree_groups.specs.Groups.{open_of}
-use Rattle.tree_groups.specs.Pictures.{Kinds, Pictures}
+use Rattle.tree_groups.specs.Pictures.{Kind, Kinds, Pictures}
+use Rattle.view_engine.specs.World.{World}
 
 -- the design document that a write stores, if it is one
 abbrev pub design_in : Write → Option Json
 design_in write = if is_design_id write.id then write.document else None
 
--- the views of a design document, where it has this signature
-abbrev pub views_under : List ℕ → Option Json → Option (List View)
-views_under sig None = None
-views_under sig (Some document) = if bytes_eq (signature_of document) sig then Some (views_of document) else None
+-- a design document, where it has this signature
+abbrev pub signed_so : List ℕ → Option Json → Option Json
+signed_so sig None = None
+signed_so sig (Some document) = if bytes_eq (signature_of document) sig then Some document else None
 
 -- the first of two, or else the other
-abbrev pub first_or : Option (List View) → Option (List View) → Option (List View)
+abbrev pub first_or : Option Json → Option Json → Option Json
 first_or None other = other
-first_or (Some views) other = Some views
+first_or (Some document) other = Some document
 
--- the views of the oldest design document with a signature
-abbrev pub oldest_views : List Write → List ℕ → Option (List View)
-oldest_views [] sig = None
-oldest_views (write ∷ older) sig = first_or (oldest_views older sig) (views_under sig (design_in write))
+-- the oldest design document with a signature
+abbrev pub oldest_design : List Write → List ℕ → Option Json
+oldest_design [] sig = None
+oldest_design (write ∷ older) sig = first_or (oldest_design older sig) (signed_so sig (design_in write))
 
-abbrev pub or_no_views : Option (List View) → List View
-or_no_views None = []
-or_no_views (Some views) = views
+-- of which views a design document is, and by which functions its reduces are, where those of its language are known
+abbrev pub kind_of : (List ℕ → Option Functions) → Option Json → Kind
+kind_of functions None = record { views = []; functions = None }
+kind_of functions (Some document) = record { views = views_of document; functions = functions (language_of document) }
 
--- A signature is of the views of the oldest design document that has it, so a newer one doesn't change of which it is. The functions of query
--- servers are not known of it.
-abbrev pub kinds_of : List Write → Kinds
-kinds_of history = λ sig. record { views = or_no_views (oldest_views history sig); functions = None }
+-- A signature is of the kind of the oldest design document that has it, so a newer one doesn't change of which it is.
+abbrev pub kinds_by : (List ℕ → List ℕ → Option Functions) → List Write → Kinds
+kinds_by functions history = λ sig. kind_of (functions sig) (oldest_design history sig)
+
+abbrev pub kinds_of : World → Kinds
+kinds_of world = kinds_by world.functions world.history
 
 -- a design document of the history has this signature
 pub record HasSignature (history : List Write) (sig : List ℕ) : Type 0 where

@@ -42,5 +42,6 @@ module _ (functions : List ℕ → Functions) (honest : List ℕ → Type 0) (la
     pub next : Picture
     pub updated : IsUpdated (functions path) (honest path) (views_of design) before.history (picture_in before design) next
     pub history : after.history ≡ before.history
+    pub known : after.functions ≡ before.functions
     pub set : AreSetAt (signature_of design) (Some next) before.pictures after.pictures
     pub answerable : honest path → IsSound before → AreFit before.history → spoiled (functions path) (views_of design) before.history ≡ false

@@ -1,16 +1,17 @@
 -- The words in which the layers above speak of worlds, and of the files, the images of a disk and the engines that are at
 -- one. Whoever uses them names no part of a world or of an engine, so a new part changes only this crate.
-use Rattle.std.specs.Prelude.{◌≡◌, ◌⊎◌, ℕ, List, [], ◌++◌, Option, None, Result}
+use Rattle.std.specs.Prelude.{◌≡◌, ◌⊎◌, ℕ, List, [], ◌++◌, Option, None, Some, Result}
 use Rattle.view_ports.specs.File.{File}
 use Rattle.view_ports.specs.Functions.{Functions}
 use Rattle.view_ports.specs.declared.file_name.FileName.{FileName}
+use Rattle.child_pool.specs.Languages.{path_in}
 use Rattle.child_pool.specs.Pools.{languages_of, reducer_of, started_of, width_of}
 use Rattle.doc_file.specs.declared.docs.Docs.{Docs}
 use Rattle.doc_file.specs.Docs.{seq_of, HoldsHistory, IsAt as AreAt, IsDamagedAt, IsOpen as AreOpen}
 use Rattle.doc_file.specs.Held.{Stands}
 use Rattle.design_docs.specs.History.{Write}
 use Rattle.tree_groups.specs.Groups.{AreAt as AreIndexesAt, AreOpen as AreIndexesOpen}
-use Rattle.tree_groups.specs.Pictures.{AreHeld, StandFor}
+use Rattle.tree_groups.specs.Pictures.{forgetting as without_functions, AreHeld, StandFor}
 use Rattle.view_engine.specs.declared.engine.Engine.{Engine}
 use Rattle.view_engine.specs.declared.refusal.Refusal.{Refusal}
 use Rattle.view_engine.specs.declared.request.Request.{Request}
@@ -18,13 +19,26 @@ use Rattle.view_engine.specs.Halts.{FitsFor, IsDamage, IsFullFor}
 use Rattle.view_engine.specs.Moments.{Moment}
 use Rattle.view_engine.specs.Signatures.{kinds_of, AreOpenOwned, AreOwned}
 use Rattle.view_engine.specs.Steps.{IsWrite, Makes}
-use Rattle.view_engine.specs.World.{World, NoneIsNewer}
+use Rattle.view_engine.specs.World.{knowing, World, NoneIsNewer}
 
 -- ---- worlds
 
--- one world goes on from another: it has all of its writes, and maybe newer ones
-abbrev pub GoesOnFrom : World → World → Type 0
-GoesOnFrom before after = (newer : List Write) × (after.history ≡ newer ++ before.history)
+-- one world goes on from another: it has all of its writes, and maybe newer ones, and it knows the same functions
+pub record GoesOnFrom (before after : World) : Type 0 where
+  pub newer : List Write
+  pub history : after.history ≡ newer ++ before.history
+  pub known : after.functions ≡ before.functions
+
+-- What a world knows for a signature and a language are the functions of the language's path, where it has one, and that path is honest. Of
+-- languages without a path it may know any: nothing is asked of their servers.
+abbrev pub KnowsPaths : (List ℕ → Functions) → (List ℕ → Type 0) → List (List ℕ × List ℕ) → World → Type 0
+KnowsPaths functions honest languages world = (sig language : List ℕ) (known : Functions) (path : List ℕ) → world.functions sig language ≡ Some known → path_in languages language ≡ Some path
+    → honest path × (functions path ≡ known)
+
+-- These functions may be told of a world instead of those that it knows: for each signature it has no picture, or they are the same or none for
+-- the design that the signature is of.
+abbrev pub MayBeTold : World → (List ℕ → List ℕ → Option Functions) → Type 0
+MayBeTold world functions = (sig : List ℕ) → (world.pictures sig ≡ None) ⊎ (kinds_of (knowing world functions) sig ≡ kinds_of world sig) ⊎ (kinds_of (knowing world functions) sig ≡ without_functions (kinds_of world) sig)
 
 -- a world, and query servers of which so many map documents and that had so many faults, before any call
 abbrev pub at_start : World → ℕ → ℕ → Moment
@@ -36,20 +50,21 @@ at_start world width faults = record { world = world; width = width; started = N
 -- no newer
 pub record Holds (files : FileName → File) (world : World) : Type 0 where
   pub documents : HoldsHistory files world.history
-  pub indexes : AreHeld (kinds_of world.history) files world.pictures
+  pub indexes : AreHeld (kinds_of world) files world.pictures
   pub within : NoneIsNewer world
   pub owned : AreOwned world.history world.pictures
 
 -- an image of the disk, as a crash leaves it, stands for this world
 pub record StandsFor (image : FileName → List ℕ) (world : World) : Type 0 where
   pub documents : Stands image world.history
-  pub indexes : StandFor (kinds_of world.history) image world.pictures
+  pub indexes : StandFor (kinds_of world) image world.pictures
   pub within : NoneIsNewer world
   pub owned : AreOwned world.history world.pictures
 
 -- a world between two: its history is that of the first, and so are its pictures, but for some that are gone in the second too
 pub record IsBetween (before after mid : World) : Type 0 where
   pub history : mid.history ≡ before.history
+  pub known : mid.functions ≡ before.functions
   pub pictures : (sig : List ℕ) → (mid.pictures sig ≡ before.pictures sig) ⊎ ((mid.pictures sig ≡ None) × (after.pictures sig ≡ None))
 
 -- an image stands for a world between two, which may be the first, or for the second
@@ -123,7 +138,7 @@ pub record IsOpen (engine : Engine) (files : FileName → File) : Type 0 where
 -- an engine and the folder are at this world, and each index that is open is that of a design document
 pub record IsAtWorld (engine : Engine) (files : FileName → File) (world : World) : Type 0 where
   pub documents : AreAt engine.docs files world.history
-  pub indexes : AreIndexesAt (kinds_of world.history) engine.groups files world.pictures
+  pub indexes : AreIndexesAt (kinds_of world) engine.groups files world.pictures
   pub within : NoneIsNewer world
   pub owned : AreOwned world.history world.pictures
   pub opened : AreOpenOwned world.history engine.groups

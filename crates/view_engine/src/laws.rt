@@ -3,8 +3,9 @@
 ghost use Rattle.std.specs.Prelude.{List, ℕ};
 ghost use Rattle.design_docs.specs.History.{Write};
 ghost use Rattle.view_engine.specs.Fresh.{RepliesAreFresh, StepsAreFresh};
-ghost use Rattle.view_engine.specs.Laws.{HasLastWrites, HasLiveDocuments, IsAcceptedInTurn, IsInOrderOfId, IsNotRefusedAndAccepted, IsNotRefusedAndDone, IsRefusedOnce, IsRefusedOnceBy, MadeWorldsAreSound, StepsKeepSound, WorldsBetweenAreSound};
+ghost use Rattle.view_engine.specs.Laws.{EachMayForget, EmptyFoldersHoldWorlds, FilesMayBeTold, HasLastWrites, HasLiveDocuments, ImagesHold, ImagesMayBeTold, IsAcceptedInTurn, IsInOrderOfId, IsNotRefusedAndAccepted, IsNotRefusedAndDone, IsRefusedOnce, IsRefusedOnceBy, MadeWorldsAreSound, MadeWorldsGoOn, StepsGoOn, StepsKeepSound, WorldsBetweenAreSound};
 
+use doc_file::empty_folders_hold_no_writes;
 use view_ports::Servers;
 
 /// The live documents are those whose last write is no deletion, each id once and in byte order.
@@ -49,3 +50,29 @@ pub fn replies_are_fresh<C: Servers>()
     ensures steps { (languages : List (List ℕ × List ℕ))
         → StepsAreFresh C.functions C.honest languages }
 {}
+
+/// A line that is answered leads to a world that has all writes of the one before and knows the same functions, and so does what a
+/// request makes.
+pub fn worlds_go_on<C: Servers>()
+    ensures steps { (languages : List (List ℕ × List ℕ))
+        → StepsGoOn C.functions C.honest languages }
+    ensures made { (languages : List (List ℕ × List ℕ))
+        → MadeWorldsGoOn C.functions C.honest languages }
+{}
+
+/// Of a world that files hold, or that an image stands for, other functions may be told: for each index those that were known of it or
+/// none, and any where there is no index. So may none at all.
+pub fn functions_may_be_told()
+    ensures files { FilesMayBeTold }
+    ensures images { ImagesMayBeTold }
+    ensures none { EachMayForget }
+{}
+
+/// A folder without bytes holds a world without writes, of which any functions may be known. What a crash left of a folder holds the
+/// world that it stands for, so a run over it begins with that.
+pub fn folders_hold_worlds()
+    ensures empty { EmptyFoldersHoldWorlds }
+    ensures images { ImagesHold }
+{
+    empty_folders_hold_no_writes();
+}

@@ -1,6 +1,7 @@
 -- Serving is what its session came to.
 use Rattle.std.specs.Prelude.{map, string_bytes}
 use Rattle.std.proofs.Common.{◌≡◌, ◌∙◌, ℕ, [], length, Err, Result, inl, inr, refl, sym, ap, subst}
+use Rattle.view_ports.specs.Disk.{LeavesOnly}
 use Rattle.view_ports.specs.Faults.{CountsFor}
 use Rattle.view_ports.specs.declared.file_name.FileName.{FileName}
 use Rattle.view_ports.proofs.Counting.{Rose-earlier}
@@ -9,7 +10,8 @@ use Rattle.child_pool.specs.Languages.{languages_in}
 use Rattle.view_engine.specs.declared.halt.StepFault.{StepFault}
 use Rattle.view_engine.specs.declared.halt.StepFault.TheVariants.{Damaged, DiskFault}
 use Rattle.view_engine.specs.Calls.{scene}
-use Rattle.view_engine.specs.Worlds.{update_seq, HasDamage, Holds}
+use Rattle.view_engine.specs.Worlds.{update_seq, languages as languages_of, HasDamage, Holds, StandsFor}
+use Rattle.view_engine.proofs.Known.{still_known}
 use Rattle.view_engine.proofs.Worlds.{starts_at}
 use Rattle.view_engine.specs.declared.engine.Engine.{Engine}
 use Rattle.line_loop.specs.declared.loop_end.LoopEnd.{LoopEnd}
@@ -26,13 +28,13 @@ use Rattle.couchview_cli.proofs.Statuses.{closed_others, end_no_load, end_no_usa
 use Rattle.couchview_cli.proofs.serve.serve.Goals as goal
 
 pub returns-in-Err-clause-serves : goal.returns-in-Err-clause-serves
-returns-in-Err-clause-serves g c = λ opening holds.
+returns-in-Err-clause-serves g c = λ opening begins.
     let disk = g.F.Folder.disk c.args.folder.now in
     let before : Outside = record { left = g.S.Source.left c.args.source.now; held = g.K.Sink.held c.args.sink.now; disk = disk; disk_faults = g.F.Folder.faults c.args.folder.now; faults = g.C.Servers.faults c.args.servers.now } in
     inr (inr (inl (unopened g.C.Servers.functions g.C.Servers.honest (languages_in (map string_bytes c.args.words.now)) opening before (g.K.Sink.held c.close.new.sink) (g.F.Folder.disk c.open.new.folder) (g.F.Folder.faults c.open.new.folder)
-    (g.C.Servers.may_follow c.args.servers.now) c.requires (c.in-Err.ensures.moments opening holds) c.in-Err.fault c.close.result c.close.ensures.closes (subst (λ (opened : Result Engine StepFault). CountsFor DiskFault (g.F.Folder.faults c.args.folder.now) (g.F.Folder.faults c.open.new.folder) opened) c.in-Err.is c.open.ensures.cause).failed
+    (g.C.Servers.may_follow c.args.servers.now) c.requires (c.in-Err.ensures.moments opening begins.holds) c.in-Err.fault c.close.result c.close.ensures.closes (subst (λ (opened : Result Engine StepFault). CountsFor DiskFault (g.F.Folder.faults c.args.folder.now) (g.F.Folder.faults c.open.new.folder) opened) c.in-Err.is c.open.ensures.cause).failed
     (told_pair disk (λ d. Holds d.now opening) (λ d. Holds d.now opening → (name : FileName) (at : ℕ) → c.open.result ≡ Err (Damaged name at) → ⊥) (λ d. (name : FileName) (at : ℕ) → c.in-Err.fault ≡ Damaged name at → ⊥)
-    (λ d held never name at is. never held name at (c.in-Err.is ∙ ap Err is)) holds (c.open.ensures.sound opening))
+    (λ d held never name at is. never held name at (c.in-Err.is ∙ ap Err is)) begins.holds (c.open.ensures.sound opening))
     (λ name size is. c.open.ensures.room name size (c.in-Err.is ∙ ap Err is)))))
 
 pub returns-in-Run-clause-no_usage : goal.returns-in-Run-clause-no_usage
@@ -48,7 +50,7 @@ pub returns-clause-no_load : goal.returns-clause-no_load
 returns-clause-no_load g c = (closed_others _ _ [] _ _ c.close-in-Stopped.ensures.closes).3
 
 pub returns-in-Run-clause-serves : goal.returns-in-Run-clause-serves
-returns-in-Run-clause-serves g c = λ opening holds.
+returns-in-Run-clause-serves g c = λ opening begins.
     let f = g.F.Folder in
     let s = g.C.Servers in
     let languages = languages_in (map string_bytes c.args.words.now) in
@@ -62,7 +64,9 @@ returns-in-Run-clause-serves g c = λ opening holds.
     let stopped = scene c.finish.new.self ran.folder c.finish.new.servers in
     let start : IsAtOrigin f s begun (scene c.in-Ok.engine c.open.new.folder c.args.servers.now) =
     come_opened f s begun (scene c.in-Ok.engine c.open.new.folder c.args.servers.now) made.languages
-    (starts_at (f.disk c.open.new.folder) (s.may_follow c.args.servers.now) (s.faults c.args.servers.now) c.in-Ok.engine opening made.width (made.documents opening holds) made.childless c.requires) (made.moments opening holds) in
+    (starts_at s.functions s.honest (f.disk c.open.new.folder) (s.may_follow c.args.servers.now) (s.faults c.args.servers.now) c.in-Ok.engine opening made.width (made.documents opening begins.holds) made.childless c.requires
+    (still_known s.functions s.honest (f.disk c.args.folder.now) (f.disk c.open.new.folder) (LeavesOnly (λ image. StandsFor image opening)) languages (languages_of c.in-Ok.engine) opening (made.moments opening begins.holds) made.languages begins.knows))
+    (made.moments opening begins.holds) in
     let come : Comes f s begun last before.left left before.held held c.run-end.result = c.run-end.ensures.comes begun start in
     let end = subst (λ (e : LoopEnd StepFault). Comes f s begun last before.left left before.held held e) c.in-Run.is come in
     let after : Outside = record { left = left; held = held; disk = f.disk ran.folder; disk_faults = f.faults ran.folder; faults = s.faults c.finish.new.servers } in
@@ -86,7 +90,7 @@ returns-in-Run-clause-serves g c = λ opening holds.
     ])
 
 pub returns-clause-serves : goal.returns-clause-serves
-returns-clause-serves g c = λ opening holds.
+returns-clause-serves g c = λ opening begins.
     let f = g.F.Folder in
     let s = g.C.Servers in
     let languages = languages_in (map string_bytes c.args.words.now) in
@@ -100,7 +104,9 @@ returns-clause-serves g c = λ opening holds.
     let stopped = scene c.finish.new.self ran.folder c.finish.new.servers in
     let start : IsAtOrigin f s begun (scene c.in-Ok.engine c.open.new.folder c.args.servers.now) =
     come_opened f s begun (scene c.in-Ok.engine c.open.new.folder c.args.servers.now) made.languages
-    (starts_at (f.disk c.open.new.folder) (s.may_follow c.args.servers.now) (s.faults c.args.servers.now) c.in-Ok.engine opening made.width (made.documents opening holds) made.childless c.requires) (made.moments opening holds) in
+    (starts_at s.functions s.honest (f.disk c.open.new.folder) (s.may_follow c.args.servers.now) (s.faults c.args.servers.now) c.in-Ok.engine opening made.width (made.documents opening begins.holds) made.childless c.requires
+    (still_known s.functions s.honest (f.disk c.args.folder.now) (f.disk c.open.new.folder) (LeavesOnly (λ image. StandsFor image opening)) languages (languages_of c.in-Ok.engine) opening (made.moments opening begins.holds) made.languages begins.knows))
+    (made.moments opening begins.holds) in
     let come : Comes f s begun last before.left left before.held held c.run-end.result = c.run-end.ensures.comes begun start in
     let fault = c.in-Stopped.fault in
     let end = subst (λ (e : LoopEnd StepFault). Comes f s begun last before.left left before.held held e) c.in-Stopped.is come in

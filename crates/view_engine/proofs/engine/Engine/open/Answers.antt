@@ -48,7 +48,7 @@ opening_stands : (old new : Option (Disk FileName)) (world : World) (ends : (Fil
 opening_stands old new world ends =
     told_given old new (λ d. Holds d.now world) (Moves IsDocsFile (λ image. Stands image world.history) ends) (LeavesOnly (λ image. StandsFor image world))
     (λ a b held moves. weaker (Framed IsDocsFile a.now (λ image. Stands image world.history)) (λ image. StandsFor image world) a b
-    (λ image framed. record { documents = framed.inside; indexes = pictures_stand (kinds_of world.history) a.now world.pictures held.indexes (λ image. Stands image world.history) image framed; within = held.within; owned = held.owned }) moves.moments)
+    (λ image framed. record { documents = framed.inside; indexes = pictures_stand (kinds_of world) a.now world.pictures held.indexes (λ image. Stands image world.history) image framed; within = held.within; owned = held.owned }) moves.moments)
 
 documents_held : (disk : Option (Disk FileName)) (world : World) → IfTold disk (λ d. Holds d.now world) → IfTold disk (λ d. HoldsHistory d.now world.history)
 documents_held disk world = told_now disk (λ d. Holds d.now world) (λ d. HoldsHistory d.now world.history) (λ d held. held.documents)
@@ -59,7 +59,7 @@ returns-in_ok-new-in-Ok-2-clause-documents g c = λ world held.
     (Moves IsDocsFile (λ image. Stands image world.history) (λ files. IsAt c.in-Ok.docs files world.history))
     (λ a b here moves. record {
       documents = moves.ended;
-      indexes = none_open_are_at (kinds_of world.history) c.new-in-Ok.result b.now world.pictures c.new-in-Ok.ensures (held_still (kinds_of world.history) a.now b.now world.pictures (λ n of_view. moves.others n (apart n of_view)) here.indexes);
+      indexes = none_open_are_at (kinds_of world) c.new-in-Ok.result b.now world.pictures c.new-in-Ok.ensures (held_still (kinds_of world) a.now b.now world.pictures (λ n of_view. moves.others n (apart n of_view)) here.indexes);
       within = here.within;
       owned = here.owned;
       opened = none_opened world.history c.new-in-Ok.result c.new-in-Ok.ensures;
