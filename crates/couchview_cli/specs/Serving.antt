@@ -103,8 +103,8 @@ pub record Begins (functions : List ℕ → Functions) (honest : List ℕ → Ty
 module _ (functions : List ℕ → Functions) (honest : List ℕ → Type 0) (languages : List (List ℕ × List ℕ)) (opening : World) where
   -- A run that read the bytes that the source lost, that wrote what the sink gained, and that ended with this status. The
   -- world at its end has the writes of the opening and exactly those that were answered `ok`, it knows the functions that the opening
-  -- knew, and its pictures stand where those of the opening did. Each image since the start stands for a first part of it, and each image now for the whole of it. Nothing of the
-  -- documents is pending, and the files hold that world, so a later run begins with it.
+  -- knew, and its pictures stand where those of the opening did. Each image since the start stands for a first part of it, and each
+  -- image now for the whole of it. Nothing of the documents is pending, and the files hold that world, so a later run begins with it.
   pub record Finishes (before after : Outside) (AtEnd : List Call → Type 0) (status : ℕ) : Type 0 where
     pub bytes : List ℕ
     pub gained : List ℕ
